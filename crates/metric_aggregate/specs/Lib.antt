@@ -1,0 +1,11 @@
+pub mod Aggregation
+pub mod Bounds
+pub mod BucketAgg
+pub mod LastAgg
+pub mod PointValue
+pub mod Range
+pub mod Rising
+pub mod RisingLaws
+pub mod SumAgg
+pub mod Value
+pub mod ValueLaws

@@ -1,0 +1,148 @@
+//! The histogram of the values over explicit boundaries.
+ghost use Rattle.std.specs.Prelude.{◌≡◌, ◌+◌, ◌^◌, ◌<◌, pos, ◌+ℤ◌, Bool, true, false, [], IfOk, length, is_some, slice_index, slice_set, option_map};
+ghost use Rattle.metric_aggregate.specs.BucketAgg.{fits_total};
+ghost use Rattle.metric_aggregate.specs.Rising.{rises};
+ghost use Rattle.metric_aggregate.specs.Value.{kept_sum};
+
+use crate::aggregate::Aggregate;
+use crate::point_value::PointValue;
+use crate::search::count_less;
+use metric_base::Items;
+use std::alloc::{AllocError, Global};
+use std::marker::Model;
+
+/// How many values fall between the boundaries, with their least and greatest value, and with their sum
+/// where it is kept (Metrics SDK, explicit bucket histogram aggregation).
+#[derive(Debug, Drop)]
+pub struct BucketAgg {
+    boundaries: Vec<i64>,
+    counts: Vec<u64>,
+    count: u64,
+    total: Option<i64>,
+    // i64::MAX and i64::MIN while there is no value
+    least: i64,
+    greatest: i64,
+}
+
+impl Model for BucketAgg {
+    ghost use Rattle.metric_aggregate.specs.BucketAgg.{Histogram, IsHistogram};
+
+    ghost Value = { Histogram };
+
+    ghost view = { λ a. record { boundaries = a.boundaries.items; counts = a.counts.items; count = a.count; total = a.total; least = a.least; greatest = a.greatest } };
+
+    ghost invariant = { λ a. IsHistogram (record { boundaries = a.boundaries.items; counts = a.counts.items; count = a.count; total = a.total; least = a.least; greatest = a.greatest }) };
+}
+
+impl BucketAgg {
+    ghost use Rattle.metric_aggregate.specs.BucketAgg.{histogram_aggregation, StandsBuckets};
+    ghost use Rattle.metric_aggregate.specs.Aggregation.{HistogramAggregation};
+
+    /// A histogram of no values over boundaries that rise strictly; none at all make a single bucket.
+    /// All room that it will use is made here. Fails only where memory is refused.
+    pub fn new(alloc: Global, boundaries: &[i64], keeps_sum: bool) -> Result<BucketAgg, AllocError>
+        requires { rises boundaries.now ≡ true }
+        ensures aggregation { IfOk result (λ a. histogram_aggregation a ≡ HistogramAggregation boundaries.now keeps_sum) }
+        ensures stands { IfOk result (λ a. StandsBuckets a []) }
+    {
+        Ok(BucketAgg {
+            boundaries: Vec::from_slice(alloc, boundaries)?,
+            counts: vec![in alloc; 0; boundaries.len() + 1]?,
+            count: 0,
+            total: zero_total(keeps_sum),
+            least: i64::MAX,
+            greatest: i64::MIN,
+        })
+    }
+}
+
+impl Aggregate for BucketAgg {
+    ghost use Rattle.std.specs.Prelude.{◌==◌};
+    ghost use Rattle.metric_aggregate.specs.BucketAgg.{histogram_aggregation, histogram_fits, StandsBuckets, buckets_fit_in_range, buckets_are_empty_of_none};
+
+    ghost aggregation = { histogram_aggregation };
+
+    ghost stands = { StandsBuckets };
+
+    ghost fits = { histogram_fits };
+
+    ghost is_empty = { λ a. a.count == 0 };
+
+    fn fits(&self, value: i64) -> bool {
+        self.count < u64::MAX && total_fits(self.total, value)
+    }
+
+    fn add(&mut self, value: i64) {
+        let bucket = count_less(&self.boundaries, value);
+        count_one(&mut self.counts, bucket);
+        self.count += 1;
+        self.total = with_value(self.total, value);
+        self.least = self.least.min(value);
+        self.greatest = self.greatest.max(value);
+    }
+
+    fn is_empty(&self) -> bool {
+        self.count == 0
+    }
+
+    fn read(&self, alloc: Global) -> Result<PointValue, AllocError> {
+        let counts = Vec::from_slice(alloc, &self.counts)?;
+        Ok(PointValue::Buckets {
+            count: self.count,
+            counts: Items::from_vec(counts),
+            sum: self.total,
+            min: self.least,
+            max: self.greatest,
+        })
+    }
+
+    fn reset(&mut self) {
+        self.counts.fill(0);
+        self.count = 0;
+        self.total = zero_total(self.total.is_some());
+        self.least = i64::MAX;
+        self.greatest = i64::MIN;
+    }
+
+    fn another(&self, alloc: Global) -> Result<BucketAgg, AllocError> {
+        BucketAgg::new(alloc, &self.boundaries, self.total.is_some())
+    }
+
+    ghost fits_in_range = { buckets_fit_in_range };
+
+    ghost is_empty_of_none = { buckets_are_empty_of_none };
+}
+
+fn count_one(counts: &mut [u64], bucket: usize)
+    requires bucket { bucket < length counts.old }
+    requires room { slice_index counts.old bucket + 1 < 2 ^ 64 }
+    ensures { counts.new ≡ slice_set counts.old bucket (slice_index counts.old bucket + 1) }
+{
+    counts[bucket] += 1;
+}
+
+fn total_fits(total: Option<i64>, value: i64) -> bool
+    ensures { result ≡ fits_total total value }
+{
+    match total {
+        Some(sum) => sum.checked_add(value).is_some(),
+        None => true,
+    }
+}
+
+fn with_value(total: Option<i64>, value: i64) -> Option<i64>
+    requires { fits_total total value ≡ true }
+    ensures { result ≡ option_map (λ sum. sum +ℤ value) total }
+{
+    match total {
+        Some(sum) => Some(sum + value),
+        None => None,
+    }
+}
+
+// The sum of no values where it is kept.
+fn zero_total(keeps_sum: bool) -> Option<i64>
+    ensures { result ≡ kept_sum keeps_sum [] }
+{
+    if keeps_sum { Some(0) } else { None }
+}

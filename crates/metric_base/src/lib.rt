@@ -1,0 +1,20 @@
+//! Words that every layer cites: a text, a list and a bounded list that contracts see as lists,
+//! copies that are equal to their source, and equality that means the same value.
+//!
+//! `specs/Steps.antt` has the words for "the first fault in this order".
+#![tactic(auto)]
+
+mod copied;
+mod exact;
+mod few;
+mod items;
+mod text;
+
+pub use copied::{Copied, copy_all};
+pub use exact::{Exact, is_same};
+pub use few::Few;
+pub use items::Items;
+pub use text::Text;
+
+#[cfg(test)]
+mod tests;

@@ -1,0 +1,6 @@
+mod Numbered
+mod SoundKeys
+mod SoundInstruments
+mod SoundCatalogues
+pub mod Mapped
+mod OrderLaws

@@ -1,0 +1,15 @@
+-- one more value has its place
+use Rattle.std.proofs.Common.{◌≡◌, ◌∙◌, sym, refl, arith, take, None}
+use Rattle.metric_catalogue.specs.Places.{place}
+use Rattle.metric_catalogue.proofs.Numbered.{none_from_test, numbers_more, repeats_more}
+use Rattle.metric_catalogue.proofs.numbering.Numbering.number_all.Goals as goal
+
+pub loop-place-preserved : goal.loop-place-preserved
+loop-place-preserved c =
+    let none = none_from_test c.in_ok-earlier.earlier (sym c.is_some.ensures ∙ c.if-is_some.false) in
+    let fresh = sym c.in_ok-earlier.ensures.old ∙ none in
+    let absent : place (take c.loop-place.place c.args.values.now) c.index-values-place.result ≡ None = sym (c.loop-place.invariant.numbers c.index-values-place.result) ∙ fresh in
+    record {
+      numbers = numbers_more c.loop-place.self c.insert.new.self c.args.values.now c.loop-place.place c.index-values-place.result (omega arith) c.index-values-place.is c.loop-place.invariant.numbers fresh c.in_ok-earlier.ensures.new;
+      left = sym (repeats_more c.args.values.now c.loop-place.place c.index-values-place.result (omega arith) c.index-values-place.is absent) ∙ c.loop-place.invariant.left;
+    }

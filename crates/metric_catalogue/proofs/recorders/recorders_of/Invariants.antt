@@ -1,0 +1,13 @@
+-- the recorders so far, and those of the tables that are left, are those of all
+use Rattle.std.proofs.Common.{◌≡◌, map, drop, length, []}
+use Rattle.toml.specs.View.{table_view}
+use Rattle.metric_base.specs.Steps.{each}
+use Rattle.metric_catalogue.specs.Recorders.{recorder_of}
+use Rattle.metric_catalogue.proofs.recorders.recorders_of.Given as goal
+
+abbrev pub invariant-loop-table : goal.invariant-loop-table
+invariant-loop-table l = record {
+  few : length l.recorders ≡ l.table-index;
+  exact : each (recorder_of l.count) l.recorders (map (λ t. table_view t.now) (drop l.table-index l.tables))
+      ≡ each (recorder_of l.count) [] (map (λ t. table_view t.now) l.tables);
+}

@@ -1,0 +1,23 @@
+-- The budgets of recorders.
+use Rattle.std.specs.Prelude.{ℕ, List, Option, Some, None, slice_get, find}
+use Rattle.metric_catalogue.specs.declared.contents.Budget.{Budget}
+use Rattle.metric_catalogue.specs.declared.contents.Recorder.{Recorder}
+use Rattle.metric_catalogue.specs.Recorders.{is_budget}
+
+-- the amount of a budget, or 0 where there is none
+abbrev pub amount_in : Option Budget → ℕ
+amount_in None = 0
+amount_in (Some budget) = budget.amount
+
+-- how many recordings a recorder may make on an instrument
+abbrev pub amount_of : Recorder → ℕ → ℕ
+amount_of recorder instrument = amount_in (find (is_budget instrument) recorder.budgets)
+
+-- the same, where there is such a recorder
+abbrev pub amount_from : Option Recorder → ℕ → ℕ
+amount_from None instrument = 0
+amount_from (Some recorder) instrument = amount_of recorder instrument
+
+-- how many recordings the recorder of this number may make on the instrument of that number
+abbrev pub budget_at : List Recorder → ℕ → ℕ → ℕ
+budget_at recorders recorder instrument = amount_from (slice_get recorders recorder) instrument

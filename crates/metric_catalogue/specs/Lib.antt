@@ -1,0 +1,17 @@
+pub mod Refusals
+pub mod Places
+pub mod PlaceLaws
+pub mod Numbering
+pub mod Faults
+pub mod Texts
+pub mod Kinds
+pub mod Keys
+pub mod Instruments
+pub mod Meters
+pub mod Recorders
+pub mod Catalogues
+pub mod Sound
+pub mod EachLaws
+pub mod Encoding
+pub mod Attributes
+pub mod Budgets

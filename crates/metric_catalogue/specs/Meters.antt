@@ -1,0 +1,44 @@
+-- The meters of a catalogue, with the instruments of each.
+use Rattle.std.specs.Prelude.{ℕ, ◌-◌, Bool, not, ◌&&◌, List, [], ◌∷◌, ◌++◌, length, Result, Ok, codes}
+use Rattle.std.specs.List.{list_any}
+use Rattle.std.specs.Str.{bytes_eq}
+use Rattle.toml.specs.Data.{Members}
+use Rattle.metric_base.specs.Steps.{◌>>=◌, require, each}
+use Rattle.metric_table.specs.Fields.{only, tables_field}
+use Rattle.metric_catalogue.specs.declared.contents.Instrument.{Instrument}
+use Rattle.metric_catalogue.specs.declared.contents.Meter.{Meter}
+use Rattle.metric_catalogue.specs.declared.meters.Metered.{Metered}
+use Rattle.metric_catalogue.specs.declared.fault.CatalogueFault.{CatalogueFault}
+use Rattle.metric_catalogue.specs.declared.fault.CatalogueFault.TheVariants.{DuplicateMeter}
+use Rattle.metric_catalogue.specs.declared.fault.Place.{Place}
+use Rattle.metric_catalogue.specs.declared.fault.Place.TheVariants as place
+use Rattle.metric_catalogue.specs.Faults.{faults_at}
+use Rattle.metric_catalogue.specs.Instruments.{instrument_of}
+use Rattle.metric_catalogue.specs.Texts.{needed_text, free_text}
+
+-- a meter has no other fields
+unfoldable pub only_meter_fields : Place → Members → Result (Unit {0}) CatalogueFault
+only_meter_fields at table = only (faults_at at) (codes "name" ∷ codes "version" ∷ codes "schema_url" ∷ codes "instrument" ∷ []) table
+
+-- a meter without its instruments
+unfoldable pub meter_of : Place → Members → Result Meter CatalogueFault
+meter_of at table = do
+  _ ← only_meter_fields at table
+  name ← needed_text at (codes "name") table
+  version ← free_text at (codes "version") table
+  schema_url ← free_text at (codes "schema_url") table
+  Ok (record { name = name; version = version; schema_url = schema_url })
+
+-- the two meters have the same name, version and schema URL
+abbrev pub is_meter : Meter → Meter → Bool
+is_meter meter other = bytes_eq other.name meter.name && (bytes_eq other.version meter.version && bytes_eq other.schema_url meter.schema_url)
+
+-- one more meter with its instruments, of which a file has at most 512
+unfoldable pub with_meter : Metered → Members → Result Metered CatalogueFault
+with_meter before table = do
+  let at = place.Meter (length before.meters)
+  meter ← meter_of at table
+  tables ← tables_field (faults_at at) (512 - length before.instruments) (codes "instrument") table
+  _ ← require (not (list_any (is_meter meter) before.meters)) (DuplicateMeter at)
+  instruments ← each (instrument_of (length before.meters)) before.instruments tables
+  Ok (record { meters = before.meters ++ meter ∷ []; instruments = instruments })

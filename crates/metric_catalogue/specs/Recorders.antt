@@ -1,0 +1,67 @@
+-- The recorders of a catalogue, with their budgets.
+use Rattle.std.specs.Prelude.{ℕ, ℤ, pos, negsuc, Bool, not, ◌==◌, ◌^◌, nat_lt, if◌then◌else◌, List, [], ◌∷◌, length, Option, Some, None, Result, Ok, codes}
+use Rattle.std.specs.List.{list_any}
+use Rattle.std.specs.Str.{bytes_eq}
+use Rattle.toml.specs.Data.{Members}
+use Rattle.metric_base.specs.Steps.{◌>>=◌, require, require_some, each}
+use Rattle.metric_table.specs.Fields.{only, field, integer_of, tables_field}
+use Rattle.metric_catalogue.specs.declared.contents.Budget.{Budget}
+use Rattle.metric_catalogue.specs.declared.contents.Recorder.{Recorder}
+use Rattle.metric_catalogue.specs.declared.fault.CatalogueFault.{CatalogueFault}
+use Rattle.metric_catalogue.specs.declared.fault.CatalogueFault.TheVariants.{BadRange, UnknownInstrument, DuplicateRecorder, DuplicateBudget}
+use Rattle.metric_catalogue.specs.declared.fault.Place.{Place}
+use Rattle.metric_catalogue.specs.declared.fault.Place.TheVariants as place
+use Rattle.metric_catalogue.specs.Faults.{faults_at}
+use Rattle.metric_catalogue.specs.Texts.{label_field}
+
+-- the number of one of so many instruments
+abbrev pub number_below : ℕ → ℤ → Option ℕ
+number_below count (pos n) = if nat_lt n count then Some n else None
+number_below count (negsuc n) = None
+
+-- the instrument of a budget, which is one of the catalogue's
+unfoldable pub budgeted : Place → ℕ → Members → Result ℕ CatalogueFault
+budgeted at count table = do
+  d ← field (faults_at at) (codes "instrument") table
+  number ← integer_of (faults_at at) d
+  require_some (number_below count number) (UnknownInstrument at)
+
+-- a number that is not negative, and that a 64-bit number with a sign may be
+abbrev pub amount_from : ℤ → Option ℕ
+amount_from (pos n) = if nat_lt n (2 ^ 63) then Some n else None
+amount_from (negsuc n) = None
+
+-- how many recordings a budget is for
+unfoldable pub amount_field : Place → Members → Result ℕ CatalogueFault
+amount_field at table = do
+  d ← field (faults_at at) (codes "amount") table
+  number ← integer_of (faults_at at) d
+  require_some (amount_from number) (BadRange at)
+
+-- the budget is for this instrument
+abbrev pub is_budget : ℕ → Budget → Bool
+is_budget instrument budget = budget.instrument == instrument
+
+-- one more budget of a recorder, after those before it
+unfoldable pub budget_of : Place → ℕ → List Budget → Members → Result Budget CatalogueFault
+budget_of at count before table = do
+  _ ← only (faults_at at) (codes "instrument" ∷ codes "amount" ∷ []) table
+  instrument ← budgeted at count table
+  amount ← amount_field at table
+  _ ← require (not (list_any (is_budget instrument) before)) (DuplicateBudget at)
+  Ok (record { instrument = instrument; amount = amount })
+
+-- the recorder has this name
+abbrev pub is_recorder : List ℕ → Recorder → Bool
+is_recorder name recorder = bytes_eq recorder.name name
+
+-- one more recorder, after those before it
+unfoldable pub recorder_of : ℕ → List Recorder → Members → Result Recorder CatalogueFault
+recorder_of count before table = do
+  let at = place.Recorder (length before)
+  _ ← only (faults_at at) (codes "name" ∷ codes "budget" ∷ []) table
+  name ← label_field at table
+  tables ← tables_field (faults_at at) 512 (codes "budget") table
+  _ ← require (not (list_any (is_recorder name) before)) (DuplicateRecorder at)
+  budgets ← each (budget_of at count) [] tables
+  Ok (record { name = name; budgets = budgets })

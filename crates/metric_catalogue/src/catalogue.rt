@@ -1,0 +1,204 @@
+//! Reading a catalogue from TOML.
+ghost use Rattle.std.specs.Prelude.{◌≡◌, ◌≤◌, length, map, find, IfOk};
+ghost use Rattle.toml.specs.Parse.{parse_document};
+ghost use Rattle.toml.specs.View.{table_view};
+ghost use Rattle.metric_base.specs.Steps.{Gives, GivesBy, in_turn, require_some};
+ghost use Rattle.std.specs.Option.{option_copied};
+ghost use Rattle.metric_catalogue.specs.Attributes.{given_by, given_by_owned};
+ghost use Rattle.metric_catalogue.specs.Budgets.{amount_of, budget_at};
+ghost use Rattle.metric_catalogue.specs.Encoding.{encode_of};
+ghost use Rattle.metric_catalogue.specs.Meters.{with_meter};
+ghost use Rattle.metric_catalogue.specs.Recorders.{is_budget};
+ghost use Rattle.metric_catalogue.specs.Sound.{IsSound};
+ghost use Rattle.metric_catalogue.specs.Catalogues.{catalogue_of, contents_of, format_of_top, nothing_metered, tables_of_top};
+
+use crate::attributes::{Attr, OwnedAttr};
+use crate::contents::{Budget, Contents, Instrument, Meter, Recorder};
+use crate::encode::{SetKey, encode_of};
+use crate::fault::{CatalogueFault, Place};
+use crate::meters::{Metered, add_meters};
+use crate::recorders::recorders_of;
+use crate::refusal::Refusal;
+use crate::texts::faults_at;
+use metric_base::{Few, Items};
+use metric_table::{format_field, only, tables_field};
+use std::alloc::Global;
+use std::marker::Model;
+use toml::Table;
+
+/// The instruments of a program with their meters and keys, and its recorders with their budgets.
+/// Instruments and recorders are numbered from 0 in the order of the file.
+#[derive(Drop)]
+pub struct Catalogue {
+    contents: Contents,
+}
+
+impl Model for Catalogue {
+    ghost use Rattle.metric_catalogue.specs.declared.contents.Contents.{Contents};
+    ghost use Rattle.metric_catalogue.specs.Sound.{IsSound};
+
+    ghost Value = { Contents };
+
+    ghost view = { λ c. c.contents };
+
+    ghost invariant = { λ c. IsSound c.contents };
+}
+
+impl Catalogue {
+    /// The catalogue that a text in TOML is, or its first fault: the top table first, then each meter,
+    /// each of its instruments and each of that one's keys, then each recorder and each of its budgets;
+    /// in a table first a field that has no place there, then the fields in the order of the format,
+    /// then a table that stands twice.
+    #[tactic(auto, unfolding(crate::specs::Catalogues::catalogue_of))]
+    pub fn read(alloc: Global, text: &str) -> Result<Catalogue, CatalogueFault>
+        ensures { Gives CatalogueFault.Memory result (catalogue_of text.now) }
+    {
+        let table = document(alloc, text)?;
+        let contents = contents_of(alloc, &table)?;
+        Ok(Catalogue { contents })
+    }
+
+    /// The meters in the order of the file.
+    pub fn meters(&self) -> &[Meter]
+        ensures meters { result.now ≡ self.now.meters }
+        ensures few { length self.now.meters ≤ 64 }
+        ensures sound { IsSound self.now }
+    {
+        self.contents.meters.as_slice()
+    }
+
+    /// The instruments of all meters in the order of the file.
+    pub fn instruments(&self) -> &[Instrument]
+        ensures instruments { result.now ≡ self.now.instruments }
+        ensures few { length self.now.instruments ≤ 512 }
+        ensures sound { IsSound self.now }
+    {
+        self.contents.instruments.as_slice()
+    }
+
+    /// The recorders in the order of the file.
+    pub fn recorders(&self) -> &[Recorder]
+        ensures recorders { result.now ≡ self.now.recorders }
+        ensures few { length self.now.recorders ≤ 64 }
+        ensures sound { IsSound self.now }
+    {
+        self.contents.recorders.as_slice()
+    }
+
+    /// How many recordings a recorder may make on an instrument: 0 where the file declares no budget.
+    pub fn budget(&self, recorder: u32, instrument: u32) -> u64
+        ensures { result ≡ budget_at self.now.recorders recorder instrument }
+    {
+        match self.recorders().get(recorder as usize) {
+            Some(recorder) => recorder.budget(instrument),
+            None => 0,
+        }
+    }
+
+    /// The set key that the attributes name for the instrument of this number, in any order, or the
+    /// first refusal of `UnknownInstrument`, `DuplicateKey`, `UnknownKey`, `UnknownValue` and
+    /// `MissingKey`, each tried over the whole list before the next. Takes no memory.
+    pub fn encode(&self, instrument: u32, attrs: &[Attr<'_>]) -> Result<SetKey, Refusal>
+        ensures { result ≡ encode_of self.now.instruments instrument (map given_by attrs.now) }
+    {
+        encode_of(self.instruments(), instrument, attrs)
+    }
+
+    /// The same for attributes that are owned.
+    pub fn encode_owned(&self, instrument: u32, attrs: &[OwnedAttr]) -> Result<SetKey, Refusal>
+        ensures { result ≡ encode_of self.now.instruments instrument (map given_by_owned attrs.now) }
+    {
+        encode_of(self.instruments(), instrument, attrs)
+    }
+}
+
+impl Recorder {
+    /// How many recordings the recorder may make on an instrument: 0 where it declares no budget.
+    pub fn budget(&self, instrument: u32) -> u64
+        ensures { result ≡ amount_of self.now instrument }
+    {
+        match budget_for(self.budgets.as_slice(), instrument) {
+            Some(budget) => budget.amount,
+            None => 0,
+        }
+    }
+}
+
+fn budget_for(budgets: &[Budget], instrument: u32) -> Option<&Budget>
+    ensures { option_copied result ≡ find (is_budget instrument) budgets.now }
+{
+    budgets
+        .iter()
+        .find(|budget| budget.instrument == instrument)
+}
+
+/// The table that a text in TOML is.
+fn document(alloc: Global, text: &str) -> Result<Table, CatalogueFault>
+    ensures { GivesBy table_view CatalogueFault.Memory result (require_some (parse_document text.now) CatalogueFault.NotToml) }
+{
+    match toml::table_from_str(alloc, text) {
+        Ok(table) => Ok(table),
+        Err(error) => {
+            if error.is_memory() {
+                Err(CatalogueFault::Memory)
+            } else {
+                Err(CatalogueFault::NotToml)
+            }
+        }
+    }
+}
+
+#[tactic(auto, unfolding(crate::specs::Catalogues::contents_of))]
+fn contents_of(alloc: Global, table: &Table) -> Result<Contents, CatalogueFault>
+    ensures { Gives CatalogueFault.Memory result (contents_of (table_view table.now)) }
+{
+    let (meters, recorders) = tables_of_top(alloc, table)?;
+    let metered = metered_of(alloc, meters.as_slice())?;
+    let count = metered.instruments.len() as u32;
+    let recorders = recorders_of(alloc, recorders.as_slice(), count)?;
+    Ok(Contents {
+        meters: Few::from_items(metered.meters),
+        instruments: Few::from_items(metered.instruments),
+        recorders: Few::from_items(recorders),
+    })
+}
+
+fn metered_of(alloc: Global, tables: &[&Table]) -> Result<Metered, CatalogueFault>
+    requires { length tables.now ≤ 64 }
+    ensures exact { Gives CatalogueFault.Memory result (in_turn with_meter nothing_metered (map (λ t. table_view t.now) tables.now)) }
+    ensures meters { IfOk result (λ metered. length metered.meters ≤ 64) }
+    ensures instruments { IfOk result (λ metered. length metered.instruments ≤ 512) }
+{
+    let mut metered = Metered {
+        meters: Items::new(alloc),
+        instruments: Items::new(alloc),
+    };
+    add_meters(alloc, &mut metered, tables)?;
+    Ok(metered)
+}
+
+/// The tables of the meters and those of the recorders.
+#[tactic(auto, unfolding(crate::specs::Catalogues::tables_of_top))]
+fn tables_of_top<'a>(
+    alloc: Global,
+    table: &'a Table,
+) -> Result<(Items<&'a Table>, Items<&'a Table>), CatalogueFault>
+    ensures exact { GivesBy (λ tables. (map (λ t. table_view t.now) tables.0, map (λ t. table_view t.now) tables.1)) CatalogueFault.Memory result (tables_of_top (table_view table.now)) }
+    ensures meters { IfOk result (λ tables. length tables.0 ≤ 64) }
+    ensures recorders { IfOk result (λ tables. length tables.1 ≤ 64) }
+{
+    format_of_top(table)?;
+    let faults = faults_at(Place::Top);
+    let meters = tables_field(alloc, table, "meter", 64, &faults)?;
+    let recorders = tables_field(alloc, table, "recorder", 64, &faults)?;
+    Ok((meters, recorders))
+}
+
+#[tactic(auto, unfolding(crate::specs::Catalogues::format_of_top))]
+fn format_of_top(table: &Table) -> Result<(), CatalogueFault>
+    ensures { result ≡ format_of_top (table_view table.now) }
+{
+    let faults = faults_at(Place::Top);
+    only(table, &["format", "meter", "recorder"], &faults)?;
+    format_field(table, &faults)
+}

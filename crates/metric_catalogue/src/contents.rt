@@ -1,0 +1,91 @@
+//! What a catalogue declares.
+use crate::values::Values;
+use metric_base::{Few, Text};
+use metric_names::{Name, Unit};
+
+/// The kind of an instrument (Metrics API, instrument kinds).
+#[derive(Clone, Copy, Debug, PartialEq, Eq, Drop)]
+pub enum Kind {
+    /// A sum that only rises.
+    Counter,
+    /// A sum that rises and falls.
+    UpDownCounter,
+    /// A distribution of values.
+    Histogram,
+    /// A current value.
+    Gauge,
+}
+
+/// A meter (Metrics API, Get a Meter). Fields that the file leaves out are empty.
+#[derive(Drop)]
+pub struct Meter {
+    /// The name of the instrumentation scope, at most 1,023 characters.
+    pub name: Text,
+    /// The version of the scope, at most 1,023 characters.
+    pub version: Text,
+    /// The URL of the schema, at most 1,023 characters.
+    pub schema_url: Text,
+}
+
+/// An instrument (Metrics API, Instrument).
+#[derive(Drop)]
+pub struct Instrument {
+    /// The number of its meter.
+    pub meter: u32,
+    /// The name, of which its meter has one without ASCII case.
+    pub name: Name,
+    /// The kind.
+    pub kind: Kind,
+    /// The unit.
+    pub unit: Unit,
+    /// The description, at most 1,023 characters.
+    pub description: Text,
+    /// The least value that may be recorded.
+    pub lo: i64,
+    /// The greatest value that may be recorded.
+    pub hi: i64,
+    /// The advised boundaries of a histogram, strictly rising (Metrics API, instrument advisory parameters).
+    pub advice: Option<Few<i64, 128>>,
+    /// The attribute keys that recordings may have, in declared order.
+    pub keys: Few<Key, 8>,
+}
+
+/// An attribute key that an instrument declares.
+#[derive(Drop)]
+pub struct Key {
+    /// The name, 1 to 1,023 characters.
+    pub name: Text,
+    /// The values that recordings may give it, at least one.
+    pub values: Values,
+    /// Whether a recording may leave the key out.
+    pub optional: bool,
+}
+
+/// How many recordings a recorder may make on one instrument.
+#[derive(Clone, Copy, Debug, PartialEq, Eq, Drop)]
+pub struct Budget {
+    /// The number of the instrument.
+    pub instrument: u32,
+    /// The number of recordings, at most 2^63 - 1.
+    pub amount: u64,
+}
+
+/// A recorder, which makes recordings within its budgets.
+#[derive(Drop)]
+pub struct Recorder {
+    /// The name, 1 to 1,023 characters.
+    pub name: Text,
+    /// The declared budgets, at most one for an instrument.
+    pub budgets: Few<Budget, 512>,
+}
+
+/// All that a catalogue declares, each list in the order of the file.
+#[derive(Drop)]
+pub struct Contents {
+    /// The meters.
+    pub meters: Few<Meter, 64>,
+    /// The instruments of all meters.
+    pub instruments: Few<Instrument, 512>,
+    /// The recorders.
+    pub recorders: Few<Recorder, 64>,
+}

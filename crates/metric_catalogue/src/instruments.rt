@@ -1,0 +1,227 @@
+//! The instruments of a meter.
+ghost use Rattle.std.specs.Prelude.{◌≡◌, ◌≤◌, ◌<◌, ◌+◌, [], length, map, IfOk};
+ghost use Rattle.std.specs.List.{list_any};
+ghost use Rattle.toml.specs.View.{table_view, view};
+ghost use Rattle.metric_base.specs.Steps.{Gives, Advances, each};
+ghost use Rattle.metric_catalogue.specs.Instruments.{advice_field, boundaries_of, head_of, instrument_name, instrument_of, is_instrument, is_range, kind_field, only_instrument_fields, pair_of, range_field, unit_field};
+
+use crate::contents::{Instrument, Kind};
+use crate::fault::{CatalogueFault, Place};
+use crate::keys::keys_of;
+use crate::kinds::is_rising;
+use crate::texts::{faults_at, free_text, pair_faults_at};
+use metric_base::{Few, Items, Text};
+use metric_names::{Name, NameFault, Unit, UnitFault};
+use metric_table::{
+    integer_of, integers_of, list_of, member, only, optional_text, required, tables_field,
+    text_field,
+};
+use std::alloc::Global;
+use toml::{Table, Value};
+
+/// What names and describes an instrument.
+#[derive(Drop)]
+pub(crate) struct Head {
+    name: Name,
+    kind: Kind,
+    unit: Unit,
+    description: Text,
+}
+
+/// Puts the instruments of a meter after those of the meters before it. Where there is a fault, some
+/// of them may have been put.
+pub(crate) fn add_instruments(
+    alloc: Global,
+    tables: &[&Table],
+    meter: u32,
+    instruments: &mut Items<Instrument>,
+) -> Result<(), CatalogueFault>
+    requires { length instruments.old + length tables.now ≤ 512 }
+    ensures exact { Advances CatalogueFault.Memory result instruments.new
+        (each (instrument_of meter) instruments.old (map (λ t. table_view t.now) tables.now)) }
+    ensures few { length instruments.new ≤ length instruments.old + length tables.now }
+{
+    for table in tables {
+        let instrument = instrument_of(alloc, table, meter, instruments.as_slice())?;
+        instruments.push(instrument)?;
+    }
+    Ok(())
+}
+
+#[tactic(auto, unfolding(crate::specs::Instruments::instrument_of))]
+fn instrument_of(
+    alloc: Global,
+    table: &Table,
+    meter: u32,
+    before: &[Instrument],
+) -> Result<Instrument, CatalogueFault>
+    requires { length before.now < 512 }
+    ensures { Gives CatalogueFault.Memory result (instrument_of meter before.now (table_view table.now)) }
+{
+    let at = Place::Instrument(before.len() as u32);
+    let head = head_of(alloc, table, at)?;
+    let (lo, hi) = range_field(table, head.kind, at)?;
+    let advice = advice_field(alloc, table, at)?;
+    let tables = tables_field(alloc, table, "key", 8, &faults_at(at))?;
+    if has_instrument(before, meter, &head.name) {
+        return Err(CatalogueFault::DuplicateInstrument { at });
+    }
+    let keys = Few::from_items(keys_of(alloc, tables.as_slice(), at)?);
+    let Head {
+        name,
+        kind,
+        unit,
+        description,
+    } = head;
+    Ok(Instrument {
+        meter,
+        name,
+        kind,
+        unit,
+        description,
+        lo,
+        hi,
+        advice,
+        keys,
+    })
+}
+
+fn has_instrument(instruments: &[Instrument], meter: u32, name: &Name) -> bool
+    ensures { result ≡ list_any (is_instrument meter name.now) instruments.now }
+{
+    instruments
+        .iter()
+        .any(|instrument| is_instrument(instrument, meter, name))
+}
+
+fn is_instrument(instrument: &Instrument, meter: u32, name: &Name) -> bool
+    ensures { result ≡ is_instrument meter name.now instrument.now }
+{
+    instrument.meter == meter && instrument.name.same(name)
+}
+
+#[tactic(auto, unfolding(crate::specs::Instruments::head_of))]
+fn head_of(alloc: Global, table: &Table, at: Place) -> Result<Head, CatalogueFault>
+    ensures { Gives CatalogueFault.Memory result (head_of at (table_view table.now)) }
+{
+    let name = instrument_name(alloc, table, at)?;
+    let kind = kind_field(table, at)?;
+    let unit = unit_field(alloc, table, at)?;
+    let description = free_text(alloc, table, "description", at)?;
+    Ok(Head {
+        name,
+        kind,
+        unit,
+        description,
+    })
+}
+
+#[tactic(auto, unfolding(crate::specs::Instruments::only_instrument_fields))]
+fn only_instrument_fields(table: &Table, at: Place) -> Result<(), CatalogueFault>
+    ensures { result ≡ only_instrument_fields at (table_view table.now) }
+{
+    let names = [
+        "name",
+        "kind",
+        "unit",
+        "description",
+        "range",
+        "boundaries",
+        "key",
+    ];
+    only(table, &names, &faults_at(at))
+}
+
+#[tactic(auto, unfolding(crate::specs::Instruments::instrument_name))]
+fn instrument_name(alloc: Global, table: &Table, at: Place) -> Result<Name, CatalogueFault>
+    ensures { Gives CatalogueFault.Memory result (instrument_name at (table_view table.now)) }
+{
+    only_instrument_fields(table, at)?;
+    let text = text_field(table, "name", &faults_at(at))?;
+    match Name::parse(alloc, text) {
+        Ok(name) => Ok(name),
+        Err(NameFault::Memory) => Err(CatalogueFault::Memory),
+        Err(_) => Err(CatalogueFault::BadName { at }),
+    }
+}
+
+#[tactic(auto, unfolding(crate::specs::Instruments::kind_field))]
+fn kind_field(table: &Table, at: Place) -> Result<Kind, CatalogueFault>
+    ensures { result ≡ kind_field at (table_view table.now) }
+{
+    let text = text_field(table, "kind", &faults_at(at))?;
+    Kind::named(text).ok_or(CatalogueFault::WrongKind { at })
+}
+
+#[tactic(auto, unfolding(crate::specs::Instruments::unit_field))]
+fn unit_field(alloc: Global, table: &Table, at: Place) -> Result<Unit, CatalogueFault>
+    ensures { Gives CatalogueFault.Memory result (unit_field at (table_view table.now)) }
+{
+    let text = optional_text(table, "unit", &faults_at(at))?;
+    match Unit::parse(alloc, text.unwrap_or("")) {
+        Ok(unit) => Ok(unit),
+        Err(UnitFault::Memory) => Err(CatalogueFault::Memory),
+        Err(_) => Err(CatalogueFault::BadUnit { at }),
+    }
+}
+
+#[tactic(auto, unfolding(crate::specs::Instruments::range_field))]
+fn range_field(table: &Table, kind: Kind, at: Place) -> Result<(i64, i64), CatalogueFault>
+    ensures { result ≡ range_field at kind (table_view table.now) }
+{
+    let value = required(table, "range", &faults_at(at))?;
+    let values = list_of(value, 2, &pair_faults_at(at))?;
+    let (lo, hi) = pair_of(values, at)?;
+    if !is_range(kind, lo, hi) {
+        return Err(CatalogueFault::BadRange { at });
+    }
+    Ok((lo, hi))
+}
+
+fn pair_of(values: &[Value], at: Place) -> Result<(i64, i64), CatalogueFault>
+    ensures { result ≡ pair_of at (map view values.now) }
+{
+    let faults = faults_at(at);
+    match values {
+        [lo, hi] => {
+            let lo = integer_of(lo, &faults)?;
+            let hi = integer_of(hi, &faults)?;
+            Ok((lo, hi))
+        }
+        _ => Err(CatalogueFault::WrongKind { at }),
+    }
+}
+
+fn is_range(kind: Kind, lo: i64, hi: i64) -> bool
+    ensures { result ≡ is_range kind (lo, hi) }
+{
+    lo <= hi && (!kind.is_monotonic() || 0 <= lo)
+}
+
+#[tactic(auto, unfolding(crate::specs::Instruments::advice_field))]
+fn advice_field(
+    alloc: Global,
+    table: &Table,
+    at: Place,
+) -> Result<Option<Few<i64, 128>>, CatalogueFault>
+    ensures { Gives CatalogueFault.Memory result (advice_field at (table_view table.now)) }
+{
+    match member(table, "boundaries") {
+        Some(value) => {
+            let boundaries = boundaries_of(alloc, value, at)?;
+            Ok(Some(boundaries))
+        }
+        None => Ok(None),
+    }
+}
+
+#[tactic(auto, unfolding(crate::specs::Instruments::boundaries_of))]
+fn boundaries_of(alloc: Global, value: &Value, at: Place) -> Result<Few<i64, 128>, CatalogueFault>
+    ensures { Gives CatalogueFault.Memory result (boundaries_of at (view value.now)) }
+{
+    let boundaries = integers_of(alloc, value, 128, &faults_at(at))?;
+    if !is_rising(boundaries.as_slice()) {
+        return Err(CatalogueFault::BadBoundaries { at });
+    }
+    Ok(Few::from_items(boundaries))
+}

@@ -1,0 +1,137 @@
+//! The keys of an instrument.
+ghost use Rattle.std.specs.Prelude.{◌≡◌, ◌≤◌, ◌==◌, [], not, length, map, IfOk};
+ghost use Rattle.std.specs.List.{list_any};
+ghost use Rattle.toml.specs.View.{table_view, view};
+ghost use Rattle.metric_base.specs.Steps.{Gives, each};
+ghost use Rattle.metric_table.specs.Fields.{each_alone};
+ghost use Rattle.metric_catalogue.specs.Keys.{is_key, key_name, key_of, only_key_fields, optional_field, some_values, value_at, values_field};
+
+use crate::contents::Key;
+use crate::fault::{CatalogueFault, Place};
+use crate::texts::{faults_at, label_field};
+use crate::values::Values;
+use metric_base::{Items, Text};
+use metric_names::AttrValue;
+use metric_table::{flag_or, list_of, only, required, short_text};
+use std::alloc::Global;
+use toml::{Table, Value};
+
+/// The keys of an instrument.
+pub(crate) fn keys_of(
+    alloc: Global,
+    tables: &[&Table],
+    at: Place,
+) -> Result<Items<Key>, CatalogueFault>
+    ensures exact { Gives CatalogueFault.Memory result (each (key_of at) [] (map (λ t. table_view t.now) tables.now)) }
+    ensures few { IfOk result (λ keys. length keys ≤ length tables.now) }
+{
+    let mut keys = Items::new(alloc);
+    for table in tables {
+        let key = key_of(alloc, table, at, keys.as_slice())?;
+        keys.push(key)?;
+    }
+    Ok(keys)
+}
+
+#[tactic(auto, unfolding(crate::specs::Keys::key_of))]
+fn key_of(alloc: Global, table: &Table, at: Place, before: &[Key]) -> Result<Key, CatalogueFault>
+    ensures { Gives CatalogueFault.Memory result (key_of at before.now (table_view table.now)) }
+{
+    only_key_fields(table, at)?;
+    let name = key_name(alloc, table, at)?;
+    let values = values_field(alloc, table, at)?;
+    let optional = optional_field(table, at)?;
+    if has_key(before, &name) {
+        return Err(CatalogueFault::DuplicateKey { at });
+    }
+    Ok(Key {
+        name,
+        values,
+        optional,
+    })
+}
+
+fn has_key(keys: &[Key], name: &Text) -> bool
+    ensures { result ≡ list_any (is_key name.now) keys.now }
+{
+    keys.iter().any(|key| key.name.as_str() == name.as_str())
+}
+
+#[tactic(auto, unfolding(crate::specs::Keys::only_key_fields))]
+fn only_key_fields(table: &Table, at: Place) -> Result<(), CatalogueFault>
+    ensures { result ≡ only_key_fields at (table_view table.now) }
+{
+    only(table, &["name", "values", "optional"], &faults_at(at))
+}
+
+#[tactic(auto, unfolding(crate::specs::Keys::optional_field))]
+fn optional_field(table: &Table, at: Place) -> Result<bool, CatalogueFault>
+    ensures { result ≡ optional_field at (table_view table.now) }
+{
+    flag_or(table, "optional", false, &faults_at(at))
+}
+
+/// The name of a key.
+#[tactic(auto, unfolding(crate::specs::Keys::key_name))]
+fn key_name(alloc: Global, table: &Table, at: Place) -> Result<Text, CatalogueFault>
+    ensures { Gives CatalogueFault.Memory result (key_name at (table_view table.now)) }
+{
+    let name = label_field(alloc, table, at)?;
+    if name.as_str() == "otel.metric.overflow" {
+        return Err(CatalogueFault::ReservedKey { at });
+    }
+    Ok(name)
+}
+
+/// The values of a key, of which none stands twice.
+#[tactic(auto, unfolding(crate::specs::Keys::values_field))]
+fn values_field(alloc: Global, table: &Table, at: Place) -> Result<Values, CatalogueFault>
+    ensures { Gives CatalogueFault.Memory result (values_field at (table_view table.now)) }
+{
+    let values = some_values(alloc, table, at)?;
+    match Values::from_items(alloc, values)? {
+        Some(values) => Ok(values),
+        None => Err(CatalogueFault::DuplicateValue { at }),
+    }
+}
+
+#[tactic(auto, unfolding(crate::specs::Keys::some_values))]
+fn some_values(alloc: Global, table: &Table, at: Place) -> Result<Items<AttrValue>, CatalogueFault>
+    ensures exact { Gives CatalogueFault.Memory result (some_values at (table_view table.now)) }
+    ensures few { IfOk result (λ values. length values ≤ 1000) }
+{
+    let faults = faults_at(at);
+    let value = required(table, "values", &faults)?;
+    let values = list_of(value, 1000, &faults)?;
+    if values.is_empty() {
+        return Err(CatalogueFault::MissingField { at });
+    }
+    values_at(alloc, values, at)
+}
+
+fn values_at(alloc: Global, values: &[Value], at: Place) -> Result<Items<AttrValue>, CatalogueFault>
+    ensures exact { Gives CatalogueFault.Memory result (each_alone (value_at at) (map view values.now)) }
+    ensures few { IfOk result (λ read. length read ≤ length values.now) }
+{
+    let mut read = Items::new(alloc);
+    for value in values {
+        let value = value_at(alloc, value, at)?;
+        read.push(value)?;
+    }
+    Ok(read)
+}
+
+/// The attribute value that a value is.
+fn value_at(alloc: Global, value: &Value, at: Place) -> Result<AttrValue, CatalogueFault>
+    ensures { Gives CatalogueFault.Memory result (value_at at (view value.now)) }
+{
+    match value {
+        Value::String(text) => {
+            let text = short_text(text.as_str(), &faults_at(at))?;
+            Ok(AttrValue::Text(Text::new(alloc, text)?))
+        }
+        Value::Integer(number) => Ok(AttrValue::Whole(*number)),
+        Value::Boolean(flag) => Ok(AttrValue::Flag(*flag)),
+        _ => Err(CatalogueFault::WrongKind { at }),
+    }
+}

@@ -1,0 +1,51 @@
+//! Kinds of instruments, and boundaries.
+ghost use Rattle.std.specs.Prelude.{◌≡◌};
+ghost use Rattle.metric_catalogue.specs.Kinds.{is_monotonic, is_rising, kind_named, rises_after};
+
+use crate::contents::Kind;
+
+impl Kind {
+    /// The kind of this name in files: `counter`, `up_down_counter`, `histogram` or `gauge`.
+    pub fn named(text: &str) -> Option<Kind>
+        ensures { result ≡ kind_named text.now }
+    {
+        if text == "counter" {
+            Some(Kind::Counter)
+        } else if text == "up_down_counter" {
+            Some(Kind::UpDownCounter)
+        } else if text == "histogram" {
+            Some(Kind::Histogram)
+        } else if text == "gauge" {
+            Some(Kind::Gauge)
+        } else {
+            None
+        }
+    }
+
+    /// Whether sums of this kind only rise, since it takes no negative values (Metrics API, Counter and
+    /// Histogram).
+    pub fn is_monotonic(&self) -> bool
+        ensures { result ≡ is_monotonic self.now }
+    {
+        matches!(self, Kind::Counter | Kind::Histogram)
+    }
+}
+
+/// Whether boundaries rise strictly, as those of a histogram do.
+pub fn is_rising(boundaries: &[i64]) -> bool
+    ensures { result ≡ is_rising boundaries.now }
+{
+    match boundaries {
+        [] => true,
+        [first, others @ ..] => rises_after(*first, others),
+    }
+}
+
+fn rises_after(before: i64, boundaries: &[i64]) -> bool
+    ensures { result ≡ rises_after before boundaries.now }
+{
+    match boundaries {
+        [] => true,
+        [first, others @ ..] => before < *first && rises_after(*first, others),
+    }
+}

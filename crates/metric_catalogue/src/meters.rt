@@ -1,0 +1,98 @@
+//! The meters of a catalogue.
+ghost use Rattle.std.specs.Prelude.{◌≡◌, ◌≤◌, ◌<◌, ◌+◌, ◌-◌, length, map, OnOk};
+ghost use Rattle.std.specs.List.{list_any};
+ghost use Rattle.toml.specs.View.{table_view};
+ghost use Rattle.metric_base.specs.Steps.{Gives, Advances, in_turn};
+ghost use Rattle.metric_catalogue.specs.Meters.{is_meter, meter_of, only_meter_fields, with_meter};
+
+use crate::contents::{Instrument, Meter};
+use crate::fault::{CatalogueFault, Place};
+use crate::instruments::add_instruments;
+use crate::texts::{faults_at, free_text, needed_text};
+use metric_base::Items;
+use metric_table::{only, tables_field};
+use std::alloc::Global;
+use toml::Table;
+
+/// The meters so far, with all their instruments.
+#[derive(Drop)]
+pub(crate) struct Metered {
+    pub(crate) meters: Items<Meter>,
+    pub(crate) instruments: Items<Instrument>,
+}
+
+/// Puts the meters of these tables after those before. Where there is a fault, some may have been put.
+pub(crate) fn add_meters(
+    alloc: Global,
+    metered: &mut Metered,
+    tables: &[&Table],
+) -> Result<(), CatalogueFault>
+    requires meters { length metered.old.meters + length tables.now ≤ 64 }
+    requires instruments { length metered.old.instruments ≤ 512 }
+    ensures exact { Advances CatalogueFault.Memory result metered.new
+        (in_turn with_meter metered.old (map (λ t. table_view t.now) tables.now)) }
+    ensures meters { OnOk result (length metered.new.meters ≡ length metered.old.meters + length tables.now) }
+    ensures instruments { OnOk result (length metered.new.instruments ≤ 512) }
+{
+    for table in tables {
+        add_meter(alloc, metered, table)?;
+    }
+    Ok(())
+}
+
+#[tactic(auto, unfolding(crate::specs::Meters::with_meter))]
+fn add_meter(alloc: Global, metered: &mut Metered, table: &Table) -> Result<(), CatalogueFault>
+    requires meters { length metered.old.meters < 64 }
+    requires instruments { length metered.old.instruments ≤ 512 }
+    ensures exact { Advances CatalogueFault.Memory result metered.new (with_meter metered.old (table_view table.now)) }
+    ensures meters { OnOk result (length metered.new.meters ≡ length metered.old.meters + 1) }
+    ensures instruments { OnOk result (length metered.new.instruments ≤ 512) }
+{
+    let number = metered.meters.len() as u32;
+    let at = Place::Meter(number);
+    let meter = meter_of(alloc, table, at)?;
+    let most = 512 - metered.instruments.len();
+    let tables = tables_field(alloc, table, "instrument", most, &faults_at(at))?;
+    if has_meter(metered.meters.as_slice(), &meter) {
+        return Err(CatalogueFault::DuplicateMeter { at });
+    }
+    metered.meters.push(meter)?;
+    add_instruments(alloc, tables.as_slice(), number, &mut metered.instruments)
+}
+
+fn has_meter(meters: &[Meter], meter: &Meter) -> bool
+    ensures { result ≡ list_any (is_meter meter.now) meters.now }
+{
+    meters.iter().any(|other| is_meter(other, meter))
+}
+
+fn is_meter(other: &Meter, meter: &Meter) -> bool
+    ensures { result ≡ is_meter meter.now other.now }
+{
+    other.name.as_str() == meter.name.as_str()
+        && other.version.as_str() == meter.version.as_str()
+        && other.schema_url.as_str() == meter.schema_url.as_str()
+}
+
+#[tactic(auto, unfolding(crate::specs::Meters::only_meter_fields))]
+fn only_meter_fields(table: &Table, at: Place) -> Result<(), CatalogueFault>
+    ensures { result ≡ only_meter_fields at (table_view table.now) }
+{
+    let names = ["name", "version", "schema_url", "instrument"];
+    only(table, &names, &faults_at(at))
+}
+
+#[tactic(auto, unfolding(crate::specs::Meters::meter_of))]
+fn meter_of(alloc: Global, table: &Table, at: Place) -> Result<Meter, CatalogueFault>
+    ensures { Gives CatalogueFault.Memory result (meter_of at (table_view table.now)) }
+{
+    only_meter_fields(table, at)?;
+    let name = needed_text(alloc, table, "name", at)?;
+    let version = free_text(alloc, table, "version", at)?;
+    let schema_url = free_text(alloc, table, "schema_url", at)?;
+    Ok(Meter {
+        name,
+        version,
+        schema_url,
+    })
+}

@@ -1,0 +1,143 @@
+//! The recorders of a catalogue.
+ghost use Rattle.std.specs.Prelude.{◌≡◌, ◌≤◌, ◌<◌, [], length, map, IfOk};
+ghost use Rattle.std.specs.List.{list_any};
+ghost use Rattle.toml.specs.View.{table_view};
+ghost use Rattle.metric_base.specs.Steps.{Gives, each};
+ghost use Rattle.metric_catalogue.specs.Recorders.{amount_field, amount_from, budget_of, budgeted, is_budget, is_recorder, number_below, recorder_of};
+
+use crate::contents::{Budget, Recorder};
+use crate::fault::{CatalogueFault, Place};
+use crate::texts::{faults_at, label_field};
+use metric_base::{Few, Items, Text};
+use metric_table::{integer_of, only, required, tables_field};
+use std::alloc::Global;
+use toml::Table;
+
+/// The recorders of a catalogue with so many instruments.
+pub(crate) fn recorders_of(
+    alloc: Global,
+    tables: &[&Table],
+    count: u32,
+) -> Result<Items<Recorder>, CatalogueFault>
+    requires { length tables.now ≤ 64 }
+    ensures exact { Gives CatalogueFault.Memory result (each (recorder_of count) [] (map (λ t. table_view t.now) tables.now)) }
+    ensures few { IfOk result (λ recorders. length recorders ≤ length tables.now) }
+{
+    let mut recorders = Items::new(alloc);
+    for table in tables {
+        let recorder = recorder_of(alloc, table, count, recorders.as_slice())?;
+        recorders.push(recorder)?;
+    }
+    Ok(recorders)
+}
+
+#[tactic(auto, unfolding(crate::specs::Recorders::recorder_of))]
+fn recorder_of(
+    alloc: Global,
+    table: &Table,
+    count: u32,
+    before: &[Recorder],
+) -> Result<Recorder, CatalogueFault>
+    requires { length before.now < 64 }
+    ensures { Gives CatalogueFault.Memory result (recorder_of count before.now (table_view table.now)) }
+{
+    let at = Place::Recorder(before.len() as u32);
+    let faults = faults_at(at);
+    only(table, &["name", "budget"], &faults)?;
+    let name = label_field(alloc, table, at)?;
+    let tables = tables_field(alloc, table, "budget", 512, &faults)?;
+    if has_recorder(before, &name) {
+        return Err(CatalogueFault::DuplicateRecorder { at });
+    }
+    let budgets = Few::from_items(budgets_of(alloc, tables.as_slice(), count, at)?);
+    Ok(Recorder { name, budgets })
+}
+
+fn has_recorder(recorders: &[Recorder], name: &Text) -> bool
+    ensures { result ≡ list_any (is_recorder name.now) recorders.now }
+{
+    recorders
+        .iter()
+        .any(|recorder| recorder.name.as_str() == name.as_str())
+}
+
+fn budgets_of(
+    alloc: Global,
+    tables: &[&Table],
+    count: u32,
+    at: Place,
+) -> Result<Items<Budget>, CatalogueFault>
+    ensures exact { Gives CatalogueFault.Memory result (each (budget_of at count) [] (map (λ t. table_view t.now) tables.now)) }
+    ensures few { IfOk result (λ budgets. length budgets ≤ length tables.now) }
+{
+    let mut budgets = Items::new(alloc);
+    for table in tables {
+        let budget = budget_of(table, count, at, budgets.as_slice())?;
+        budgets.push(budget)?;
+    }
+    Ok(budgets)
+}
+
+#[tactic(auto, unfolding(crate::specs::Recorders::budget_of))]
+fn budget_of(
+    table: &Table,
+    count: u32,
+    at: Place,
+    before: &[Budget],
+) -> Result<Budget, CatalogueFault>
+    ensures { result ≡ budget_of at count before.now (table_view table.now) }
+{
+    only(table, &["instrument", "amount"], &faults_at(at))?;
+    let instrument = budgeted(table, count, at)?;
+    let amount = amount_field(table, at)?;
+    if has_budget(before, instrument) {
+        return Err(CatalogueFault::DuplicateBudget { at });
+    }
+    Ok(Budget { instrument, amount })
+}
+
+fn has_budget(budgets: &[Budget], instrument: u32) -> bool
+    ensures { result ≡ list_any (is_budget instrument) budgets.now }
+{
+    budgets.iter().any(|budget| budget.instrument == instrument)
+}
+
+#[tactic(auto, unfolding(crate::specs::Recorders::budgeted))]
+fn budgeted(table: &Table, count: u32, at: Place) -> Result<u32, CatalogueFault>
+    ensures { result ≡ budgeted at count (table_view table.now) }
+{
+    let faults = faults_at(at);
+    let value = required(table, "instrument", &faults)?;
+    let number = integer_of(value, &faults)?;
+    number_below(count, number).ok_or(CatalogueFault::UnknownInstrument { at })
+}
+
+fn number_below(count: u32, number: i64) -> Option<u32>
+    ensures { result ≡ number_below count number }
+{
+    if 0 <= number && number < count as i64 {
+        Some(number as u32)
+    } else {
+        None
+    }
+}
+
+#[tactic(auto, unfolding(crate::specs::Recorders::amount_field))]
+fn amount_field(table: &Table, at: Place) -> Result<u64, CatalogueFault>
+    ensures { result ≡ amount_field at (table_view table.now) }
+{
+    let faults = faults_at(at);
+    let value = required(table, "amount", &faults)?;
+    let number = integer_of(value, &faults)?;
+    amount_from(number).ok_or(CatalogueFault::BadRange { at })
+}
+
+fn amount_from(number: i64) -> Option<u64>
+    ensures { result ≡ amount_from number }
+{
+    if 0 <= number {
+        Some(number as u64)
+    } else {
+        None
+    }
+}

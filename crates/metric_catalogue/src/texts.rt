@@ -1,0 +1,84 @@
+//! The texts of a table.
+ghost use Rattle.std.specs.Prelude.{◌≡◌, ◌==◌, length};
+ghost use Rattle.toml.specs.View.{table_view};
+ghost use Rattle.metric_base.specs.Steps.{Gives};
+ghost use Rattle.metric_catalogue.specs.Faults.{faults_at, pair_faults_at};
+ghost use Rattle.metric_catalogue.specs.Texts.{free_text, label_field, needed_text};
+
+use crate::fault::{CatalogueFault, Place};
+use metric_base::Text;
+use metric_table::{FieldFaults, optional_text, short_text, text_field};
+use std::alloc::Global;
+use toml::Table;
+
+/// What the fields of a table at this place answer for their faults.
+pub(crate) fn faults_at(at: Place) -> FieldFaults<CatalogueFault>
+    ensures { result ≡ faults_at at }
+{
+    FieldFaults {
+        missing: CatalogueFault::MissingField { at },
+        wrong_kind: CatalogueFault::WrongKind { at },
+        unknown: CatalogueFault::UnknownField { at },
+        too_many: CatalogueFault::TooMany { at },
+        memory: CatalogueFault::Memory,
+    }
+}
+
+/// The same where a list of another length is of another kind.
+pub(crate) fn pair_faults_at(at: Place) -> FieldFaults<CatalogueFault>
+    ensures { result ≡ pair_faults_at at }
+{
+    FieldFaults {
+        missing: CatalogueFault::MissingField { at },
+        wrong_kind: CatalogueFault::WrongKind { at },
+        unknown: CatalogueFault::UnknownField { at },
+        too_many: CatalogueFault::WrongKind { at },
+        memory: CatalogueFault::Memory,
+    }
+}
+
+/// A needed text, not too long.
+#[tactic(auto, unfolding(crate::specs::Texts::needed_text))]
+pub(crate) fn needed_text(
+    alloc: Global,
+    table: &Table,
+    name: &str,
+    at: Place,
+) -> Result<Text, CatalogueFault>
+    ensures { Gives CatalogueFault.Memory result (needed_text at name.now (table_view table.now)) }
+{
+    let faults = faults_at(at);
+    let text = text_field(table, name, &faults)?;
+    let text = short_text(text, &faults)?;
+    Ok(Text::new(alloc, text)?)
+}
+
+/// A text that may be left out, and is then empty.
+#[tactic(auto, unfolding(crate::specs::Texts::free_text))]
+pub(crate) fn free_text(
+    alloc: Global,
+    table: &Table,
+    name: &str,
+    at: Place,
+) -> Result<Text, CatalogueFault>
+    ensures { Gives CatalogueFault.Memory result (free_text at name.now (table_view table.now)) }
+{
+    let faults = faults_at(at);
+    let text = optional_text(table, name, &faults)?;
+    let text = short_text(text.unwrap_or(""), &faults)?;
+    Ok(Text::new(alloc, text)?)
+}
+
+/// The name of a key or a recorder.
+#[tactic(auto, unfolding(crate::specs::Texts::label_field))]
+pub(crate) fn label_field(alloc: Global, table: &Table, at: Place) -> Result<Text, CatalogueFault>
+    ensures { Gives CatalogueFault.Memory result (label_field at (table_view table.now)) }
+{
+    let faults = faults_at(at);
+    let text = text_field(table, "name", &faults)?;
+    if text.is_empty() {
+        return Err(CatalogueFault::BadName { at });
+    }
+    let text = short_text(text, &faults)?;
+    Ok(Text::new(alloc, text)?)
+}

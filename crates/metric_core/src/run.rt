@@ -1,0 +1,114 @@
+//! All instruments of a plan.
+ghost use Rattle.std.specs.Prelude.{◌≡◌, ◌≤◌, [], length, map, vec_capacity, IfOk, IfErr, OnErr};
+ghost use Rattle.metric_core.specs.CoreStands.{CellsStand, CoreStands};
+ghost use Rattle.metric_core.specs.History.{History};
+ghost use Rattle.metric_core.specs.Legal.{AllLegal, grown};
+ghost use Rattle.metric_core.specs.NewCells.{new_cell};
+ghost use Rattle.metric_core.specs.Ranges.{CellsInRange};
+
+use crate::cell::Cell;
+use crate::event::{Event, Reply};
+use crate::first::Plan;
+use crate::rules::Rules;
+use crate::steps::step;
+use std::alloc::{AllocError, Global};
+use std::marker::Model;
+
+/// The instruments of a plan, and what was recorded on them since a time. One thread runs it.
+///
+/// A core stands for the history of the events that it has run: each reply is the one that this history
+/// asks for. A recording takes memory only once nothing else refuses it.
+#[derive(Drop)]
+pub struct Core {
+    plan: Plan,
+    start: u64,
+    cells: Vec<Cell>,
+}
+
+impl Model for Core {
+    ghost use Rattle.metric_core.specs.CoreStands.{CoreValue};
+    ghost use Rattle.metric_core.specs.Ranges.{CellsInRange};
+
+    ghost Value = { CoreValue };
+
+    ghost view = { λ c. record { plan = c.plan; start = c.start; cells = c.cells.items } };
+
+    ghost invariant = { λ c. CellsInRange c.plan.rules.instruments c.cells.items };
+}
+
+// A state without recordings for each instrument.
+fn new_cells(alloc: Global, all: &[Rules], start: u64) -> Result<Vec<Cell>, AllocError>
+    ensures { IfOk result (λ cells. cells.items ≡ map (new_cell start) all.now) }
+{
+    let mut cells = Vec::with_capacity(alloc, all.len())?;
+    for rules in all {
+        cells.push(Cell::new(alloc, rules.readers(), start)?)?;
+    }
+    Ok(cells)
+}
+
+// Answers the events in order. There is room for the replies.
+fn run_on(
+    alloc: Global,
+    plan: &Plan,
+    start: u64,
+    cells: &mut [Cell],
+    events: &[Event],
+    replies: &mut Vec<Reply>,
+)
+    requires none { replies.old.items ≡ [] }
+    requires room { length events.now ≤ vec_capacity replies.old }
+    requires in_range { CellsInRange plan.now.rules.instruments cells.old }
+    ensures in_range { CellsInRange plan.now.rules.instruments cells.new }
+    ensures legal { (h : History) → CellsStand plan.now.rules start cells.old h → AllLegal plan.now.rules start h events.now replies.new.items }
+    ensures stands { (h : History) → CellsStand plan.now.rules start cells.old h → CellsStand plan.now.rules start cells.new (grown h events.now replies.new.items) }
+{
+    for event in events {
+        let reply = step(alloc, plan, start, cells, event);
+        replies.push_reserved(reply);
+    }
+}
+
+impl Core {
+    /// A core of the plan without any event, since a start in nanoseconds. Where memory is refused, the plan
+    /// is handed back.
+    pub fn new(alloc: Global, plan: Plan, start: u64) -> Result<Core, (Plan, AllocError)>
+        ensures plan { IfOk result (λ core. core.plan ≡ plan) }
+        ensures start { IfOk result (λ core. core.start ≡ start) }
+        ensures stands { IfOk result (λ core. CoreStands core []) }
+        ensures err { IfErr result (λ refused. refused.0 ≡ plan) }
+    {
+        match new_cells(alloc, plan.rules(), start) {
+            Err(error) => Err((plan, error)),
+            Ok(cells) => Ok(Core { plan, start, cells }),
+        }
+    }
+
+    /// Answers the events in order, each after those before it. Fails only where the room for the replies is
+    /// refused, and then nothing has changed.
+    pub fn run(&mut self, alloc: Global, events: &[Event]) -> Result<Vec<Reply>, AllocError>
+        ensures legal { IfOk result (λ replies. (h : History) → CoreStands self.old h → AllLegal self.old.plan.rules self.old.start h events.now replies.items) }
+        ensures stands { IfOk result (λ replies. (h : History) → CoreStands self.old h → CoreStands self.new (grown h events.now replies.items)) }
+        ensures plan { self.new.plan ≡ self.old.plan }
+        ensures start { self.new.start ≡ self.old.start }
+        ensures err { OnErr result (self.new ≡ self.old) }
+    {
+        let mut replies = Vec::with_capacity(alloc, events.len())?;
+        run_on(
+            alloc,
+            &self.plan,
+            self.start,
+            self.cells.as_mut_slice(),
+            events,
+            &mut replies,
+        );
+        Ok(replies)
+    }
+
+    /// The plan.
+    pub fn plan(&self) -> &Plan
+        ensures { result.now ≡ self.now.plan }
+    {
+        &self.plan
+    }
+}

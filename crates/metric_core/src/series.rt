@@ -1,0 +1,62 @@
+//! The series of recordings.
+ghost use Rattle.std.specs.Prelude.{◌≡◌, bytes_eq, ◌++◌, ◌∷◌, [], take};
+ghost use Rattle.std.specs.List.{list_any};
+ghost use Rattle.metric_core.specs.Series.{restricted, series, all_series, has, distinct};
+
+use crate::entry::Entry;
+use metric_catalogue::SetKey;
+
+// Puts 0 in place of each key that is not kept.
+fn clear_dropped(kept: &[bool], set: &mut [u16])
+    ensures { set.new ≡ restricted kept.now set.old }
+{
+    if let Some((keep, kept)) = kept.split_first() {
+        if let Some((first, rest)) = set.split_first_mut() {
+            if !*keep {
+                *first = 0;
+            }
+            clear_dropped(kept, rest);
+        }
+    }
+}
+
+/// The series of a recording in a stream that keeps these keys.
+pub fn series_of(kept: &[bool], entry: &Entry) -> SetKey
+    ensures { result ≡ series kept.now entry.now }
+{
+    let mut set = entry.set;
+    clear_dropped(kept, &mut set);
+    set
+}
+
+/// Whether some recording is of the series.
+#[tactic(auto, using(crate::specs::SeriesLaws::has_all_series))]
+pub fn is_among(kept: &[bool], entries: &[Entry], key: &SetKey) -> bool
+    ensures { result ≡ list_any (λ entry. bytes_eq (series kept.now entry) key.now) entries.now }
+{
+    entries.iter().any(|entry| series_of(kept, entry) == *key)
+}
+
+/// Whether a series is, or would be as the next one, among the first distinct ones of the recordings, of
+/// which there are as many as the limit says. Takes no memory.
+pub fn has_place(kept: &[bool], limit: usize, entries: &[Entry], key: &SetKey) -> bool
+    ensures { result ≡ has (take limit (distinct (all_series kept.now entries.now ++ key.now ∷ []))) key.now }
+{
+    if entries.len() < limit {
+        return true;
+    }
+    let mut places = 0;
+    for (i, entry) in entries.iter().enumerate() {
+        let series = series_of(kept, entry);
+        if series == *key {
+            return places < limit;
+        }
+        if places >= limit {
+            return false;
+        }
+        if !is_among(kept, &entries[..i], &series) {
+            places += 1;
+        }
+    }
+    places < limit
+}

@@ -1,0 +1,7 @@
+pub mod Matching
+pub mod MatchingLaws
+pub mod PatternLaws
+pub mod Patterns
+pub mod Reach
+pub mod Reasons
+pub mod Walk

@@ -1,0 +1,66 @@
+-- What a source and a sink over memory do, call by call.
+use Rattle.std.specs.Prelude.{ℕ, Bool, false, ◌-◌, ◌==◌, nat_le, if◌then◌else◌, ◌&&◌, min, List, ◌++◌, length, take, drop, Option, None, Some}
+use Rattle.metric_io.specs.Counts.{next_count}
+
+-- A source over memory: the bytes that are left, the most that one read gives, the read from which
+-- on it fails, counted from 1, and how often it was read and failed.
+pub record SourceState : Type 0 where
+  pub rest : List ℕ
+  pub most : ℕ
+  pub fail_at : Option ℕ
+  pub reads : ℕ
+  pub failures : ℕ
+
+-- the read of this number fails: it is the first that does, or a later one
+abbrev pub fails_from : Option ℕ → ℕ → Bool
+fails_from None number = false
+fails_from (Some first) number = nat_le first number
+
+-- the next read fails
+abbrev pub is_cut : SourceState → Bool
+is_cut s = fails_from s.fail_at (next_count s.reads)
+
+-- how many bytes the next read puts into a buffer of this length
+abbrev pub given_count : SourceState → ℕ → ℕ
+given_count s room = if is_cut s then 0 else min room (min s.most (length s.rest))
+
+-- the source after a read into a buffer of this length
+abbrev pub after_read : SourceState → ℕ → SourceState
+after_read s room = record {
+  rest = drop (given_count s room) s.rest;
+  most = s.most;
+  fail_at = s.fail_at;
+  reads = next_count s.reads;
+  failures = if is_cut s then next_count s.failures else s.failures;
+}
+
+-- the buffer after a read into it
+abbrev pub after_filled : SourceState → List ℕ → List ℕ
+after_filled s buf = let given = given_count s (length buf) in take given s.rest ++ drop given buf
+
+-- A sink over memory: the bytes that it holds, how many more it has room for, the most that one
+-- write takes, whether a flush succeeds, and how often it failed.
+pub record SinkState : Type 0 where
+  pub held : List ℕ
+  pub room : ℕ
+  pub most : ℕ
+  pub flushes : Bool
+  pub failures : ℕ
+
+-- how many bytes of this many the next write takes
+abbrev pub taken_count : SinkState → ℕ → ℕ
+taken_count s offered = min offered (min s.most s.room)
+
+-- the sink after a write that took so many of the offered bytes
+abbrev pub after_taken : SinkState → List ℕ → SinkState
+after_taken s buf = let n = taken_count s (length buf) in record {
+  held = s.held ++ take n buf;
+  room = s.room - n;
+  most = s.most;
+  flushes = s.flushes;
+  failures = if (n == 0) && (nat_le 1 (length buf)) then next_count s.failures else s.failures;
+}
+
+-- the sink after a call that failed
+abbrev pub after_failure : SinkState → SinkState
+after_failure s = record s { failures = next_count s.failures }

@@ -1,0 +1,4 @@
+pub mod Counts
+pub mod Prefix
+pub mod Input
+pub mod Cut

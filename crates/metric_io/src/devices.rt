@@ -1,0 +1,53 @@
+// What a device promises that bytes are read from or written to.
+ghost use Rattle.std.specs.Prelude.{◌≡◌, ℕ, List, Option};
+ghost use Rattle.std.specs.Io.{ReadsAtMost, WritesAtMost};
+ghost use Rattle.std.specs.Io.KnownBytes.{Keeps, ReadConsumes, WriteAppends};
+ghost use Rattle.metric_io.specs.Counts.{next_count, CountsRead, CountsWrite, CountsFlush};
+
+use thiserror::Error;
+
+/// The device failed. It is the one fault of a [`Source`] or a [`Sink`].
+#[derive(Clone, Copy, Debug, PartialEq, Eq, Error)]
+#[error("the device failed")]
+pub struct Broken;
+
+/// What bytes are read from, in the shape of `std::io::Read`.
+///
+/// Contracts see the bytes that are left, where the source knows them, and two counts that stop
+/// at 2^64 - 1: how often the source was asked, and how often it failed.
+pub trait Source {
+    ghost remaining: { Self → Option (List ℕ) };
+
+    ghost failures: { Self → ℕ };
+
+    ghost reads: { Self → ℕ };
+
+    /// Reads into the front of `buf`, and answers how many bytes it gave: none only at the end
+    /// of the bytes or where `buf` is empty. After [`Broken`] no byte is lost.
+    fn read(&mut self, buf: &mut [u8]) -> Result<usize, Broken>
+        ensures bound { ReadsAtMost result buf.new }
+        ensures bytes { ReadConsumes (remaining self.old) (remaining self.new) result buf.new }
+        ensures failures { CountsRead (failures self.old) (failures self.new) result }
+        ensures reads { reads self.new ≡ next_count (reads self.old) };
+}
+
+/// What bytes are written to, in the shape of `std::io::Write`.
+///
+/// Contracts see the bytes that the sink holds, where it knows them, and the count of its
+/// failures, which stops at 2^64 - 1. A write that takes nothing of something is a failure too.
+pub trait Sink {
+    ghost contents: { Self → Option (List ℕ) };
+
+    ghost failures: { Self → ℕ };
+
+    /// Takes bytes from the front of `buf`, and answers how many. [`Broken`] takes none.
+    fn write(&mut self, buf: &[u8]) -> Result<usize, Broken>
+        ensures bound { WritesAtMost result buf.now }
+        ensures bytes { WriteAppends (contents self.old) (contents self.new) result buf.now }
+        ensures failures { CountsWrite (failures self.old) (failures self.new) result buf.now };
+
+    /// Passes on what the sink may still hold back. It takes no byte, nor loses one.
+    fn flush(&mut self) -> Result<(), Broken>
+        ensures bytes { Keeps (contents self.old) (contents self.new) }
+        ensures failures { CountsFlush (failures self.old) (failures self.new) result };
+}

@@ -1,0 +1,4 @@
+pub mod Names
+pub mod Units
+pub mod NameLaws
+pub mod Values

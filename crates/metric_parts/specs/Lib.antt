@@ -1,0 +1,5 @@
+pub mod Input
+pub mod Reading
+pub mod Pieces
+pub mod Texts
+pub mod Kept

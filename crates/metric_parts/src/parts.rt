@@ -1,0 +1,17 @@
+//! What a command reads of its input.
+use crate::Script;
+use metric_base::Text;
+
+/// What a command reads of its input: the texts of the parts that it needs. The lines of a text
+/// are joined by line feeds.
+#[derive(Debug, Drop)]
+pub struct Parts<'a> {
+    /// The catalogue.
+    pub catalogue: Text,
+    /// The config.
+    pub config: Text,
+    /// The certificate, where it is needed.
+    pub certificate: Option<Text>,
+    /// The script, where it is needed.
+    pub script: Option<Script<'a>>,
+}

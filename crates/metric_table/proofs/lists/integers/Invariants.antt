@@ -1,0 +1,13 @@
+-- the numbers so far, and those of the values that are left, are those of all
+use Rattle.std.proofs.Common.{◌≡◌, map, drop, length, []}
+use Rattle.toml.specs.View.{view}
+use Rattle.metric_base.specs.Steps.{each}
+use Rattle.metric_table.specs.Fields.{integer_of}
+use Rattle.metric_table.proofs.lists.integers.Given as goal
+
+abbrev pub invariant-loop-value : goal.invariant-loop-value
+invariant-loop-value g l = record {
+  few : length l.numbers ≡ l.value-index;
+  exact : each (λ _ d. integer_of l.faults d) l.numbers (map view (drop l.value-index l.values))
+      ≡ each (λ _ d. integer_of l.faults d) [] (map view l.values);
+}

@@ -1,0 +1,170 @@
+//! The fields of a table that are a text, a number or a flag.
+ghost use Rattle.std.specs.Prelude.{◌≡◌, Ok, Err, Some, MatchResult, map, length};
+ghost use Rattle.std.specs.Option.{option_map};
+ghost use Rattle.std.specs.BTreeMap.{keys};
+ghost use Rattle.std.specs.List.{list_all, list_any};
+ghost use Rattle.std.specs.Str.{bytes_eq, chars};
+ghost use Rattle.std.specs.String.{string_bytes};
+ghost use Rattle.toml.specs.Data.{get_member};
+ghost use Rattle.toml.specs.View.{table_view, view};
+ghost use Rattle.metric_table.specs.Fields.{field, flag_or, format_field, integer_of, now_of, only, optional_text, short_text, text_field, text_of};
+
+use crate::faults::FieldFaults;
+use toml::{Table, Value};
+
+/// Tries that the table has no other fields than these.
+#[tactic(auto, unfolding(crate::specs::Fields::only), using(crate::proofs::Tables::only_laws))]
+pub fn only<F: Copy>(table: &Table, names: &[&str], faults: &FieldFaults<F>) -> Result<(), F>
+    ensures { result ≡ only faults.now (map now_of names.now) (table_view table.now) }
+{
+    if has_only(table, names) {
+        Ok(())
+    } else {
+        Err(faults.unknown)
+    }
+}
+
+fn has_only(table: &Table, names: &[&str]) -> bool
+    ensures { result ≡ list_all (λ k. list_any (λ n. bytes_eq n.now (string_bytes k)) names.now) (keys table.now) }
+{
+    table.keys().all(|key| is_among(names, key.as_str()))
+}
+
+fn is_among(names: &[&str], key: &str) -> bool
+    ensures { result ≡ list_any (λ n. bytes_eq n.now key.now) names.now }
+{
+    names.iter().any(|name| *name == key)
+}
+
+/// The value of a field, where the table has it.
+#[tactic(auto, using(crate::proofs::Tables::table_laws))]
+pub fn member<'a>(table: &'a Table, name: &str) -> Option<&'a Value>
+    ensures { option_map (λ v. view v.now) result ≡ get_member name.now (table_view table.now) }
+{
+    table.get(name)
+}
+
+/// The value of a needed field.
+#[tactic(auto, unfolding(crate::specs::Fields::field))]
+pub fn required<'a, F: Copy>(
+    table: &'a Table,
+    name: &str,
+    faults: &FieldFaults<F>,
+) -> Result<&'a Value, F>
+    ensures { MatchResult result (λ v. field faults.now name.now (table_view table.now) ≡ Ok (view v.now))
+        (λ e. field faults.now name.now (table_view table.now) ≡ Err e) }
+{
+    match member(table, name) {
+        Some(value) => Ok(value),
+        None => Err(faults.missing),
+    }
+}
+
+/// The text that a value is.
+#[tactic(auto, unfolding(crate::specs::Fields::text_of))]
+pub fn text_of<'a, F: Copy>(value: &'a Value, faults: &FieldFaults<F>) -> Result<&'a str, F>
+    ensures { MatchResult result (λ s. text_of faults.now (view value.now) ≡ Ok s.now)
+        (λ e. text_of faults.now (view value.now) ≡ Err e) }
+{
+    match value.as_str() {
+        Some(text) => Ok(text),
+        None => Err(faults.wrong_kind),
+    }
+}
+
+/// The text of a needed field.
+#[tactic(auto, unfolding(crate::specs::Fields::text_field))]
+pub fn text_field<'a, F: Copy>(
+    table: &'a Table,
+    name: &str,
+    faults: &FieldFaults<F>,
+) -> Result<&'a str, F>
+    ensures { MatchResult result (λ s. text_field faults.now name.now (table_view table.now) ≡ Ok s.now)
+        (λ e. text_field faults.now name.now (table_view table.now) ≡ Err e) }
+{
+    let value = required(table, name, faults)?;
+    text_of(value, faults)
+}
+
+/// The text of a field, where the table has it.
+#[tactic(auto, unfolding(crate::specs::Fields::optional_text))]
+pub fn optional_text<'a, F: Copy>(
+    table: &'a Table,
+    name: &str,
+    faults: &FieldFaults<F>,
+) -> Result<Option<&'a str>, F>
+    ensures { MatchResult result (λ o. optional_text faults.now name.now (table_view table.now) ≡ Ok (option_map now_of o))
+        (λ e. optional_text faults.now name.now (table_view table.now) ≡ Err e) }
+{
+    match member(table, name) {
+        Some(value) => {
+            let text = text_of(value, faults)?;
+            Ok(Some(text))
+        }
+        None => Ok(None),
+    }
+}
+
+/// Tries that a free text has at most 1,023 characters.
+#[tactic(auto, unfolding(crate::specs::Fields::short_text))]
+pub fn short_text<'a, F: Copy>(text: &'a str, faults: &FieldFaults<F>) -> Result<&'a str, F>
+    ensures { MatchResult result (λ s. short_text faults.now text.now ≡ Ok s.now)
+        (λ e. short_text faults.now text.now ≡ Err e) }
+{
+    if count_of_characters(text) <= 1023 {
+        Ok(text)
+    } else {
+        Err(faults.too_many)
+    }
+}
+
+#[tactic(auto, using(std::proofs::lemmas::Str::chars_from_encodes))]
+fn count_of_characters(text: &str) -> usize
+    ensures { result ≡ length (chars text.now) }
+{
+    text.chars().count()
+}
+
+/// The whole number that a value is.
+#[tactic(auto, unfolding(crate::specs::Fields::integer_of))]
+pub fn integer_of<F: Copy>(value: &Value, faults: &FieldFaults<F>) -> Result<i64, F>
+    ensures { result ≡ integer_of faults.now (view value.now) }
+{
+    match value.as_integer() {
+        Some(number) => Ok(number),
+        None => Err(faults.wrong_kind),
+    }
+}
+
+/// The flag of a field, or the default where the table does not have it.
+#[tactic(auto, unfolding(crate::specs::Fields::flag_or))]
+pub fn flag_or<F: Copy>(
+    table: &Table,
+    name: &str,
+    default: bool,
+    faults: &FieldFaults<F>,
+) -> Result<bool, F>
+    ensures { result ≡ flag_or faults.now name.now default (table_view table.now) }
+{
+    match member(table, name) {
+        Some(value) => match value.as_bool() {
+            Some(flag) => Ok(flag),
+            None => Err(faults.wrong_kind),
+        },
+        None => Ok(default),
+    }
+}
+
+/// Tries that the needed field `format` is the whole number 1.
+#[tactic(auto, unfolding(crate::specs::Fields::format_field))]
+pub fn format_field<F: Copy>(table: &Table, faults: &FieldFaults<F>) -> Result<(), F>
+    ensures { result ≡ format_field faults.now (table_view table.now) }
+{
+    let value = required(table, "format", faults)?;
+    let format = integer_of(value, faults)?;
+    if format == 1 {
+        Ok(())
+    } else {
+        Err(faults.wrong_kind)
+    }
+}

@@ -1,0 +1,19 @@
+//! Reading the fields of a TOML table one after the other, up to the first fault.
+//!
+//! Each reader answers exactly what the definition of its name says, with the fault that the caller
+//! gives for the table's place.
+#![tactic(auto)]
+
+mod faults;
+mod fields;
+mod lists;
+
+pub use faults::FieldFaults;
+pub use fields::{
+    flag_or, format_field, integer_of, member, only, optional_text, required, short_text,
+    text_field, text_of,
+};
+pub use lists::{integers_of, list_of, table_of, tables_field, texts_of};
+
+#[cfg(test)]
+mod tests;

@@ -1,0 +1,4 @@
+mod Steps
+mod Escapes
+mod Splits
+mod PrintedAgain

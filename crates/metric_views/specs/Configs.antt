@@ -1,0 +1,40 @@
+-- What a text is read as: a config, or the first fault.
+use Rattle.std.specs.Prelude.{◌≡◌, ◌≤◌, ℕ, codes, List, [], ◌∷◌, length, Option, Some, None, Result, Ok, Err}
+use Rattle.toml.specs.Data.{Members}
+use Rattle.toml.specs.Parse.{parse_document}
+use Rattle.metric_base.specs.Steps.{◌>>=◌, require_some}
+use Rattle.metric_table.specs.Fields.{format_field, only, tables_field}
+use Rattle.metric_views.specs.declared.config.Config.{Config}
+use Rattle.metric_views.specs.declared.fault.Place.TheVariants.{Top}
+use Rattle.metric_views.specs.declared.fault.ViewFault.{ViewFault}
+use Rattle.metric_views.specs.declared.fault.ViewFault.TheVariants.{NotToml}
+use Rattle.metric_views.specs.Faults.{faults_at}
+use Rattle.metric_views.specs.Readers.{readers_of}
+use Rattle.metric_views.specs.Views.{views_of}
+
+-- the fields of the top table
+abbrev pub top_fields : List (List ℕ)
+top_fields = codes "format" ∷ codes "reader" ∷ codes "view" ∷ []
+
+-- the tables of the readers and of the views
+unfoldable pub tables_of_top : Members → Result (List Members × List Members) ViewFault
+tables_of_top table = do
+  _ ← only (faults_at Top) top_fields table
+  _ ← format_field (faults_at Top) table
+  readers ← tables_field (faults_at Top) 16 (codes "reader") table
+  views ← tables_field (faults_at Top) 256 (codes "view") table
+  Ok (readers, views)
+
+-- the config of the top table
+unfoldable pub config_of_table : Members → Result Config ViewFault
+config_of_table table = do
+  tables ← tables_of_top table
+  readers ← readers_of tables.0
+  views ← views_of tables.1
+  Ok (record { readers = readers; views = views })
+
+-- the config that a text is
+abbrev pub config_of : List ℕ → Result Config ViewFault
+config_of text = do
+  table ← require_some (parse_document text) NotToml
+  config_of_table table

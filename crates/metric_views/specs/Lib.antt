@@ -1,0 +1,9 @@
+pub mod Choices
+pub mod Faults
+pub mod Places
+pub mod Readers
+pub mod Views
+pub mod Configs
+pub mod Selection
+pub mod SelectionLaws
+pub mod Streams

@@ -1,0 +1,222 @@
+//! The tables of a reader that give a choice for each kind of instrument.
+ghost use Rattle.std.specs.Prelude.{◌≡◌, codes, Result};
+ghost use Rattle.toml.specs.Data.{Data};
+ghost use Rattle.toml.specs.View.{table_view, view};
+ghost use Rattle.metric_catalogue.specs.declared.contents.Kind.{Kind};
+ghost use Rattle.metric_views.specs.declared.fault.Place.{Place};
+ghost use Rattle.metric_views.specs.declared.fault.ViewFault.{ViewFault};
+ghost use Rattle.metric_table.specs.Fields.{only};
+ghost use Rattle.metric_views.specs.Faults.{faults_at};
+ghost use Rattle.metric_views.specs.Choices.{aggregation_named, temporality_named};
+ghost use Rattle.metric_views.specs.Readers.{aggregation_for, aggregation_of, choice_at, choices_field, choices_of, for_all, is_limit, kind_names, limit_of, suits, temporality_of};
+
+use crate::choices::{Aggregation, ByKind, Temporality};
+use crate::fault::{Place, ViewFault, faults_at};
+use metric_catalogue::Kind;
+use metric_table::{integer_of, member, only, table_of, text_of};
+use toml::{Table, Value};
+
+/// The cardinality limit where the config gives none (Metrics SDK, cardinality limits).
+const DEFAULT_LIMIT: u32 = 2000;
+
+/// What a reader can choose for a kind of instrument.
+pub(crate) trait Choice: Copy + Drop {
+    /// The choice where the config gives none.
+    ghost usual: { Self };
+
+    /// The choice that a value gives for a kind, or its first fault.
+    ghost chosen: { Place → Kind → Data → Result Self ViewFault };
+
+    /// The choice where the config gives none.
+    fn when_absent() -> Self
+        ensures { result ≡ usual };
+
+    /// The choice that a value gives for a kind.
+    fn read(value: &Value, kind: Kind, at: Place) -> Result<Self, ViewFault>
+        ensures { result ≡ chosen at kind (view value.now) };
+}
+
+/// The choices of a reader's field.
+#[tactic(auto, unfolding(crate::specs::Readers::choices_field))]
+pub(crate) fn choices_field<T: Choice>(
+    table: &Table,
+    name: &str,
+    at: Place,
+) -> Result<ByKind<T>, ViewFault>
+    ensures { result ≡ choices_field T.usual T.chosen at name.now (table_view table.now) }
+{
+    match member(table, name) {
+        Some(value) => {
+            let table = table_of(value, &faults_at(at))?;
+            choices_of(table, at)
+        }
+        None => Ok(for_all(T::when_absent())),
+    }
+}
+
+fn for_all<T: Choice>(choice: T) -> ByKind<T>
+    ensures { result ≡ for_all choice }
+{
+    ByKind {
+        counter: choice,
+        up_down_counter: choice,
+        histogram: choice,
+        gauge: choice,
+    }
+}
+
+#[tactic(auto, unfolding(crate::specs::Readers::choices_of))]
+fn choices_of<T: Choice>(table: &Table, at: Place) -> Result<ByKind<T>, ViewFault>
+    ensures { result ≡ choices_of T.usual T.chosen at (table_view table.now) }
+{
+    only_kinds(table, at)?;
+    let counter = choice_at(table, "counter", Kind::Counter, at)?;
+    let up_down_counter = choice_at(table, "up_down_counter", Kind::UpDownCounter, at)?;
+    let histogram = choice_at(table, "histogram", Kind::Histogram, at)?;
+    let gauge = choice_at(table, "gauge", Kind::Gauge, at)?;
+    Ok(ByKind {
+        counter,
+        up_down_counter,
+        histogram,
+        gauge,
+    })
+}
+
+fn only_kinds(table: &Table, at: Place) -> Result<(), ViewFault>
+    ensures { result ≡ only (faults_at at) kind_names (table_view table.now) }
+{
+    only(
+        table,
+        &["counter", "up_down_counter", "histogram", "gauge"],
+        &faults_at(at),
+    )
+}
+
+#[tactic(auto, unfolding(crate::specs::Readers::choice_at))]
+fn choice_at<T: Choice>(table: &Table, name: &str, kind: Kind, at: Place) -> Result<T, ViewFault>
+    ensures { result ≡ choice_at T.usual (T.chosen at kind) name.now (table_view table.now) }
+{
+    match member(table, name) {
+        Some(value) => T::read(value, kind, at),
+        None => Ok(T::when_absent()),
+    }
+}
+
+impl Choice for Temporality {
+    ghost use Rattle.metric_views.specs.declared.choices.Temporality.TheVariants.{Cumulative};
+    ghost use Rattle.metric_views.specs.Readers.{temporality_of};
+
+    ghost usual = { Cumulative };
+
+    ghost chosen = { λ at _ d. temporality_of at d };
+
+    fn when_absent() -> Temporality {
+        Temporality::Cumulative
+    }
+
+    fn read(value: &Value, _kind: Kind, at: Place) -> Result<Temporality, ViewFault> {
+        temporality_of(value, at)
+    }
+}
+
+#[tactic(auto, unfolding(crate::specs::Readers::temporality_of))]
+fn temporality_of(value: &Value, at: Place) -> Result<Temporality, ViewFault>
+    ensures { result ≡ temporality_of at (view value.now) }
+{
+    let text = text_of(value, &faults_at(at))?;
+    temporality_named(text).ok_or(ViewFault::WrongKind { at })
+}
+
+fn temporality_named(text: &str) -> Option<Temporality>
+    ensures { result ≡ temporality_named text.now }
+{
+    match text {
+        "delta" => Some(Temporality::Delta),
+        "cumulative" => Some(Temporality::Cumulative),
+        _ => None,
+    }
+}
+
+impl Choice for Aggregation {
+    ghost use Rattle.metric_views.specs.declared.choices.Aggregation.TheVariants.{Default};
+    ghost use Rattle.metric_views.specs.Readers.{aggregation_for};
+
+    ghost usual = { Default };
+
+    ghost chosen = { aggregation_for };
+
+    fn when_absent() -> Aggregation {
+        Aggregation::Default
+    }
+
+    #[tactic(auto, unfolding(crate::specs::Readers::aggregation_for))]
+    fn read(value: &Value, kind: Kind, at: Place) -> Result<Aggregation, ViewFault> {
+        let aggregation = aggregation_of(value, at)?;
+        if suits(kind, aggregation) {
+            Ok(aggregation)
+        } else {
+            Err(ViewFault::WrongKind { at })
+        }
+    }
+}
+
+/// Whether an aggregation can be a reader's for a kind: no reader sums gauges.
+fn suits(kind: Kind, aggregation: Aggregation) -> bool
+    ensures { result ≡ suits kind aggregation }
+{
+    match kind {
+        Kind::Gauge => !matches!(aggregation, Aggregation::Sum),
+        Kind::Counter | Kind::UpDownCounter | Kind::Histogram => true,
+    }
+}
+
+/// The aggregation that a value names.
+#[tactic(auto, unfolding(crate::specs::Readers::aggregation_of))]
+pub(crate) fn aggregation_of(value: &Value, at: Place) -> Result<Aggregation, ViewFault>
+    ensures { result ≡ aggregation_of at (view value.now) }
+{
+    let text = text_of(value, &faults_at(at))?;
+    aggregation_named(text).ok_or(ViewFault::WrongKind { at })
+}
+
+fn aggregation_named(text: &str) -> Option<Aggregation>
+    ensures { result ≡ aggregation_named text.now }
+{
+    match text {
+        "default" => Some(Aggregation::Default),
+        "drop" => Some(Aggregation::Drop),
+        "sum" => Some(Aggregation::Sum),
+        "last_value" => Some(Aggregation::LastValue),
+        "explicit_bucket_histogram" => Some(Aggregation::ExplicitBucketHistogram),
+        _ => None,
+    }
+}
+
+impl Choice for u32 {
+    ghost use Rattle.metric_views.specs.Readers.{limit_of};
+
+    ghost usual = { 2000 };
+
+    ghost chosen = { λ at _ d. limit_of at d };
+
+    fn when_absent() -> u32 {
+        DEFAULT_LIMIT
+    }
+
+    fn read(value: &Value, _kind: Kind, at: Place) -> Result<u32, ViewFault> {
+        limit_of(value, at)
+    }
+}
+
+/// The cardinality limit that a value is.
+#[tactic(auto, unfolding(crate::specs::Readers::limit_of))]
+pub(crate) fn limit_of(value: &Value, at: Place) -> Result<u32, ViewFault>
+    ensures { result ≡ limit_of at (view value.now) }
+{
+    let number = integer_of(value, &faults_at(at))?;
+    if (1..=1_000_000).contains(&number) {
+        Ok(number as u32)
+    } else {
+        Err(ViewFault::BadLimit { at })
+    }
+}

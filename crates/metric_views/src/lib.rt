@@ -1,0 +1,22 @@
+//! The config: metric readers and views, which instruments a view selects, and the stream that it makes.
+#![tactic(auto)]
+
+mod by_kind;
+mod choices;
+mod config;
+mod fault;
+mod filling;
+mod optional;
+mod readers;
+mod reading;
+mod selection;
+mod stream;
+#[cfg(test)]
+mod tests;
+mod views;
+
+pub use choices::{Aggregation, ByKind, Temporality};
+pub use config::{Config, Criteria, Reader, Settings, View};
+pub use fault::{Place, ViewFault};
+pub use filling::fill;
+pub use stream::{Fill, Stream, StreamAggregation};

@@ -1,0 +1,171 @@
+//! The fields of a view, each of which may be absent.
+ghost use Rattle.std.specs.Prelude.{◌≡◌, Result, Ok, Err, MatchResult};
+ghost use Rattle.toml.specs.Data.{Data};
+ghost use Rattle.toml.specs.View.{table_view, view};
+ghost use Rattle.metric_base.specs.Steps.{Gives, with_fault};
+ghost use Rattle.metric_names.specs.Names.{name_of};
+ghost use Rattle.metric_glob.specs.Patterns.{pattern_of};
+ghost use Rattle.metric_views.specs.declared.fault.Place.{Place};
+ghost use Rattle.metric_views.specs.declared.fault.ViewFault.{ViewFault};
+ghost use Rattle.metric_views.specs.Views.{optional_field};
+
+use crate::by_kind::{aggregation_of, limit_of};
+use crate::choices::Aggregation;
+use crate::fault::{Place, ViewFault, faults_at};
+use metric_base::{Few, Text};
+use metric_catalogue::{Kind, is_rising};
+use metric_glob::{Pattern, PatternFault};
+use metric_names::{Name, NameFault};
+use metric_table::{integers_of, member, short_text, text_of, texts_of};
+use std::alloc::Global;
+use toml::{Table, Value};
+
+/// What a field of a view can be.
+pub(crate) trait FieldValue: Drop {
+    /// What a value is read as, or its first fault.
+    ghost read_as: { Place → Data → Result Self ViewFault };
+
+    /// What a value is read as.
+    fn read(alloc: Global, value: &Value, at: Place) -> Result<Self, ViewFault>
+    where
+        Self: Sized,
+        ensures { Gives ViewFault.Memory result (read_as at (view value.now)) };
+}
+
+/// The value of a field, where the table has it.
+#[tactic(auto, unfolding(crate::specs::Views::optional_field))]
+pub(crate) fn optional_field<T: FieldValue>(
+    alloc: Global,
+    table: &Table,
+    name: &str,
+    at: Place,
+) -> Result<Option<T>, ViewFault>
+    ensures { Gives ViewFault.Memory result (optional_field (T.read_as at) name.now (table_view table.now)) }
+{
+    match member(table, name) {
+        Some(value) => {
+            let value = T::read(alloc, value, at)?;
+            Ok(Some(value))
+        }
+        None => Ok(None),
+    }
+}
+
+impl FieldValue for Text {
+    ghost use Rattle.metric_views.specs.Views.{text_at};
+
+    ghost read_as = { text_at };
+
+    #[tactic(auto, unfolding(crate::specs::Views::text_at, metric_table::specs::Fields::short_text_of))]
+    fn read(alloc: Global, value: &Value, at: Place) -> Result<Text, ViewFault> {
+        let faults = faults_at(at);
+        let text = text_of(value, &faults)?;
+        let text = short_text(text, &faults)?;
+        let text = Text::new(alloc, text)?;
+        Ok(text)
+    }
+}
+
+impl FieldValue for Pattern {
+    ghost use Rattle.metric_views.specs.Views.{pattern_at};
+
+    ghost read_as = { pattern_at };
+
+    #[tactic(auto, unfolding(crate::specs::Views::pattern_at))]
+    fn read(alloc: Global, value: &Value, at: Place) -> Result<Pattern, ViewFault> {
+        let text = text_of(value, &faults_at(at))?;
+        pattern(alloc, text, at)
+    }
+}
+
+fn pattern(alloc: Global, text: &str, at: Place) -> Result<Pattern, ViewFault>
+    ensures { Gives ViewFault.Memory result (with_fault (λ _. ViewFault.BadPattern at) (pattern_of text.now)) }
+{
+    match Pattern::parse(alloc, text) {
+        Ok(pattern) => Ok(pattern),
+        Err(PatternFault::Memory) => Err(ViewFault::Memory),
+        Err(_) => Err(ViewFault::BadPattern { at }),
+    }
+}
+
+impl FieldValue for Name {
+    ghost use Rattle.metric_views.specs.Views.{name_at};
+
+    ghost read_as = { name_at };
+
+    #[tactic(auto, unfolding(crate::specs::Views::name_at))]
+    fn read(alloc: Global, value: &Value, at: Place) -> Result<Name, ViewFault> {
+        let text = text_of(value, &faults_at(at))?;
+        name(alloc, text, at)
+    }
+}
+
+fn name(alloc: Global, text: &str, at: Place) -> Result<Name, ViewFault>
+    ensures { Gives ViewFault.Memory result (with_fault (λ _. ViewFault.BadName at) (name_of text.now)) }
+{
+    match Name::parse(alloc, text) {
+        Ok(name) => Ok(name),
+        Err(NameFault::Memory) => Err(ViewFault::Memory),
+        Err(_) => Err(ViewFault::BadName { at }),
+    }
+}
+
+impl FieldValue for Kind {
+    ghost use Rattle.metric_views.specs.Views.{kind_at};
+
+    ghost read_as = { kind_at };
+
+    #[tactic(auto, unfolding(crate::specs::Views::kind_at))]
+    fn read(_alloc: Global, value: &Value, at: Place) -> Result<Kind, ViewFault> {
+        let text = text_of(value, &faults_at(at))?;
+        Kind::named(text).ok_or(ViewFault::WrongKind { at })
+    }
+}
+
+impl FieldValue for Aggregation {
+    ghost use Rattle.metric_views.specs.Readers.{aggregation_of};
+
+    ghost read_as = { aggregation_of };
+
+    fn read(_alloc: Global, value: &Value, at: Place) -> Result<Aggregation, ViewFault> {
+        aggregation_of(value, at)
+    }
+}
+
+impl FieldValue for u32 {
+    ghost use Rattle.metric_views.specs.Readers.{limit_of};
+
+    ghost read_as = { limit_of };
+
+    fn read(_alloc: Global, value: &Value, at: Place) -> Result<u32, ViewFault> {
+        limit_of(value, at)
+    }
+}
+
+impl FieldValue for Few<i64, 128> {
+    ghost use Rattle.metric_views.specs.Views.{boundaries_at};
+
+    ghost read_as = { boundaries_at };
+
+    #[tactic(auto, unfolding(crate::specs::Views::boundaries_at))]
+    fn read(alloc: Global, value: &Value, at: Place) -> Result<Few<i64, 128>, ViewFault> {
+        let boundaries = integers_of(alloc, value, 128, &faults_at(at))?;
+        if is_rising(boundaries.as_slice()) {
+            Ok(Few::from_items(boundaries))
+        } else {
+            Err(ViewFault::BadBoundaries { at })
+        }
+    }
+}
+
+impl FieldValue for Few<Text, 64> {
+    ghost use Rattle.metric_views.specs.Views.{keys_at};
+
+    ghost read_as = { keys_at };
+
+    #[tactic(auto, unfolding(crate::specs::Views::keys_at))]
+    fn read(alloc: Global, value: &Value, at: Place) -> Result<Few<Text, 64>, ViewFault> {
+        let keys = texts_of(alloc, value, 64, &faults_at(at))?;
+        Ok(Few::from_items(keys))
+    }
+}

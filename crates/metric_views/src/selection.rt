@@ -1,0 +1,86 @@
+//! Which instruments a view selects.
+ghost use Rattle.std.specs.Prelude.{◌≡◌, ◌↔◌, IsTrue};
+ghost use Rattle.metric_glob.specs.Matching.{is_match};
+ghost use Rattle.metric_views.specs.Selection.{Selects, is_kind, is_text, passes, selects, selects_instrument, selects_meter};
+
+use crate::config::{Criteria, View};
+use metric_base::Text;
+use metric_catalogue::{Instrument, Kind, Meter};
+use metric_glob::Pattern;
+use metric_names::Name;
+
+impl View {
+    /// Whether the view selects an instrument of a meter: every criterion that it gives holds
+    /// (Metrics SDK, instrument selection criteria). Unit and meter fields are compared by bytes. Takes
+    /// no memory.
+    #[tactic(auto, using(crate::specs::SelectionLaws::selection_laws))]
+    pub fn selects(&self, meter: &Meter, instrument: &Instrument) -> bool
+        ensures test { IsTrue result ↔ Selects self.now.criteria meter.now instrument.now }
+        ensures value { result ≡ selects self.now.criteria meter.now instrument.now }
+    {
+        selects(&self.criteria, meter, instrument)
+    }
+}
+
+#[tactic(auto, unfolding(crate::specs::Selection::selects))]
+fn selects(criteria: &Criteria, meter: &Meter, instrument: &Instrument) -> bool
+    ensures { result ≡ selects criteria.now meter.now instrument.now }
+{
+    selects_instrument(criteria, instrument) && selects_meter(criteria, meter)
+}
+
+#[tactic(auto, unfolding(crate::specs::Selection::selects_instrument))]
+fn selects_instrument(criteria: &Criteria, instrument: &Instrument) -> bool
+    ensures { result ≡ selects_instrument criteria.now instrument.now }
+{
+    is_named(&criteria.instrument_name, &instrument.name)
+        && is_of_kind(&criteria.instrument_type, instrument.kind)
+        && is_text(&criteria.instrument_unit, instrument.unit.as_str())
+}
+
+#[tactic(auto, unfolding(crate::specs::Selection::selects_meter))]
+fn selects_meter(criteria: &Criteria, meter: &Meter) -> bool
+    ensures { result ≡ selects_meter criteria.now meter.now }
+{
+    is_text(&criteria.meter_name, meter.name.as_str())
+        && is_text(&criteria.meter_version, meter.version.as_str())
+        && is_text(&criteria.meter_schema_url, meter.schema_url.as_str())
+}
+
+fn is_named(criterion: &Option<Pattern>, name: &Name) -> bool
+    ensures { result ≡ passes (λ pattern. is_match pattern name.now) criterion.now }
+{
+    match criterion {
+        Some(pattern) => pattern.matches(name),
+        None => true,
+    }
+}
+
+fn is_of_kind(criterion: &Option<Kind>, kind: Kind) -> bool
+    ensures { result ≡ passes (λ wanted. is_kind wanted kind) criterion.now }
+{
+    match criterion {
+        Some(wanted) => is_kind(*wanted, kind),
+        None => true,
+    }
+}
+
+fn is_kind(kind: Kind, other: Kind) -> bool
+    ensures { result ≡ is_kind kind other }
+{
+    match kind {
+        Kind::Counter => matches!(other, Kind::Counter),
+        Kind::UpDownCounter => matches!(other, Kind::UpDownCounter),
+        Kind::Histogram => matches!(other, Kind::Histogram),
+        Kind::Gauge => matches!(other, Kind::Gauge),
+    }
+}
+
+fn is_text(criterion: &Option<Text>, own: &str) -> bool
+    ensures { result ≡ is_text own.now criterion.now }
+{
+    match criterion {
+        Some(text) => text.as_str() == own,
+        None => true,
+    }
+}

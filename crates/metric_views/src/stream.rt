@@ -1,0 +1,92 @@
+//! The stream that a reader exports of an instrument.
+use crate::choices::Temporality;
+use metric_base::{Copied, Few, Items, Text};
+use metric_catalogue::Kind;
+use metric_names::{Name, Unit};
+use std::alloc::{AllocError, Global};
+
+/// How the points of a stream are made of its recordings (Metrics SDK, aggregation).
+#[derive(Debug, Drop)]
+pub enum StreamAggregation {
+    /// The sum.
+    Sum,
+    /// The last value.
+    LastValue,
+    /// How many values fall between these strictly rising boundaries.
+    Histogram(Few<i64, 128>),
+}
+
+/// A stream: what one reader exports of one instrument, as one view or the default configures it
+/// (Metrics SDK, stream configuration).
+#[derive(Drop)]
+pub struct Stream {
+    /// The number of the reader.
+    pub reader: u32,
+    /// The number of the instrument.
+    pub instrument: u32,
+    /// The number of the view, or none for the default stream.
+    pub view: Option<u32>,
+    /// The name.
+    pub name: Name,
+    /// The description.
+    pub description: Text,
+    /// The unit.
+    pub unit: Unit,
+    /// The kind of the instrument.
+    pub kind: Kind,
+    /// How points are made.
+    pub aggregation: StreamAggregation,
+    /// Whether each declared key is kept, in declared order.
+    pub kept: Few<bool, 8>,
+    /// How many series it holds beside the overflow point.
+    pub limit: u32,
+    /// What a collection reports.
+    pub temporality: Temporality,
+}
+
+/// What a view, or the default, makes of an instrument for a reader.
+#[derive(Drop)]
+pub enum Fill {
+    /// The aggregation does not fit the instrument's kind.
+    Unfit,
+    /// The aggregation drops the recordings.
+    Dropped,
+    /// This stream.
+    Kept(Stream),
+}
+
+impl Copied for StreamAggregation {
+    fn copy(&self, alloc: Global) -> Result<StreamAggregation, AllocError> {
+        match self {
+            StreamAggregation::Sum => Ok(StreamAggregation::Sum),
+            StreamAggregation::LastValue => Ok(StreamAggregation::LastValue),
+            StreamAggregation::Histogram(boundaries) => {
+                let boundaries = boundaries.copy(alloc)?;
+                Ok(StreamAggregation::Histogram(boundaries))
+            }
+        }
+    }
+}
+
+impl Copied for Stream {
+    fn copy(&self, alloc: Global) -> Result<Stream, AllocError> {
+        let name = self.name.copy(alloc)?;
+        let description = self.description.copy(alloc)?;
+        let unit = self.unit.copy(alloc)?;
+        let aggregation = self.aggregation.copy(alloc)?;
+        let kept = Vec::from_slice(alloc, self.kept.as_slice())?;
+        Ok(Stream {
+            reader: self.reader,
+            instrument: self.instrument,
+            view: self.view,
+            name,
+            description,
+            unit,
+            kind: self.kind,
+            aggregation,
+            kept: Few::from_items(Items::from_vec(kept)),
+            limit: self.limit,
+            temporality: self.temporality,
+        })
+    }
+}
