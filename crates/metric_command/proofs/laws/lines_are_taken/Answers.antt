@@ -1,0 +1,20 @@
+-- The parse computes at these words, whatever the name before them is.
+use Rattle.std.proofs.Common.{refl}
+use Rattle.clap.proofs.OnLiterals.{clap_on_literals}
+use Rattle.metric_command.proofs.laws.lines_are_taken.Goals as goal
+
+pub returns-clause-no_words : goal.returns-clause-no_words
+unfolding clap_on_literals
+returns-clause-no_words c = λ name. (refl, refl)
+
+pub returns-clause-show : goal.returns-clause-show
+unfolding clap_on_literals
+returns-clause-show c = λ name. (refl, refl)
+
+pub returns-clause-replay : goal.returns-clause-replay
+unfolding clap_on_literals
+returns-clause-replay c = λ name. (refl, refl)
+
+pub returns-clause-trial : goal.returns-clause-trial
+unfolding clap_on_literals
+returns-clause-trial c = λ name. (refl, refl)

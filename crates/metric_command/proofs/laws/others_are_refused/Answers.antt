@@ -1,0 +1,43 @@
+-- The parse computes at these words, whatever the name before them is.
+use Rattle.clap.proofs.OnLiterals.{clap_on_literals}
+use Rattle.metric_command.proofs.laws.others_are_refused.Goals as goal
+
+pub returns-clause-help : goal.returns-clause-help
+unfolding clap_on_literals
+returns-clause-help c = λ name none. cc
+
+pub returns-clause-help_flag : goal.returns-clause-help_flag
+unfolding clap_on_literals
+returns-clause-help_flag c = λ name none. cc
+
+pub returns-clause-short_help : goal.returns-clause-short_help
+unfolding clap_on_literals
+returns-clause-short_help c = λ name none. cc
+
+pub returns-clause-help_of_command : goal.returns-clause-help_of_command
+unfolding clap_on_literals
+returns-clause-help_of_command c = λ name none. cc
+
+pub returns-clause-version : goal.returns-clause-version
+unfolding clap_on_literals
+returns-clause-version c = λ name none. cc
+
+pub returns-clause-unknown : goal.returns-clause-unknown
+unfolding clap_on_literals
+returns-clause-unknown c = λ name none. cc
+
+pub returns-clause-no_command : goal.returns-clause-no_command
+unfolding clap_on_literals
+returns-clause-no_command c = λ name none. cc
+
+pub returns-clause-twice : goal.returns-clause-twice
+unfolding clap_on_literals
+returns-clause-twice c = λ name none. cc
+
+pub returns-clause-value : goal.returns-clause-value
+unfolding clap_on_literals
+returns-clause-value c = λ name none. cc
+
+pub returns-clause-more : goal.returns-clause-more
+unfolding clap_on_literals
+returns-clause-more c = λ name none. cc

@@ -1,0 +1,33 @@
+//! Which command lines the program has, as its definitions tell clap of them.
+ghost use Rattle.std.specs.Prelude.{List, ℕ, [], ◌∷◌, codes, true, false};
+ghost use Rattle.metric_command.specs.Lines.{IsRefused, Means};
+ghost use Rattle.metric_command.specs.declared.line.Line.TheVariants.{Show, Replay};
+
+/// Clap takes each line of the program, whatever the first word is, and this is what it means. Does
+/// nothing.
+pub fn lines_are_taken()
+    ensures no_words { (name : List ℕ) → Means (name ∷ []) (Replay true) }
+    ensures show { (name : List ℕ) → Means (name ∷ codes "show" ∷ []) Show }
+    ensures replay { (name : List ℕ) → Means (name ∷ codes "replay" ∷ []) (Replay false) }
+    ensures trial { (name : List ℕ) →
+        Means (name ∷ codes "replay" ∷ codes "--trial" ∷ []) (Replay true) }
+{}
+
+/// Clap refuses each call for help and for the version, what is no command, and a flag that is
+/// given twice, has a value or belongs to another command. Does nothing.
+pub fn others_are_refused()
+    ensures help { (name : List ℕ) → IsRefused (name ∷ codes "help" ∷ []) }
+    ensures help_flag { (name : List ℕ) → IsRefused (name ∷ codes "--help" ∷ []) }
+    ensures short_help { (name : List ℕ) → IsRefused (name ∷ codes "-h" ∷ []) }
+    ensures help_of_command { (name : List ℕ) →
+        IsRefused (name ∷ codes "show" ∷ codes "--help" ∷ []) }
+    ensures version { (name : List ℕ) → IsRefused (name ∷ codes "--version" ∷ []) }
+    ensures unknown { (name : List ℕ) → IsRefused (name ∷ codes "reply" ∷ []) }
+    ensures no_command { (name : List ℕ) → IsRefused (name ∷ codes "--trial" ∷ []) }
+    ensures twice { (name : List ℕ) →
+        IsRefused (name ∷ codes "replay" ∷ codes "--trial" ∷ codes "--trial" ∷ []) }
+    ensures value { (name : List ℕ) →
+        IsRefused (name ∷ codes "replay" ∷ codes "--trial=true" ∷ []) }
+    ensures more { (name : List ℕ) →
+        IsRefused (name ∷ codes "show" ∷ codes "--trial" ∷ []) }
+{}

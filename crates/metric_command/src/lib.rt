@@ -1,0 +1,13 @@
+//! The words of the program's command line, read by clap.
+#![tactic(auto)]
+
+mod laws;
+mod line;
+mod reading;
+
+pub use laws::{lines_are_taken, others_are_refused};
+pub use line::{Line, LineFault};
+pub use reading::command_of;
+
+#[cfg(test)]
+mod tests;

@@ -1,0 +1,2 @@
+mod KeyNames
+mod Streams

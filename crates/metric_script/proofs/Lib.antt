@@ -1,0 +1,5 @@
+mod AttributeLaws
+mod LineLaws
+mod ScriptLaws
+mod OneScript
+mod PlaceLaws

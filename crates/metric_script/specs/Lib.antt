@@ -1,0 +1,4 @@
+pub mod Spelling
+pub mod Scripts
+pub mod Reading
+pub mod Stops

@@ -1,0 +1,56 @@
+-- What a script is, and which of its lines is the first faulty one.
+use Rattle.std.specs.Prelude.{◌≡◌, ℕ, ◌+◌, ◌<◌, ◌^◌, Bool, true, not, ◌==◌, List, [], ◌∷◌, ◌++◌, length, filter, map}
+use Rattle.std.specs.List.{AllByRecursion}
+use Rattle.metric_core.specs.declared.event.Event.{Event}
+use Rattle.metric_parts.specs.Texts.{ScriptLines}
+use Rattle.metric_script.specs.Spelling.{start_text, event_text, FitsEvent}
+use Rattle.metric_script.specs.declared.fault.ScriptFault.{ScriptFault}
+use Rattle.metric_script.specs.declared.fault.ScriptFault.TheVariants.{Input, Memory}
+
+-- a line that is passed over: it is empty, or begins with `#`
+abbrev pub is_passed_over : List ℕ → Bool
+is_passed_over [] = true
+is_passed_over (b ∷ line) = b == 35
+
+-- the lines that are not passed over
+abbrev pub read_lines : List (List ℕ) → List (List ℕ)
+read_lines lines = filter (λ line. not (is_passed_over line)) lines
+
+-- The lines that are not passed over spell the start, and then each event.
+pub record IsScript (lines : List (List ℕ)) (start : ℕ) (events : List Event) : Type 0 where
+  pub spelled : read_lines lines ≡ start_text start ∷ map event_text events
+  pub start_fits : start < 2 ^ 64
+  pub events_fit : AllByRecursion FitsEvent events
+
+-- Some script begins with these lines.
+pub record BeginsScript (lines : List (List ℕ)) : Type 0 where
+  pub more : List (List ℕ)
+  pub start : ℕ
+  pub events : List Event
+  pub is_script : IsScript (lines ++ more) start events
+
+-- No script goes on after the lines before with the first of the rest. Where nothing is left, they are no script.
+abbrev pub IsStuck : List (List ℕ) → List (List ℕ) → Type 0
+IsStuck before [] = (start : ℕ) (events : List Event) → IsScript before start events → ⊥
+IsStuck before (line ∷ rest) = BeginsScript (before ++ line ∷ []) → ⊥
+
+-- The line at this place, counted from 0, is the first with which no script goes on. Where the lines are the
+-- beginning of a script and no script, it is the place after the last.
+pub record IsFirstFault (lines : List (List ℕ)) (place : ℕ) : Type 0 where
+  pub before : List (List ℕ)
+  pub rest : List (List ℕ)
+  pub whole : lines ≡ before ++ rest
+  pub at : place ≡ length before
+  pub begun : BeginsScript before
+  pub stuck : IsStuck before rest
+
+-- The line that has this number in the input is the first fault of the script.
+pub record IsFirstFaultAt (script : ScriptLines) (number : ℕ) : Type 0 where
+  pub place : ℕ
+  pub numbered : number ≡ script.first_line + place
+  pub fault : IsFirstFault script.lines place
+
+-- a fact of the line that a fault names
+abbrev pub OnInput : ScriptFault → (ℕ → Type 0) → Type 0
+OnInput (Input line) P = P line
+OnInput Memory P = Unit {0}

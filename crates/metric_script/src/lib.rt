@@ -1,0 +1,17 @@
+//! The script of an input: when it starts, and its events, each read from its one spelling.
+#![tactic(auto)]
+
+mod events;
+mod fault;
+mod laws;
+mod line;
+mod reading;
+mod stop;
+
+pub use events::ScriptEvents;
+pub use fault::ScriptFault;
+pub use laws::one_script;
+pub use reading::events_of;
+
+#[cfg(test)]
+mod tests;
