@@ -1,0 +1,4 @@
+mod AnswerLaws
+mod OutputLaws
+mod Replayed
+mod Told

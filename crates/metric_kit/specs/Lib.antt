@@ -1,0 +1,6 @@
+pub mod Faults
+pub mod Replies
+pub mod Planned
+pub mod Runs
+pub mod Replaying
+pub mod Showing
