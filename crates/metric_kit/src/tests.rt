@@ -248,6 +248,37 @@ fn streams_and_warnings_are_shown(rt: HostRuntime) -> Result<(), Fail> {
     Ok(())
 }
 
+// What a view gives, and by which view the instrument `HITS` of unit `by` is then seen.
+const CRITERIA: &[(&str, &str)] = &[
+    ("", "0"),
+    ("instrument_name = \"h?ts\"", "0"),
+    ("instrument_unit = \"By\"", "-"),
+    ("meter_version = \"\"", "0"),
+];
+
+// What is shown of `HITS` for a view.
+fn shown(alloc: Global, view: &str, sink: &mut CutSink) -> Result<Option<KitFault>, Fail> {
+    let input = format!(in alloc;
+        "%% catalogue\nformat = 1\n[[meter]]\nname = 'm'\n[[meter.instrument]]\nname = 'HITS'\nunit = 'by'\nkind = 'counter'\nrange = [0, 9]\n%% config\nformat = 1\n[[reader]]\nname = 'main'\n[[view]]\n{view}\n"
+    )?;
+    let mut source = CutSource::new(input.as_bytes(), None);
+    Ok(show_run(alloc, &mut source, sink).err())
+}
+
+#[test]
+fn a_view_selects_by_what_it_gives(rt: HostRuntime) -> Result<(), Fail> {
+    for (view, number) in CRITERIA {
+        let mut sink = CutSink::new(rt.alloc(), None);
+        let fault = shown(rt.alloc(), view, &mut sink)?;
+        assert!(rt; fault.is_none());
+        let due = format!(in rt.alloc();
+            "stream 0 reader=\"main\" instrument=0 view={number} name=\"HITS\" kind=sum monotonic=yes temporality=cumulative limit=2000 keys=[]\n"
+        )?;
+        assert_eq!(rt; sink.taken(), due.as_bytes());
+    }
+    Ok(())
+}
+
 #[test]
 fn a_part_out_of_place_is_not_shown(rt: HostRuntime) -> Result<(), Fail> {
     let mut source = CutSource::new(b"%% config\n".as_slice(), None);
