@@ -6,21 +6,21 @@ use Rattle.std.proofs.lemmas.Bool.{and_parts, true≢false}
 use Rattle.std.proofs.lemmas.List.{get_or_default}
 use Rattle.std.proofs.lemmas.Int.{ints}
 use Rattle.std.proofs.lemmas.List.Sums.{sum_by-cons}
-use Rattle.metric_aggregate.specs.Rising.{rises, rises_from}
+use Rattle.metric_base.specs.Boundaries.{is_rising, rises_after}
 
-below_later : (x : ℤ) (ys : List ℤ) → rises_from x ys ≡ true → (j : ℕ) (d : ℤ) → j < length ys → x <ℤ get_or ys j d
+below_later : (x : ℤ) (ys : List ℤ) → rises_after x ys ≡ true → (j : ℕ) (d : ℤ) → j < length ys → x <ℤ get_or ys j d
 below_later x [] r j d l = absurd (omega arith)
-below_later x (y ∷ ys) r zero d l = grind (arith, ints, and_parts (int_lt x y) (rises_from y ys) r)
+below_later x (y ∷ ys) r zero d l = grind (arith, ints, and_parts (int_lt x y) (rises_after y ys) r)
 below_later x (y ∷ ys) r (suc j) d l =
-    let parts : (int_lt x y ≡ true) × (rises_from y ys ≡ true) = and_parts (int_lt x y) (rises_from y ys) r in
+    let parts : (int_lt x y ≡ true) × (rises_after y ys ≡ true) = and_parts (int_lt x y) (rises_after y ys) r in
     let later : y <ℤ get_or ys j d = below_later y ys parts.1 j d (omega arith) in
     grind (arith, ints, parts.0, later)
 
-rises_rest : (x : ℤ) (ys : List ℤ) → rises_from x ys ≡ true → rises ys ≡ true
+rises_rest : (x : ℤ) (ys : List ℤ) → rises_after x ys ≡ true → is_rising ys ≡ true
 rises_rest x [] r = refl
-rises_rest x (y ∷ ys) r = (and_parts (int_lt x y) (rises_from y ys) r).1
+rises_rest x (y ∷ ys) r = (and_parts (int_lt x y) (rises_after y ys) r).1
 
-pub rising_partitioned : (xs : List ℤ) (v : ℤ) → rises xs ≡ true → IsPartitionedBy (λ b. int_lt b v) xs
+pub rising_partitioned : (xs : List ℤ) (v : ℤ) → is_rising xs ≡ true → IsPartitionedBy (λ b. int_lt b v) xs
 rising_partitioned [] v r i j d le below less = absurd (omega arith)
 rising_partitioned (x ∷ xs) v r zero zero d le below less = less
 rising_partitioned (x ∷ xs) v r zero (suc j) d le below less =

@@ -1,7 +1,7 @@
 //! The histogram of the values over explicit boundaries.
 ghost use Rattle.std.specs.Prelude.{◌≡◌, ◌+◌, ◌^◌, ◌<◌, pos, ◌+ℤ◌, Bool, true, false, [], IfOk, length, is_some, slice_index, slice_set, option_map};
 ghost use Rattle.metric_aggregate.specs.BucketAgg.{fits_total};
-ghost use Rattle.metric_aggregate.specs.Rising.{rises};
+ghost use Rattle.metric_base.specs.Boundaries.{is_rising};
 ghost use Rattle.metric_aggregate.specs.Value.{kept_sum};
 
 use crate::aggregate::Aggregate;
@@ -41,7 +41,7 @@ impl BucketAgg {
     /// A histogram of no values over boundaries that rise strictly; none at all make a single bucket.
     /// All room that it will use is made here. Fails only where memory is refused.
     pub fn new(alloc: Global, boundaries: &[i64], keeps_sum: bool) -> Result<BucketAgg, AllocError>
-        requires { rises boundaries.now ≡ true }
+        requires { is_rising boundaries.now ≡ true }
         ensures aggregation { IfOk result (λ a. histogram_aggregation a ≡ HistogramAggregation boundaries.now keeps_sum) }
         ensures stands { IfOk result (λ a. StandsBuckets a []) }
     {

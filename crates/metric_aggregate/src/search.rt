@@ -1,6 +1,6 @@
 //! The place of a value among rising numbers.
 ghost use Rattle.std.specs.Prelude.{◌≡◌, ◌^◌, ◌<◌, true, if◌then◌else◌};
-ghost use Rattle.metric_aggregate.specs.Rising.{rises};
+ghost use Rattle.metric_base.specs.Boundaries.{is_rising};
 ghost use Rattle.metric_aggregate.specs.Value.{bucket_of};
 
 /// How many numbers of a rising list are less than a value.
@@ -8,7 +8,7 @@ ghost use Rattle.metric_aggregate.specs.Value.{bucket_of};
 /// A binary search in which each step adds its width, or nothing, by a shift: a branch on the values
 /// would be mispredicted every other time, which costs more than all the rest of a recording.
 pub(crate) fn count_less(numbers: &[i64], value: i64) -> usize
-    requires { rises numbers.now ≡ true }
+    requires { is_rising numbers.now ≡ true }
     ensures { result ≡ bucket_of numbers.now value }
 {
     if numbers.is_empty() {

@@ -1,2 +1,5 @@
 pub mod Steps
 pub mod StepLaws
+pub mod Boundaries
+pub mod Fronts
+pub mod FrontLaws

@@ -54,3 +54,10 @@ fn texts_are_found_by_their_hash(rt: HostRuntime) -> Result<(), Fail> {
     assert_eq!(rt; lengths.get(&sought), Some(&2));
     Ok(())
 }
+
+#[test]
+fn rising_numbers_are_told(rt: HostRuntime) {
+    assert!(rt; is_rising(&[]));
+    assert!(rt; is_rising(&[-3, 0, 4]));
+    assert!(rt; !is_rising(&[0, 4, 4]));
+}

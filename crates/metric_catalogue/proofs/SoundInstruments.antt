@@ -15,7 +15,8 @@ use Rattle.metric_catalogue.specs.EachLaws.{EachAt-empty, each_made}
 use Rattle.metric_catalogue.specs.Faults.{faults_at, pair_faults_at}
 use Rattle.metric_catalogue.specs.Instruments.{advice_field, boundaries_of, boundaries_within, head_of, instrument_of, is_instrument, is_range, pair_of, range_field}
 use Rattle.metric_catalogue.specs.Keys.{key_of}
-use Rattle.metric_catalogue.specs.Kinds.{is_monotonic, is_rising}
+use Rattle.metric_base.specs.Boundaries.{is_rising}
+use Rattle.metric_catalogue.specs.Kinds.{is_monotonic}
 use Rattle.metric_catalogue.specs.Sound.{EachAt, IsSoundInstrument, IsSoundKey}
 use Rattle.metric_catalogue.proofs.SoundKeys.{key_made, not_true}
 

@@ -17,7 +17,8 @@ use Rattle.metric_catalogue.specs.declared.fault.CatalogueFault.TheVariants.{Wro
 use Rattle.metric_catalogue.specs.declared.fault.Place.{Place}
 use Rattle.metric_catalogue.specs.declared.fault.Place.TheVariants as place
 use Rattle.metric_catalogue.specs.Faults.{faults_at, pair_faults_at}
-use Rattle.metric_catalogue.specs.Kinds.{kind_named, is_monotonic, is_rising}
+use Rattle.metric_base.specs.Boundaries.{is_rising}
+use Rattle.metric_catalogue.specs.Kinds.{kind_named, is_monotonic}
 use Rattle.metric_catalogue.specs.Texts.{free_text}
 use Rattle.metric_catalogue.specs.Keys.{key_of}
 

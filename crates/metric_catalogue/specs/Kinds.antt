@@ -1,5 +1,5 @@
--- Kinds of instruments, and boundaries.
-use Rattle.std.specs.Prelude.{ℕ, ℤ, Bool, true, false, ◌&&◌, if◌then◌else◌, List, [], ◌∷◌, Option, Some, None, int_lt, codes}
+-- Kinds of instruments.
+use Rattle.std.specs.Prelude.{ℕ, Bool, true, false, if◌then◌else◌, List, Option, Some, None, codes}
 use Rattle.std.specs.Str.{bytes_eq}
 use Rattle.metric_catalogue.specs.declared.contents.Kind.{Kind}
 use Rattle.metric_catalogue.specs.declared.contents.Kind.TheVariants.{Counter, UpDownCounter, Histogram, Gauge}
@@ -19,13 +19,3 @@ is_monotonic Counter = true
 is_monotonic UpDownCounter = false
 is_monotonic Histogram = true
 is_monotonic Gauge = false
-
--- each number is greater than the one before it
-abbrev pub rises_after : ℤ → List ℤ → Bool
-rises_after before [] = true
-rises_after before (b ∷ bs) = int_lt before b && rises_after b bs
-
--- strictly rising
-abbrev pub is_rising : List ℤ → Bool
-is_rising [] = true
-is_rising (b ∷ bs) = rises_after b bs

@@ -3,6 +3,7 @@ pub mod Places
 pub mod PlaceLaws
 pub mod Numbering
 pub mod Faults
+pub mod FaultPlaces
 pub mod Texts
 pub mod Kinds
 pub mod Keys

@@ -1,5 +1,6 @@
 -- The number and the name of each refusal in printed texts.
-use Rattle.std.specs.Prelude.{ℕ, List, codes}
+use Rattle.std.specs.Prelude.{ℕ, List, codes, ◌++◌}
+use Rattle.std.specs.Fmt.{decimal}
 use Rattle.metric_catalogue.specs.declared.refusal.Refusal.{Refusal}
 use Rattle.metric_catalogue.specs.declared.refusal.Refusal.TheVariants.{Stranger, UnknownInstrument, UnknownRecorder, UnknownReader, DuplicateKey, UnknownKey, UnknownValue, MissingKey, ValueRange, Closed, Budget, SumRange, Memory}
 
@@ -32,3 +33,7 @@ name_of Budget = codes "Budget"
 name_of SumRange = codes "SumRange"
 name_of Memory = codes "Memory"
 name_of Stranger = codes "Stranger"
+
+-- both, as the refusal is printed
+abbrev pub refusal_text : Refusal → List ℕ
+refusal_text refusal = decimal (number_of refusal) ++ (codes " " ++ name_of refusal)

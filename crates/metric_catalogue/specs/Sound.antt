@@ -10,7 +10,8 @@ use Rattle.metric_catalogue.specs.declared.contents.Meter.{Meter}
 use Rattle.metric_catalogue.specs.declared.contents.Recorder.{Recorder}
 use Rattle.metric_catalogue.specs.Instruments.{is_instrument}
 use Rattle.metric_catalogue.specs.Keys.{is_key}
-use Rattle.metric_catalogue.specs.Kinds.{is_monotonic, is_rising}
+use Rattle.metric_base.specs.Boundaries.{is_rising}
+use Rattle.metric_catalogue.specs.Kinds.{is_monotonic}
 use Rattle.metric_catalogue.specs.Meters.{is_meter}
 use Rattle.metric_catalogue.specs.Recorders.{is_budget, is_recorder}
 

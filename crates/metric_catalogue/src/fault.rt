@@ -136,6 +136,11 @@ impl From<AllocError> for CatalogueFault {
 }
 
 impl fmt::Display for Place {
+    ghost use Rattle.std.specs.Prelude.{Some};
+    ghost use Rattle.metric_catalogue.specs.FaultPlaces.{place_text};
+
+    ghost output = { λ place. Some (place_text place) };
+
     fn fmt<W: fmt::Write>(&self, f: &mut fmt::Formatter<W>) -> fmt::Result {
         match self {
             Place::Top => f.write_str("top"),

@@ -8,9 +8,8 @@ ghost use Rattle.metric_catalogue.specs.Instruments.{advice_field, boundaries_of
 use crate::contents::{Instrument, Kind};
 use crate::fault::{CatalogueFault, Place};
 use crate::keys::keys_of;
-use crate::kinds::is_rising;
 use crate::texts::{faults_at, free_text, pair_faults_at};
-use metric_base::{Few, Items, Text};
+use metric_base::{Few, Items, Text, is_rising};
 use metric_names::{Name, NameFault, Unit, UnitFault};
 use metric_table::{
     integer_of, integers_of, list_of, member, only, optional_text, required, tables_field,

@@ -1,6 +1,6 @@
-//! Kinds of instruments, and boundaries.
+//! Kinds of instruments.
 ghost use Rattle.std.specs.Prelude.{◌≡◌};
-ghost use Rattle.metric_catalogue.specs.Kinds.{is_monotonic, is_rising, kind_named, rises_after};
+ghost use Rattle.metric_catalogue.specs.Kinds.{is_monotonic, kind_named};
 
 use crate::contents::Kind;
 
@@ -28,24 +28,5 @@ impl Kind {
         ensures { result ≡ is_monotonic self.now }
     {
         matches!(self, Kind::Counter | Kind::Histogram)
-    }
-}
-
-/// Whether boundaries rise strictly, as those of a histogram do.
-pub fn is_rising(boundaries: &[i64]) -> bool
-    ensures { result ≡ is_rising boundaries.now }
-{
-    match boundaries {
-        [] => true,
-        [first, others @ ..] => rises_after(*first, others),
-    }
-}
-
-fn rises_after(before: i64, boundaries: &[i64]) -> bool
-    ensures { result ≡ rises_after before boundaries.now }
-{
-    match boundaries {
-        [] => true,
-        [first, others @ ..] => before < *first && rises_after(*first, others),
     }
 }

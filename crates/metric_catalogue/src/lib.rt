@@ -21,7 +21,6 @@ pub use catalogue::Catalogue;
 pub use contents::{Budget, Contents, Instrument, Key, Kind, Meter, Recorder};
 pub use encode::{SetKey, encode_ignores_order};
 pub use fault::{CatalogueFault, Place};
-pub use kinds::is_rising;
 pub use refusal::Refusal;
 pub use values::Values;
 

@@ -79,6 +79,11 @@ impl Refusal {
 }
 
 impl fmt::Display for Refusal {
+    ghost use Rattle.std.specs.Prelude.{Some};
+    ghost use Rattle.metric_catalogue.specs.Refusals.{refusal_text};
+
+    ghost output = { λ refusal. Some (refusal_text refusal) };
+
     fn fmt<W: fmt::Write>(&self, f: &mut fmt::Formatter<W>) -> fmt::Result {
         write!(f, "{} {}", self.number(), self.name())
     }

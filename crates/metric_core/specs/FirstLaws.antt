@@ -1,20 +1,19 @@
 -- How a plan grows, one key, one instrument and one stream after the other, and what holds of its streams.
 use Rattle.std.proofs.Common.{◌≡◌, ℕ, zero, suc, ◌+◌, ◌*◌, ◌<◌, ◌≤◌, Bool, true, false, ◌&&◌, min, List, length, take, drop, get_or, [], ◌∷◌, ◌++◌, Option, Some, None, append_assoc, refl, sym, ap, subst, ◌∙◌, arith, ⊎_elim}
-use Rattle.std.specs.Prelude.{ℤ, IfSome, IsTrue, fold, slice_get, int_lt}
+use Rattle.std.specs.Prelude.{ℤ, IfSome, IsTrue, fold, slice_get}
 use Rattle.std.specs.List.{range_with_len, list_all, flat_map}
 use Rattle.std.proofs.lemmas.List.{at_drop_more, length-append, flat_map_more}
 use Rattle.std.proofs.lemmas.List.Folds.{list_all-append}
 use Rattle.std.proofs.lemmas.List.FromFn.{length-range_with_len}
 use Rattle.std.proofs.lemmas.Bool.{cases_lt}
 use Rattle.std.proofs.lemmas.List.Sums.{fold_more}
-use Rattle.metric_aggregate.specs.Rising.{rises, rises_from}
+use Rattle.metric_base.specs.Boundaries.{is_rising}
 use Rattle.metric_catalogue.specs.declared.contents.Contents.{Contents}
 use Rattle.metric_catalogue.specs.declared.contents.Key.{Key}
 use Rattle.metric_catalogue.specs.declared.contents.Kind.{Kind}
 use Rattle.metric_catalogue.specs.declared.contents.Kind.TheVariants as kinds
 use Rattle.metric_catalogue.specs.declared.contents.Instrument.{Instrument}
 use Rattle.metric_catalogue.specs.declared.contents.Recorder.{Recorder}
-use Rattle.metric_catalogue.specs.Kinds.{is_rising, rises_after}
 use Rattle.metric_catalogue.specs.Sound.{IsSound}
 use Rattle.metric_views.specs.declared.choices.Aggregation.{Aggregation}
 use Rattle.metric_views.specs.declared.choices.Aggregation.TheVariants as named
@@ -114,25 +113,17 @@ list_all-flat_map p f each [] = refl
 list_all-flat_map p f each (k ∷ ks) =
     list_all-append p (f k) (flat_map f ks) ∙ ap (λ (b : Bool). b && list_all p (flat_map f ks)) (each k) ∙ list_all-flat_map p f each ks
 
--- boundaries that rise in a catalogue
-rises_from_is : (before : ℤ) (bs : List ℤ) → rises_from before bs ≡ rises_after before bs
-rises_from_is before [] = refl
-rises_from_is before (b ∷ bs) = ap (λ (r : Bool). int_lt before b && r) (rises_from_is b bs)
-
-rises_is : (bs : List ℤ) → rises bs ≡ is_rising bs
-rises_is [] = refl
-rises_is (b ∷ bs) = rises_from_is b bs
-
-advice_rises : (advice : Option (List ℤ)) → IfSome advice (λ boundaries. IsTrue (is_rising boundaries)) → rises (advised false advice) ≡ true
+-- advice that rises, or none
+advice_rises : (advice : Option (List ℤ)) → IfSome advice (λ boundaries. IsTrue (is_rising boundaries)) → is_rising (advised false advice) ≡ true
 advice_rises None sound = refl
-advice_rises (Some boundaries) sound = rises_is boundaries ∙ sound
+advice_rises (Some boundaries) sound = sound
 
 -- what is made of rising boundaries
 abbrev IsSoundChoice : Option StreamAggregation → Type 0
 IsSoundChoice None = Unit {0}
 IsSoundChoice (Some aggregation) = has_rising_boundaries aggregation ≡ true
 
-sound_choice : (aggregation : Aggregation) (kind : Kind) (boundaries : List ℤ) → rises boundaries ≡ true → IsSoundChoice (aggregation_with aggregation kind boundaries)
+sound_choice : (aggregation : Aggregation) (kind : Kind) (boundaries : List ℤ) → is_rising boundaries ≡ true → IsSoundChoice (aggregation_with aggregation kind boundaries)
 sound_choice named.Default kinds.Counter boundaries r = refl
 sound_choice named.Default kinds.UpDownCounter boundaries r = refl
 sound_choice named.Default kinds.Histogram boundaries r = r

@@ -1,7 +1,7 @@
 -- What a plan says of each instrument, as far as the answers to events depend on it.
 use Rattle.std.specs.Prelude.{ℕ, ℤ, Bool, true, List, [], ◌∷◌, ◌++◌, ◌+◌, ◌==◌, if◌then◌else◌}
 use Rattle.metric_aggregate.specs.Aggregation.{Aggregation, SumAggregation, LastValueAggregation, HistogramAggregation}
-use Rattle.metric_aggregate.specs.Rising.{rises}
+use Rattle.metric_base.specs.Boundaries.{is_rising}
 use Rattle.metric_catalogue.specs.Kinds.{is_monotonic}
 use Rattle.metric_catalogue.specs.declared.contents.Contents.{Contents}
 use Rattle.metric_views.specs.declared.stream.Stream.{Stream}
@@ -46,7 +46,7 @@ stream_rule number s =
 abbrev pub has_rising_boundaries : StreamAggregation → Bool
 has_rising_boundaries Sum = true
 has_rising_boundaries LastValue = true
-has_rising_boundaries (Histogram boundaries) = rises boundaries
+has_rising_boundaries (Histogram boundaries) = is_rising boundaries
 
 abbrev pub is_sound_stream : Stream → Bool
 is_sound_stream s = has_rising_boundaries s.aggregation

@@ -1,5 +1,5 @@
 //! The first stage of plans: no view, and one cumulative reader.
-ghost use Rattle.std.specs.Prelude.{◌≡◌, ◌≢◌, ◌↔◌, ◌≤◌, ◌<◌, ◌+◌, ◌*◌, ◌^◌, ◌++◌, true, false, map, fold, length, min, sum_by, nat_le, nat_lt, IfOk, IfErr, IsTrue, OnOk};
+ghost use Rattle.std.specs.Prelude.{◌≡◌, ◌↔◌, ◌≤◌, ◌<◌, ◌+◌, ◌*◌, ◌++◌, true, false, map, fold, length, nat_le, IfOk, IfErr, OnOk};
 ghost use Rattle.std.specs.List.{list_all};
 ghost use Rattle.metric_catalogue.specs.Budgets.{amount_of};
 ghost use Rattle.metric_views.specs.Choices.{choice_for};
@@ -11,7 +11,6 @@ use metric_base::Items;
 use metric_catalogue::{Catalogue, Instrument, Key, Kind, Recorder};
 use metric_views::{Config, Fill, Reader, Stream, Temporality, fill};
 use std::alloc::{AllocError, Global};
-use std::fmt;
 use std::marker::Model;
 
 /// What the run of a catalogue's instruments for a config's readers depends on.
@@ -41,17 +40,6 @@ pub enum FirstFault {
     /// Memory was refused.
     Memory,
 }
-
-impl fmt::Display for FirstFault {
-    fn fmt<W: fmt::Write>(&self, f: &mut fmt::Formatter<W>) -> fmt::Result {
-        match self {
-            FirstFault::NotYet => write!(f, "1 NotYet"),
-            FirstFault::Memory => write!(f, "2 Memory"),
-        }
-    }
-}
-
-impl std::error::Error for FirstFault {}
 
 impl Plan {
     /// The plan of the instruments that a catalogue declares, for the readers of a config: each reader has

@@ -1,14 +1,16 @@
 //! What the definitions of a run come to, in words that do not follow the code.
 ghost use Rattle.std.specs.Prelude.{◌≡◌, ℕ, List, ◌∷◌};
-ghost use Rattle.std.specs.List.Sorted.{IsPermutation};
+ghost use Rattle.std.specs.Cmp.Lexicographic.{slice_cmp};
+ghost use Rattle.std.specs.List.Sorted.{IsPermutation, IsSorted};
+ghost use Rattle.std.specs.Ordering.{nat_cmp};
 ghost use Rattle.metric_core.specs.Points.{ascending as in_order};
 ghost use Rattle.metric_core.specs.Series.{distinct};
 ghost use Rattle.metric_core.specs.SeriesLaws.{others};
 
-/// The keys in ascending order are the keys.
-#[tactic(auto, using(crate::specs::PointLaws::order_laws))]
-pub fn ascending_keeps_keys()
-    ensures { (keys : List (List ℕ)) → IsPermutation keys (in_order keys) }
+/// The keys in ascending order are the keys, and none of them comes before the one that it follows.
+pub fn ascending_sorts_keys()
+    ensures keys { (keys : List (List ℕ)) → IsPermutation keys (in_order keys) }
+    ensures sorted { (keys : List (List ℕ)) → IsSorted (slice_cmp nat_cmp) (in_order keys) }
 {}
 
 /// The distinct keys are the first key, and the distinct ones of the others.

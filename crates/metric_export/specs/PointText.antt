@@ -5,12 +5,12 @@ use Rattle.std.specs.List.{filter_map, zip}
 use Rattle.std.specs.Option.{option_map}
 use Rattle.metric_names.specs.declared.value.AttrValue.{AttrValue}
 use Rattle.metric_names.specs.declared.value.AttrValue.TheVariants.{Flag}
-use Rattle.metric_text.specs.Written.{joined, pair_text}
+use Rattle.metric_text.specs.Lists.{joined, list_text}
+use Rattle.metric_text.specs.Written.{pair_text}
 use Rattle.metric_catalogue.specs.declared.contents.Key.{Key}
 use Rattle.metric_aggregate.specs.declared.point_value.PointValue.{PointValue}
 use Rattle.metric_aggregate.specs.declared.point_value.PointValue.TheVariants.{Sum, Last, Buckets}
 use Rattle.metric_core.specs.declared.batch.Point.{Point}
-use Rattle.metric_export.specs.Lists.{list_text}
 
 -- an attribute: a key's name with its value
 abbrev pub Attribute : Type 0

@@ -1,7 +1,7 @@
 -- How a stream is written.
 use Rattle.std.specs.Prelude.{ℕ, ℤ, Bool, true, false, List, ◌++◌, codes}
 use Rattle.std.specs.Fmt.{signed_decimal}
-use Rattle.metric_text.specs.Written.{quoted}
+use Rattle.metric_text.specs.Lists.{labelled, list_text}
 use Rattle.metric_catalogue.specs.declared.contents.Kind.{Kind}
 use Rattle.metric_catalogue.specs.declared.contents.Meter.{Meter}
 use Rattle.metric_catalogue.specs.Kinds.{is_monotonic}
@@ -10,7 +10,6 @@ use Rattle.metric_views.specs.declared.choices.Temporality.TheVariants.{Delta, C
 use Rattle.metric_views.specs.declared.stream.Stream.{Stream}
 use Rattle.metric_views.specs.declared.stream.StreamAggregation.{StreamAggregation}
 use Rattle.metric_views.specs.declared.stream.StreamAggregation.TheVariants.{Sum, LastValue, Histogram}
-use Rattle.metric_export.specs.Lists.{list_text}
 
 -- how the points of a sum are made
 abbrev pub monotonic_text : Bool → List ℕ
@@ -32,10 +31,6 @@ abbrev pub temporality_text : Temporality → List ℕ
 temporality_text Delta = codes "delta"
 temporality_text Cumulative = codes "cumulative"
 
--- a label with a text in quotes
-abbrev pub labelled : List ℕ → List ℕ → List ℕ
-labelled label text = label ++ quoted text
-
 -- the name, version and schema URL of a meter
 abbrev pub meter_text : Meter → List ℕ
 meter_text meter = labelled (codes " meter=") meter.name ++ (labelled (codes " version=") meter.version ++ labelled (codes " schema=") meter.schema_url)
@@ -56,7 +51,10 @@ points_time_text stream = codes " temporality=" ++ (temporality_text stream.temp
 abbrev pub shape_text : Stream → List ℕ
 shape_text stream = points_kind_text stream ++ points_time_text stream
 
+-- from where a stream's points come: its reader and its meter
+abbrev pub source_text : List ℕ → Meter → List ℕ
+source_text reader meter = labelled (codes "stream reader=") reader ++ meter_text meter
+
 -- the line of a stream, with the name of its reader and its meter
 abbrev pub stream_line : List ℕ → Meter → Stream → List ℕ
-stream_line reader meter stream =
-    labelled (codes "stream reader=") reader ++ (meter_text meter ++ (names_text stream ++ shape_text stream))
+stream_line reader meter stream = source_text reader meter ++ (names_text stream ++ shape_text stream)

@@ -1,8 +1,8 @@
 //! The attributes of a point.
 ghost use Rattle.std.specs.Prelude.{◌≡◌, ◌++◌, OnOk};
 ghost use Rattle.std.specs.Option.{option_copied, option_map};
-ghost use Rattle.metric_export.specs.PointText.{attribute_of, attributes_of, series_text, value_at};
-ghost use Rattle.metric_export.specs.Leading.{attributes_after};
+ghost use Rattle.metric_text.specs.Lists.{led_by};
+ghost use Rattle.metric_export.specs.PointText.{attribute_of, attribute_text, attributes_of, series_text, value_at};
 
 use metric_catalogue::{Key, SetKey, Values};
 use metric_names::AttrValue;
@@ -13,7 +13,7 @@ use std::alloc::AllocError;
 const OVERFLOW_KEY: &str = "otel.metric.overflow";
 
 /// Writes the attributes of a series, or the mark of the overflow series, which is no set key.
-#[tactic(auto, using(crate::proofs::Steps::joined_is_attributes_after))]
+#[tactic(auto, using(metric_text::specs::ListLaws::joined_is_led))]
 pub(crate) fn push_series(
     out: &mut Vec<u8>,
     keys: &[Key],
@@ -36,7 +36,7 @@ fn push_attributes(
     kept: &[bool],
     set: &[u16],
 ) -> Result<(), AllocError>
-    ensures { OnOk result (out.new.items ≡ out.old.items ++ attributes_after before.now (attributes_of keys.now kept.now set.now)) }
+    ensures { OnOk result (out.new.items ≡ out.old.items ++ led_by before.now attribute_text (attributes_of keys.now kept.now set.now)) }
 {
     let Some((key, keys)) = keys.split_first() else {
         return Ok(());

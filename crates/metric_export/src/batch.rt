@@ -61,7 +61,7 @@ fn point_count(streams: &[StreamPoints]) -> u128
     count
 }
 
-#[tactic(auto, using(crate::proofs::Steps::steps))]
+#[tactic(auto, using(metric_text::specs::ListLaws::steps))]
 fn push_streams(
     out: &mut Vec<u8>,
     catalogue: &Catalogue,
@@ -114,7 +114,7 @@ fn push_described(
     push_points(out, description, batch, points)
 }
 
-#[tactic(auto, using(crate::proofs::Steps::steps))]
+#[tactic(auto, using(metric_text::specs::ListLaws::steps))]
 fn push_points(
     out: &mut Vec<u8>,
     description: &Description<'_>,

@@ -4,7 +4,6 @@
 mod attributes;
 mod batch;
 mod description;
-mod list;
 mod point;
 mod stream;
 

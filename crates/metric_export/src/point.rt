@@ -3,11 +3,10 @@ ghost use Rattle.std.specs.Prelude.{◌≡◌, ◌++◌, OnOk};
 ghost use Rattle.metric_export.specs.PointText.{braced_text, counts_text, ending_text, ends_text, number_text, point_text, point_value_text, sum_text, times_text};
 
 use crate::attributes::push_series;
-use crate::list::push_list;
 use metric_aggregate::PointValue;
 use metric_catalogue::{Key, SetKey};
 use metric_core::{Batch, Point};
-use metric_text::{push_byte, push_number, push_signed, push_text};
+use metric_text::{push_byte, push_list, push_number, push_signed, push_text};
 use std::alloc::AllocError;
 
 /// Writes the line of a point of a batch, of which the stream keeps some keys.

@@ -1,10 +1,9 @@
 //! The lines of streams.
 ghost use Rattle.std.specs.Prelude.{◌≡◌, ◌++◌, OnOk};
-ghost use Rattle.metric_export.specs.StreamText.{boundaries_text, kind_text, labelled, meter_text, monotonic_text, names_text, points_kind_text, points_time_text, shape_text, stream_line, temporality_text};
+ghost use Rattle.metric_export.specs.StreamText.{boundaries_text, kind_text, meter_text, monotonic_text, names_text, points_kind_text, points_time_text, shape_text, source_text, stream_line, temporality_text};
 
-use crate::list::push_list;
 use metric_catalogue::{Kind, Meter};
-use metric_text::{push_byte, push_quoted, push_text};
+use metric_text::{push_byte, push_labelled, push_list, push_text};
 use metric_views::{Stream, StreamAggregation, Temporality};
 use std::alloc::AllocError;
 
@@ -44,10 +43,17 @@ pub(crate) fn push_stream_line(
 ) -> Result<(), AllocError>
     ensures { OnOk result (out.new.items ≡ out.old.items ++ stream_line reader.now meter.now stream.now) }
 {
-    push_labelled(out, "stream reader=", reader)?;
-    push_meter(out, meter)?;
+    push_source(out, reader, meter)?;
     push_names(out, stream)?;
     push_shape(out, stream)
+}
+
+#[tactic(auto, unfolding(metric_text::specs::Lists::labelled))]
+fn push_source(out: &mut Vec<u8>, reader: &str, meter: &Meter) -> Result<(), AllocError>
+    ensures { OnOk result (out.new.items ≡ out.old.items ++ source_text reader.now meter.now) }
+{
+    push_labelled(out, "stream reader=", reader)?;
+    push_meter(out, meter)
 }
 
 fn push_meter(out: &mut Vec<u8>, meter: &Meter) -> Result<(), AllocError>
@@ -58,6 +64,7 @@ fn push_meter(out: &mut Vec<u8>, meter: &Meter) -> Result<(), AllocError>
     push_labelled(out, " schema=", meter.schema_url.as_str())
 }
 
+#[tactic(auto, unfolding(metric_text::specs::Lists::labelled))]
 fn push_names(out: &mut Vec<u8>, stream: &Stream) -> Result<(), AllocError>
     ensures { OnOk result (out.new.items ≡ out.old.items ++ names_text stream.now) }
 {
@@ -86,14 +93,6 @@ fn push_points_time(out: &mut Vec<u8>, stream: &Stream) -> Result<(), AllocError
     push_text(out, " temporality=")?;
     push_temporality(out, stream.temporality)?;
     push_byte(out, b'\n')
-}
-
-/// Writes a label and a text in quotes.
-fn push_labelled(out: &mut Vec<u8>, label: &str, text: &str) -> Result<(), AllocError>
-    ensures { OnOk result (out.new.items ≡ out.old.items ++ labelled label.now text.now) }
-{
-    push_text(out, label)?;
-    push_quoted(out, text)
 }
 
 fn push_monotonic(out: &mut Vec<u8>, is_monotonic: bool) -> Result<(), AllocError>

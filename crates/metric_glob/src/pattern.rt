@@ -1,8 +1,6 @@
 //! Patterns of instrument names.
 ghost use Rattle.std.specs.Prelude.{◌≡◌, ◌↔◌, IsTrue, IfOk, IsOkUnless};
 ghost use Rattle.metric_base.specs.Steps.{Gives};
-ghost use Rattle.metric_names.specs.Names.{first_other};
-ghost use Rattle.metric_names.specs.Units.{is_printable};
 ghost use Rattle.metric_glob.specs.Matching.{Matches, is_match};
 ghost use Rattle.metric_glob.specs.Patterns.{CheckedPattern, IsPattern, pattern_of};
 ghost use Rattle.metric_glob.specs.Reasons.{Confirms, Shows};
@@ -12,7 +10,7 @@ use crate::matching::matches_text;
 use crate::reason::Reason;
 use crate::why::why_text;
 use metric_base::{Copied, Text};
-use metric_names::Name;
+use metric_names::{Name, first_other_than_printable};
 use std::alloc::{AllocError, Global};
 use std::marker::Model;
 use thiserror::Error;
@@ -135,10 +133,4 @@ fn check(text: &[u8]) -> Result<(), PatternFault>
         return Err(PatternFault::TooLong);
     }
     Ok(())
-}
-
-fn first_other_than_printable(text: &[u8]) -> Option<usize>
-    ensures { result ≡ first_other is_printable text.now }
-{
-    text.iter().position(|byte| !(32..=126).contains(byte))
 }

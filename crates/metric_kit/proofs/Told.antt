@@ -1,15 +1,10 @@
 -- The output of an input of which a source tells the bytes.
-use Rattle.std.proofs.Common.{◌≡◌, ℕ, List, Option, Some, None, Result, Ok, Err, OnOk, OnErr, IfSome, ap, subst, ◌∙◌}
+use Rattle.std.proofs.Common.{◌≡◌, ℕ, List, Option, Some, None, Result, Ok, Err, OnErr, IfSome, ap, subst, ◌∙◌}
 use Rattle.metric_core.specs.Plans.{PlanValue}
 use Rattle.metric_core.specs.declared.event.Reply.{Reply}
 use Rattle.metric_kit.specs.declared.options.ReplayOptions.{ReplayOptions}
 use Rattle.metric_kit.specs.Replaying.{IsReplayed, IsOutput}
 use Rattle.metric_kit.specs.Replies.{replies_text}
-
--- a fact of an answer, for another that follows from it
-pub on_ok_then : {A E : Type 0} (P Q : Type 0) → (P → Q) → (r : Result A E) → OnOk r P → OnOk r Q
-on_ok_then P Q follows (Ok x) p = follows p
-on_ok_then P Q follows (Err e) p = tt
 
 -- a fact that holds whatever the answer is
 pub on_err_from : {A E : Type 0} (Q : Type 0) → Q → (r : Result A E) → OnErr r Q

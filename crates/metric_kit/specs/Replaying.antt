@@ -1,6 +1,5 @@
 -- What a replay makes of the bytes of its input.
-use Rattle.std.specs.Prelude.{◌≡◌, ◌⊎◌, ◌&&◌, ℕ, true, false, not, List, [], Some, Ok, Err}
-use Rattle.std.specs.List.{list_any}
+use Rattle.std.specs.Prelude.{◌≡◌, ◌⊎◌, ◌&&◌, ℕ, true, false, not, List, Some}
 use Rattle.metric_text.specs.Lines.{lines_of}
 use Rattle.metric_parts.specs.Input.{IsFirstFault as IsFaultyLine}
 use Rattle.metric_parts.specs.Kept.{IsRead}
@@ -8,30 +7,23 @@ use Rattle.metric_parts.specs.Texts.{ScriptLines}
 use Rattle.metric_parts.specs.declared.needs.Needs.{Needs}
 use Rattle.metric_parts.specs.declared.parts.Parts.{Parts}
 use Rattle.metric_script.specs.Scripts.{IsScript, IsFirstFaultAt}
-use Rattle.metric_catalogue.specs.Catalogues.{catalogue_of}
 use Rattle.metric_catalogue.specs.declared.contents.Contents.{Contents}
-use Rattle.metric_views.specs.Configs.{config_of}
 use Rattle.metric_views.specs.declared.config.Config.{Config}
-use Rattle.metric_views.specs.declared.fault.ViewFault.{ViewFault}
 use Rattle.metric_core.specs.First.{is_taken}
-use Rattle.metric_core.specs.Legal.{AllLegal}
 use Rattle.metric_core.specs.Plans.{PlanValue}
 use Rattle.metric_core.specs.declared.event.Event.{Event}
 use Rattle.metric_core.specs.declared.event.Reply.{Reply}
 use Rattle.metric_kit.specs.declared.options.ReplayOptions.{ReplayOptions}
 use Rattle.metric_kit.specs.declared.fault.KitFault.{KitFault}
 use Rattle.metric_kit.specs.declared.fault.KitFault.TheVariants.{Read, Input, Catalogue, Config as BadConfig, NotYet, Write, Memory}
+use Rattle.metric_kit.specs.Declarations.{IsDeclared, IsDeclaredFault, IsMisdeclared}
 use Rattle.metric_kit.specs.Planned.{plan_of}
-use Rattle.metric_kit.specs.Replies.{is_want_of_memory, replies_text}
+use Rattle.metric_kit.specs.Replies.{replies_text}
+use Rattle.metric_kit.specs.Runs.{IsRun}
 
 -- a trial needs no certificate
 abbrev pub needs_of : ReplayOptions → Needs
 needs_of options = record { certificate = not options.trial; script = true }
-
--- The catalogue and the config that the parts are.
-pub record IsDeclared (read : Parts) (contents : Contents) (config : Config) : Type 0 where
-  pub is_catalogue : catalogue_of read.catalogue ≡ Ok contents
-  pub is_config : config_of read.config ≡ Ok config
 
 -- The plan of what the parts declare.
 pub record IsPlanned (options : ReplayOptions) (read : Parts) (plan : PlanValue) : Type 0 where
@@ -52,8 +44,7 @@ pub record IsReplayed (options : ReplayOptions) (input : List ℕ) (plan : PlanV
   pub is_planned : IsPlanned options read plan
   pub has_script : read.script ≡ Some script
   pub is_script : IsScript script.lines start events
-  pub legal : AllLegal plan.rules start [] events replies
-  pub remembered : list_any is_want_of_memory replies ≡ false
+  pub run : IsRun plan start events replies
 
 -- The text that a replay of the input writes.
 pub record IsOutput (options : ReplayOptions) (input text : List ℕ) : Type 0 where
@@ -61,12 +52,6 @@ pub record IsOutput (options : ReplayOptions) (input text : List ℕ) : Type 0 w
   pub replies : List Reply
   pub replayed : IsReplayed options input plan replies
   pub written : text ≡ replies_text plan replies
-
--- The catalogue is right, and the config has this first fault.
-pub record IsFaultyConfig (read : Parts) (fault : ViewFault) : Type 0 where
-  pub contents : Contents
-  pub is_catalogue : catalogue_of read.catalogue ≡ Ok contents
-  pub first : config_of read.config ≡ Err fault
 
 -- What the parts declare is not served yet.
 pub record IsUnserved (options : ReplayOptions) (read : Parts) : Type 0 where
@@ -76,18 +61,9 @@ pub record IsUnserved (options : ReplayOptions) (read : Parts) : Type 0 where
   pub unserved : (options.trial && is_taken contents config) ≡ false
 
 -- The fault is the first that the parts have before the script is read.
-abbrev pub IsPlanFault : ReplayOptions → Parts → KitFault → Type 0
-IsPlanFault options read (Catalogue fault) = catalogue_of read.catalogue ≡ Err fault
-IsPlanFault options read (BadConfig fault) = IsFaultyConfig read fault
-IsPlanFault options read NotYet = IsUnserved options read
-IsPlanFault options read Memory = Unit {0}
-IsPlanFault options read _ = ⊥
-
--- The parts are right, and what they declare has this first fault.
-pub record IsMisdeclared (options : ReplayOptions) (input : List ℕ) (fault : KitFault) : Type 0 where
-  pub read : Parts
-  pub is_read : IsRead (needs_of options) (lines_of input) read
-  pub first : IsPlanFault options read fault
+abbrev pub IsPlanFault : ReplayOptions → KitFault → Parts → Type 0
+IsPlanFault options NotYet read = IsUnserved options read
+IsPlanFault options fault read = IsDeclaredFault fault read
 
 -- Everything before the script is right, and this is the script's first faulty line.
 pub record IsFaultyScript (options : ReplayOptions) (input : List ℕ) (line : ℕ) : Type 0 where
@@ -102,9 +78,9 @@ pub record IsFaultyScript (options : ReplayOptions) (input : List ℕ) (line : �
 -- The fault is the first that the input has: of its parts, of what they declare, of its script.
 abbrev pub IsFirstFault : ReplayOptions → List ℕ → KitFault → Type 0
 IsFirstFault options input (Input line) = IsFaultyLine (needs_of options) (lines_of input) line ⊎ IsFaultyScript options input line
-IsFirstFault options input (Catalogue fault) = IsMisdeclared options input (Catalogue fault)
-IsFirstFault options input (BadConfig fault) = IsMisdeclared options input (BadConfig fault)
-IsFirstFault options input NotYet = IsMisdeclared options input NotYet
+IsFirstFault options input (Catalogue fault) = IsMisdeclared (needs_of options) input (IsPlanFault options (Catalogue fault))
+IsFirstFault options input (BadConfig fault) = IsMisdeclared (needs_of options) input (IsPlanFault options (BadConfig fault))
+IsFirstFault options input NotYet = IsMisdeclared (needs_of options) input (IsPlanFault options NotYet)
 IsFirstFault options input Memory = Unit {0}
 IsFirstFault options input Read = ⊥
 IsFirstFault options input Write = ⊥

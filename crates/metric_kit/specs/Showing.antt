@@ -1,11 +1,10 @@
 -- What showing a config makes of the bytes of its input.
-use Rattle.std.specs.Prelude.{◌≡◌, ℕ, false, List, Ok, Err}
+use Rattle.std.specs.Prelude.{◌≡◌, ℕ, false, List}
 use Rattle.metric_text.specs.Lines.{lines_of}
 use Rattle.metric_parts.specs.Input.{IsFirstFault as IsFaultyLine}
 use Rattle.metric_parts.specs.Kept.{IsRead}
 use Rattle.metric_parts.specs.declared.needs.Needs.{Needs}
 use Rattle.metric_parts.specs.declared.parts.Parts.{Parts}
-use Rattle.metric_catalogue.specs.Catalogues.{catalogue_of}
 use Rattle.metric_catalogue.specs.declared.contents.Contents.{Contents}
 use Rattle.metric_views.specs.declared.config.Config.{Config}
 use Rattle.metric_resolve.specs.Resolved.{streams_of}
@@ -13,7 +12,7 @@ use Rattle.metric_resolve.specs.Warnings.{warnings_of}
 use Rattle.metric_listing.specs.Listing.{listing_text}
 use Rattle.metric_kit.specs.declared.fault.KitFault.{KitFault}
 use Rattle.metric_kit.specs.declared.fault.KitFault.TheVariants.{Input, Catalogue, Config as BadConfig, Memory}
-use Rattle.metric_kit.specs.Replaying.{IsDeclared, IsFaultyConfig}
+use Rattle.metric_kit.specs.Declarations.{IsDeclared, IsDeclaredFault, IsMisdeclared}
 
 -- the catalogue and the config alone
 abbrev pub show_needs : Needs
@@ -32,23 +31,10 @@ pub record IsShown (input text : List ℕ) : Type 0 where
   pub is_read : IsRead show_needs (lines_of input) read
   pub listed : IsListed read text
 
--- The fault is the first of what the parts declare.
-abbrev pub IsDeclaredFault : Parts → KitFault → Type 0
-IsDeclaredFault read (Catalogue fault) = catalogue_of read.catalogue ≡ Err fault
-IsDeclaredFault read (BadConfig fault) = IsFaultyConfig read fault
-IsDeclaredFault read Memory = Unit {0}
-IsDeclaredFault read _ = ⊥
-
--- The parts are right, and what they declare has this first fault.
-pub record IsMisdeclaredShow (input : List ℕ) (fault : KitFault) : Type 0 where
-  pub read : Parts
-  pub is_read : IsRead show_needs (lines_of input) read
-  pub first : IsDeclaredFault read fault
-
 -- The fault is the first that the input has.
 abbrev pub IsFirstShowFault : List ℕ → KitFault → Type 0
 IsFirstShowFault input (Input line) = IsFaultyLine show_needs (lines_of input) line
-IsFirstShowFault input (Catalogue fault) = IsMisdeclaredShow input (Catalogue fault)
-IsFirstShowFault input (BadConfig fault) = IsMisdeclaredShow input (BadConfig fault)
+IsFirstShowFault input (Catalogue fault) = IsMisdeclared show_needs input (IsDeclaredFault (Catalogue fault))
+IsFirstShowFault input (BadConfig fault) = IsMisdeclared show_needs input (IsDeclaredFault (BadConfig fault))
 IsFirstShowFault input Memory = Unit {0}
 IsFirstShowFault input _ = ⊥

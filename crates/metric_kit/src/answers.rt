@@ -35,7 +35,7 @@ pub fn answers_to(
 // The plan of what the parts declare.
 fn planned(alloc: Global, options: ReplayOptions, parts: &Parts<'_>) -> Result<Plan, KitFault>
     ensures ok { IfOk result (IsPlanned options parts.now) }
-    ensures first { IfErr result (IsPlanFault options parts.now) }
+    ensures first { IfErr result (λ fault. IsPlanFault options fault parts.now) }
 {
     let catalogue = catalogue_of(alloc, parts.catalogue.as_str())?;
     let config = config_of(alloc, parts.config.as_str())?;
@@ -49,7 +49,7 @@ fn run(
     start: u64,
     events: &[Event],
 ) -> Result<(Core, Vec<Reply>), KitFault>
-    ensures ok { IfOk result (λ run. IsRun plan start events.now run.0 run.1.items) }
+    ensures ok { IfOk result (λ run. (run.0.plan ≡ plan) × IsRun plan start events.now run.1.items) }
     ensures err { IfErr result (λ fault. fault ≡ KitFault.Memory) }
 {
     let Ok(mut core) = Core::new(alloc, plan, start) else {

@@ -36,6 +36,11 @@ enum Stop {
 }
 
 impl From<KitFault> for Stop {
+    ghost use Rattle.std.specs.Prelude.{◌≡◌};
+    ghost use Rattle.metric_kit.specs.declared.Stop.TheVariants.{Fault};
+
+    ghost from_gives = { λ fault stop. stop ≡ Fault fault };
+
     fn from(fault: KitFault) -> Stop {
         Stop::Fault(fault)
     }

@@ -1,5 +1,5 @@
 //! The texts of replies, written.
-ghost use Rattle.std.specs.Prelude.{◌≡◌, ◌++◌, OnOk, IfOk, IfErr};
+ghost use Rattle.std.specs.Prelude.{◌≡◌, ◌++◌, OnOk, IfErr};
 ghost use Rattle.std.specs.Io.KnownBytes.{Appends};
 ghost use Rattle.metric_io.specs.Prefix.{AppendsPrefix};
 ghost use Rattle.metric_kit.specs.Replies.{IsSinkFault, refusal_text, reply_text, replies_text};
@@ -42,19 +42,10 @@ fn push_reply(out: &mut Vec<u8>, plan: &Plan, reply: &Reply) -> Result<(), Alloc
     }
 }
 
-// The text of a reply.
-fn reply_text(alloc: Global, plan: &Plan, reply: &Reply) -> Result<Vec<u8>, AllocError>
-    ensures { IfOk result (λ text. text.items ≡ reply_text plan.now reply.now) }
-{
-    let mut text = Vec::new(alloc);
-    push_reply(&mut text, plan, reply)?;
-    Ok(text)
-}
-
-// Writes a reply to the sink.
+// Writes a reply to the sink, by way of a buffer that may hold an earlier one.
 #[tactic(auto, using(metric_io::specs::Prefix::prefixes))]
 fn write_reply<W: Sink>(
-    alloc: Global,
+    buffer: &mut Vec<u8>,
     sink: &mut W,
     plan: &Plan,
     reply: &Reply,
@@ -64,8 +55,9 @@ fn write_reply<W: Sink>(
     ensures broken { IfErr result (IsSinkFault (W.failures sink.old) (W.failures sink.new)) }
     ensures counted { OnOk result (W.failures sink.new ≡ W.failures sink.old) }
 {
-    let text = reply_text(alloc, plan, reply)?;
-    write_all(sink, &text)?;
+    buffer.clear();
+    push_reply(buffer, plan, reply)?;
+    write_all(sink, buffer)?;
     Ok(())
 }
 
@@ -93,8 +85,9 @@ pub fn write_replies<W: Sink>(
     ensures prefix { AppendsPrefix (W.contents sink.old) (W.contents sink.new) (replies_text plan.now replies.now) }
     ensures broken { IfErr result (IsSinkFault (W.failures sink.old) (W.failures sink.new)) }
 {
+    let mut buffer = Vec::new(alloc);
     for reply in replies {
-        write_reply(alloc, sink, plan, reply)?;
+        write_reply(&mut buffer, sink, plan, reply)?;
     }
     sink.flush()?;
     Ok(())

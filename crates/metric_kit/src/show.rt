@@ -4,7 +4,8 @@ ghost use Rattle.std.specs.Io.KnownBytes.{Appends, Keeps};
 ghost use Rattle.metric_io.specs.Counts.{HasFailed};
 ghost use Rattle.metric_io.specs.Input.{IsReadFault};
 ghost use Rattle.metric_io.specs.Prefix.{AppendsPrefix};
-ghost use Rattle.metric_kit.specs.Showing.{IsDeclaredFault, IsFirstShowFault, IsListed, IsShown};
+ghost use Rattle.metric_kit.specs.Declarations.{IsDeclaredFault};
+ghost use Rattle.metric_kit.specs.Showing.{IsFirstShowFault, IsListed, IsShown};
 
 use crate::fault::KitFault;
 use crate::planning::{catalogue_of, config_of};
@@ -62,7 +63,7 @@ fn shown(alloc: Global, input: &[u8]) -> Result<Vec<u8>, KitFault>
 // The lines of what the parts declare.
 fn listed(alloc: Global, parts: &Parts<'_>) -> Result<Vec<u8>, KitFault>
     ensures ok { IfOk result (λ text. IsListed parts.now text.items) }
-    ensures first { IfErr result (IsDeclaredFault parts.now) }
+    ensures first { IfErr result (λ fault. IsDeclaredFault fault parts.now) }
 {
     let catalogue = catalogue_of(alloc, parts.catalogue.as_str())?;
     let config = config_of(alloc, parts.config.as_str())?;

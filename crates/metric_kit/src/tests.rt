@@ -1,4 +1,4 @@
-//! Replays of small inputs against the text that they should give.
+//! Small inputs replayed and shown, against the text that they should give.
 use crate::fault::KitFault;
 use crate::options::ReplayOptions;
 use crate::replay::replay;

@@ -1,10 +1,11 @@
 -- How the streams of a config and its warnings are listed.
-use Rattle.std.specs.Prelude.{ℕ, ◌+◌, Bool, true, false, List, [], ◌∷◌, ◌++◌, Option, Some, None, codes, slice_get}
+use Rattle.std.specs.Prelude.{ℕ, ◌+◌, Bool, true, false, List, [], ◌++◌, Option, Some, None, codes, slice_get}
 use Rattle.std.specs.Fmt.{decimal}
-use Rattle.std.specs.List.{filter_map, flat_map, zip}
+use Rattle.std.specs.List.{enumerate_from, filter_map, flat_map, zip}
 use Rattle.std.specs.Option.{option_map_or}
 use Rattle.metric_text.specs.Reading.{◌>>=◌}
-use Rattle.metric_text.specs.Written.{joined, quoted}
+use Rattle.metric_text.specs.Lists.{joined, labelled, numbered}
+use Rattle.metric_text.specs.Written.{quoted}
 use Rattle.metric_catalogue.specs.declared.contents.Contents.{Contents}
 use Rattle.metric_catalogue.specs.declared.contents.Instrument.{Instrument}
 use Rattle.metric_catalogue.specs.declared.contents.Key.{Key}
@@ -15,17 +16,9 @@ use Rattle.metric_export.specs.StreamText.{kind_text, temporality_text}
 use Rattle.metric_resolve.specs.declared.warning.Warning.{Warning}
 use Rattle.metric_resolve.specs.declared.warning.Warning.TheVariants.{Unfit, Collision}
 
--- a label with a number
-unfoldable pub numbered : List ℕ → ℕ → List ℕ
-numbered label number = label ++ decimal number
-
--- the same at the end of a line
+-- a label with a number, at the end of a line
 unfoldable pub numbered_end : List ℕ → ℕ → List ℕ
 numbered_end label number = label ++ (decimal number ++ codes "\n")
-
--- a label with a text in quotes
-unfoldable pub named : List ℕ → List ℕ → List ℕ
-named label text = label ++ quoted text
 
 -- the number of a view, or `-` for the default stream
 abbrev pub view_text : Option ℕ → List ℕ
@@ -34,7 +27,7 @@ view_text (Some view) = numbered (codes " view=") view
 
 -- of what a stream is made: an instrument for a reader
 abbrev pub origin_text : List ℕ → Stream → List ℕ
-origin_text reader stream = named (codes " reader=") reader ++ numbered (codes " instrument=") stream.instrument
+origin_text reader stream = labelled (codes " reader=") reader ++ numbered (codes " instrument=") stream.instrument
 
 -- a stream's number, and of what it is made by which view
 abbrev pub source_text : ℕ → List ℕ → Stream → List ℕ
@@ -67,7 +60,7 @@ abbrev pub limits_text : Stream → List Key → List ℕ
 limits_text stream keys = numbered (codes " limit=") stream.limit ++ keys_text keys stream.kept
 
 abbrev pub shape_text : Stream → List Key → List ℕ
-shape_text stream keys = named (codes " name=") stream.name ++ (points_text stream ++ limits_text stream keys)
+shape_text stream keys = labelled (codes " name=") stream.name ++ (points_text stream ++ limits_text stream keys)
 
 -- the line of a stream
 abbrev pub stream_line : ℕ → Stream → Reader → Instrument → List ℕ
@@ -79,10 +72,9 @@ stream_text contents config number stream =
     option_map_or (λ reader. option_map_or (λ instrument. stream_line number stream reader instrument) (slice_get contents.instruments stream.instrument) [])
     (slice_get config.readers stream.reader) []
 
--- the lines of streams, of which the first has this number
-abbrev pub streams_text : Contents → Config → ℕ → List Stream → List ℕ
-streams_text contents config number [] = []
-streams_text contents config number (stream ∷ streams) = stream_text contents config number stream ++ streams_text contents config (number + 1) streams
+-- the lines of streams, numbered from 0
+abbrev pub streams_text : Contents → Config → List Stream → List ℕ
+streams_text contents config streams = flat_map (λ placed. stream_text contents config placed.0 placed.1) (enumerate_from 0 streams)
 
 -- what is warned of
 unfoldable pub warned : List ℕ → List ℕ
@@ -101,4 +93,4 @@ warning_text (Collision a b) = collision_text a b
 
 -- the lines of streams, numbered from 0, and those of warnings
 unfoldable pub listing_text : Contents → Config → List Stream → List Warning → List ℕ
-listing_text contents config streams warnings = streams_text contents config 0 streams ++ flat_map warning_text warnings
+listing_text contents config streams warnings = streams_text contents config streams ++ flat_map warning_text warnings

@@ -2,10 +2,10 @@
 ghost use Rattle.std.specs.Prelude.{◌≡◌, ◌++◌, OnOk};
 ghost use Rattle.metric_listing.specs.Listing.{limits_text, origin_text, points_text, shape_text, source_text, stream_line, view_text};
 
-use crate::names::{push_keys, push_named, push_numbered};
+use crate::names::push_keys;
 use metric_catalogue::{Instrument, Key};
 use metric_export::{push_kind, push_temporality};
-use metric_text::push_text;
+use metric_text::{push_labelled, push_numbered, push_text};
 use metric_views::{Reader, Stream};
 use std::alloc::AllocError;
 
@@ -39,7 +39,7 @@ fn push_source(
 fn push_origin(out: &mut Vec<u8>, reader: &str, stream: &Stream) -> Result<(), AllocError>
     ensures { OnOk result (out.new.items ≡ out.old.items ++ origin_text reader.now stream.now) }
 {
-    push_named(out, " reader=", reader)?;
+    push_labelled(out, " reader=", reader)?;
     push_numbered(out, " instrument=", u64::from(stream.instrument))
 }
 
@@ -55,7 +55,7 @@ fn push_view(out: &mut Vec<u8>, view: Option<u32>) -> Result<(), AllocError>
 fn push_shape(out: &mut Vec<u8>, stream: &Stream, keys: &[Key]) -> Result<(), AllocError>
     ensures { OnOk result (out.new.items ≡ out.old.items ++ shape_text stream.now keys.now) }
 {
-    push_named(out, " name=", stream.name.as_str())?;
+    push_labelled(out, " name=", stream.name.as_str())?;
     push_points(out, stream)?;
     push_limits(out, stream, keys)
 }

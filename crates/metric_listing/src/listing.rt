@@ -33,7 +33,7 @@ fn push_streams(
     config: &Config,
     streams: &[Stream],
 ) -> Result<(), AllocError>
-    ensures { OnOk result (out.new.items ≡ out.old.items ++ streams_text catalogue.now config.now 0 streams.now) }
+    ensures { OnOk result (out.new.items ≡ out.old.items ++ streams_text catalogue.now config.now streams.now) }
 {
     for (number, stream) in streams.iter().enumerate() {
         push_stream(out, catalogue, config, number as u64, stream)?;

@@ -1,43 +1,12 @@
-//! Labels, and the names of kept keys.
+//! The names of kept keys.
 ghost use Rattle.std.specs.Prelude.{◌≡◌, ◌++◌, OnOk};
-ghost use Rattle.metric_listing.specs.Listing.{keys_text, kept_names, kept_text, named, names_text, numbered, numbered_end};
-ghost use Rattle.metric_listing.specs.Leading.{names_after};
+ghost use Rattle.metric_text.specs.Lists.{led_by};
+ghost use Rattle.metric_text.specs.Written.{quoted};
+ghost use Rattle.metric_listing.specs.Listing.{keys_text, kept_names, kept_text, names_text};
 
 use metric_catalogue::Key;
-use metric_text::{push_byte, push_number, push_quoted, push_text};
+use metric_text::{push_byte, push_quoted, push_text};
 use std::alloc::AllocError;
-
-/// Writes a label and a number.
-#[tactic(auto, unfolding(crate::specs::Listing::numbered))]
-pub(crate) fn push_numbered(out: &mut Vec<u8>, label: &str, number: u64) -> Result<(), AllocError>
-    ensures { OnOk result (out.new.items ≡ out.old.items ++ numbered label.now number) }
-{
-    push_text(out, label)?;
-    push_number(out, number)
-}
-
-/// Writes a label and a number, and ends the line.
-#[tactic(auto, unfolding(crate::specs::Listing::numbered_end))]
-pub(crate) fn push_numbered_end(
-    out: &mut Vec<u8>,
-    label: &str,
-    number: u64,
-) -> Result<(), AllocError>
-    ensures { OnOk result (out.new.items ≡ out.old.items ++ numbered_end label.now number) }
-{
-    push_text(out, label)?;
-    push_number(out, number)?;
-    push_byte(out, b'\n')
-}
-
-/// Writes a label and a text in quotes.
-#[tactic(auto, unfolding(crate::specs::Listing::named))]
-pub(crate) fn push_named(out: &mut Vec<u8>, label: &str, text: &str) -> Result<(), AllocError>
-    ensures { OnOk result (out.new.items ≡ out.old.items ++ named label.now text.now) }
-{
-    push_text(out, label)?;
-    push_quoted(out, text)
-}
 
 /// Writes the names of the kept keys in brackets, and ends the line.
 pub(crate) fn push_keys(out: &mut Vec<u8>, keys: &[Key], kept: &[bool]) -> Result<(), AllocError>
@@ -58,7 +27,7 @@ fn push_kept_list(out: &mut Vec<u8>, keys: &[Key], kept: &[bool]) -> Result<(), 
 }
 
 // Writes the names of the kept keys, with commas between.
-#[tactic(auto, unfolding(crate::specs::Listing::names_text), using(crate::proofs::KeyNames::joined_is_names_after))]
+#[tactic(auto, unfolding(crate::specs::Listing::names_text), using(metric_text::specs::ListLaws::joined_is_led))]
 fn push_names(out: &mut Vec<u8>, keys: &[Key], kept: &[bool]) -> Result<(), AllocError>
     ensures { OnOk result (out.new.items ≡ out.old.items ++ names_text keys.now kept.now) }
 {
@@ -67,7 +36,7 @@ fn push_names(out: &mut Vec<u8>, keys: &[Key], kept: &[bool]) -> Result<(), Allo
 
 // Writes the names of the kept keys, with a text before the first and commas between.
 fn push_kept(out: &mut Vec<u8>, before: &str, keys: &[Key], kept: &[bool]) -> Result<(), AllocError>
-    ensures { OnOk result (out.new.items ≡ out.old.items ++ names_after before.now (kept_names keys.now kept.now)) }
+    ensures { OnOk result (out.new.items ≡ out.old.items ++ led_by before.now quoted (kept_names keys.now kept.now)) }
 {
     let Some((key, keys)) = keys.split_first() else {
         return Ok(());

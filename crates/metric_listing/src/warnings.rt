@@ -1,15 +1,14 @@
 //! The lines of warnings.
 ghost use Rattle.std.specs.Prelude.{◌≡◌, ◌++◌, OnOk};
 ghost use Rattle.std.specs.List.{flat_map};
-ghost use Rattle.metric_listing.specs.Listing.{collision_text, unfit_text, warned, warning_text};
+ghost use Rattle.metric_listing.specs.Listing.{collision_text, numbered_end, unfit_text, warned, warning_text};
 
-use crate::names::{push_numbered, push_numbered_end};
 use metric_resolve::Warning;
-use metric_text::push_text;
+use metric_text::{push_byte, push_number, push_numbered, push_text};
 use std::alloc::AllocError;
 
 /// Writes the line of each warning.
-#[tactic(auto, using(crate::proofs::KeyNames::steps))]
+#[tactic(auto, using(metric_text::specs::ListLaws::steps))]
 pub(crate) fn push_warnings(out: &mut Vec<u8>, warnings: &[Warning]) -> Result<(), AllocError>
     ensures { OnOk result (out.new.items ≡ out.old.items ++ flat_map warning_text warnings.now) }
 {
@@ -55,4 +54,14 @@ fn push_warned(out: &mut Vec<u8>, name: &str) -> Result<(), AllocError>
 {
     push_text(out, "warning ")?;
     push_text(out, name)
+}
+
+// Writes a label and a number, and ends the line.
+#[tactic(auto, unfolding(crate::specs::Listing::numbered_end))]
+fn push_numbered_end(out: &mut Vec<u8>, label: &str, number: u64) -> Result<(), AllocError>
+    ensures { OnOk result (out.new.items ≡ out.old.items ++ numbered_end label.now number) }
+{
+    push_text(out, label)?;
+    push_number(out, number)?;
+    push_byte(out, b'\n')
 }

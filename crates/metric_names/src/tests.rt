@@ -83,6 +83,12 @@ fn the_first_fault_of_a_unit_is_told(rt: HostRuntime) -> Result<(), Fail> {
 }
 
 #[test]
+fn printable_characters_are_told(rt: HostRuntime) {
+    assert_eq!(rt; first_other_than_printable(b" ~"), None);
+    assert_eq!(rt; first_other_than_printable("a\u{7f}".as_bytes()), Some(1));
+}
+
+#[test]
 fn values_are_equal_in_type_and_value(rt: HostRuntime) -> Result<(), Fail> {
     let empty = AttrValue::Text(Text::new(rt.alloc(), "")?);
     let digit = AttrValue::Text(Text::new(rt.alloc(), "1")?);

@@ -1,9 +1,9 @@
 //! Units of measure.
 ghost use Rattle.std.specs.Prelude.{◌≡◌, IfOk, IsOkUnless};
 ghost use Rattle.metric_base.specs.Steps.{Gives};
-ghost use Rattle.metric_names.specs.Names.{first_other};
-ghost use Rattle.metric_names.specs.Units.{CheckedUnit, IsUnit, is_printable, unit_of};
+ghost use Rattle.metric_names.specs.Units.{CheckedUnit, IsUnit, unit_of};
 
+use crate::printable::first_other_than_printable;
 use metric_base::{Copied, Text};
 use std::alloc::{AllocError, Global};
 use std::marker::Model;
@@ -94,10 +94,4 @@ fn check(text: &[u8]) -> Result<(), UnitFault>
         return Err(UnitFault::TooLong);
     }
     Ok(())
-}
-
-fn first_other_than_printable(text: &[u8]) -> Option<usize>
-    ensures { result ≡ first_other is_printable text.now }
-{
-    text.iter().position(|byte| !(32..=126).contains(byte))
 }

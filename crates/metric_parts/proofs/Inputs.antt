@@ -6,8 +6,9 @@ use Rattle.std.specs.Str.{is_utf8}
 use Rattle.std.proofs.lemmas.List.{length-map}
 use Rattle.std.specs.Borrow.{Bor}
 use Rattle.metric_base.specs.Steps.{◌>>=◌}
+use Rattle.metric_base.specs.Fronts.{IsStuck}
 use Rattle.metric_parts.specs.declared.needs.Needs.{Needs}
-use Rattle.metric_parts.specs.Input.{Contents, is_content, optional_part, printed, IsInput, IsStuck, IsFirstFault}
+use Rattle.metric_parts.specs.Input.{Contents, is_content, optional_part, printed, IsInput, IsSomeInput, IsFirstFault}
 use Rattle.metric_parts.specs.Reading.{part_in, optional_part_in, ending_in, contents_in, texts}
 use Rattle.metric_parts.proofs.Languages.{Lines, first, IsEnded, Follows, FaultAt, Reads, first_same}
 use Rattle.metric_parts.proofs.PartReading.{IsPart, IsOptional, part_reads, optional_reads}
@@ -192,16 +193,16 @@ contents_found needs lines parts e = to_input needs lines parts ((input_reads ne
 pub contents_only : (needs : Needs) (lines : Lines) (parts : Contents) → IsInput needs lines parts → contents_in needs lines ≡ Ok parts
 contents_only needs lines parts input = (input_reads needs).only lines parts (from_input needs lines parts input)
 
-stuck_here : (needs : Needs) (lines rest : Lines) → (fault : FaultAt (IsSpelled needs) lines rest) → IsStuck needs fault.before rest
-stuck_here needs lines [] fault = λ parts input.
-    fault.stuck [] parts refl (subst (λ ls. IsSpelled needs ls parts) (sym (append-nil fault.before)) (from_input needs fault.before parts input))
+stuck_here : (needs : Needs) (lines rest : Lines) → (fault : FaultAt (IsSpelled needs) lines rest) → IsStuck (IsSomeInput needs) fault.before rest
+stuck_here needs lines [] fault = λ whole.
+    fault.stuck [] whole.parts refl (subst (λ ls. IsSpelled needs ls whole.parts) (sym (append-nil fault.before)) (from_input needs fault.before whole.parts whole.is_input))
 stuck_here needs lines (line ∷ rest) fault = λ begins.
-    fault.stuck (line ∷ begins.more) begins.parts refl
-    (subst (λ ls. IsSpelled needs ls begins.parts) (append_assoc fault.before (line ∷ []) begins.more)
-    (from_input needs ((fault.before ++ line ∷ []) ++ begins.more) begins.parts begins.is_input))
+    fault.stuck (line ∷ begins.more) begins.is_whole.parts refl
+    (subst (λ ls. IsSpelled needs ls begins.is_whole.parts) (append_assoc fault.before (line ∷ []) begins.more)
+    (from_input needs ((fault.before ++ line ∷ []) ++ begins.more) begins.is_whole.parts begins.is_whole.is_input))
 
-fault_number : (before rest lines : Lines) → lines ≡ before ++ rest → length lines - length rest + 1 ≡ length before + 1
-fault_number before rest lines whole = omega (arith, ap length whole ∙ length-append before rest)
+fault_place : (before rest lines : Lines) → lines ≡ before ++ rest → length lines - length rest ≡ length before
+fault_place before rest lines whole = omega (arith, ap length whole ∙ length-append before rest)
 
 -- Where nothing is read stands the first fault.
 pub contents_fault : (needs : Needs) (lines rest : Lines) → contents_in needs lines ≡ Err rest
@@ -209,16 +210,22 @@ pub contents_fault : (needs : Needs) (lines rest : Lines) → contents_in needs 
 contents_fault needs lines rest e =
     let fault = (input_reads needs).fault lines rest e in
     record {
-      before = fault.before;
-      rest = rest;
-      whole = fault.whole;
-      place = fault_number fault.before rest lines fault.whole;
-      begun = record {
-        more = fault.begun.more;
-        parts = fault.begun.value;
-        is_input = to_input needs (fault.before ++ fault.begun.more) fault.begun.value fault.begun.spelled;
+      place = length lines - length rest;
+      numbered = refl;
+      breaks_off = record {
+        before = fault.before;
+        rest = rest;
+        whole = fault.whole;
+        at = fault_place fault.before rest lines fault.whole;
+        begun = record {
+          more = fault.begun.more;
+          is_whole = record {
+            parts = fault.begun.value;
+            is_input = to_input needs (fault.before ++ fault.begun.more) fault.begun.value fault.begun.spelled;
+          };
+        };
+        stuck = stuck_here needs lines rest fault;
       };
-      stuck = stuck_here needs lines rest fault;
     }
 
 -- The same of lists of references.

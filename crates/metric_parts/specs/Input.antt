@@ -2,6 +2,7 @@
 use Rattle.std.specs.Prelude.{◌≡◌, ℕ, ◌+◌, Bool, not, ◌&&◌, nat_eq, IsTrue, List, [], ◌∷◌, ◌++◌, length, Option, None, Some, IsSome, unwrap_or, codes}
 use Rattle.std.specs.List.{starts_with, list_all}
 use Rattle.std.specs.Str.{is_utf8}
+use Rattle.metric_base.specs.Fronts.{BreaksOffAt}
 use Rattle.metric_parts.specs.declared.needs.Needs.{Needs}
 
 -- a line that stands inside a part: it is UTF-8, and does not begin as a header does
@@ -38,23 +39,14 @@ pub record IsInput (needs : Needs) (lines : List (List ℕ)) (parts : Contents) 
   pub has_certificate : IsTrue needs.certificate → IsSome parts.certificate
   pub has_script : IsTrue needs.script → IsSome parts.script
 
--- Some input begins with these lines.
-pub record BeginsInput (needs : Needs) (lines : List (List ℕ)) : Type 0 where
-  pub more : List (List ℕ)
+-- The lines are some input.
+pub record IsSomeInput (needs : Needs) (lines : List (List ℕ)) : Type 0 where
   pub parts : Contents
-  pub is_input : IsInput needs (lines ++ more) parts
-
--- No input goes on after the lines before with the first of the rest. Where nothing is left, they are no input.
-abbrev pub IsStuck : Needs → List (List ℕ) → List (List ℕ) → Type 0
-IsStuck needs before [] = (parts : Contents) → IsInput needs before parts → ⊥
-IsStuck needs before (line ∷ rest) = BeginsInput needs (before ++ line ∷ []) → ⊥
+  pub is_input : IsInput needs lines parts
 
 -- The line of this number, counted from 1, is the first with which no input goes on. Where the lines are the
 -- beginning of an input and no input, it is the line after the last.
 pub record IsFirstFault (needs : Needs) (lines : List (List ℕ)) (number : ℕ) : Type 0 where
-  pub before : List (List ℕ)
-  pub rest : List (List ℕ)
-  pub whole : lines ≡ before ++ rest
-  pub place : number ≡ length before + 1
-  pub begun : BeginsInput needs before
-  pub stuck : IsStuck needs before rest
+  pub place : ℕ
+  pub numbered : number ≡ place + 1
+  pub breaks_off : BreaksOffAt (IsSomeInput needs) lines place

@@ -1,10 +1,11 @@
 -- Events have a script, and lines are one script at most and have one first fault unless they are a script.
-use Rattle.std.proofs.Common.{◌≡◌, ℕ, ◌<◌, ◌^◌, ◌⊎◌, inl, inr, List, [], ◌∷◌, ◌++◌, length, Option, Some, refl, sym, ap, subst, ◌∙◌, append_assoc, append-nil}
+use Rattle.std.proofs.Common.{◌≡◌, ℕ, ◌<◌, ◌^◌, List, [], ◌∷◌, Option, Some, refl, sym, ap, ◌∙◌}
 use Rattle.std.specs.Prelude.{map}
 use Rattle.std.specs.List.{AllByRecursion}
+use Rattle.metric_base.specs.FrontLaws.{one_break, no_break}
 use Rattle.metric_core.specs.declared.event.Event.{Event}
 use Rattle.metric_script.specs.Spelling.{start_text, event_text, FitsEvent}
-use Rattle.metric_script.specs.Scripts.{read_lines, IsScript, BeginsScript, IsStuck, IsFirstFault}
+use Rattle.metric_script.specs.Scripts.{read_lines, IsScript, IsSomeScript, IsFirstFault}
 use Rattle.metric_script.specs.Reading.{event_in, start_in}
 use Rattle.metric_script.proofs.LineLaws.{event_in-text, start_in-text, event_is_read, start_is_read}
 use Rattle.metric_script.proofs.ScriptLaws.{Lines, read_lines-read}
@@ -52,55 +53,8 @@ pub same_events : (lines : Lines) (s t : ℕ) (a b : List Event) → IsScript li
 same_events lines s t a b p q =
     same_texts a b p.events_fit q.events_fit (same_start_text s t _ (map event_text a) (map event_text b) p.spelled q.spelled).1
 
--- Of two fronts of one list the second goes on after the first.
-record GoesFurther (before rest further left : Lines) : Type 0 where
-  between : Lines
-  front : further ≡ before ++ between
-  back : rest ≡ between ++ left
-
-consed : (x y : List ℕ) (xs ys : Lines) → x ≡ y → xs ≡ ys → x ∷ xs ≡ y ∷ ys
-consed x y xs ys p q = cc
-
-longer : (x y : List ℕ) (a r b s : Lines) → x ≡ y → GoesFurther a r b s → GoesFurther (x ∷ a) r (y ∷ b) s
-longer x y a r b s e g = record { between = g.between; front = consed y x b (a ++ g.between) (sym e) g.front; back = g.back }
-
-fronts : (a r b s : Lines) → a ++ r ≡ b ++ s → GoesFurther a r b s ⊎ GoesFurther b s a r
-fronts [] r b s e = inl (record { between = b; front = refl; back = e })
-fronts (x ∷ a) r [] s e = inr (record { between = x ∷ a; front = refl; back = sym e })
-fronts (x ∷ a) r (y ∷ b) s e =
-    let heads : x ≡ y = cc in
-    let tails : a ++ r ≡ b ++ s = cc in
-    elim (fronts a r b s tails) [ inl g ↦ inl (longer x y a r b s heads g) | inr g ↦ inr (longer y x b s a r (sym heads) g) ]
-
--- No script begins with more than what stands before a fault.
-not_further : (before rest further left between : Lines) → IsStuck before rest → BeginsScript further → further ≡ before ++ between → rest ≡ between ++ left → before ≡ further
-not_further before rest further left [] stuck begins e f = sym (e ∙ append-nil before)
-not_further before rest further left (line ∷ between) stuck begins e f =
-    absurd (subst (λ r. IsStuck before r) f stuck (record {
-      more = between ++ begins.more;
-      start = begins.start;
-      events = begins.events;
-      is_script = subst (λ ls. IsScript ls begins.start begins.events)
-          (ap (λ ls. ls ++ begins.more) e ∙ append_assoc before (line ∷ between) begins.more ∙ sym (append_assoc before (line ∷ []) (between ++ begins.more)))
-          begins.is_script;
-    }))
-
 pub same_fault : (lines : Lines) (m n : ℕ) → IsFirstFault lines m → IsFirstFault lines n → m ≡ n
-same_fault lines m n p q =
-    p.at ∙ ap length (elim (fronts p.before p.rest q.before q.rest (sym p.whole ∙ q.whole)) [
-      | inl g ↦ not_further p.before p.rest q.before q.rest g.between p.stuck q.begun g.front g.back
-      | inr g ↦ sym (not_further q.before q.rest p.before p.rest g.between q.stuck p.begun g.front g.back)
-    ]) ∙ sym q.at
-
-not_stuck : (before rest : Lines) (start : ℕ) (events : List Event) → IsScript (before ++ rest) start events → IsStuck before rest → ⊥
-not_stuck before [] start events script stuck = stuck start events (subst (λ ls. IsScript ls start events) (append-nil before) script)
-not_stuck before (line ∷ rest) start events script stuck = stuck (record {
-  more = rest;
-  start = start;
-  events = events;
-  is_script = subst (λ ls. IsScript ls start events) (sym (append_assoc before (line ∷ []) rest)) script;
-})
+same_fault lines m n p q = one_break IsSomeScript lines m n p q
 
 pub no_script : (lines : Lines) (start : ℕ) (events : List Event) (n : ℕ) → IsScript lines start events → IsFirstFault lines n → ⊥
-no_script lines start events n script fault =
-    not_stuck fault.before fault.rest start events (subst (λ ls. IsScript ls start events) fault.whole script) fault.stuck
+no_script lines start events n script fault = no_break IsSomeScript lines n (record { start = start; events = events; is_script = script }) fault

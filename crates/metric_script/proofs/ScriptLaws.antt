@@ -6,11 +6,12 @@ use Rattle.std.specs.List.{AllByRecursion}
 use Rattle.std.proofs.lemmas.List.{length-map}
 use Rattle.std.proofs.lemmas.List.Elements.{filter-append}
 use Rattle.metric_base.specs.Steps.{◌>>=◌}
+use Rattle.metric_base.specs.Fronts.{BeginsWhole, IsStuck}
 use Rattle.metric_core.specs.declared.event.Event.{Event}
 use Rattle.metric_parts.specs.Reading.{texts}
 use Rattle.metric_script.specs.declared.events.ScriptEvents.{ScriptEvents}
 use Rattle.metric_script.specs.Spelling.{start_text, event_text, FitsEvent}
-use Rattle.metric_script.specs.Scripts.{is_passed_over, read_lines, IsScript, BeginsScript, IsStuck, IsFirstFault}
+use Rattle.metric_script.specs.Scripts.{is_passed_over, read_lines, IsScript, IsSomeScript, IsFirstFault}
 use Rattle.metric_script.specs.Reading.{event_in, start_in}
 use Rattle.metric_script.specs.Stops.{begun_by, begun_in, with_event, events_in, script_in}
 use Rattle.metric_script.proofs.LineLaws.{event_in-text, event_in-some, start_in-text, start_in-some, start_is_read}
@@ -242,15 +243,17 @@ script_found lines script e =
 pub record FaultAt (lines rest : Lines) : Type 0 where
   pub before : Lines
   pub whole : lines ≡ before ++ rest
-  pub begun : BeginsScript before
-  pub stuck : IsStuck before rest
+  pub begun : BeginsWhole IsSomeScript before
+  pub stuck : IsStuck IsSomeScript before rest
 
-never_begun : (before : Lines) → read_lines before ≡ [] → BeginsScript before
+never_begun : (before : Lines) → read_lines before ≡ [] → BeginsWhole IsSomeScript before
 never_begun before passed = record {
   more = start_text 0 ∷ [];
-  start = 0;
-  events = [];
-  is_script = record { spelled = first_read before (start_text 0) [] passed (start_is_read 0); start_fits = lit< tt; events_fit = tt };
+  is_whole = record {
+    start = 0;
+    events = [];
+    is_script = record { spelled = first_read before (start_text 0) [] passed (start_is_read 0); start_fits = lit< tt; events_fit = tt };
+  };
 }
 
 no_first : (before after : Lines) (bad : List ℕ) (start : ℕ) (texts : Lines) → read_lines before ≡ [] → is_passed_over bad ≡ false
@@ -260,11 +263,11 @@ no_first before after bad start texts passed is_read e =
     let same : bad ∷ read_lines after ≡ start_text start ∷ texts = sym first ∙ ap read_lines (sym (append_assoc before (bad ∷ []) after)) ∙ e in
     cc
 
-never_stuck : (before rest : Lines) → read_lines before ≡ [] → IsNoStart rest → IsStuck before rest
-never_stuck before [] passed none = λ start events script. absurd (let spelled = script.spelled in cc)
+never_stuck : (before rest : Lines) → read_lines before ≡ [] → IsNoStart rest → IsStuck IsSomeScript before rest
+never_stuck before [] passed none = λ whole. absurd (let spelled = whole.is_script.spelled in cc)
 never_stuck before (bad ∷ after) passed none = λ begins.
-    let same = no_first before begins.more bad begins.start (map event_text begins.events) passed none.0 begins.is_script.spelled in
-    let is : start_in bad ≡ Some begins.start = ap start_in same ∙ start_in-text begins.start begins.is_script.start_fits in
+    let same = no_first before begins.more bad begins.is_whole.start (map event_text begins.is_whole.events) passed none.0 begins.is_whole.is_script.spelled in
+    let is : start_in bad ≡ Some begins.is_whole.start = ap start_in same ∙ start_in-text begins.is_whole.start begins.is_whole.is_script.start_fits in
     absurd (let is_none = none.1 in cc)
 
 never_fault : (lines rest : Lines) → NeverBegins lines rest → FaultAt lines rest
@@ -301,11 +304,11 @@ no_event : (bad : List ℕ) → event_in bad ≡ None → (event : Event) → Fi
 no_event bad none event fits same = let is : event_in bad ≡ Some event = ap event_in same ∙ event_in-text event fits in cc
 
 stop_stuck : (front : Lines) (start : ℕ) (before : Lines) (bad : List ℕ) → read_lines front ≡ [] → is_passed_over bad ≡ false → event_in bad ≡ None
-    → BeginsScript ((front ++ start_text start ∷ before) ++ bad ∷ []) → ⊥
+    → BeginsWhole IsSomeScript ((front ++ start_text start ∷ before) ++ bad ∷ []) → ⊥
 stop_stuck front start before bad passed is_read none begins =
-    let same = tails_same (start_text start) (start_text begins.start) (read_lines before ++ bad ∷ read_lines begins.more) (map event_text begins.events) _
-    (begun_with front start before bad begins.more passed is_read) begins.is_script.spelled in
-    let found = among (read_lines before) bad (read_lines begins.more) begins.events begins.is_script.events_fit same in
+    let same = tails_same (start_text start) (start_text begins.is_whole.start) (read_lines before ++ bad ∷ read_lines begins.more) (map event_text begins.is_whole.events) _
+    (begun_with front start before bad begins.more passed is_read) begins.is_whole.is_script.spelled in
+    let found = among (read_lines before) bad (read_lines begins.more) begins.is_whole.events begins.is_whole.is_script.events_fit same in
     no_event bad none found.0 found.1 found.2
 
 events_fault : (lines tail rest : Lines) (start : ℕ) → Begins lines start tail → StopsAt tail rest → FaultAt lines rest
@@ -316,16 +319,18 @@ events_fault lines tail rest start begins stop =
       whole = begins.whole ∙ ap (λ ls. begins.before ++ start_text start ∷ ls) stop.whole ∙ sym (append_assoc begins.before (start_text start ∷ stop.before) rest);
       begun = record {
         more = [];
-        start = start;
-        events = stop.events;
-        is_script = record {
-          spelled = ap read_lines (append-nil before) ∙ first_read begins.before (start_text start) stop.before begins.passed (start_is_read start)
-              ∙ ap (λ ls. start_text start ∷ ls) stop.spelled.1;
-          start_fits = begins.fits;
-          events_fit = stop.spelled.0;
+        is_whole = record {
+          start = start;
+          events = stop.events;
+          is_script = record {
+            spelled = ap read_lines (append-nil before) ∙ first_read begins.before (start_text start) stop.before begins.passed (start_is_read start)
+                ∙ ap (λ ls. start_text start ∷ ls) stop.spelled.1;
+            start_fits = begins.fits;
+            events_fit = stop.spelled.0;
+          };
         };
       };
-      stuck = subst (IsStuck before) (sym stop.begins) (stop_stuck begins.before start stop.before stop.bad begins.passed stop.is_read stop.none);
+      stuck = subst (IsStuck IsSomeScript before) (sym stop.begins) (stop_stuck begins.before start stop.before stop.bad begins.passed stop.is_read stop.none);
     }
 
 pub script_stop : (lines rest : Lines) → script_in lines ≡ Err rest → FaultAt lines rest

@@ -1,6 +1,7 @@
 -- What a script is, and which of its lines is the first faulty one.
 use Rattle.std.specs.Prelude.{◌≡◌, ℕ, ◌+◌, ◌<◌, ◌^◌, Bool, true, not, ◌==◌, List, [], ◌∷◌, ◌++◌, length, filter, map}
 use Rattle.std.specs.List.{AllByRecursion}
+use Rattle.metric_base.specs.Fronts.{BreaksOffAt}
 use Rattle.metric_core.specs.declared.event.Event.{Event}
 use Rattle.metric_parts.specs.Texts.{ScriptLines}
 use Rattle.metric_script.specs.Spelling.{start_text, event_text, FitsEvent}
@@ -22,27 +23,16 @@ pub record IsScript (lines : List (List ℕ)) (start : ℕ) (events : List Event
   pub start_fits : start < 2 ^ 64
   pub events_fit : AllByRecursion FitsEvent events
 
--- Some script begins with these lines.
-pub record BeginsScript (lines : List (List ℕ)) : Type 0 where
-  pub more : List (List ℕ)
+-- The lines are some script.
+pub record IsSomeScript (lines : List (List ℕ)) : Type 0 where
   pub start : ℕ
   pub events : List Event
-  pub is_script : IsScript (lines ++ more) start events
-
--- No script goes on after the lines before with the first of the rest. Where nothing is left, they are no script.
-abbrev pub IsStuck : List (List ℕ) → List (List ℕ) → Type 0
-IsStuck before [] = (start : ℕ) (events : List Event) → IsScript before start events → ⊥
-IsStuck before (line ∷ rest) = BeginsScript (before ++ line ∷ []) → ⊥
+  pub is_script : IsScript lines start events
 
 -- The line at this place, counted from 0, is the first with which no script goes on. Where the lines are the
 -- beginning of a script and no script, it is the place after the last.
-pub record IsFirstFault (lines : List (List ℕ)) (place : ℕ) : Type 0 where
-  pub before : List (List ℕ)
-  pub rest : List (List ℕ)
-  pub whole : lines ≡ before ++ rest
-  pub at : place ≡ length before
-  pub begun : BeginsScript before
-  pub stuck : IsStuck before rest
+abbrev pub IsFirstFault : List (List ℕ) → ℕ → Type 0
+IsFirstFault lines place = BreaksOffAt IsSomeScript lines place
 
 -- The line that has this number in the input is the first fault of the script.
 pub record IsFirstFaultAt (script : ScriptLines) (number : ℕ) : Type 0 where

@@ -1,4 +1,3 @@
-mod Steps
 mod Escapes
 mod Splits
 mod PrintedAgain

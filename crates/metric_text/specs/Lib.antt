@@ -1,4 +1,6 @@
 pub mod Written
+pub mod Lists
+pub mod ListLaws
 pub mod Reading
 pub mod ReadingLaws
 pub mod QuoteLaws

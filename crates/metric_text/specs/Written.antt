@@ -1,8 +1,8 @@
--- How texts, values and lists are written.
+-- How texts and values are written.
 use Rattle.std.specs.Prelude.{ℕ, Bool, true, false, ◌==◌, if◌then◌else◌, List, [], ◌∷◌, ◌++◌, Option, Some, None, codes, IsUtf8, FitsSigned}
 use Rattle.std.specs.Int.{w64}
 use Rattle.std.specs.Fmt.{signed_decimal}
-use Rattle.std.specs.List.{flat_map, join_by}
+use Rattle.std.specs.List.{flat_map}
 use Rattle.std.specs.Option.{option_map_or}
 use Rattle.metric_names.specs.declared.value.AttrValue.{AttrValue}
 use Rattle.metric_names.specs.declared.value.AttrValue.TheVariants.{Text, Whole, Flag}
@@ -38,10 +38,6 @@ value_text (Flag flag) = flag_text flag
 -- a key in quotes with its value
 abbrev pub pair_text : List ℕ → AttrValue → List ℕ
 pair_text key value = quoted key ++ (61 ∷ value_text value)
-
--- what each is written as, with commas between
-abbrev pub joined : {X : Type 0} → (X → List ℕ) → List X → List ℕ
-joined text xs = join_by text (44 ∷ []) xs
 
 -- a value that a program can hold: a text is UTF-8, and a number is an i64
 abbrev pub IsValue : AttrValue → Type 0

@@ -1,7 +1,7 @@
 //! Values with one spelling, and lists of them.
 ghost use Rattle.std.specs.Prelude.{◌≡◌, ◌∷◌, ◌++◌, OnOk};
 ghost use Rattle.std.specs.List.{flat_map};
-ghost use Rattle.metric_text.specs.Written.{joined};
+ghost use Rattle.metric_text.specs.Lists.{joined, list_text};
 
 use crate::quotes::push_quoted;
 use crate::writing::{push_byte, push_number, push_signed};
@@ -32,8 +32,17 @@ pub fn push_joined<T: Spelled>(out: &mut Vec<u8>, values: &[T]) -> Result<(), Al
     }
 }
 
+/// Writes each value, with commas between and in brackets.
+pub fn push_list<T: Spelled>(out: &mut Vec<u8>, values: &[T]) -> Result<(), AllocError>
+    ensures { OnOk result (out.new.items ≡ out.old.items ++ list_text T.text values.now) }
+{
+    push_byte(out, b'[')?;
+    push_joined(out, values)?;
+    push_byte(out, b']')
+}
+
 /// Writes each value with a comma before it.
-#[tactic(auto, using(crate::proofs::Steps::steps))]
+#[tactic(auto, using(crate::specs::ListLaws::steps))]
 fn push_more<T: Spelled>(out: &mut Vec<u8>, values: &[T]) -> Result<(), AllocError>
     ensures { OnOk result (out.new.items ≡ out.old.items ++ flat_map (λ x. 44 ∷ T.text x) values.now) }
 {

@@ -145,11 +145,12 @@ fn lists_have_commas_between(rt: HostRuntime) -> Result<(), Fail> {
     push_joined(&mut out, &none)?;
     push_joined(&mut out, &[1u64, 20])?;
     push_text(&mut out, " ")?;
-    push_joined(&mut out, &[-1i64])?;
+    push_list(&mut out, &[-1i64, 2])?;
+    push_list(&mut out, &none)?;
     push_joined(&mut out, &[Text::new(rt.alloc(), "k")?])?;
     assert_eq!(rt;
         out.as_slice(),
-        b"\"otel.metric.overflow\"=true,\"a\"=true 1,20 -1\"k\"".as_slice()
+        b"\"otel.metric.overflow\"=true,\"a\"=true 1,20 [-1,2][]\"k\"".as_slice()
     );
     Ok(())
 }
@@ -174,5 +175,14 @@ fn lines_end_with_line_feeds(rt: HostRuntime) -> Result<(), Fail> {
             assert_eq!(rt; *line, want.as_bytes(), "{input:?}");
         }
     }
+    Ok(())
+}
+
+#[test]
+fn labels_stand_before_what_they_name(rt: HostRuntime) -> Result<(), Fail> {
+    let mut out = Vec::new(rt.alloc());
+    push_labelled(&mut out, "name=", "a\"b")?;
+    push_numbered(&mut out, " limit=", 2000)?;
+    assert_eq!(rt; out.as_slice(), b"name=\"a\\\"b\" limit=2000".as_slice());
     Ok(())
 }

@@ -6,7 +6,8 @@ use Rattle.metric_names.specs.Names.{name_of}
 use Rattle.metric_glob.specs.Patterns.{pattern_of}
 use Rattle.metric_table.specs.Fields.{integers_of, only, short_text_of, text_of, texts_of}
 use Rattle.metric_catalogue.specs.declared.contents.Kind.{Kind}
-use Rattle.metric_catalogue.specs.Kinds.{is_rising, kind_named}
+use Rattle.metric_base.specs.Boundaries.{is_rising}
+use Rattle.metric_catalogue.specs.Kinds.{kind_named}
 use Rattle.metric_views.specs.declared.choices.Aggregation.{Aggregation}
 use Rattle.metric_views.specs.declared.config.Criteria.{Criteria}
 use Rattle.metric_views.specs.declared.config.Settings.{Settings}

@@ -1,5 +1,5 @@
 //! A short catalogue, and the set keys and refusals of attributes.
-use crate::{Attr, Catalogue, Kind, OwnedAttr, Refusal, SetKey, encode_ignores_order, is_rising};
+use crate::{Attr, Catalogue, Kind, OwnedAttr, Refusal, SetKey, encode_ignores_order};
 use metric_base::{Items, Text};
 use metric_names::{AttrValue, ValueRef};
 use std::alloc::Global;
@@ -149,9 +149,7 @@ fn refusals_have_numbers_and_names(rt: HostRuntime) -> Result<(), Fail> {
 }
 
 #[test]
-fn kinds_have_names_and_boundaries_rise(rt: HostRuntime) {
+fn kinds_have_names(rt: HostRuntime) {
     assert_eq!(rt; Kind::named("gauge"), Some(Kind::Gauge));
     assert_eq!(rt; Kind::named("Gauge"), None);
-    assert!(rt; is_rising(&[-3, 0, 4]));
-    assert!(rt; !is_rising(&[0, 4, 4]));
 }

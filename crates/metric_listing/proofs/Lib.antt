@@ -1,2 +1,0 @@
-mod KeyNames
-mod Streams
