@@ -1,8 +1,7 @@
 -- How the replies to a script are written.
 use Rattle.std.specs.Prelude.{ℕ, Bool, true, false, List, [], ◌∷◌, ◌++◌, codes}
 use Rattle.std.specs.List.{flat_map}
-use Rattle.std.specs.Fmt.{decimal}
-use Rattle.metric_catalogue.specs.Refusals.{name_of, number_of}
+use Rattle.metric_catalogue.specs.Refusals.{refusal_text}
 use Rattle.metric_catalogue.specs.declared.refusal.Refusal.{Refusal}
 use Rattle.metric_catalogue.specs.declared.refusal.Refusal.TheVariants as refusals
 use Rattle.metric_core.specs.declared.event.Reply.{Reply}
@@ -13,15 +12,16 @@ use Rattle.metric_io.specs.Counts.{HasFailed}
 use Rattle.metric_kit.specs.declared.fault.KitFault.{KitFault}
 use Rattle.metric_kit.specs.declared.fault.KitFault.TheVariants.{Write, Memory}
 
-abbrev pub refusal_text : Refusal → List ℕ
-refusal_text refusal = codes "refused " ++ (decimal (number_of refusal) ++ (32 ∷ (name_of refusal ++ 10 ∷ [])))
+-- the line of a refusal
+abbrev pub refused_text : Refusal → List ℕ
+refused_text refusal = codes "refused " ++ (refusal_text refusal ++ codes "\n")
 
 -- one reply under the plan
 abbrev pub reply_text : PlanValue → Reply → List ℕ
 reply_text plan Accepted = codes "accepted" ++ 10 ∷ []
 reply_text plan (Collected batch) = batch_text plan.rules.contents plan.config plan.streams batch
 reply_text plan Done = codes "closed" ++ 10 ∷ []
-reply_text plan (Refused refusal) = refusal_text refusal
+reply_text plan (Refused refusal) = refused_text refusal
 
 -- all of them
 abbrev pub replies_text : PlanValue → List Reply → List ℕ

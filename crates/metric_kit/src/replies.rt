@@ -2,7 +2,8 @@
 ghost use Rattle.std.specs.Prelude.{◌≡◌, ◌++◌, OnOk, IfErr};
 ghost use Rattle.std.specs.Io.KnownBytes.{Appends};
 ghost use Rattle.metric_io.specs.Prefix.{AppendsPrefix};
-ghost use Rattle.metric_kit.specs.Replies.{IsSinkFault, refusal_text, reply_text, replies_text};
+ghost use Rattle.metric_catalogue.specs.Refusals.{refusal_text};
+ghost use Rattle.metric_kit.specs.Replies.{IsSinkFault, refused_text, reply_text, replies_text};
 
 use crate::fault::KitFault;
 use metric_catalogue::Refusal;
@@ -13,14 +14,21 @@ use metric_io::{Sink, write_all};
 use metric_text::{push_byte, push_number, push_text};
 use std::alloc::{AllocError, Global};
 
-// Writes a refusal's number and name.
-fn push_refusal(out: &mut Vec<u8>, refusal: &Refusal) -> Result<(), AllocError>
+// Writes a refusal as it is printed.
+fn push_printed(out: &mut Vec<u8>, refusal: &Refusal) -> Result<(), AllocError>
     ensures { OnOk result (out.new.items ≡ out.old.items ++ refusal_text refusal.now) }
 {
-    push_text(out, "refused ")?;
     push_number(out, u64::from(refusal.number()))?;
     push_byte(out, b' ')?;
-    push_text(out, refusal.name())?;
+    push_text(out, refusal.name())
+}
+
+// Writes the line of a refusal.
+fn push_refusal(out: &mut Vec<u8>, refusal: &Refusal) -> Result<(), AllocError>
+    ensures { OnOk result (out.new.items ≡ out.old.items ++ refused_text refusal.now) }
+{
+    push_text(out, "refused ")?;
+    push_printed(out, refusal)?;
     push_byte(out, b'\n')
 }
 
