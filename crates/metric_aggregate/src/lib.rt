@@ -17,6 +17,3 @@ pub use buckets::BucketAgg;
 pub use last::LastAgg;
 pub use point_value::PointValue;
 pub use sum::SumAgg;
-
-#[cfg(test)]
-mod tests;

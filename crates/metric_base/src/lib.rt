@@ -5,19 +5,20 @@
 //! first element with which no whole list goes on".
 #![tactic(auto)]
 
+mod boundaries;
 mod copied;
 mod exact;
 mod few;
 mod items;
 mod rising;
+mod shared;
 mod text;
 
+pub use boundaries::Boundaries;
 pub use copied::{Copied, copy_all};
 pub use exact::{Exact, is_same};
 pub use few::Few;
 pub use items::Items;
 pub use rising::is_rising;
+pub use shared::Shared;
 pub use text::Text;
-
-#[cfg(test)]
-mod tests;

@@ -23,6 +23,3 @@ pub use encode::{SetKey, encode_ignores_order};
 pub use fault::{CatalogueFault, Place};
 pub use refusal::Refusal;
 pub use values::Values;
-
-#[cfg(test)]
-mod tests;

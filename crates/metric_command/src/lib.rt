@@ -8,6 +8,3 @@ mod reading;
 pub use laws::{lines_are_taken, others_are_refused};
 pub use line::{Line, LineFault};
 pub use reading::command_of;
-
-#[cfg(test)]
-mod tests;

@@ -18,6 +18,3 @@ pub use batch::{Batch, Point, StreamPoints};
 pub use entry::Entry;
 pub use event::{Event, Reply};
 pub use run::Core;
-
-#[cfg(test)]
-mod tests;

@@ -9,6 +9,3 @@ mod stream;
 
 pub use batch::push_batch;
 pub use stream::{push_kind, push_temporality};
-
-#[cfg(test)]
-mod tests;

@@ -15,6 +15,3 @@ mod why;
 pub use characters::{ANY_ONE, ANY_TEXT};
 pub use pattern::{Pattern, PatternFault};
 pub use reason::Reason;
-
-#[cfg(test)]
-mod tests;

@@ -10,8 +10,6 @@
 mod cut;
 mod devices;
 mod standard;
-#[cfg(test)]
-mod tests;
 mod whole;
 
 pub use cut::{CutSink, CutSource};

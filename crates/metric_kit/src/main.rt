@@ -9,8 +9,6 @@ mod planning;
 mod replay;
 mod replies;
 mod show;
-#[cfg(test)]
-mod tests;
 
 use fault::KitFault;
 use metric_command::{Line, LineFault, command_of};

@@ -7,6 +7,3 @@ mod names;
 mod warnings;
 
 pub use listing::push_listing;
-
-#[cfg(test)]
-mod tests;

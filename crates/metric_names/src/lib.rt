@@ -10,6 +10,3 @@ pub use name::{Name, NameFault};
 pub use printable::first_other_than_printable;
 pub use unit::{Unit, UnitFault};
 pub use value::{AttrValue, ValueRef};
-
-#[cfg(test)]
-mod tests;

@@ -16,6 +16,3 @@ pub use needs::Needs;
 pub use parts::Parts;
 pub use reading::parts_of;
 pub use script::Script;
-
-#[cfg(test)]
-mod tests;

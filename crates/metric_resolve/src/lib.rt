@@ -14,6 +14,3 @@ pub use identity::Identity;
 pub use laws::{collisions_are_of_one_identity, streams_are_what_views_give};
 pub use resolved::{Streams, resolve};
 pub use warning::Warning;
-
-#[cfg(test)]
-mod tests;

@@ -12,6 +12,3 @@ pub use events::ScriptEvents;
 pub use fault::ScriptFault;
 pub use laws::one_script;
 pub use reading::events_of;
-
-#[cfg(test)]
-mod tests;

@@ -14,6 +14,3 @@ pub use fields::{
     text_field, text_of,
 };
 pub use lists::{integers_of, list_of, table_of, tables_field, texts_of};
-
-#[cfg(test)]
-mod tests;

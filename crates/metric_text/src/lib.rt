@@ -10,8 +10,6 @@ mod numbers;
 mod quotes;
 mod scanning;
 mod spelled;
-#[cfg(test)]
-mod tests;
 mod values;
 mod writing;
 

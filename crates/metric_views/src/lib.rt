@@ -11,8 +11,6 @@ mod readers;
 mod reading;
 mod selection;
 mod stream;
-#[cfg(test)]
-mod tests;
 mod views;
 
 pub use choices::{Aggregation, ByKind, Temporality};
