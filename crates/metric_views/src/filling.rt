@@ -1,9 +1,9 @@
 //! Which stream a view, or the default, makes of an instrument for a reader.
 ghost use Rattle.std.specs.Prelude.{◌≡◌, ◌<◌, IfOk, Some, length, map, unwrap_or};
 ghost use Rattle.std.specs.Option.{ForSome};
-ghost use Rattle.metric_views.specs.Streams.{advised, aggregation_with, boundaries_for, chosen_aggregation, default_aggregation, fill_at, fill_of, is_excluded, is_kept, is_listed, is_unfit, is_wanted, names_histogram, no_settings, stream_with, usual_boundaries};
+ghost use Rattle.metric_views.specs.Streams.{advised, aggregation_with, boundaries_for, chosen_aggregation, default_aggregation, fill_at, fill_of, is_excluded, is_kept, is_listed, is_wanted, names_histogram, no_settings, stream_with, usual_boundaries};
 
-use crate::choices::Aggregation;
+use crate::choices::{Aggregation, is_unfit};
 use crate::config::{Config, Reader, Settings};
 use crate::stream::{Fill, Stream, StreamAggregation};
 use metric_base::{Copied, Few, Items, Text};
@@ -46,14 +46,14 @@ pub fn fill(
 {
     let nothing = no_settings();
     let settings = match view {
-        Some(number) => &config.views.as_slice()[number as usize].settings,
+        Some(number) => &config.views()[number as usize].settings,
         None => &nothing,
     };
     fill_of(
         alloc,
         Combination {
             reader_number: reader,
-            reader: &config.readers.as_slice()[reader as usize],
+            reader: &config.readers()[reader as usize],
             number: instrument,
             instrument: &catalogue.instruments()[instrument as usize],
             view,
@@ -142,13 +142,6 @@ fn chosen_aggregation(reader: &Reader, kind: Kind, settings: &Settings) -> Aggre
     ensures { result ≡ chosen_aggregation reader.now kind settings.now }
 {
     settings.aggregation.unwrap_or(reader.aggregation.of(kind))
-}
-
-/// The aggregation does not fit the kind: a sum of a gauge.
-fn is_unfit(kind: Kind, aggregation: Aggregation) -> bool
-    ensures { result ≡ is_unfit kind aggregation }
-{
-    matches!(kind, Kind::Gauge) && matches!(aggregation, Aggregation::Sum)
 }
 
 /// A stream's aggregation, or none where the recordings are dropped.
