@@ -7,7 +7,7 @@ ghost use Rattle.metric_views.specs.Sound.{IsSoundSetup};
 use crate::choices::{Aggregation, ByKind, Temporality};
 use crate::fault::ViewFault;
 use crate::reading::setup_of;
-use metric_base::{Few, Text};
+use metric_base::{Boundaries, Few, Shared, Text};
 use metric_catalogue::Kind;
 use metric_glob::Pattern;
 use metric_names::Name;
@@ -35,7 +35,7 @@ pub struct Criteria {
     pub instrument_name: Option<Pattern>,
     /// The instrument's kind.
     pub instrument_type: Option<Kind>,
-    /// The instrument's unit.
+    /// The instrument's unit, at most 1,023 characters, as the other texts.
     pub instrument_unit: Option<Text>,
     /// The meter's name.
     pub meter_name: Option<Text>,
@@ -45,20 +45,21 @@ pub struct Criteria {
     pub meter_schema_url: Option<Text>,
 }
 
-/// What a view gives the streams that it makes (Metrics SDK, stream configuration).
+/// What a view gives the streams that it makes (Metrics SDK, stream configuration). What they hold of it is
+/// shared.
 #[derive(Drop)]
 pub struct Settings {
     /// The stream's name.
-    pub stream_name: Option<Name>,
-    /// The stream's description.
-    pub description: Option<Text>,
+    pub stream_name: Option<Shared<Name>>,
+    /// The stream's description, at most 1,023 characters.
+    pub description: Option<Shared<Text>>,
     /// The aggregation.
     pub aggregation: Option<Aggregation>,
-    /// The boundaries of a histogram, strictly rising.
-    pub boundaries: Option<Few<i64, 128>>,
-    /// The attribute keys that are kept.
+    /// The boundaries of a histogram.
+    pub boundaries: Option<Shared<Boundaries>>,
+    /// The attribute keys that are kept, each of at most 1,023 characters.
     pub keep: Option<Few<Text, 64>>,
-    /// The attribute keys that are left out.
+    /// The attribute keys that are left out, each of at most 1,023 characters.
     pub exclude: Option<Few<Text, 64>>,
     /// The cardinality limit, 1 to 1,000,000.
     pub limit: Option<u32>,

@@ -12,7 +12,7 @@ ghost use Rattle.metric_views.specs.Views.{optional_field};
 use crate::by_kind::{aggregation_of, limit_of};
 use crate::choices::Aggregation;
 use crate::fault::{ConfigPlace, ViewFault, faults_at};
-use metric_base::{Few, Text, is_rising};
+use metric_base::{Boundaries, Few, Shared, Text, is_rising};
 use metric_catalogue::Kind;
 use metric_glob::{Pattern, PatternFault};
 use metric_names::{Name, NameFault};
@@ -142,16 +142,16 @@ impl FieldValue for u32 {
     }
 }
 
-impl FieldValue for Few<i64, 128> {
+impl FieldValue for Boundaries {
     ghost use Rattle.metric_views.specs.Views.{boundaries_at};
 
     ghost read_as = { boundaries_at };
 
     #[tactic(auto, unfolding(crate::specs::Views::boundaries_at))]
-    fn read(alloc: Global, value: &Value, at: ConfigPlace) -> Result<Few<i64, 128>, ViewFault> {
+    fn read(alloc: Global, value: &Value, at: ConfigPlace) -> Result<Boundaries, ViewFault> {
         let boundaries = integers_of(alloc, value, 128, &faults_at(at))?;
         if is_rising(boundaries.as_slice()) {
-            Ok(Few::from_items(boundaries))
+            Ok(Boundaries::from_few(Few::from_items(boundaries)))
         } else {
             Err(ViewFault::BadBoundaries { at })
         }
@@ -167,5 +167,15 @@ impl FieldValue for Few<Text, 64> {
     fn read(alloc: Global, value: &Value, at: ConfigPlace) -> Result<Few<Text, 64>, ViewFault> {
         let keys = texts_of(alloc, value, 64, &faults_at(at))?;
         Ok(Few::from_items(keys))
+    }
+}
+
+impl<T: FieldValue> FieldValue for Shared<T> {
+    ghost read_as = { T.read_as };
+
+    fn read(alloc: Global, value: &Value, at: ConfigPlace) -> Result<Shared<T>, ViewFault> {
+        let value = T::read(alloc, value, at)?;
+        let shared = Shared::new(alloc, value)?;
+        Ok(shared)
     }
 }

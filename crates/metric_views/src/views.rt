@@ -11,7 +11,7 @@ use crate::choices::Aggregation;
 use crate::config::{Criteria, Settings, View};
 use crate::fault::{ConfigPlace, ViewFault, faults_at};
 use crate::optional::optional_field;
-use metric_base::{Few, Items, Text};
+use metric_base::{Boundaries, Few, Items, Shared, Text};
 use metric_catalogue::Kind;
 use metric_glob::Pattern;
 use metric_names::Name;
@@ -133,20 +133,20 @@ fn settings_of(alloc: Global, table: &Table, at: ConfigPlace) -> Result<Settings
     })
 }
 
-type StreamSettings = (Option<Name>, Option<Text>, Option<Aggregation>);
+type StreamSettings = (Option<Shared<Name>>, Option<Shared<Text>>, Option<Aggregation>);
 
 #[tactic(auto, unfolding(crate::specs::Views::stream_settings))]
 fn stream_settings(alloc: Global, table: &Table, at: ConfigPlace) -> Result<StreamSettings, ViewFault>
     ensures { Gives ViewFault.Memory result (stream_settings at (table_view table.now)) }
 {
     let name = name_field(alloc, table, "stream_name", at)?;
-    let description = free_text_field(alloc, table, "description", at)?;
+    let description = description_field(alloc, table, "description", at)?;
     let aggregation = aggregation_field(alloc, table, "aggregation", at)?;
     Ok((name, description, aggregation))
 }
 
 type ListSettings = (
-    Option<Few<i64, 128>>,
+    Option<Shared<Boundaries>>,
     Option<Few<Text, 64>>,
     Option<Few<Text, 64>>,
 );
@@ -197,13 +197,25 @@ fn free_text_field(
     optional_field(alloc, table, name, at)
 }
 
+/// A free text that streams share, where the table has it.
+fn description_field(
+    alloc: Global,
+    table: &Table,
+    name: &str,
+    at: ConfigPlace,
+) -> Result<Option<Shared<Text>>, ViewFault>
+    ensures { Gives ViewFault.Memory result (optional_field (text_at at) name.now (table_view table.now)) }
+{
+    optional_field(alloc, table, name, at)
+}
+
 /// A stream name, where the table has it.
 fn name_field(
     alloc: Global,
     table: &Table,
     name: &str,
     at: ConfigPlace,
-) -> Result<Option<Name>, ViewFault>
+) -> Result<Option<Shared<Name>>, ViewFault>
     ensures { Gives ViewFault.Memory result (optional_field (name_at at) name.now (table_view table.now)) }
 {
     optional_field(alloc, table, name, at)
