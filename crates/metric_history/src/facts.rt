@@ -47,6 +47,28 @@ pub struct Facts {
     pub streams: Items<NumberedStream>,
 }
 
+impl Facts {
+    ghost use Rattle.metric_history.specs.Facts.{in_bounds, is_delta};
+
+    /// Whether a value is in the instrument's range.
+    pub fn admits(&self, value: &i64) -> bool
+        ensures { result ≡ in_bounds self.now value.now }
+    {
+        self.lo <= *value && *value <= self.hi
+    }
+
+    /// Whether a reader is delta for the instrument; a reader of another number is not.
+    pub fn is_delta(&self, reader: u32) -> bool
+        ensures { result ≡ is_delta self.now reader }
+    {
+        self.delta
+            .as_slice()
+            .get(reader as usize)
+            .copied()
+            .unwrap_or(false)
+    }
+}
+
 // Whether a temporality is delta.
 fn is_delta(temporality: Temporality) -> bool
     ensures { result ≡ is_delta_temporality temporality }

@@ -12,4 +12,4 @@ pub mod laws;
 pub use batch::{Batch, Point, StreamPoints};
 pub use entry::Entry;
 pub use event::{Event, Reply};
-pub use facts::{Facts, KeyFacts, NumberedStream};
+pub use facts::{Facts, KeyFacts, NumberedStream, all_facts};
