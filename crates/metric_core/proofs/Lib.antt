@@ -1,4 +1,3 @@
-pub mod FirstLaws
 pub mod HistoryLaws
 pub mod NewCells
 pub mod RangeLaws

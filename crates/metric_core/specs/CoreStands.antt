@@ -4,7 +4,7 @@ use Rattle.metric_history.specs.declared.facts.Facts.{Facts}
 use Rattle.metric_history.specs.Facts.{RunFacts}
 use Rattle.metric_history.specs.History.{History, accepted, mark_of, previous_of, is_closed}
 use Rattle.metric_core.specs.Cells.{CellValue}
-use Rattle.metric_core.specs.Plans.{PlanValue}
+use Rattle.metric_check.specs.Plans.{PlanValue}
 
 -- a cell has what the history says of its instrument
 pub record CellStands (facts : RunFacts) (own : Facts) (since : ℕ) (c : CellValue) (h : History) (i : ℕ) : Type 0 where

@@ -1,5 +1,3 @@
-pub mod Plans
-pub mod First
 pub mod Cells
 pub mod CellSteps
 pub mod CoreStands

@@ -2,7 +2,6 @@
 #![tactic(auto)]
 
 mod cell;
-pub mod first;
 mod points;
 mod run;
 mod series;

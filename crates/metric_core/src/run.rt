@@ -8,8 +8,8 @@ ghost use Rattle.metric_core.specs.Cells.{new_cell_of};
 ghost use Rattle.metric_core.specs.Ranges.{CellsInRange};
 
 use crate::cell::Cell;
-use crate::first::Plan;
 use crate::steps::step;
+use metric_check::Plan;
 use metric_history::{Event, Facts, Reply};
 use std::alloc::{AllocError, Global};
 use std::marker::Model;
@@ -92,7 +92,7 @@ impl Core {
         ensures stands { IfOk result (λ core. CoreStands core []) }
         ensures err { IfErr result (λ refused. refused.0 ≡ plan) }
     {
-        match new_cells(alloc, plan.facts(), start) {
+        match new_cells(alloc, plan.all_facts(), start) {
             Err(error) => Err((plan, error)),
             Ok(cells) => Ok(Core { plan, start, cells }),
         }

@@ -6,8 +6,8 @@ ghost use Rattle.metric_core.specs.Ranges.{cell_in_range, CellsInRange};
 ghost use Rattle.metric_core.specs.Steps.{Steps};
 
 use crate::cell::Cell;
-use crate::first::Plan;
 use metric_catalogue::{Catalogue, Refusal};
+use metric_check::Plan;
 use metric_history::{Event, Facts, Reply};
 use std::alloc::Global;
 
@@ -58,7 +58,7 @@ pub fn step<'a>(
     if at >= cells.len() {
         return Reply::Refused(Refusal::UnknownInstrument);
     }
-    match plan.facts().get(at) {
+    match plan.all_facts().get(at) {
         None => Reply::Refused(Refusal::UnknownInstrument),
         Some(facts) => answer(alloc, plan.catalogue(), facts, &mut cells[at], event, room),
     }

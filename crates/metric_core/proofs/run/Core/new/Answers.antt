@@ -7,8 +7,8 @@ use Rattle.metric_core.proofs.run.Core.new.Goals as goal
 
 pub returns-in-Ok-clause-stands : goal.returns-in-Ok-clause-stands
 returns-in-Ok-clause-stands c =
-    new_cells_stand c.args.plan.facts c.args.start c.in-Ok.cells.items (c.in-Ok.ensures ∙ ap (map (new_cell_of c.args.start)) c.facts.ensures)
+    new_cells_stand c.args.plan.facts c.args.start c.in-Ok.cells.items (c.in-Ok.ensures ∙ ap (map (new_cell_of c.args.start)) c.all_facts.ensures)
 
 pub invariant_of-result : goal.invariant_of-result
 invariant_of-result c =
-    new_cells_in_range c.args.plan.facts.instruments c.args.start c.in-Ok.cells.items (c.in-Ok.ensures ∙ ap (map (new_cell_of c.args.start)) c.facts.ensures)
+    new_cells_in_range c.args.plan.facts.instruments c.args.start c.in-Ok.cells.items (c.in-Ok.ensures ∙ ap (map (new_cell_of c.args.start)) c.all_facts.ensures)

@@ -1,7 +1,7 @@
 -- the sum so far, of which each part is a u64
 use Rattle.std.proofs.Common.{◌≡◌, ◌≤◌, ◌*◌, ◌^◌, take}
-use Rattle.metric_core.specs.First.{total_budget}
-use Rattle.metric_core.proofs.first.total_budget.Given as goal
+use Rattle.metric_check.specs.Counting.{total_budget}
+use Rattle.metric_check.proofs.counting.total_budget.Given as goal
 
 abbrev pub invariant-loop-recorder : goal.invariant-loop-recorder
 invariant-loop-recorder l = record {
