@@ -1,4 +1,5 @@
-//! Plans: a catalogue with a config, their streams, and the facts on which the run of each instrument depends.
+//! Plans: a catalogue with a config, their streams, and the facts on which the run of each instrument
+//! depends.
 #![tactic(auto)]
 
 mod counting;
