@@ -1,7 +1,7 @@
 -- The set key of attributes is a full set.
 use Rattle.std.proofs.Common.{◌≡◌, ℕ, zero, suc, ◌+◌, ◌-◌, ◌≤◌, ◌<◌, Bool, true, false, ◌&&◌, ◌||◌, cond, List, [], ◌∷◌, ◌++◌, Option, Some, None, Result, Ok, length, map, refl, sym, ap, subst, ◌∙◌, arith}
 use Rattle.std.specs.Prelude.{◌==◌, not, nat_le, replicate, find, is_some, option_map, unwrap_or}
-use Rattle.std.specs.List.{list_all, list_any, position_from}
+use Rattle.std.specs.List.{list_all, list_any}
 use Rattle.std.proofs.lemmas.Bool.{and_parts, true≢false}
 use Rattle.std.proofs.lemmas.Bool.Decides.{nat_tests}
 use Rattle.metric_base.specs.StepLaws.{ok_is, require_ok}
@@ -10,18 +10,9 @@ use Rattle.metric_catalogue.specs.declared.contents.Key.{Key}
 use Rattle.metric_catalogue.specs.declared.refusal.Refusal.TheVariants.{DuplicateKey, UnknownKey, UnknownValue, MissingKey}
 use Rattle.metric_catalogue.specs.Encoding.{Given, is_of, has_repeated_key, is_declared, is_allowed, is_complete, entry_of, entry_at, set_key, set_of}
 use Rattle.metric_catalogue.specs.Places.{same_value, place}
+use Rattle.metric_catalogue.specs.PlaceLaws.{position_from-within}
 use Rattle.metric_history.specs.declared.facts.KeyFacts.{KeyFacts}
 use Rattle.metric_history.specs.Facts.{is_entry, is_full_set, key_facts, EncodesFullSets}
-
--- the place of a value is one of the list
-place_within : (test : AttrValue → Bool) (first : ℕ) (values : List AttrValue) (p : ℕ) → position_from test first values ≡ Some p → p < first + length values
-place_within test first [] p e = absurd cc
-place_within test first (v ∷ values) p e = at (test v) e (place_within test (first + 1) values p)
-  where
-    at : (b : Bool) → cond b (Some first) (position_from test (first + 1) values) ≡ Some p
-        → (position_from test (first + 1) values ≡ Some p → p < (first + 1) + length values) → p < first + length (v ∷ values)
-    at true found rest = let here : first ≡ p = cc in omega arith
-    at false found rest = omega (arith, rest found)
 
 none_found : (p : Given → Bool) (attrs : List Given) → find p attrs ≡ None → list_any p attrs ≡ false
 none_found p [] e = refl
@@ -39,7 +30,7 @@ entry_fits attrs key allowed complete = at (find (is_of key.name) attrs) refl al
         → is_entry (key_facts key) (unwrap_or (option_map (λ number. number + 1) o) 0) ≡ true
     placed value None e some = absurd (true≢false (sym some))
     placed value (Some n) e some =
-        let below : n < 0 + length key.values = place_within (same_value value) 0 key.values n e in
+        let below : n < 0 + length key.values = position_from-within (same_value value) 0 key.values n e in
         grind (arith, nat_tests)
 
     optional : (b : Bool) → (b || list_any (is_of key.name) attrs) ≡ true → list_any (is_of key.name) attrs ≡ false → b ≡ true
