@@ -1,6 +1,6 @@
 -- The set key of attributes is a full set.
-use Rattle.std.proofs.Common.{◌≡◌, ℕ, zero, suc, ◌+◌, ◌-◌, ◌≤◌, ◌<◌, Bool, true, false, ◌&&◌, ◌||◌, cond, List, [], ◌∷◌, ◌++◌, Option, Some, None, Result, Ok, length, map, refl, sym, ap, subst, ◌∙◌, arith}
-use Rattle.std.specs.Prelude.{◌==◌, not, nat_le, replicate, find, is_some, option_map, unwrap_or}
+use Rattle.std.proofs.Common.{◌≡◌, ℕ, zero, suc, ◌+◌, ◌-◌, ◌<◌, Bool, true, false, ◌&&◌, ◌||◌, cond, List, [], ◌∷◌, ◌++◌, Option, Some, None, Ok, length, map, refl, sym, ap, subst, ◌∙◌, arith}
+use Rattle.std.specs.Prelude.{◌==◌, not, replicate, find, is_some, option_map, unwrap_or}
 use Rattle.std.specs.List.{list_all, list_any}
 use Rattle.std.proofs.lemmas.Bool.{and_parts, true≢false}
 use Rattle.std.proofs.lemmas.Bool.Decides.{nat_tests}
@@ -11,7 +11,6 @@ use Rattle.metric_catalogue.specs.declared.refusal.Refusal.TheVariants.{Duplicat
 use Rattle.metric_catalogue.specs.Encoding.{Given, is_of, has_repeated_key, is_declared, is_allowed, is_complete, entry_of, entry_at, set_key, set_of}
 use Rattle.metric_catalogue.specs.Places.{same_value, place}
 use Rattle.metric_catalogue.specs.PlaceLaws.{position_from-within}
-use Rattle.metric_history.specs.declared.facts.KeyFacts.{KeyFacts}
 use Rattle.metric_history.specs.Facts.{is_entry, is_full_set, key_facts, EncodesFullSets}
 
 none_found : (p : Given → Bool) (attrs : List Given) → find p attrs ≡ None → list_any p attrs ≡ false
