@@ -1,5 +1,5 @@
 -- What is read as a catalogue is sound.
-use Rattle.std.proofs.Common.{◌≡◌, ◌≢◌, ℕ, ℤ, pos, negsuc, ◌+◌, ◌-◌, ◌<◌, ◌≤◌, ◌^◌, Bool, true, false, not, cond, List, [], ◌∷◌, ◌++◌, length, get_or, Option, Some, None, Ok, refl, sym, ap, subst, ◌∙◌, arith, codes, nat_lt, eq-eqb, true≢false}
+use Rattle.std.proofs.Common.{◌≡◌, ◌≢◌, ℕ, ℤ, pos, negsuc, ◌+◌, ◌-◌, ◌<◌, ◌≤◌, ◌^◌, Bool, true, false, not, cond, List, [], ◌∷◌, ◌++◌, length, map, get_or, Option, Some, None, Ok, refl, sym, ap, subst, ◌∙◌, arith, codes, nat_lt, eq-eqb, true≢false}
 use Rattle.std.proofs.lemmas.Bool.Decides.{nat_tests}
 use Rattle.std.proofs.lemmas.List.{length-append}
 use Rattle.std.proofs.lemmas.Slice.Eq.{bytes_eq-Decides}
@@ -8,6 +8,7 @@ use Rattle.std.specs.Str.{bytes_eq}
 use Rattle.toml.specs.Data.{Members}
 use Rattle.metric_base.specs.Steps.{require_some, in_turn, each}
 use Rattle.metric_base.specs.StepLaws.{after_ok, require_ok, ok_is}
+use Rattle.metric_catalogue.specs.declared.recorders.TheConstants.{BUDGET_FIELDS, RECORDER_FIELDS}
 use Rattle.metric_table.specs.Fields.{field, integer_of, only, tables_field}
 use Rattle.metric_catalogue.specs.declared.contents.Budget.{Budget}
 use Rattle.metric_catalogue.specs.declared.contents.Contents.{Contents}
@@ -144,7 +145,7 @@ budget_made : (at : CataloguePlace) (count : ℕ) (before : List Budget) (table 
     → IsNext (IsSoundBudget count) (λ o b. o.instrument ≢ b.instrument) before budget
 unfolding budget_of budgeted amount_field
 budget_made at count before table budget e0 =
-    after_ok (only (faults_at at) (codes "instrument" ∷ codes "amount" ∷ []) table) _ budget e0 (λ _ _ e1.
+    after_ok (only (faults_at at) (map (λ name. name.now) BUDGET_FIELDS) table) _ budget e0 (λ _ _ e1.
     after_ok (budgeted at count table) _ budget e1 (λ instrument numbered e2.
     after_ok (amount_field at table) _ budget e2 (λ amount counted e3.
     let (new, e4) = require_ok (not (list_any (is_budget instrument) before)) (DuplicateBudget at) _ budget e3 in
@@ -168,7 +169,7 @@ recorder_made : (count : ℕ) (before : List Recorder) (table : Members) (record
 unfolding recorder_of
 recorder_made count before table recorder e0 =
     let at = place.Recorder (length before) in
-    after_ok (only (faults_at at) (codes "name" ∷ codes "budget" ∷ []) table) _ recorder e0 (λ _ _ e1.
+    after_ok (only (faults_at at) (map (λ name. name.now) RECORDER_FIELDS) table) _ recorder e0 (λ _ _ e1.
     after_ok (label_field at table) _ recorder e1 (λ name named e2.
     after_ok (tables_field (faults_at at) 512 (codes "budget") table) _ recorder e2 (λ tables listed e3.
     let (new, e4) = require_ok (not (list_any (is_recorder name) before)) (DuplicateRecorder at) _ recorder e3 in
