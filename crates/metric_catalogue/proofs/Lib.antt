@@ -1,4 +1,6 @@
+mod SameValues
 mod Numbered
+mod SoundLists
 mod SoundKeys
 mod SoundInstruments
 mod SoundCatalogues

@@ -19,7 +19,18 @@ use metric_table::{
 use std::alloc::Global;
 use toml::{Table, Value};
 
-/// What names and describes an instrument.
+// The fields of an instrument's table.
+const INSTRUMENT_FIELDS: [&str; 7] = [
+    "name",
+    "kind",
+    "unit",
+    "description",
+    "range",
+    "boundaries",
+    "key",
+];
+
+// What names and describes an instrument.
 #[derive(Drop)]
 pub(crate) struct Head {
     name: Shared<Name>,
@@ -28,8 +39,8 @@ pub(crate) struct Head {
     description: Shared<Text>,
 }
 
-/// Puts the instruments of a meter after those of the meters before it. Where there is a fault, some
-/// of them may have been put.
+// Puts the instruments of a meter after those of the meters before it. Where there is a fault, some
+// of them may have been put.
 pub(crate) fn add_instruments(
     alloc: Global,
     tables: &[&Table],
@@ -56,7 +67,8 @@ fn instrument_of(
     before: &[Instrument],
 ) -> Result<Instrument, CatalogueFault>
     requires { length before.now < 512 }
-    ensures { Gives CatalogueFault.Memory result (instrument_of meter before.now (table_view table.now)) }
+    ensures { Gives CatalogueFault.Memory result
+        (instrument_of meter before.now (table_view table.now)) }
 {
     let at = CataloguePlace::Instrument(before.len() as u32);
     let head = head_of(alloc, table, at)?;
@@ -120,16 +132,7 @@ fn head_of(alloc: Global, table: &Table, at: CataloguePlace) -> Result<Head, Cat
 fn only_instrument_fields(table: &Table, at: CataloguePlace) -> Result<(), CatalogueFault>
     ensures { result ≡ only_instrument_fields at (table_view table.now) }
 {
-    let names = [
-        "name",
-        "kind",
-        "unit",
-        "description",
-        "range",
-        "boundaries",
-        "key",
-    ];
-    only(table, &names, &faults_at(at))
+    only(table, &INSTRUMENT_FIELDS, &faults_at(at))
 }
 
 #[tactic(auto, unfolding(crate::specs::Instruments::instrument_name))]

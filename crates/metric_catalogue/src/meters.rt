@@ -14,14 +14,17 @@ use metric_table::{only, tables_field};
 use std::alloc::Global;
 use toml::Table;
 
-/// The meters so far, with all their instruments.
+// The fields of a meter's table.
+const METER_FIELDS: [&str; 4] = ["name", "version", "schema_url", "instrument"];
+
+// The meters so far, with all their instruments.
 #[derive(Drop)]
 pub(crate) struct Metered {
     pub(crate) meters: Items<Meter>,
     pub(crate) instruments: Items<Instrument>,
 }
 
-/// Puts the meters of these tables after those before. Where there is a fault, some may have been put.
+// Puts the meters of these tables after those before. Where there is a fault, some may have been put.
 pub(crate) fn add_meters(
     alloc: Global,
     metered: &mut Metered,
@@ -31,7 +34,8 @@ pub(crate) fn add_meters(
     requires instruments { length metered.old.instruments ≤ 512 }
     ensures exact { Advances CatalogueFault.Memory result metered.new
         (in_turn with_meter metered.old (map (λ t. table_view t.now) tables.now)) }
-    ensures meters { OnOk result (length metered.new.meters ≡ length metered.old.meters + length tables.now) }
+    ensures meters { OnOk result
+        (length metered.new.meters ≡ length metered.old.meters + length tables.now) }
     ensures instruments { OnOk result (length metered.new.instruments ≤ 512) }
 {
     for table in tables {
@@ -44,7 +48,8 @@ pub(crate) fn add_meters(
 fn add_meter(alloc: Global, metered: &mut Metered, table: &Table) -> Result<(), CatalogueFault>
     requires meters { length metered.old.meters < 64 }
     requires instruments { length metered.old.instruments ≤ 512 }
-    ensures exact { Advances CatalogueFault.Memory result metered.new (with_meter metered.old (table_view table.now)) }
+    ensures exact { Advances CatalogueFault.Memory result metered.new
+        (with_meter metered.old (table_view table.now)) }
     ensures meters { OnOk result (length metered.new.meters ≡ length metered.old.meters + 1) }
     ensures instruments { OnOk result (length metered.new.instruments ≤ 512) }
 {
@@ -78,8 +83,7 @@ fn is_meter(other: &Meter, meter: &Meter) -> bool
 fn only_meter_fields(table: &Table, at: CataloguePlace) -> Result<(), CatalogueFault>
     ensures { result ≡ only_meter_fields at (table_view table.now) }
 {
-    let names = ["name", "version", "schema_url", "instrument"];
-    only(table, &names, &faults_at(at))
+    only(table, &METER_FIELDS, &faults_at(at))
 }
 
 #[tactic(auto, unfolding(crate::specs::Meters::meter_of))]

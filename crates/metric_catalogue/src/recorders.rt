@@ -13,14 +13,21 @@ use metric_table::{integer_of, only, required, tables_field};
 use std::alloc::Global;
 use toml::Table;
 
-/// The recorders of a catalogue with so many instruments.
+// The fields of a recorder's table.
+const RECORDER_FIELDS: [&str; 2] = ["name", "budget"];
+
+// The fields of a budget's table.
+const BUDGET_FIELDS: [&str; 2] = ["instrument", "amount"];
+
+// The recorders of a catalogue with so many instruments.
 pub(crate) fn recorders_of(
     alloc: Global,
     tables: &[&Table],
     count: u32,
 ) -> Result<Items<Recorder>, CatalogueFault>
     requires { length tables.now ≤ 64 }
-    ensures exact { Gives CatalogueFault.Memory result (each (recorder_of count) [] (map (λ t. table_view t.now) tables.now)) }
+    ensures exact { Gives CatalogueFault.Memory result
+        (each (recorder_of count) [] (map (λ t. table_view t.now) tables.now)) }
     ensures few { IfOk result (λ recorders. length recorders ≤ length tables.now) }
 {
     let mut recorders = Items::new(alloc);
@@ -39,11 +46,12 @@ fn recorder_of(
     before: &[Recorder],
 ) -> Result<Recorder, CatalogueFault>
     requires { length before.now < 64 }
-    ensures { Gives CatalogueFault.Memory result (recorder_of count before.now (table_view table.now)) }
+    ensures { Gives CatalogueFault.Memory result
+        (recorder_of count before.now (table_view table.now)) }
 {
     let at = CataloguePlace::Recorder(before.len() as u32);
     let faults = faults_at(at);
-    only(table, &["name", "budget"], &faults)?;
+    only(table, &RECORDER_FIELDS, &faults)?;
     let name = label_field(alloc, table, at)?;
     let tables = tables_field(alloc, table, "budget", 512, &faults)?;
     if has_recorder(before, &name) {
@@ -67,7 +75,8 @@ fn budgets_of(
     count: u32,
     at: CataloguePlace,
 ) -> Result<Items<Budget>, CatalogueFault>
-    ensures exact { Gives CatalogueFault.Memory result (each (budget_of at count) [] (map (λ t. table_view t.now) tables.now)) }
+    ensures exact { Gives CatalogueFault.Memory result
+        (each (budget_of at count) [] (map (λ t. table_view t.now) tables.now)) }
     ensures few { IfOk result (λ budgets. length budgets ≤ length tables.now) }
 {
     let mut budgets = Items::new(alloc);
@@ -87,7 +96,7 @@ fn budget_of(
 ) -> Result<Budget, CatalogueFault>
     ensures { result ≡ budget_of at count before.now (table_view table.now) }
 {
-    only(table, &["instrument", "amount"], &faults_at(at))?;
+    only(table, &BUDGET_FIELDS, &faults_at(at))?;
     let instrument = budgeted(table, count, at)?;
     let amount = amount_field(table, at)?;
     if has_budget(before, instrument) {
