@@ -26,6 +26,10 @@ use Rattle.metric_views.specs.Choices.{choice_for, is_unfit}
 abbrev pub no_settings : Settings
 no_settings = record { stream_name = None; description = None; aggregation = None; boundaries = None; keep = None; exclude = None; limit = None }
 
+-- the aggregation that a view names, else the reader's for the kind
+abbrev pub chosen_aggregation : Reader → Kind → Option Aggregation → Aggregation
+chosen_aggregation reader kind named = unwrap_or named (choice_for reader.aggregation kind)
+
 -- the boundaries of a histogram where neither view nor instrument gives any
 abbrev pub usual_boundaries : List ℤ
 usual_boundaries = map pos (0 ∷ 5 ∷ 10 ∷ 25 ∷ 50 ∷ 75 ∷ 100 ∷ 250 ∷ 500 ∷ 750 ∷ 1000 ∷ 2500 ∷ 5000 ∷ 7500 ∷ 10000 ∷ [])
@@ -92,10 +96,6 @@ template_of number instrument view settings = record {
   limit = settings.limit;
 }
 
--- the view's aggregation, else the reader's for the kind
-abbrev pub chosen_by : Reader → Template → Aggregation
-chosen_by reader template = unwrap_or template.aggregation (choice_for reader.aggregation template.kind)
-
 -- the stream of a reader with this aggregation
 unfoldable pub stream_by : ℕ → Reader → Template → StreamAggregation → Stream
 stream_by number reader template aggregation = record {
@@ -123,8 +123,8 @@ unless_unfit false fill = fill
 -- what a view, or the default, makes of an instrument for the reader of a number
 unfoldable pub fill_by : ℕ → Reader → Template → Fill
 fill_by number reader template =
-    unless_unfit (is_unfit template.kind (chosen_by reader template))
-    (kept_or_dropped (stream_by number reader template) (aggregation_with (chosen_by reader template) template.kind template.boundaries))
+    unless_unfit (is_unfit template.kind (chosen_aggregation reader template.kind template.aggregation))
+    (kept_or_dropped (stream_by number reader template) (aggregation_with (chosen_aggregation reader template.kind template.aggregation) template.kind template.boundaries))
 
 -- what the view of a number gives, or nothing for the default
 abbrev pub settings_at : List View → Option ℕ → Option Settings

@@ -1,7 +1,7 @@
 //! Which stream a view, or the default, makes of an instrument for a reader.
 ghost use Rattle.std.specs.Prelude.{◌≡◌, ◌<◌, IfOk, Some, length};
 ghost use Rattle.std.specs.Option.{ForSome};
-ghost use Rattle.metric_views.specs.Streams.{aggregation_with, chosen_by, default_aggregation, fill_at, fill_by, stream_by};
+ghost use Rattle.metric_views.specs.Streams.{aggregation_with, chosen_aggregation, default_aggregation, fill_at, fill_by, stream_by};
 
 use crate::choices::{Aggregation, is_unfit};
 use crate::config::{Config, Reader};
@@ -58,7 +58,7 @@ impl Template {
 
     // The view's aggregation, else the reader's for the kind.
     fn aggregation_for(&self, reader: &Reader) -> Aggregation
-        ensures { result ≡ chosen_by reader.now self.now }
+        ensures { result ≡ chosen_aggregation reader.now self.now.kind self.now.aggregation }
     {
         self.aggregation.unwrap_or(reader.aggregation.of(self.kind))
     }
