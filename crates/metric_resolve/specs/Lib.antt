@@ -1,9 +1,10 @@
 pub mod Applying
-pub mod Flags
 pub mod Resolved
+pub mod Offers
 pub mod Unfit
 pub mod Collisions
 pub mod Warnings
+pub mod Identities
 pub mod StreamKeys
 pub mod Firsts
 pub mod Laws

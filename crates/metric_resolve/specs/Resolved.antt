@@ -1,5 +1,5 @@
 -- The streams that a config gives for a catalogue.
-use Rattle.std.specs.Prelude.{ℕ, Bool, true, false, List, [], map, Option, Some, None, option_and_then}
+use Rattle.std.specs.Prelude.{ℕ, ◌<◌, Bool, true, false, List, [], length, map, Option, Some, None, option_and_then}
 use Rattle.std.specs.List.{cons_option, filter_map, flat_map}
 use Rattle.metric_catalogue.specs.declared.contents.Contents.{Contents}
 use Rattle.metric_views.specs.declared.config.Config.{Config}
@@ -32,10 +32,6 @@ streams_of_reader contents config reader = flat_map (streams_of_instrument conte
 unfoldable pub streams_of : Contents → Config → List Stream
 streams_of contents config = flat_map (streams_of_reader contents config) (all_readers config)
 
--- the streams of these views
-unfoldable pub streams_by : Contents → Config → ℕ → ℕ → List ℕ → List Stream
-streams_by contents config reader instrument views = filter_map (stream_at contents config reader instrument) (map (λ view. Some view) views)
-
 -- what a fill adds to a list of streams
 abbrev pub kept_of : Fill → List Stream
 kept_of fill = cons_option (kept fill) []
@@ -45,3 +41,7 @@ abbrev pub is_fit : Fill → Bool
 is_fit Unfit = false
 is_fit Dropped = true
 is_fit (Kept stream) = true
+
+-- The stream is of an instrument that is there.
+abbrev pub IsKnown : Contents → Stream → Type 0
+IsKnown contents stream = stream.instrument < length contents.instruments

@@ -2,14 +2,18 @@
 #![tactic(auto)]
 
 mod collisions;
+mod identity;
 mod laws;
+mod offers;
 mod resolved;
-mod selections;
 mod stream_key;
 mod stream_list;
 mod unfit;
 mod warning;
 
-pub use laws::{collisions_are_of_one_identity, streams_are_what_views_give};
+pub use identity::identity_order;
+pub use laws::{
+    collisions_are_of_one_identity, streams_are_what_views_give, unfit_views_sum_gauges,
+};
 pub use resolved::{Streams, resolve};
 pub use warning::Warning;

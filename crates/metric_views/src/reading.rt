@@ -4,7 +4,7 @@ ghost use Rattle.toml.specs.View.{table_view};
 ghost use Rattle.metric_base.specs.Steps.{Gives, GivesBy};
 ghost use Rattle.metric_table.specs.Fields.{only};
 ghost use Rattle.metric_views.specs.declared.fault.ConfigPlace.TheVariants.{Top};
-ghost use Rattle.metric_views.specs.Configs.{config_of, setup_of_table, tables_of_top, top_fields};
+ghost use Rattle.metric_views.specs.Configs.{config_of, setup_of_table, tables_of_top};
 ghost use Rattle.metric_views.specs.Faults.{faults_at};
 
 use crate::config::Setup;
@@ -16,7 +16,7 @@ use metric_table::{format_field, only, tables_field};
 use std::alloc::Global;
 use toml::Table;
 
-/// What a text says.
+// What a text says.
 pub(crate) fn setup_of(alloc: Global, text: &str) -> Result<Setup, ViewFault>
     ensures { Gives ViewFault.Memory result (config_of text.now) }
 {
@@ -44,20 +44,19 @@ type Tables<'a> = (Items<&'a Table>, Items<&'a Table>);
 
 #[tactic(auto, unfolding(crate::specs::Configs::tables_of_top))]
 fn tables_of_top(alloc: Global, table: &Table) -> Result<Tables<'_>, ViewFault>
-    ensures exact { GivesBy (λ t. (map (λ r. table_view r.now) t.0, map (λ v. table_view v.now) t.1)) ViewFault.Memory result (tables_of_top (table_view table.now)) }
+    ensures exact { GivesBy
+        (λ t. (map (λ r. table_view r.now) t.0, map (λ v. table_view v.now) t.1))
+        ViewFault.Memory result (tables_of_top (table_view table.now)) }
     ensures readers { IfOk result (λ t. length t.0 ≤ 16) }
     ensures views { IfOk result (λ t. length t.1 ≤ 256) }
 {
     let faults = faults_at(ConfigPlace::Top);
-    only_top(table)?;
+    only(table, &TOP_FIELDS, &faults)?;
     format_field(table, &faults)?;
     let readers = tables_field(alloc, table, "reader", 16, &faults)?;
     let views = tables_field(alloc, table, "view", 256, &faults)?;
     Ok((readers, views))
 }
 
-fn only_top(table: &Table) -> Result<(), ViewFault>
-    ensures { result ≡ only (faults_at Top) top_fields (table_view table.now) }
-{
-    only(table, &["format", "reader", "view"], &faults_at(ConfigPlace::Top))
-}
+// The fields of the top table.
+const TOP_FIELDS: [&str; 3] = ["format", "reader", "view"];
