@@ -41,29 +41,24 @@ same_parts k l =
     let outer = tied_then (nat_cmp k.reader l.reader) _ in
     subst (λ b. Decides b (HasSameParts k l)) (ap (λ b. is_eq (nat_cmp k.reader l.reader) && b) inner ∙ outer) parts
 
--- No meter has the texts of an earlier one.
+-- No meter is an earlier one.
 not_before : (contents : Contents) → IsSound contents → (i j : ℕ) (a b : Meter) → slice_get contents.meters i ≡ Some a → slice_get contents.meters j ≡ Some b
-    → is_meter b a ≡ true → i < j → ⊥
+    → a ≡ b → i < j → ⊥
 not_before contents sound i j a b at_a at_b same less =
-    let front = take j contents.meters in
-    let at : slice_get front i ≡ Some a = slice_get-take j contents.meters i less ∙ at_a in
-    let within = slice_get_within front i a at in
-    let is : get_or front i a ≡ a = get_or_from_slice_get front i a a at in
-    let found = list_any_at (is_meter b) front i a within (ap (is_meter b) is ∙ same) in
-    let none = sound.meters j b at_b in
-    absurd cc
+    sound.meters.apart i j a less (slice_get_within contents.meters j b at_b)
+    (get_or_from_slice_get contents.meters i a a at_a ∙ same ∙ sym (get_or_from_slice_get contents.meters j b a at_b))
 
 -- a meter is told by its texts
 one_meter : (contents : Contents) → IsSound contents → (i j : ℕ) (a b : Meter) → slice_get contents.meters i ≡ Some a → slice_get contents.meters j ≡ Some b
     → a.name ≡ b.name → a.version ≡ b.version → a.schema_url ≡ b.schema_url → i ≡ j
 one_meter contents sound i j a b at_a at_b name version url = by (cases_lt i j) (cases_lt j i)
   where
-    alike : (x y : Meter) → x.name ≡ y.name → x.version ≡ y.version → x.schema_url ≡ y.schema_url → is_meter y x ≡ true
-    alike x y p q r = rw ((bytes_eq-Decides x.name y.name).1 p, (bytes_eq-Decides x.version y.version).1 q, (bytes_eq-Decides x.schema_url y.schema_url).1 r) refl
+    same : a ≡ b
+    same = λ k. record { name = name k; version = version k; schema_url = url k }
 
     by : (i < j) ⊎ (j ≤ i) → (j < i) ⊎ (i ≤ j) → i ≡ j
-    by (inl less) _ = absurd (not_before contents sound i j a b at_a at_b (alike a b name version url) less)
-    by (inr _) (inl less) = absurd (not_before contents sound j i b a at_b at_a (alike b a (sym name) (sym version) (sym url)) less)
+    by (inl less) _ = absurd (not_before contents sound i j a b at_a at_b same less)
+    by (inr _) (inl less) = absurd (not_before contents sound j i b a at_b at_a (sym same) less)
     by (inr p) (inr q) = omega arith
 
 equal_tests : (a b : Bool) → (a ≡ true → b ≡ true) → (b ≡ true → a ≡ true) → a ≡ b
@@ -119,7 +114,9 @@ pub key_made : (contents : Contents) (stream : Stream) (key : StreamKey) (i : In
     → key.reader ≡ stream.reader → key.meter ≡ i.meter → key.name ≡ stream.name → IsKeyOf contents stream key
 unfolding identity_of
 key_made contents stream key i sound at reader meter name =
-    let within = sound.of_meters stream.instrument i at in
+    let known = sound.instruments.each stream.instrument i (slice_get_within contents.instruments stream.instrument i at) in
+    let is = get_or_from_slice_get contents.instruments stream.instrument i i at in
+    let within = subst (λ (instrument : Instrument). instrument.meter < length contents.meters) is known.known in
     by (slice_get contents.meters i.meter) refl within
   where
     by : (o : Option Meter) → slice_get contents.meters i.meter ≡ o → i.meter < length contents.meters → IsKeyOf contents stream key

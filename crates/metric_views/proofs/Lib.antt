@@ -1,2 +1,3 @@
 mod SoundReaders
 mod SoundSetups
+mod EachLaws

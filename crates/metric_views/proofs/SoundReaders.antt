@@ -20,7 +20,8 @@ use Rattle.metric_views.specs.declared.fault.ViewFault.TheVariants.{WrongKind, B
 use Rattle.metric_views.specs.Choices.{choice_for, is_unfit}
 use Rattle.metric_views.specs.Faults.{faults_at}
 use Rattle.metric_views.specs.Readers.{aggregation_for, aggregation_of, choice_at, choice_within, choices_field, choices_of, choices_within, for_all, has_reader, is_limit, kind_names, limit_of, reader_choices, reader_fields, reader_name, reader_of, temporality_of}
-use Rattle.metric_views.specs.Sound.{IsLimit, IsShort, IsSoundReader}
+use Rattle.metric_catalogue.specs.Sound.{IsFreeText}
+use Rattle.metric_views.specs.Sound.{IsLimit, IsSoundReader}
 
 -- a test that did not hold
 not_true : (b : Bool) → not b ≡ true → b ≡ false
@@ -28,13 +29,13 @@ not_true true e = absurd cc
 not_true false e = refl
 
 -- a short text is the text, and is short
-pub short_made : (at : ConfigPlace) (text name : List ℕ) → short_text (faults_at at) text ≡ Ok name → (text ≡ name) × IsShort name
+pub short_made : (at : ConfigPlace) (text name : List ℕ) → short_text (faults_at at) text ≡ Ok name → (text ≡ name) × IsFreeText name
 unfolding short_text
 short_made at text name e =
     let (short, e1) = require_ok (nat_le (length (chars text)) 1023) (TooMany at) _ name e in
     let same = ok_is text name (Ok text) refl e1 in
-    let few : IsShort text = grind (arith, nat_tests) in
-    (same, subst IsShort same few)
+    let few : IsFreeText text = grind (arith, nat_tests) in
+    (same, subst IsFreeText same few)
 
 -- what is read as a limit is one
 limit_in : (number : ℤ) → is_limit number ≡ true → IsLimit (nat_abs number)
@@ -115,7 +116,7 @@ usual_fits Gauge = refl
 -- what holds of a reader's name
 record IsSoundName (before : List Reader) (name : List ℕ) : Type 0 where
   named : 0 < length name
-  short : IsShort name
+  short : IsFreeText name
   new : has_reader before name ≡ false
 
 name_made : (before : List Reader) (at : ConfigPlace) (table : Members) (name : List ℕ) → reader_name before at table ≡ Ok name → IsSoundName before name

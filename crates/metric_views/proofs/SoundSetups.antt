@@ -6,7 +6,7 @@ use Rattle.toml.specs.Parse.{parse_document}
 use Rattle.metric_base.specs.Steps.{each, require_some, with_next}
 use Rattle.metric_base.specs.StepLaws.{after_ok, in_turn_keeps, ok_is}
 use Rattle.metric_table.specs.Fields.{list_of, only, short_text_of, text_of, texts_of}
-use Rattle.metric_catalogue.specs.EachLaws.{EachAt-empty, each_made}
+use Rattle.metric_views.proofs.EachLaws.{EachAt-empty, each_made}
 use Rattle.metric_views.specs.declared.config.Criteria.{Criteria}
 use Rattle.metric_views.specs.declared.config.Settings.{Settings}
 use Rattle.metric_views.specs.declared.config.Setup.{Setup}
@@ -18,7 +18,8 @@ use Rattle.metric_views.specs.declared.fault.ViewFault.TheVariants.{NotToml}
 use Rattle.metric_views.specs.Configs.{config_of, setup_of_table, tables_of_top}
 use Rattle.metric_views.specs.Faults.{faults_at}
 use Rattle.metric_views.specs.Readers.{aggregation_of, limit_of, reader_of, readers_of}
-use Rattle.metric_views.specs.Sound.{AreSoundCriteria, AreSoundSettings, IsLimit, IsShort, IsSoundReader, IsSoundSetup, IsSoundView}
+use Rattle.metric_catalogue.specs.Sound.{IsFreeText}
+use Rattle.metric_views.specs.Sound.{AreSoundCriteria, AreSoundSettings, IsLimit, IsSoundReader, IsSoundSetup, IsSoundView}
 use Rattle.metric_views.specs.Views.{boundaries_at, criteria_of, instrument_criteria, keys_at, kind_at, list_settings, meter_criteria, name_at, optional_field, pattern_at, settings_of, stream_settings, text_at, value_within, view_fields, view_of, views_of}
 use Rattle.metric_views.proofs.SoundReaders.{limit_made, reader_made, short_made}
 
@@ -31,18 +32,18 @@ all_made {X} {Y} P step gives xs ys e = in_turn_keeps (All P) (with_next step) k
     keeps before x after made so_far =
         after_ok (step before x) _ after made (λ y is last. subst (All P) (ok_is (before ++ y ∷ []) after (Ok (before ++ y ∷ [])) refl last) (All-push P before y so_far (gives before x y is)))
 
-short_text_made : (at : ConfigPlace) (d : Data) (text : List ℕ) → short_text_of (faults_at at) d ≡ Ok text → IsShort text
+short_text_made : (at : ConfigPlace) (d : Data) (text : List ℕ) → short_text_of (faults_at at) d ≡ Ok text → IsFreeText text
 unfolding short_text_of
 short_text_made at d text e0 = after_ok (text_of (faults_at at) d) _ text e0 (λ read _ e1. (short_made at read text e1).1)
 
-text_made : (at : ConfigPlace) (d : Data) (text : List ℕ) → text_at at d ≡ Ok text → IsShort text
+text_made : (at : ConfigPlace) (d : Data) (text : List ℕ) → text_at at d ≡ Ok text → IsFreeText text
 unfolding text_at
 text_made at d text e = short_text_made at d text e
 
-keys_made : (at : ConfigPlace) (d : Data) (keys : List (List ℕ)) → keys_at at d ≡ Ok keys → All IsShort keys
+keys_made : (at : ConfigPlace) (d : Data) (keys : List (List ℕ)) → keys_at at d ≡ Ok keys → All IsFreeText keys
 unfolding keys_at texts_of
 keys_made at d keys e0 =
-    after_ok (list_of (faults_at at) 64 d) _ keys e0 (λ values _ e1. all_made IsShort (λ _ x. short_text_of (faults_at at) x) (λ _ x text is. short_text_made at x text is) values keys e1)
+    after_ok (list_of (faults_at at) 64 d) _ keys e0 (λ values _ e1. all_made IsFreeText (λ _ x. short_text_of (faults_at at) x) (λ _ x text is. short_text_made at x text is) values keys e1)
 
 -- what holds of each value that is read, holds of the value of a field
 field_made : {T : Type 0} (P : T → Type 0) (read : Data → Result T ViewFault) → ((d : Data) (t : T) → read d ≡ Ok t → P t)
@@ -76,10 +77,10 @@ criteria_made at table criteria e0 =
       meter_schema_url = url;
     } in
     let sound : AreSoundCriteria made = record {
-      instrument_unit = field_made IsShort (text_at at) (text_made at) (codes "instrument_unit") table unit united;
-      meter_name = field_made IsShort (text_at at) (text_made at) (codes "meter_name") table name named;
-      meter_version = field_made IsShort (text_at at) (text_made at) (codes "meter_version") table version versioned;
-      meter_schema_url = field_made IsShort (text_at at) (text_made at) (codes "meter_schema_url") table url located;
+      instrument_unit = field_made IsFreeText (text_at at) (text_made at) (codes "instrument_unit") table unit united;
+      meter_name = field_made IsFreeText (text_at at) (text_made at) (codes "meter_name") table name named;
+      meter_version = field_made IsFreeText (text_at at) (text_made at) (codes "meter_version") table version versioned;
+      meter_schema_url = field_made IsFreeText (text_at at) (text_made at) (codes "meter_schema_url") table url located;
     } in
     let same : made ≡ criteria = cc in
     subst AreSoundCriteria same sound))))))))
@@ -108,9 +109,9 @@ settings_made at table settings e0 =
       limit = limit;
     } in
     let sound : AreSoundSettings made = record {
-      description = field_made IsShort (text_at at) (text_made at) (codes "description") table description described;
-      keep = field_made (All IsShort) (keys_at at) (keys_made at) (codes "keep") table keep kept;
-      exclude = field_made (All IsShort) (keys_at at) (keys_made at) (codes "exclude") table exclude excluded;
+      description = field_made IsFreeText (text_at at) (text_made at) (codes "description") table description described;
+      keep = field_made (All IsFreeText) (keys_at at) (keys_made at) (codes "keep") table keep kept;
+      exclude = field_made (All IsFreeText) (keys_at at) (keys_made at) (codes "exclude") table exclude excluded;
       limited = field_made IsLimit (limit_of at) (limit_made at) (codes "limit") table limit limited;
     } in
     let same : made ≡ settings = cc in

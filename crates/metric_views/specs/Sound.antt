@@ -1,7 +1,6 @@
 -- What holds of every config.
-use Rattle.std.specs.Prelude.{◌≡◌, ℕ, ◌<◌, ◌≤◌, false, All, IfSome, List, length}
-use Rattle.std.specs.Str.{chars}
-use Rattle.metric_catalogue.specs.Sound.{EachAt}
+use Rattle.std.specs.Prelude.{◌≡◌, ℕ, ◌<◌, ◌≤◌, false, All, IfSome, List, Some, length, slice_get, take}
+use Rattle.metric_catalogue.specs.Sound.{IsFreeText}
 use Rattle.metric_catalogue.specs.declared.contents.Kind.{Kind}
 use Rattle.metric_views.specs.declared.config.Criteria.{Criteria}
 use Rattle.metric_views.specs.declared.config.Reader.{Reader}
@@ -11,9 +10,9 @@ use Rattle.metric_views.specs.declared.config.View.{View}
 use Rattle.metric_views.specs.Choices.{choice_for, is_unfit}
 use Rattle.metric_views.specs.Readers.{has_reader}
 
--- A free text has at most 1,023 characters.
-abbrev pub IsShort : List ℕ → Type 0
-IsShort text = length (chars text) ≤ 1023
+-- The fact holds of each element of a list, with the elements before it.
+abbrev pub EachAt : {Y : Type 0} → (List Y → Y → Type 0) → List Y → Type 0
+EachAt {Y} P ys = (k : ℕ) (y : Y) → slice_get ys k ≡ Some y → P (take k ys) y
 
 -- A cardinality limit is 1 to 1,000,000.
 abbrev pub IsLimit : ℕ → Type 0
@@ -22,23 +21,23 @@ IsLimit limit = (0 < limit) × (limit ≤ 1000000)
 -- A reader has a name that no reader before it has, aggregations that fit their kinds, and limits.
 pub record IsSoundReader (before : List Reader) (reader : Reader) : Type 0 where
   pub named : 0 < length reader.name
-  pub short : IsShort reader.name
+  pub short : IsFreeText reader.name
   pub new : has_reader before reader.name ≡ false
   pub fits : (kind : Kind) → is_unfit kind (choice_for reader.aggregation kind) ≡ false
   pub limited : (kind : Kind) → IsLimit (choice_for reader.limit kind)
 
 -- The texts of criteria are short.
 pub record AreSoundCriteria (criteria : Criteria) : Type 0 where
-  pub instrument_unit : IfSome criteria.instrument_unit IsShort
-  pub meter_name : IfSome criteria.meter_name IsShort
-  pub meter_version : IfSome criteria.meter_version IsShort
-  pub meter_schema_url : IfSome criteria.meter_schema_url IsShort
+  pub instrument_unit : IfSome criteria.instrument_unit IsFreeText
+  pub meter_name : IfSome criteria.meter_name IsFreeText
+  pub meter_version : IfSome criteria.meter_version IsFreeText
+  pub meter_schema_url : IfSome criteria.meter_schema_url IsFreeText
 
 -- What a view gives its streams has short texts and a limit.
 pub record AreSoundSettings (settings : Settings) : Type 0 where
-  pub description : IfSome settings.description IsShort
-  pub keep : IfSome settings.keep (All IsShort)
-  pub exclude : IfSome settings.exclude (All IsShort)
+  pub description : IfSome settings.description IsFreeText
+  pub keep : IfSome settings.keep (All IsFreeText)
+  pub exclude : IfSome settings.exclude (All IsFreeText)
   pub limited : IfSome settings.limit IsLimit
 
 -- A view has sound criteria and settings.
