@@ -1,4 +1,6 @@
 mod AnswerLaws
 mod OutputLaws
+mod PartLaws
 mod Replayed
-mod Told
+mod RunLaws
+mod TextLaws

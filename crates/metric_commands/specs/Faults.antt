@@ -30,3 +30,9 @@ status_of (Config fault) = 1
 status_of NotYet = 1
 status_of Write = 5
 status_of Memory = 4
+
+-- The fault is of an input that was read, or memory was refused.
+abbrev pub IsOfInput : KitFault → Type 0
+IsOfInput Read = ⊥
+IsOfInput Write = ⊥
+IsOfInput _ = Unit {0}

@@ -1,4 +1,6 @@
 pub mod Faults
+pub mod Commands
+pub mod Written
 pub mod Replies
 pub mod Planned
 pub mod Runs

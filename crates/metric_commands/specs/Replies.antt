@@ -1,16 +1,13 @@
 -- How the replies to a script are written.
 use Rattle.std.specs.Prelude.{ℕ, Bool, true, false, List, [], ◌∷◌, ◌++◌, codes}
-use Rattle.std.specs.List.{flat_map}
 use Rattle.metric_catalogue.specs.Refusals.{refusal_text}
 use Rattle.metric_catalogue.specs.declared.refusal.Refusal.{Refusal}
 use Rattle.metric_catalogue.specs.declared.refusal.Refusal.TheVariants as refusals
 use Rattle.metric_core.specs.declared.event.Reply.{Reply}
 use Rattle.metric_core.specs.declared.event.Reply.TheVariants.{Accepted, Collected, Done, Refused}
 use Rattle.metric_core.specs.Plans.{PlanValue}
-use Rattle.metric_export.specs.BatchText.{batch_text}
-use Rattle.metric_io.specs.Counts.{HasFailed}
-use Rattle.metric_commands.specs.declared.fault.KitFault.{KitFault}
-use Rattle.metric_commands.specs.declared.fault.KitFault.TheVariants.{Write, Memory}
+use Rattle.metric_lines.specs.Batches.{batch_text}
+use Rattle.metric_commands.specs.Written.{parts_text}
 
 -- the line of a refusal
 abbrev pub refused_text : Refusal → List ℕ
@@ -25,15 +22,9 @@ reply_text plan (Refused refusal) = refused_text refusal
 
 -- all of them
 abbrev pub replies_text : PlanValue → List Reply → List ℕ
-replies_text plan replies = flat_map (reply_text plan) replies
+replies_text plan replies = parts_text (λ _ reply. reply_text plan reply) replies
 
 -- want of memory
 abbrev pub is_want_of_memory : Reply → Bool
 is_want_of_memory (Refused refusals.Memory) = true
 is_want_of_memory _ = false
-
--- A text is not written only where the sink failed in between, or memory was refused.
-abbrev pub IsSinkFault : ℕ → ℕ → KitFault → Type 0
-IsSinkFault old new Write = HasFailed old new
-IsSinkFault old new Memory = Unit {0}
-IsSinkFault old new _ = ⊥

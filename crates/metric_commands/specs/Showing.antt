@@ -1,5 +1,5 @@
 -- What showing a config makes of the bytes of its input.
-use Rattle.std.specs.Prelude.{◌≡◌, ℕ, false, List}
+use Rattle.std.specs.Prelude.{◌≡◌, ◌++◌, ℕ, false, List}
 use Rattle.metric_text.specs.Lines.{lines_of}
 use Rattle.metric_parts.specs.Input.{IsFirstFault as IsFaultyLine}
 use Rattle.metric_parts.specs.Kept.{IsRead}
@@ -7,16 +7,24 @@ use Rattle.metric_parts.specs.declared.needs.Needs.{Needs}
 use Rattle.metric_parts.specs.declared.parts.Parts.{Parts}
 use Rattle.metric_catalogue.specs.declared.contents.Contents.{Contents}
 use Rattle.metric_views.specs.declared.config.Config.{Config}
+use Rattle.metric_views.specs.declared.stream.Stream.{Stream}
+use Rattle.metric_resolve.specs.declared.warning.Warning.{Warning}
 use Rattle.metric_resolve.specs.Resolved.{streams_of}
 use Rattle.metric_resolve.specs.Warnings.{warnings_of}
-use Rattle.metric_listing.specs.Listing.{listing_text}
+use Rattle.metric_lines.specs.Streams.{shown_text, warning_text}
 use Rattle.metric_commands.specs.declared.fault.KitFault.{KitFault}
 use Rattle.metric_commands.specs.declared.fault.KitFault.TheVariants.{Input, Catalogue, Config as BadConfig, Memory}
 use Rattle.metric_commands.specs.Declarations.{IsDeclared, IsDeclaredFault, IsMisdeclared}
+use Rattle.metric_commands.specs.Written.{parts_text}
 
 -- the catalogue and the config alone
 abbrev pub show_needs : Needs
 show_needs = record { certificate = false; script = false }
+
+-- the lines of streams, numbered from 0, and those of warnings
+unfoldable pub listing_text : Contents → Config → List Stream → List Warning → List ℕ
+listing_text contents config streams warnings =
+    parts_text (shown_text contents config) streams ++ parts_text (λ _ warning. warning_text warning) warnings
 
 -- The lines of the streams that the parts declare, and those of the warnings.
 pub record IsListed (read : Parts) (text : List ℕ) : Type 0 where

@@ -1,8 +1,9 @@
 //! The replies to the script of an input.
 ghost use Rattle.std.specs.Prelude.{◌≡◌, IfOk, IfErr};
 ghost use Rattle.std.specs.List.{list_any};
-ghost use Rattle.metric_commands.specs.Replaying.{IsFirstFault, IsPlanFault, IsPlanned, IsReplayed};
-ghost use Rattle.metric_commands.specs.Replies.{is_want_of_memory};
+ghost use Rattle.metric_commands.specs.Replaying.{IsFirstFault, IsOutput, IsPlanFault, IsPlanned};
+ghost use Rattle.metric_commands.specs.Replies.{is_want_of_memory, replies_text};
+ghost use Rattle.metric_commands.specs.Faults.{IsOfInput};
 ghost use Rattle.metric_commands.specs.Runs.{IsRun};
 
 use crate::fault::KitFault;
@@ -16,14 +17,23 @@ use metric_script::events_of;
 use metric_text::lines;
 use std::alloc::Global;
 
-/// A core that has run the script of an input, and its replies. None of them is want of memory.
-pub fn answers_to(
+/// A core that has run a script, and its replies. None of them is want of memory.
+#[derive(Drop)]
+pub(crate) struct Answers {
+    pub core: Core,
+    pub replies: Vec<Reply>,
+}
+
+/// The answers to the script of an input.
+pub(crate) fn answers_to(
     alloc: Global,
     options: ReplayOptions,
     input: &[u8],
-) -> Result<(Core, Vec<Reply>), KitFault>
-    ensures ok { IfOk result (λ answers. IsReplayed options input.now answers.0.plan answers.1.items) }
+) -> Result<Answers, KitFault>
+    ensures ok { IfOk result (λ answers. IsOutput options input.now
+        (replies_text answers.core.plan answers.replies.items)) }
     ensures first { IfErr result (IsFirstFault options input.now) }
+    ensures own { IfErr result IsOfInput }
 {
     let lines = lines(alloc, input)?;
     let parts = parts_of(alloc, &lines, options.needs())?;
@@ -36,6 +46,7 @@ pub fn answers_to(
 fn planned(alloc: Global, options: ReplayOptions, parts: &Parts<'_>) -> Result<Plan, KitFault>
     ensures ok { IfOk result (IsPlanned options parts.now) }
     ensures first { IfErr result (λ fault. IsPlanFault options fault parts.now) }
+    ensures own { IfErr result IsOfInput }
 {
     let catalogue = catalogue_of(alloc, parts.catalogue.as_str())?;
     let config = config_of(alloc, parts.config.as_str())?;
@@ -43,13 +54,9 @@ fn planned(alloc: Global, options: ReplayOptions, parts: &Parts<'_>) -> Result<P
 }
 
 // Runs events from a start. Want of memory for one of them is that of the whole run.
-fn run(
-    alloc: Global,
-    plan: Plan,
-    start: u64,
-    events: &[Event],
-) -> Result<(Core, Vec<Reply>), KitFault>
-    ensures ok { IfOk result (λ run. (run.0.plan ≡ plan) × IsRun plan start events.now run.1.items) }
+fn run(alloc: Global, plan: Plan, start: u64, events: &[Event]) -> Result<Answers, KitFault>
+    ensures ok { IfOk result (λ answers. (answers.core.plan ≡ plan)
+        × IsRun plan start events.now answers.replies.items) }
     ensures err { IfErr result (λ fault. fault ≡ KitFault.Memory) }
 {
     let Ok(mut core) = Core::new(alloc, plan, start) else {
@@ -59,7 +66,7 @@ fn run(
     if has_want_of_memory(&replies) {
         return Err(KitFault::Memory);
     }
-    Ok((core, replies))
+    Ok(Answers { core, replies })
 }
 
 // Whether some reply is want of memory.

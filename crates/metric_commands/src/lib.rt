@@ -5,9 +5,11 @@
 #![tactic(auto)]
 
 mod answers;
+mod command;
 mod fault;
 mod laws;
 mod options;
+mod parts;
 mod planning;
 mod replays;
 mod replies;

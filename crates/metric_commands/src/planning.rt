@@ -11,7 +11,7 @@ use metric_views::{Config, ViewFault};
 use std::alloc::Global;
 
 /// The catalogue that a text is, or its first fault.
-pub fn catalogue_of(alloc: Global, text: &str) -> Result<Catalogue, KitFault>
+pub(crate) fn catalogue_of(alloc: Global, text: &str) -> Result<Catalogue, KitFault>
     ensures { ReadsCatalogue result (catalogue_of text.now) }
 {
     match Catalogue::read(alloc, text) {
@@ -22,7 +22,7 @@ pub fn catalogue_of(alloc: Global, text: &str) -> Result<Catalogue, KitFault>
 }
 
 /// The config that a text is, or its first fault.
-pub fn config_of(alloc: Global, text: &str) -> Result<Config, KitFault>
+pub(crate) fn config_of(alloc: Global, text: &str) -> Result<Config, KitFault>
     ensures { ReadsConfig result (config_of text.now) }
 {
     match Config::read(alloc, text) {
@@ -33,7 +33,7 @@ pub fn config_of(alloc: Global, text: &str) -> Result<Config, KitFault>
 }
 
 /// The plan of a trial, where this stage serves what is declared.
-pub fn plan_of(
+pub(crate) fn plan_of(
     alloc: Global,
     trial: bool,
     catalogue: Catalogue,

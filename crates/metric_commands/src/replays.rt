@@ -1,16 +1,13 @@
 //! A script replayed against a catalogue and a config.
-ghost use Rattle.std.specs.Prelude.{◌≡◌, ◌≢◌, ◌≤◌, ◌+◌, ◌⊎◌, ℕ, List, IfErr, IfSome, IsErrOf, OnOk, OnErr};
-ghost use Rattle.std.specs.Io.KnownBytes.{Appends, Keeps};
-ghost use Rattle.metric_io.specs.Counts.{HasFailed};
-ghost use Rattle.metric_io.specs.Input.{IsReadFault};
-ghost use Rattle.metric_io.specs.Prefix.{AppendsPrefix};
-ghost use Rattle.metric_commands.specs.Replaying.{IsOutput, IsFirstFault};
+ghost use Rattle.metric_commands.specs.Commands.{RunsCommand, sink_run, source_run};
+ghost use Rattle.metric_commands.specs.Replaying.{IsFirstFault, IsOutput};
 
-use crate::answers::answers_to;
+use crate::answers::{Answers, answers_to};
+use crate::command::{Command, run};
 use crate::fault::KitFault;
 use crate::options::ReplayOptions;
 use crate::replies::write_replies;
-use metric_io::{Sink, Source, read_all};
+use metric_io::{Sink, Source};
 use std::alloc::Global;
 
 /// Replays the script of an input against its catalogue and its config, and writes the text of each reply.
@@ -26,18 +23,35 @@ pub fn replay<R: Source, W: Sink>(
     source: &mut R,
     sink: &mut W,
 ) -> Result<(), KitFault>
-    // Ok: exactly the output of the bytes read was written.
-    ensures done { OnOk result (IfSome (R.remaining source.old) (λ input. (text : List ℕ) × IsOutput options input text × Appends (W.contents sink.old) (W.contents sink.new) text)) }
-    // Else a prefix of it, and nothing where the input has a fault or was not read.
-    ensures prefix { OnErr result (Keeps (W.contents sink.old) (W.contents sink.new) ⊎ IfSome (R.remaining source.old) (λ input. (text : List ℕ) × IsOutput options input text × AppendsPrefix (W.contents sink.old) (W.contents sink.new) text)) }
-    ensures nothing { IfErr result (λ fault. fault ≢ KitFault.Write → fault ≢ KitFault.Memory → Keeps (W.contents sink.old) (W.contents sink.new)) }
-    // Each other fault is the first that the input has.
-    ensures first { IfErr result (λ fault. fault ≢ KitFault.Read → fault ≢ KitFault.Write → IfSome (R.remaining source.old) (λ input. IsFirstFault options input fault)) }
-    ensures read { IsErrOf result KitFault.Read → IsReadFault (R.failures source.old) (R.failures source.new) (R.reads source.old) (R.reads source.new) (R.remaining source.old) }
-    ensures write { IsErrOf result KitFault.Write → HasFailed (W.failures sink.old) (W.failures sink.new) }
-    ensures asked { R.reads source.new ≤ R.reads source.old + 4194304 }
+    ensures { RunsCommand (IsOutput options) (IsFirstFault options)
+        (source_run R.remaining R.failures R.reads source.old source.new)
+        (sink_run W.contents W.failures sink.old sink.new) result }
 {
-    let input = read_all(alloc, source)?;
-    let (core, replies) = answers_to(alloc, options, &input)?;
-    write_replies(alloc, sink, core.plan(), &replies)
+    run(alloc, &options, source, sink)
+}
+
+impl Command for ReplayOptions {
+    ghost use Rattle.metric_commands.specs.Replaying.{IsFirstFault as IsFault, IsOutput as IsText};
+    ghost use Rattle.metric_commands.specs.Replies.{replies_text};
+
+    type Answer = Answers;
+
+    ghost is_due = { IsText };
+
+    ghost is_first_fault = { IsFault };
+
+    ghost text = { λ answers. replies_text answers.core.plan answers.replies.items };
+
+    fn answer(&self, alloc: Global, input: &[u8]) -> Result<Answers, KitFault> {
+        answers_to(alloc, *self, input)
+    }
+
+    fn write<W: Sink>(
+        &self,
+        alloc: Global,
+        sink: &mut W,
+        answers: &Answers,
+    ) -> Result<(), KitFault> {
+        write_replies(alloc, sink, answers.core.plan(), &answers.replies)
+    }
 }

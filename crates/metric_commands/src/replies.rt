@@ -3,14 +3,16 @@ ghost use Rattle.std.specs.Prelude.{◌≡◌, ◌++◌, OnOk, IfErr};
 ghost use Rattle.std.specs.Io.KnownBytes.{Appends};
 ghost use Rattle.metric_io.specs.Prefix.{AppendsPrefix};
 ghost use Rattle.metric_catalogue.specs.Refusals.{refusal_text};
-ghost use Rattle.metric_commands.specs.Replies.{IsSinkFault, refused_text, reply_text, replies_text};
+ghost use Rattle.metric_commands.specs.Replies.{refused_text, replies_text, reply_text};
+ghost use Rattle.metric_commands.specs.Written.{IsSinkFault};
 
 use crate::fault::KitFault;
+use crate::parts::{Parts, write_parts};
 use metric_catalogue::Refusal;
 use metric_core::Reply;
 use metric_core::first::Plan;
-use metric_export::push_batch;
-use metric_io::{Sink, write_all};
+use metric_io::Sink;
+use metric_lines::push_batch;
 use metric_text::{push_byte, push_number, push_text};
 use std::alloc::{AllocError, Global};
 
@@ -50,53 +52,31 @@ fn push_reply(out: &mut Vec<u8>, plan: &Plan, reply: &Reply) -> Result<(), Alloc
     }
 }
 
-// Writes a reply to the sink, by way of a buffer that may hold an earlier one.
-#[tactic(auto, using(metric_io::specs::Prefix::prefixes))]
-fn write_reply<W: Sink>(
-    buffer: &mut Vec<u8>,
-    sink: &mut W,
-    plan: &Plan,
-    reply: &Reply,
-) -> Result<(), KitFault>
-    ensures ok { OnOk result (Appends (W.contents sink.old) (W.contents sink.new) (reply_text plan.now reply.now)) }
-    ensures prefix { AppendsPrefix (W.contents sink.old) (W.contents sink.new) (reply_text plan.now reply.now) }
-    ensures broken { IfErr result (IsSinkFault (W.failures sink.old) (W.failures sink.new)) }
-    ensures counted { OnOk result (W.failures sink.new ≡ W.failures sink.old) }
-{
-    buffer.clear();
-    push_reply(buffer, plan, reply)?;
-    write_all(sink, buffer)?;
-    Ok(())
-}
-
-/// Writes a whole text, and passes on what the sink holds back.
-#[tactic(auto, using(metric_io::specs::Prefix::prefixes))]
-pub fn write_whole<W: Sink>(sink: &mut W, text: &[u8]) -> Result<(), KitFault>
-    ensures ok { OnOk result (Appends (W.contents sink.old) (W.contents sink.new) text.now) }
-    ensures prefix { AppendsPrefix (W.contents sink.old) (W.contents sink.new) text.now }
-    ensures broken { IfErr result (IsSinkFault (W.failures sink.old) (W.failures sink.new)) }
-{
-    write_all(sink, text)?;
-    sink.flush()?;
-    Ok(())
-}
-
 /// Writes the text of each reply in order, and passes on what the sink holds back.
-#[tactic(auto, using(metric_io::specs::Prefix::prefixes_of_parts))]
-pub fn write_replies<W: Sink>(
+#[tactic(auto, using(metric_io::specs::Prefix::prefixes))]
+pub(crate) fn write_replies<W: Sink>(
     alloc: Global,
     sink: &mut W,
     plan: &Plan,
     replies: &[Reply],
 ) -> Result<(), KitFault>
-    ensures ok { OnOk result (Appends (W.contents sink.old) (W.contents sink.new) (replies_text plan.now replies.now)) }
-    ensures prefix { AppendsPrefix (W.contents sink.old) (W.contents sink.new) (replies_text plan.now replies.now) }
+    ensures ok { OnOk result (Appends (W.contents sink.old) (W.contents sink.new)
+        (replies_text plan.now replies.now)) }
+    ensures prefix { AppendsPrefix (W.contents sink.old) (W.contents sink.new)
+        (replies_text plan.now replies.now) }
     ensures broken { IfErr result (IsSinkFault (W.failures sink.old) (W.failures sink.new)) }
 {
-    let mut buffer = Vec::new(alloc);
-    for reply in replies {
-        write_reply(&mut buffer, sink, plan, reply)?;
-    }
+    write_parts(alloc, sink, plan, replies)?;
     sink.flush()?;
     Ok(())
+}
+
+impl Parts<Reply> for Plan {
+    ghost use Rattle.metric_commands.specs.Replies.{reply_text as text_of};
+
+    ghost text = { λ plan _ reply. text_of plan reply };
+
+    fn push(&self, out: &mut Vec<u8>, _number: u64, reply: &Reply) -> Result<(), AllocError> {
+        push_reply(out, self, reply)
+    }
 }

@@ -1,21 +1,25 @@
 //! The streams of a config, shown.
-ghost use Rattle.std.specs.Prelude.{◌≡◌, ◌≢◌, ◌≤◌, ◌+◌, ◌⊎◌, ℕ, List, IfErr, IfOk, IfSome, IsErrOf, OnOk, OnErr};
-ghost use Rattle.std.specs.Io.KnownBytes.{Appends, Keeps};
-ghost use Rattle.metric_io.specs.Counts.{HasFailed};
-ghost use Rattle.metric_io.specs.Input.{IsReadFault};
+ghost use Rattle.std.specs.Prelude.{◌≡◌, IfErr, IfOk, OnOk};
+ghost use Rattle.std.specs.Io.KnownBytes.{Appends};
 ghost use Rattle.metric_io.specs.Prefix.{AppendsPrefix};
+ghost use Rattle.metric_commands.specs.Commands.{RunsCommand, sink_run, source_run};
 ghost use Rattle.metric_commands.specs.Declarations.{IsDeclaredFault};
-ghost use Rattle.metric_commands.specs.Showing.{IsFirstShowFault, IsListed, IsShown};
+ghost use Rattle.metric_commands.specs.Faults.{IsOfInput};
+ghost use Rattle.metric_commands.specs.Showing.{IsFirstShowFault, IsListed, IsShown, listing_text};
+ghost use Rattle.metric_commands.specs.Written.{IsSinkFault};
 
+use crate::command::{Command, run};
 use crate::fault::KitFault;
+use crate::parts::{Parts, write_parts};
 use crate::planning::{catalogue_of, config_of};
-use crate::replies::write_whole;
-use metric_io::{Sink, Source, read_all};
-use metric_listing::push_listing;
-use metric_parts::{Needs, Parts, parts_of};
-use metric_resolve::resolve;
+use metric_catalogue::Catalogue;
+use metric_io::{Sink, Source};
+use metric_lines::{push_shown, push_warning};
+use metric_parts::{Needs, Parts as InputParts, parts_of};
+use metric_resolve::{Streams, Warning, resolve};
 use metric_text::lines;
-use std::alloc::Global;
+use metric_views::{Config, Stream};
+use std::alloc::{AllocError, Global};
 
 /// Writes a line for each stream that the config of an input gives for its catalogue, and one for each
 /// warning (Metrics SDK, View). A refused input writes nothing.
@@ -29,26 +33,92 @@ pub fn show_run<R: Source, W: Sink>(
     source: &mut R,
     sink: &mut W,
 ) -> Result<(), KitFault>
-    // Ok: exactly the text of the bytes read was written.
-    ensures done { OnOk result (IfSome (R.remaining source.old) (λ input. (text : List ℕ) × IsShown input text × Appends (W.contents sink.old) (W.contents sink.new) text)) }
-    // Else a prefix of it, and nothing where the input has a fault or was not read.
-    ensures prefix { OnErr result (Keeps (W.contents sink.old) (W.contents sink.new) ⊎ IfSome (R.remaining source.old) (λ input. (text : List ℕ) × IsShown input text × AppendsPrefix (W.contents sink.old) (W.contents sink.new) text)) }
-    ensures nothing { IfErr result (λ fault. fault ≢ KitFault.Write → fault ≢ KitFault.Memory → Keeps (W.contents sink.old) (W.contents sink.new)) }
-    // Each other fault is the first that the input has.
-    ensures first { IfErr result (λ fault. fault ≢ KitFault.Read → fault ≢ KitFault.Write → IfSome (R.remaining source.old) (λ input. IsFirstShowFault input fault)) }
-    ensures read { IsErrOf result KitFault.Read → IsReadFault (R.failures source.old) (R.failures source.new) (R.reads source.old) (R.reads source.new) (R.remaining source.old) }
-    ensures write { IsErrOf result KitFault.Write → HasFailed (W.failures sink.old) (W.failures sink.new) }
-    ensures asked { R.reads source.new ≤ R.reads source.old + 4194304 }
+    ensures { RunsCommand IsShown IsFirstShowFault
+        (source_run R.remaining R.failures R.reads source.old source.new)
+        (sink_run W.contents W.failures sink.old sink.new) result }
 {
-    let input = read_all(alloc, source)?;
-    let text = shown(alloc, &input)?;
-    write_whole(sink, &text)
+    run(alloc, &Show, source, sink)
 }
 
-// The text that an input shows.
-fn shown(alloc: Global, input: &[u8]) -> Result<Vec<u8>, KitFault>
-    ensures ok { IfOk result (λ text. IsShown input.now text.items) }
+// The command that shows the streams of a config.
+struct Show;
+
+impl Command for Show {
+    ghost use Rattle.metric_commands.specs.Showing.{IsFirstShowFault as IsFault, IsShown as IsText, listing_text as text_of};
+
+    type Answer = Listing;
+
+    ghost is_due = { λ _. IsText };
+
+    ghost is_first_fault = { λ _. IsFault };
+
+    ghost text = { λ l. text_of l.catalogue l.config l.streams.list l.streams.warnings };
+
+    fn answer(&self, alloc: Global, input: &[u8]) -> Result<Listing, KitFault> {
+        listing_of(alloc, input)
+    }
+
+    fn write<W: Sink>(
+        &self,
+        alloc: Global,
+        sink: &mut W,
+        listing: &Listing,
+    ) -> Result<(), KitFault> {
+        write_lines(alloc, sink, listing)?;
+        sink.flush()?;
+        Ok(())
+    }
+}
+
+// What a catalogue and a config give.
+#[derive(Drop)]
+struct Listing {
+    catalogue: Catalogue,
+    config: Config,
+    streams: Streams,
+}
+
+impl Parts<Stream> for Listing {
+    ghost use Rattle.metric_lines.specs.Streams.{shown_text};
+
+    ghost text = { λ l number stream. shown_text l.catalogue l.config number stream };
+
+    fn push(&self, out: &mut Vec<u8>, number: u64, stream: &Stream) -> Result<(), AllocError> {
+        push_shown(out, &self.catalogue, &self.config, number, stream)
+    }
+}
+
+impl Parts<Warning> for Listing {
+    ghost use Rattle.metric_lines.specs.Streams.{warning_text};
+
+    ghost text = { λ _ _ warning. warning_text warning };
+
+    fn push(&self, out: &mut Vec<u8>, _number: u64, warning: &Warning) -> Result<(), AllocError> {
+        push_warning(out, *warning)
+    }
+}
+
+// Writes the line of each stream, and then that of each warning.
+#[tactic(auto, unfolding(crate::specs::Showing::listing_text), using(crate::proofs::TextLaws::two_texts))]
+fn write_lines<W: Sink>(alloc: Global, sink: &mut W, listing: &Listing) -> Result<(), KitFault>
+    ensures ok { OnOk result (Appends (W.contents sink.old) (W.contents sink.new)
+        (listing_text listing.now.catalogue listing.now.config listing.now.streams.list listing.now.streams.warnings)) }
+    ensures prefix { AppendsPrefix (W.contents sink.old) (W.contents sink.new)
+        (listing_text listing.now.catalogue listing.now.config listing.now.streams.list listing.now.streams.warnings) }
+    ensures broken { IfErr result (IsSinkFault (W.failures sink.old) (W.failures sink.new)) }
+    ensures counted { OnOk result (W.failures sink.new ≡ W.failures sink.old) }
+{
+    write_parts(alloc, sink, listing, listing.streams.list())?;
+    write_parts(alloc, sink, listing, listing.streams.warnings())?;
+    Ok(())
+}
+
+// What an input lists.
+fn listing_of(alloc: Global, input: &[u8]) -> Result<Listing, KitFault>
+    ensures ok { IfOk result (λ l. IsShown input.now
+        (listing_text l.catalogue l.config l.streams.list l.streams.warnings)) }
     ensures first { IfErr result (IsFirstShowFault input.now) }
+    ensures own { IfErr result IsOfInput }
 {
     let lines = lines(alloc, input)?;
     let needs = Needs {
@@ -56,25 +126,23 @@ fn shown(alloc: Global, input: &[u8]) -> Result<Vec<u8>, KitFault>
         script: false,
     };
     let parts = parts_of(alloc, &lines, needs)?;
-    let text = listed(alloc, &parts)?;
-    Ok(text)
+    let listing = listed(alloc, &parts)?;
+    Ok(listing)
 }
 
-// The lines of what the parts declare.
-fn listed(alloc: Global, parts: &Parts<'_>) -> Result<Vec<u8>, KitFault>
-    ensures ok { IfOk result (λ text. IsListed parts.now text.items) }
+// What the parts declare, with its streams.
+fn listed(alloc: Global, parts: &InputParts<'_>) -> Result<Listing, KitFault>
+    ensures ok { IfOk result (λ l. IsListed parts.now
+        (listing_text l.catalogue l.config l.streams.list l.streams.warnings)) }
     ensures first { IfErr result (λ fault. IsDeclaredFault fault parts.now) }
+    ensures own { IfErr result IsOfInput }
 {
     let catalogue = catalogue_of(alloc, parts.catalogue.as_str())?;
     let config = config_of(alloc, parts.config.as_str())?;
     let streams = resolve(alloc, &catalogue, &config)?;
-    let mut text = Vec::new(alloc);
-    push_listing(
-        &mut text,
-        &catalogue,
-        &config,
-        streams.list(),
-        streams.warnings(),
-    )?;
-    Ok(text)
+    Ok(Listing {
+        catalogue,
+        config,
+        streams,
+    })
 }
