@@ -3,8 +3,8 @@ use Rattle.std.specs.Prelude.{ℕ, Bool, true, false, List, [], ◌∷◌, ◌++
 use Rattle.metric_catalogue.specs.Refusals.{refusal_text}
 use Rattle.metric_catalogue.specs.declared.refusal.Refusal.{Refusal}
 use Rattle.metric_catalogue.specs.declared.refusal.Refusal.TheVariants as refusals
-use Rattle.metric_core.specs.declared.event.Reply.{Reply}
-use Rattle.metric_core.specs.declared.event.Reply.TheVariants.{Accepted, Collected, Done, Refused}
+use Rattle.metric_history.specs.declared.event.Reply.{Reply}
+use Rattle.metric_history.specs.declared.event.Reply.TheVariants.{Accepted, Collected, Done, Refused}
 use Rattle.metric_core.specs.Plans.{PlanValue}
 use Rattle.metric_lines.specs.Batches.{batch_text}
 use Rattle.metric_commands.specs.Written.{parts_text}
@@ -16,7 +16,7 @@ refused_text refusal = codes "refused " ++ (refusal_text refusal ++ codes "\n")
 -- one reply under the plan
 abbrev pub reply_text : PlanValue → Reply → List ℕ
 reply_text plan Accepted = codes "accepted" ++ 10 ∷ []
-reply_text plan (Collected batch) = batch_text plan.rules.contents plan.config plan.streams batch
+reply_text plan (Collected batch) = batch_text plan.facts.contents plan.config plan.streams batch
 reply_text plan Done = codes "closed" ++ 10 ∷ []
 reply_text plan (Refused refusal) = refused_text refusal
 

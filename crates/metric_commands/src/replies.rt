@@ -9,7 +9,7 @@ ghost use Rattle.metric_commands.specs.Written.{IsSinkFault};
 use crate::fault::KitFault;
 use crate::parts::{Parts, write_parts};
 use metric_catalogue::Refusal;
-use metric_core::Reply;
+use metric_history::Reply;
 use metric_core::first::Plan;
 use metric_io::Sink;
 use metric_lines::push_batch;

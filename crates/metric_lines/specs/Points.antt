@@ -6,7 +6,7 @@ use Rattle.metric_text.specs.Lists.{numbered}
 use Rattle.metric_catalogue.specs.declared.contents.Key.{Key}
 use Rattle.metric_aggregate.specs.declared.point_value.PointValue.{PointValue}
 use Rattle.metric_aggregate.specs.declared.point_value.PointValue.TheVariants.{Sum, Last, Buckets}
-use Rattle.metric_core.specs.declared.batch.Point.{Point}
+use Rattle.metric_history.specs.declared.batch.Point.{Point}
 use Rattle.metric_lines.specs.Keys.{series_text}
 use Rattle.metric_lines.specs.Pieces.{listed, signed}
 

@@ -9,7 +9,7 @@ use crate::piece::{Piece, push_pieces};
 use crate::point::push_point;
 use crate::stream::push_stream_line;
 use metric_catalogue::Catalogue;
-use metric_core::{Batch, Point, StreamPoints};
+use metric_history::{Batch, Point, StreamPoints};
 use metric_views::{Config, Stream};
 use std::alloc::AllocError;
 

@@ -6,7 +6,7 @@ ghost use Rattle.metric_lines.specs.Points.{buckets_text, covered_text, point_te
 use crate::piece::{Piece, push_pieces};
 use metric_aggregate::PointValue;
 use metric_catalogue::{Key, SetKey};
-use metric_core::{Batch, Point};
+use metric_history::{Batch, Point};
 use std::alloc::AllocError;
 
 /// Writes the line of a point of a batch, of which the stream keeps some keys.
