@@ -1,10 +1,10 @@
-//! What a command reads of its input.
+// What a command reads of its input.
 use crate::Script;
 use metric_base::Text;
 
 /// What a command reads of its input: the texts of the parts that it needs. The lines of a text
 /// are joined by line feeds.
-#[derive(Debug, Drop)]
+#[derive(Drop)]
 pub struct Parts<'a> {
     /// The catalogue.
     pub catalogue: Text,
