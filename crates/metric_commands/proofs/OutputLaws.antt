@@ -4,7 +4,7 @@ use Rattle.metric_base.specs.StepLaws.{ok_is}
 use Rattle.metric_catalogue.specs.Catalogues.{catalogue_of}
 use Rattle.metric_catalogue.specs.declared.contents.Contents.{Contents as Declared}
 use Rattle.metric_views.specs.Configs.{config_of}
-use Rattle.metric_views.specs.declared.config.Config.{Config}
+use Rattle.metric_views.specs.declared.config.Setup.{Setup}
 use Rattle.metric_parts.specs.Input.{Contents, IsInput}
 use Rattle.metric_parts.specs.Kept.{IsRead, read_of}
 use Rattle.metric_parts.specs.Texts.{ScriptLines}
@@ -32,7 +32,7 @@ same_plan : (options : ReplayOptions) (read : Parts) (a b : PlanValue) → IsPla
 same_plan options read a b p q =
     let contents : p.contents ≡ q.contents = ok_is p.contents q.contents (catalogue_of read.catalogue) p.declared.is_catalogue q.declared.is_catalogue in
     let config : p.config ≡ q.config = ok_is p.config q.config (config_of read.config) p.declared.is_config q.declared.is_config in
-    p.planned ∙ ap (λ (c : Declared). plan_of c p.config) contents ∙ ap (λ (c : Config). plan_of q.contents c) config ∙ sym q.planned
+    p.planned ∙ ap (λ (c : Declared). plan_of c p.config) contents ∙ ap (λ (c : Setup). plan_of q.contents c) config ∙ sym q.planned
 
 pub one_output : (parts : (needs : Needs) (lines : List (List ℕ)) (a b : Contents) → IsInput needs lines a → IsInput needs lines b → a ≡ b)
     → (starts : (lines : List (List ℕ)) (s t : ℕ) (a b : List Event) → IsScript lines s a → IsScript lines t b → s ≡ t)

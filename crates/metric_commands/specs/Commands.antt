@@ -2,28 +2,21 @@
 use Rattle.std.specs.Prelude.{◌≢◌, ◌≤◌, ◌+◌, ◌⊎◌, ℕ, List, Option, Result, IfErr, IfSome, IsErrOf, OnOk, OnErr}
 use Rattle.std.specs.Io.KnownBytes.{Appends, Keeps}
 use Rattle.metric_io.specs.Counts.{HasFailed}
+use Rattle.metric_io.specs.declared.counts.ReadCounts.{ReadCounts}
 use Rattle.metric_io.specs.Input.{IsReadFault}
 use Rattle.metric_io.specs.Prefix.{AppendsPrefix}
 use Rattle.metric_io.specs.declared.whole.TheConstants.{MAX_READS}
 use Rattle.metric_commands.specs.declared.fault.KitFault.{KitFault}
 use Rattle.metric_commands.specs.declared.fault.KitFault.TheVariants.{Read, Write, Memory}
 
--- A source before and after a command: the bytes that it had left, how often it failed, and how often it was read.
+-- A source before and after a command: the bytes that it had left, and its counts of reads and failures.
 pub record SourceRun : Type 0 where
   pub input : Option (List ℕ)
-  pub failures : ℕ
-  pub failures_after : ℕ
-  pub reads : ℕ
-  pub reads_after : ℕ
+  pub counts : ReadCounts
+  pub counts_after : ReadCounts
 
-abbrev pub source_run : {S : Type 0} → (S → Option (List ℕ)) → (S → ℕ) → (S → ℕ) → S → S → SourceRun
-source_run remaining failures reads old new = record {
-  input = remaining old;
-  failures = failures old;
-  failures_after = failures new;
-  reads = reads old;
-  reads_after = reads new;
-}
+abbrev pub source_run : {S : Type 0} → (S → Option (List ℕ)) → (S → ReadCounts) → S → S → SourceRun
+source_run remaining counts old new = record { input = remaining old; counts = counts old; counts_after = counts new }
 
 -- A sink before and after a command: the bytes that it held, and how often it failed.
 pub record SinkRun : Type 0 where
@@ -56,6 +49,6 @@ pub record RunsCommand {A : Type 0} (IsText : List ℕ → List ℕ → Type 0) 
   -- Unless memory was refused, each other fault is the first that the input has.
   pub first : IfErr result (λ fault. fault ≢ Read → fault ≢ Write → fault ≢ Memory → IfSome source.input (λ bytes. IsFirstFault bytes fault))
   -- The devices are blamed only where they failed, or a limit on input was passed.
-  pub read : IsErrOf result Read → IsReadFault source.failures source.failures_after source.reads source.reads_after source.input
+  pub read : IsErrOf result Read → IsReadFault source.counts source.counts_after source.input
   pub write : IsErrOf result Write → HasFailed sink.failures sink.failures_after
-  pub asked : source.reads_after ≤ source.reads + MAX_READS
+  pub asked : source.counts_after.reads ≤ source.counts.reads + MAX_READS

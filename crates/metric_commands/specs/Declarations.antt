@@ -7,13 +7,13 @@ use Rattle.metric_parts.specs.declared.parts.Parts.{Parts}
 use Rattle.metric_catalogue.specs.Catalogues.{catalogue_of}
 use Rattle.metric_catalogue.specs.declared.contents.Contents.{Contents}
 use Rattle.metric_views.specs.Configs.{config_of}
-use Rattle.metric_views.specs.declared.config.Config.{Config}
+use Rattle.metric_views.specs.declared.config.Setup.{Setup}
 use Rattle.metric_views.specs.declared.fault.ViewFault.{ViewFault}
 use Rattle.metric_commands.specs.declared.fault.KitFault.{KitFault}
 use Rattle.metric_commands.specs.declared.fault.KitFault.TheVariants.{Catalogue, Config as BadConfig, Memory}
 
 -- The catalogue and the config that the parts are.
-pub record IsDeclared (read : Parts) (contents : Contents) (config : Config) : Type 0 where
+pub record IsDeclared (read : Parts) (contents : Contents) (config : Setup) : Type 0 where
   pub is_catalogue : catalogue_of read.catalogue ≡ Ok contents
   pub is_config : config_of read.config ≡ Ok config
 

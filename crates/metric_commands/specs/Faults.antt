@@ -2,10 +2,8 @@
 use Rattle.std.specs.Prelude.{ℕ}
 use Rattle.metric_io.specs.declared.whole.ReadFault.{ReadFault}
 use Rattle.metric_io.specs.declared.whole.ReadFault.TheVariants as read
-use Rattle.metric_parts.specs.declared.fault.PartsFault.{PartsFault}
-use Rattle.metric_parts.specs.declared.fault.PartsFault.TheVariants as parts
-use Rattle.metric_script.specs.declared.fault.ScriptFault.{ScriptFault}
-use Rattle.metric_script.specs.declared.fault.ScriptFault.TheVariants as script
+use Rattle.metric_parts.specs.declared.fault.InputFault.{InputFault}
+use Rattle.metric_parts.specs.declared.fault.InputFault.TheVariants as input
 use Rattle.metric_commands.specs.declared.fault.KitFault.{KitFault}
 use Rattle.metric_commands.specs.declared.fault.KitFault.TheVariants.{Read, Input, Catalogue, Config, NotYet, Write, Memory}
 
@@ -13,13 +11,9 @@ abbrev pub from_read : ReadFault → KitFault
 from_read read.Read = Read
 from_read read.Memory = Memory
 
-abbrev pub from_parts : PartsFault → KitFault
-from_parts (parts.Input line) = Input line
-from_parts parts.Memory = Memory
-
-abbrev pub from_script : ScriptFault → KitFault
-from_script (script.Input line) = Input line
-from_script script.Memory = Memory
+abbrev pub from_input : InputFault → KitFault
+from_input (input.Input line) = Input line
+from_input input.Memory = Memory
 
 -- 1 where the input is refused, 3 where it is unreadable, 4 without memory, 5 where the sink failed
 abbrev pub status_of : KitFault → ℕ

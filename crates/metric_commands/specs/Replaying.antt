@@ -8,7 +8,7 @@ use Rattle.metric_parts.specs.declared.needs.Needs.{Needs}
 use Rattle.metric_parts.specs.declared.parts.Parts.{Parts}
 use Rattle.metric_script.specs.Scripts.{IsScript, IsFirstFaultAt}
 use Rattle.metric_catalogue.specs.declared.contents.Contents.{Contents}
-use Rattle.metric_views.specs.declared.config.Config.{Config}
+use Rattle.metric_views.specs.declared.config.Setup.{Setup}
 use Rattle.metric_core.specs.First.{is_taken}
 use Rattle.metric_core.specs.Plans.{PlanValue}
 use Rattle.metric_history.specs.declared.event.Event.{Event}
@@ -28,7 +28,7 @@ needs_of options = record { certificate = not options.trial; script = true }
 -- The plan of what the parts declare.
 pub record IsPlanned (options : ReplayOptions) (read : Parts) (plan : PlanValue) : Type 0 where
   pub contents : Contents
-  pub config : Config
+  pub config : Setup
   pub declared : IsDeclared read contents config
   pub is_trial : options.trial ≡ true
   pub taken : is_taken contents config ≡ true
@@ -56,7 +56,7 @@ pub record IsOutput (options : ReplayOptions) (input text : List ℕ) : Type 0 w
 -- What the parts declare is not served yet.
 pub record IsUnserved (options : ReplayOptions) (read : Parts) : Type 0 where
   pub contents : Contents
-  pub config : Config
+  pub config : Setup
   pub declared : IsDeclared read contents config
   pub unserved : (options.trial && is_taken contents config) ≡ false
 

@@ -6,7 +6,7 @@ use Rattle.metric_parts.specs.Kept.{IsRead}
 use Rattle.metric_parts.specs.declared.needs.Needs.{Needs}
 use Rattle.metric_parts.specs.declared.parts.Parts.{Parts}
 use Rattle.metric_catalogue.specs.declared.contents.Contents.{Contents}
-use Rattle.metric_views.specs.declared.config.Config.{Config}
+use Rattle.metric_views.specs.declared.config.Setup.{Setup}
 use Rattle.metric_views.specs.declared.stream.Stream.{Stream}
 use Rattle.metric_resolve.specs.declared.warning.Warning.{Warning}
 use Rattle.metric_resolve.specs.Resolved.{streams_of}
@@ -22,14 +22,14 @@ abbrev pub show_needs : Needs
 show_needs = record { certificate = false; script = false }
 
 -- the lines of streams, numbered from 0, and those of warnings
-unfoldable pub listing_text : Contents → Config → List Stream → List Warning → List ℕ
+unfoldable pub listing_text : Contents → Setup → List Stream → List Warning → List ℕ
 listing_text contents config streams warnings =
     parts_text (shown_text contents config) streams ++ parts_text (λ _ warning. warning_text warning) warnings
 
 -- The lines of the streams that the parts declare, and those of the warnings.
 pub record IsListed (read : Parts) (text : List ℕ) : Type 0 where
   pub contents : Contents
-  pub config : Config
+  pub config : Setup
   pub declared : IsDeclared read contents config
   pub written : text ≡ listing_text contents config (streams_of contents config) (warnings_of contents config)
 

@@ -49,7 +49,7 @@ pub(crate) fn run<C: Command, R: Source, W: Sink>(
     sink: &mut W,
 ) -> Result<(), KitFault>
     ensures { RunsCommand (C.is_due command.now) (C.is_first_fault command.now)
-        (source_run R.remaining R.failures R.reads source.old source.new)
+        (source_run R.remaining R.counts source.old source.new)
         (sink_run W.contents W.failures sink.old sink.new) result }
 {
     let input = read_all(alloc, source)?;

@@ -4,8 +4,7 @@ ghost use Rattle.metric_commands.specs.Faults.{status_of};
 
 use metric_catalogue::CatalogueFault;
 use metric_io::{Broken, ReadFault};
-use metric_parts::PartsFault;
-use metric_script::ScriptFault;
+use metric_parts::InputFault;
 use metric_views::ViewFault;
 use std::alloc::{AllocError, Global};
 use thiserror::Error;
@@ -92,28 +91,15 @@ impl From<ReadFault> for KitFault {
     }
 }
 
-impl From<PartsFault> for KitFault {
-    ghost use Rattle.metric_commands.specs.Faults.{from_parts};
+impl From<InputFault> for KitFault {
+    ghost use Rattle.metric_commands.specs.Faults.{from_input};
 
-    ghost from_gives = { λ fault kit. kit ≡ from_parts fault };
+    ghost from_gives = { λ fault kit. kit ≡ from_input fault };
 
-    fn from(fault: PartsFault) -> KitFault {
+    fn from(fault: InputFault) -> KitFault {
         match fault {
-            PartsFault::Input { line } => KitFault::Input { line },
-            PartsFault::Memory => KitFault::Memory,
-        }
-    }
-}
-
-impl From<ScriptFault> for KitFault {
-    ghost use Rattle.metric_commands.specs.Faults.{from_script};
-
-    ghost from_gives = { λ fault kit. kit ≡ from_script fault };
-
-    fn from(fault: ScriptFault) -> KitFault {
-        match fault {
-            ScriptFault::Input { line } => KitFault::Input { line },
-            ScriptFault::Memory => KitFault::Memory,
+            InputFault::Input { line } => KitFault::Input { line },
+            InputFault::Memory => KitFault::Memory,
         }
     }
 }

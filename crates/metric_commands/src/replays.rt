@@ -24,7 +24,7 @@ pub fn replay<R: Source, W: Sink>(
     sink: &mut W,
 ) -> Result<(), KitFault>
     ensures { RunsCommand (IsOutput options) (IsFirstFault options)
-        (source_run R.remaining R.failures R.reads source.old source.new)
+        (source_run R.remaining R.counts source.old source.new)
         (sink_run W.contents W.failures sink.old sink.new) result }
 {
     run(alloc, &options, source, sink)

@@ -34,7 +34,7 @@ pub fn show_run<R: Source, W: Sink>(
     sink: &mut W,
 ) -> Result<(), KitFault>
     ensures { RunsCommand IsShown IsFirstShowFault
-        (source_run R.remaining R.failures R.reads source.old source.new)
+        (source_run R.remaining R.counts source.old source.new)
         (sink_run W.contents W.failures sink.old sink.new) result }
 {
     run(alloc, &Show, source, sink)

@@ -7,7 +7,7 @@ use Rattle.metric_text.specs.Reading.{◌>>=◌}
 use Rattle.metric_catalogue.specs.declared.contents.Contents.{Contents}
 use Rattle.metric_catalogue.specs.declared.contents.Instrument.{Instrument}
 use Rattle.metric_catalogue.specs.declared.contents.Meter.{Meter}
-use Rattle.metric_views.specs.declared.config.Config.{Config}
+use Rattle.metric_views.specs.declared.config.Setup.{Setup}
 use Rattle.metric_views.specs.declared.config.Reader.{Reader}
 use Rattle.metric_views.specs.declared.stream.Stream.{Stream}
 use Rattle.metric_history.specs.declared.batch.Batch.{Batch}
@@ -24,7 +24,7 @@ pub record DescribedStream : Type 0 where
   pub meter : Meter
 
 -- the stream of a number. A number that names no stream, reader, instrument or meter describes nothing.
-unfoldable pub described_stream : Contents → Config → List Stream → ℕ → Option DescribedStream
+unfoldable pub described_stream : Contents → Setup → List Stream → ℕ → Option DescribedStream
 described_stream catalogue config streams number = do
   stream ← slice_get streams number
   reader ← slice_get config.readers stream.reader
@@ -52,15 +52,15 @@ abbrev pub described_text : Batch → List Point → DescribedStream → List �
 described_text batch points d = stream_line d.reader.name d.meter d.stream ++ points_text batch points d
 
 -- the lines of a stream and its points. A stream without points has no line, nor has one that is not described.
-abbrev pub stream_text : Contents → Config → List Stream → Batch → StreamPoints → List ℕ
+abbrev pub stream_text : Contents → Setup → List Stream → Batch → StreamPoints → List ℕ
 stream_text catalogue config streams batch s =
     if length s.points == 0 then [] else
     option_map_or (described_text batch s.points) (described_stream catalogue config streams s.stream) []
 
 -- the lines of all streams of a batch, in its own order
-abbrev pub streams_text : Contents → Config → List Stream → Batch → List ℕ
+abbrev pub streams_text : Contents → Setup → List Stream → Batch → List ℕ
 streams_text catalogue config streams batch = flat_map (stream_text catalogue config streams batch) batch.streams
 
 -- the text of a batch: its first line, then its streams
-unfoldable pub batch_text : Contents → Config → List Stream → Batch → List ℕ
+unfoldable pub batch_text : Contents → Setup → List Stream → Batch → List ℕ
 batch_text catalogue config streams batch = head_text batch ++ streams_text catalogue config streams batch

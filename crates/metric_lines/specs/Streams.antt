@@ -11,7 +11,7 @@ use Rattle.metric_catalogue.specs.declared.contents.Meter.{Meter}
 use Rattle.metric_catalogue.specs.Kinds.{is_monotonic}
 use Rattle.metric_views.specs.declared.choices.Temporality.{Temporality}
 use Rattle.metric_views.specs.declared.choices.Temporality.TheVariants.{Delta, Cumulative}
-use Rattle.metric_views.specs.declared.config.Config.{Config}
+use Rattle.metric_views.specs.declared.config.Setup.{Setup}
 use Rattle.metric_views.specs.declared.config.Reader.{Reader}
 use Rattle.metric_views.specs.declared.stream.Stream.{Stream}
 use Rattle.metric_views.specs.declared.stream.StreamAggregation.{StreamAggregation}
@@ -80,7 +80,7 @@ shown_line number stream reader instrument = concat (
     ∷ codes "]\n" ∷ [])
 
 -- the same, or nothing where the stream names no reader or no instrument
-abbrev pub shown_text : Contents → Config → ℕ → Stream → List ℕ
+abbrev pub shown_text : Contents → Setup → ℕ → Stream → List ℕ
 shown_text contents config number stream =
     option_map_or (λ reader. option_map_or (λ instrument. shown_line number stream reader instrument) (slice_get contents.instruments stream.instrument) [])
     (slice_get config.readers stream.reader) []

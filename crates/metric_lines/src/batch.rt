@@ -124,7 +124,7 @@ fn push_points(
         ++ points_text batch.now points.now (described_by description.now)) }
 {
     let keys = description.instrument.keys.as_slice();
-    let kept = description.stream.kept.as_slice();
+    let kept = description.stream.kept.get().as_slice();
     for point in points {
         push_point(out, keys, kept, batch, point)?;
     }

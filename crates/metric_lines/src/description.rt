@@ -31,7 +31,7 @@ pub(crate) fn described_stream<'a>(
     ensures { option_map described_by result ≡ described_stream catalogue.now config.now streams.now number }
 {
     let stream = streams.get(number as usize)?;
-    let reader = config.readers.as_slice().get(stream.reader as usize)?;
+    let reader = config.readers().get(stream.reader as usize)?;
     let instrument = catalogue.instruments().get(stream.instrument as usize)?;
     let meter = catalogue.meters().get(instrument.meter as usize)?;
     Some(Description {

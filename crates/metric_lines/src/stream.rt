@@ -43,9 +43,9 @@ fn push_description(out: &mut Vec<u8>, stream: &Stream) -> Result<(), AllocError
     ensures { OnOk result (out.new.items ≡ out.old.items ++ description_text stream.now) }
 {
     let pieces = [
-        Piece::Quoted(" name=", stream.name.as_str()),
-        Piece::Quoted(" unit=", stream.unit.as_str()),
-        Piece::Quoted(" description=", stream.description.as_str()),
+        Piece::Quoted(" name=", stream.name.get().as_str()),
+        Piece::Quoted(" unit=", stream.unit.get().as_str()),
+        Piece::Quoted(" description=", stream.description.get().as_str()),
         kind_piece(stream.kind, &stream.aggregation),
         temporality_piece(stream.temporality),
         Piece::Text("\n"),
@@ -65,7 +65,7 @@ pub fn push_shown(
     ensures { OnOk result (out.new.items ≡ out.old.items
         ++ shown_text catalogue.now config.now number stream.now) }
 {
-    let Some(reader) = config.readers.as_slice().get(stream.reader as usize) else {
+    let Some(reader) = config.readers().get(stream.reader as usize) else {
         return Ok(());
     };
     match catalogue.instruments().get(stream.instrument as usize) {
@@ -90,12 +90,12 @@ fn push_shown_line<'a>(
         Piece::Quoted(" reader=", reader.name.as_str()),
         Piece::Number(" instrument=", u64::from(stream.instrument)),
         view_piece(stream.view),
-        Piece::Quoted(" name=", stream.name.as_str()),
+        Piece::Quoted(" name=", stream.name.get().as_str()),
         kind_piece(stream.kind, &stream.aggregation),
         temporality_piece(stream.temporality),
         Piece::Number(" limit=", u64::from(stream.limit)),
         Piece::Text(" keys=["),
-        Piece::Names(instrument.keys.as_slice(), stream.kept.as_slice()),
+        Piece::Names(instrument.keys.as_slice(), stream.kept.get().as_slice()),
         Piece::Text("]\n"),
     ];
     push_pieces(out, &pieces)
@@ -147,7 +147,7 @@ fn kind_piece(kind: Kind, aggregation: &StreamAggregation) -> Piece<'_>
         StreamAggregation::Sum => Piece::Text(" kind=sum monotonic=no"),
         StreamAggregation::LastValue => Piece::Text(" kind=last"),
         StreamAggregation::Histogram(boundaries) => {
-            Piece::Bounds(" kind=histogram bounds=", boundaries.as_slice())
+            Piece::Bounds(" kind=histogram bounds=", boundaries.get().as_slice())
         }
     }
 }
