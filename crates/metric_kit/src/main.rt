@@ -1,82 +1,44 @@
 //! Runs a command on an input of parts from standard input.
 #![tactic(auto)]
 
-mod answers;
-mod fault;
-mod laws;
-mod options;
-mod planning;
-mod replay;
-mod replies;
-mod show;
-
-use fault::KitFault;
 use metric_command::{Line, LineFault, command_of};
+use metric_commands::{KitFault, ReplayOptions, replay, show_run};
 use metric_io::{StdSink, StdSource};
-use options::ReplayOptions;
-use replay::replay;
-use show::show_run;
 use std::alloc::{AllocError, Global};
 use std::env;
-use std::io::{self, BufWriter};
+use std::io::{BufWriter, ErrorKind};
 use std::process::ExitCode;
 
 // The exit status where the words name no command.
 const USAGE: u8 = 2;
 
-// Why the program stops.
-#[derive(Drop)]
-enum Stop {
-    // The words name no command.
-    Usage,
-    // The command stopped.
-    Fault(KitFault),
-}
-
-impl From<KitFault> for Stop {
-    ghost use Rattle.std.specs.Prelude.{◌≡◌};
-    ghost use Rattle.metric_kit.specs.declared.Stop.TheVariants.{Fault};
-
-    ghost from_gives = { λ fault stop. stop ≡ Fault fault };
-
-    fn from(fault: KitFault) -> Stop {
-        Stop::Fault(fault)
+fn main(rt: HostRuntime) -> ExitCode {
+    let done = match line_of(&rt) {
+        Ok(line) => run(&rt, line),
+        Err(LineFault::Usage) => return refuse(&rt, "refused: usage", USAGE),
+        Err(LineFault::Memory) => Err(KitFault::Memory),
+    };
+    match done {
+        Ok(()) => ExitCode::SUCCESS,
+        Err(fault) => tell(&rt, fault),
     }
 }
 
-fn main(rt: HostRuntime) -> io::Result<ExitCode> {
-    match run(&rt) {
-        Ok(()) => Ok(ExitCode::SUCCESS),
-        Err(Stop::Usage) => refuse(&rt, "refused: usage", USAGE),
-        Err(Stop::Fault(fault)) => tell(&rt, fault),
-    }
+// The command that the words of the command line name.
+fn line_of(rt: &HostRuntime) -> Result<Line, LineFault> {
+    let owned = words(rt)?;
+    let words = borrowed(rt.alloc(), &owned)?;
+    command_of(rt.alloc(), &words)
 }
 
-// Runs the command that the words name.
-fn run(rt: &HostRuntime) -> Result<(), Stop> {
-    let words = words(rt)?;
-    let line = line_of(rt.alloc(), &words)?;
-    run_line(rt, line)?;
-    Ok(())
-}
-
-// The words of the command line.
-fn words(rt: &HostRuntime) -> Result<Vec<String>, KitFault> {
+// The words of the command line. One that is not UTF-8 is a word of no command.
+fn words(rt: &HostRuntime) -> Result<Vec<String>, LineFault> {
     match env::args(rt) {
         Ok(words) => Ok(words.collect(rt.alloc())?),
-        Err(_) => Err(KitFault::Memory),
-    }
-}
-
-// The command that the words name.
-fn line_of(alloc: Global, owned: &[String]) -> Result<Line, Stop> {
-    let Ok(words) = borrowed(alloc, owned) else {
-        return Err(Stop::Fault(KitFault::Memory));
-    };
-    match command_of(alloc, &words) {
-        Ok(line) => Ok(line),
-        Err(LineFault::Usage) => Err(Stop::Usage),
-        Err(LineFault::Memory) => Err(Stop::Fault(KitFault::Memory)),
+        Err(error) => match error.kind() {
+            ErrorKind::InvalidData => Err(LineFault::Usage),
+            _ => Err(LineFault::Memory),
+        },
     }
 }
 
@@ -89,7 +51,7 @@ fn borrowed<'a>(alloc: Global, owned: &'a [String]) -> Result<Vec<&'a str>, Allo
 }
 
 // Runs a command on standard input and output.
-fn run_line(rt: &HostRuntime, line: Line) -> Result<(), KitFault> {
+fn run(rt: &HostRuntime, line: Line) -> Result<(), KitFault> {
     let Ok(output) = BufWriter::new(rt.alloc(), rt.stdout()) else {
         return Err(KitFault::Memory);
     };
@@ -107,15 +69,15 @@ fn run_line(rt: &HostRuntime, line: Line) -> Result<(), KitFault> {
 }
 
 // Tells a fault. Where memory is refused for its line, that is told.
-fn tell(rt: &HostRuntime, fault: KitFault) -> io::Result<ExitCode> {
+fn tell(rt: &HostRuntime, fault: KitFault) -> ExitCode {
     match fault.line(rt.alloc()) {
         Ok(line) => refuse(rt, line.as_str(), fault.status()),
         Err(_) => refuse(rt, "refused: memory", fault.status()),
     }
 }
 
-// Prints a line to standard error, and gives the exit status.
-fn refuse(rt: &HostRuntime, line: &str, status: u8) -> io::Result<ExitCode> {
-    rt.eprintln(line)?;
-    Ok(ExitCode::from(status))
+// Prints a line to standard error, and gives the exit status, which stands whatever becomes of the line.
+fn refuse(rt: &HostRuntime, line: &str, status: u8) -> ExitCode {
+    let _ = rt.eprintln(line);
+    ExitCode::from(status)
 }

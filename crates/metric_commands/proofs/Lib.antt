@@ -1,0 +1,6 @@
+mod AnswerLaws
+mod OutputLaws
+mod PartLaws
+mod Replayed
+mod RunLaws
+mod TextLaws

@@ -1,0 +1,54 @@
+-- An input has one output.
+use Rattle.std.proofs.Common.{◌≡◌, ℕ, List, [], Option, Some, sym, ap, subst, ◌∙◌}
+use Rattle.metric_base.specs.StepLaws.{ok_is}
+use Rattle.metric_catalogue.specs.Catalogues.{catalogue_of}
+use Rattle.metric_catalogue.specs.declared.contents.Contents.{Contents as Declared}
+use Rattle.metric_views.specs.Configs.{config_of}
+use Rattle.metric_views.specs.declared.config.Setup.{Setup}
+use Rattle.metric_parts.specs.Input.{Contents, IsInput}
+use Rattle.metric_parts.specs.Kept.{IsRead, read_of}
+use Rattle.metric_parts.specs.Texts.{ScriptLines}
+use Rattle.metric_parts.specs.declared.needs.Needs.{Needs}
+use Rattle.metric_parts.specs.declared.parts.Parts.{Parts}
+use Rattle.metric_script.specs.Scripts.{IsScript}
+use Rattle.metric_history.specs.Legal.{AllLegal}
+use Rattle.metric_core.specs.Plans.{PlanValue}
+use Rattle.metric_history.specs.declared.event.Event.{Event}
+use Rattle.metric_history.specs.declared.event.Reply.{Reply}
+use Rattle.metric_commands.specs.declared.options.ReplayOptions.{ReplayOptions}
+use Rattle.metric_commands.specs.Planned.{plan_of}
+use Rattle.metric_commands.specs.Replies.{replies_text}
+use Rattle.metric_commands.specs.Replaying.{IsPlanned, IsOutput}
+use Rattle.metric_commands.proofs.AnswerLaws.{one_run}
+
+some_is : {A : Type 0} (x y : A) (o : Option A) → o ≡ Some x → o ≡ Some y → x ≡ y
+some_is x y o p q = cc
+
+same_read : (law : (needs : Needs) (lines : List (List ℕ)) (a b : Contents) → IsInput needs lines a → IsInput needs lines b → a ≡ b)
+    → (needs : Needs) (lines : List (List ℕ)) (a b : Parts) → IsRead needs lines a → IsRead needs lines b → a ≡ b
+same_read law needs lines a b p q = p.texts ∙ ap (read_of needs) (law needs lines p.parts q.parts p.is_input q.is_input) ∙ sym q.texts
+
+same_plan : (options : ReplayOptions) (read : Parts) (a b : PlanValue) → IsPlanned options read a → IsPlanned options read b → a ≡ b
+same_plan options read a b p q =
+    let contents : p.contents ≡ q.contents = ok_is p.contents q.contents (catalogue_of read.catalogue) p.declared.is_catalogue q.declared.is_catalogue in
+    let config : p.config ≡ q.config = ok_is p.config q.config (config_of read.config) p.declared.is_config q.declared.is_config in
+    p.planned ∙ ap (λ (c : Declared). plan_of c p.config) contents ∙ ap (λ (c : Setup). plan_of q.contents c) config ∙ sym q.planned
+
+pub one_output : (parts : (needs : Needs) (lines : List (List ℕ)) (a b : Contents) → IsInput needs lines a → IsInput needs lines b → a ≡ b)
+    → (starts : (lines : List (List ℕ)) (s t : ℕ) (a b : List Event) → IsScript lines s a → IsScript lines t b → s ≡ t)
+    → (events : (lines : List (List ℕ)) (s t : ℕ) (a b : List Event) → IsScript lines s a → IsScript lines t b → a ≡ b)
+    → (options : ReplayOptions) (input a b : List ℕ) → IsOutput options input a → IsOutput options input b → a ≡ b
+one_output parts starts events options input a b p q =
+    let x = p.replayed in
+    let y = q.replayed in
+    let read : x.read ≡ y.read = same_read parts _ _ x.read y.read x.is_read y.is_read in
+    let plan : p.plan ≡ q.plan = same_plan options y.read p.plan q.plan (subst (λ (r : Parts). IsPlanned options r p.plan) read x.is_planned) y.is_planned in
+    let script : x.script ≡ y.script = some_is x.script y.script y.read.script (ap (λ (r : Parts). r.script) (sym read) ∙ x.has_script) y.has_script in
+    let here : IsScript y.script.lines x.start x.events = subst (λ (s : ScriptLines). IsScript s.lines x.start x.events) script x.is_script in
+    let start : x.start ≡ y.start = starts y.script.lines x.start y.start x.events y.events here y.is_script in
+    let run : x.events ≡ y.events = events y.script.lines x.start y.start x.events y.events here y.is_script in
+    let on_plan : AllLegal q.plan.facts x.start [] x.events p.replies = subst (λ (v : PlanValue). AllLegal v.facts x.start [] x.events p.replies) plan x.run.legal in
+    let on_start : AllLegal q.plan.facts y.start [] x.events p.replies = subst (λ (s : ℕ). AllLegal q.plan.facts s [] x.events p.replies) start on_plan in
+    let on_events : AllLegal q.plan.facts y.start [] y.events p.replies = subst (λ (es : List Event). AllLegal q.plan.facts y.start [] es p.replies) run on_start in
+    let replies : p.replies ≡ q.replies = one_run q.plan.facts y.start [] y.events p.replies q.replies on_events y.run.legal x.run.remembered y.run.remembered in
+    p.written ∙ ap (λ (v : PlanValue). replies_text v p.replies) plan ∙ ap (λ (rs : List Reply). replies_text q.plan rs) replies ∙ sym q.written

@@ -1,0 +1,15 @@
+use Rattle.std.proofs.Common.{rules, List, ap, subst, sym, ◌∙◌}
+use Rattle.std.proofs.lemmas.Result.{IfOk-weaker}
+use Rattle.metric_history.specs.declared.event.Event.{Event}
+use Rattle.metric_script.specs.Scripts.{IsScript}
+use Rattle.metric_parts.specs.Reading.{texts}
+use Rattle.metric_commands.proofs.Replayed.{replayed}
+use Rattle.metric_commands.proofs.answers.answers_to.Goals as goal
+
+pub returns-clause-ok : goal.returns-clause-ok
+returns-clause-ok c =
+    IfOk-weaker c.run.result _ _
+    (λ run p. replayed _ _ _ _ _ c.unwrap.result _ _ _ run.core run.replies.items c.needs.ensures (ap texts c.deref.ensures.value ∙ c.in_ok-lines.ensures)
+    c.in_ok-parts.ensures.parts c.in_ok-plan.ensures.ok (search rules)
+    (subst (λ (es : List Event). IsScript c.unwrap.result.lines c.in_ok-script.script.start es) (sym c.as_slice.ensures) c.in_ok-script.ensures.found) p.0 p.1)
+    c.run.ensures.ok

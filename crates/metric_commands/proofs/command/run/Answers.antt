@@ -1,0 +1,21 @@
+use Rattle.std.proofs.Common.{Err, ap}
+use Rattle.std.proofs.KnownBytes.{Keeps-refl}
+use Rattle.metric_commands.proofs.RunLaws.{answered, refused, unread}
+use Rattle.metric_commands.proofs.command.run.Goals as goal
+
+pub returns-in_err-input : goal.returns-in_err-input
+returns-in_err-input g c =
+    unread _ _ _ _ c.in_err-input.field-0.0 c.from_residual.result c.from_residual.ensures.1
+    (λ e. c.in_err-input.ensures.read (ap (λ fault. Err fault) e)) (Keeps-refl _) c.read_all.ensures.reads
+
+pub returns-in_err-answer : goal.returns-in_err-answer
+returns-in_err-answer g c =
+    refused _ _ _ _ c.in_err-answer.field-0.0 c.from_residual-in_err-answer.result c.in_ok-input.input.items c.deref.result.now
+    c.from_residual-in_err-answer.ensures.1 c.in_ok-input.ensures.bytes c.deref.ensures.value c.in_err-answer.ensures.first c.in_err-answer.ensures.own
+    (Keeps-refl _) c.read_all.ensures.reads
+
+pub returns : goal.returns
+returns g c =
+    answered _ _ _ _ c.write.result c.in_ok-input.input.items c.deref.result.now (g.C.Command.text c.in_ok-answer.answer)
+    c.in_ok-input.ensures.bytes c.deref.ensures.value c.in_ok-answer.ensures.ok c.write.ensures.ok c.write.ensures.prefix c.write.ensures.broken
+    c.read_all.ensures.reads

@@ -1,0 +1,15 @@
+use Rattle.metric_commands.proofs.TextLaws.{prefix_of_second}
+use Rattle.metric_commands.specs.Showing.{listing_text}
+use Rattle.metric_commands.proofs.show.write_lines.Goals as goal
+
+pub returns-in_err-write_parts-2-clause-prefix : goal.returns-in_err-write_parts-2-clause-prefix
+unfolding listing_text
+returns-in_err-write_parts-2-clause-prefix g c =
+    rw (← c.list.ensures.list, ← c.warnings.ensures)
+    (prefix_of_second _ (g.W.Sink.contents c.write_parts.new.sink) _ _ _ c.in_ok-write_parts.ensures.ok c.write_parts-2.ensures.prefix)
+
+pub returns-clause-prefix : goal.returns-clause-prefix
+unfolding listing_text
+returns-clause-prefix g c =
+    rw (← c.list.ensures.list, ← c.warnings.ensures)
+    (prefix_of_second _ (g.W.Sink.contents c.write_parts.new.sink) _ _ _ c.in_ok-write_parts.ensures.ok c.write_parts-2.ensures.prefix)

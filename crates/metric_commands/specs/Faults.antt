@@ -1,0 +1,32 @@
+-- What a fault of a layer is to a command, and the exit status of each fault.
+use Rattle.std.specs.Prelude.{ℕ}
+use Rattle.metric_io.specs.declared.whole.ReadFault.{ReadFault}
+use Rattle.metric_io.specs.declared.whole.ReadFault.TheVariants as read
+use Rattle.metric_parts.specs.declared.fault.InputFault.{InputFault}
+use Rattle.metric_parts.specs.declared.fault.InputFault.TheVariants as input
+use Rattle.metric_commands.specs.declared.fault.KitFault.{KitFault}
+use Rattle.metric_commands.specs.declared.fault.KitFault.TheVariants.{Read, Input, Catalogue, Config, NotYet, Write, Memory}
+
+abbrev pub from_read : ReadFault → KitFault
+from_read read.Read = Read
+from_read read.Memory = Memory
+
+abbrev pub from_input : InputFault → KitFault
+from_input (input.Input line) = Input line
+from_input input.Memory = Memory
+
+-- 1 where the input is refused, 3 where it is unreadable, 4 without memory, 5 where the sink failed
+abbrev pub status_of : KitFault → ℕ
+status_of Read = 3
+status_of (Input line) = 3
+status_of (Catalogue fault) = 1
+status_of (Config fault) = 1
+status_of NotYet = 1
+status_of Write = 5
+status_of Memory = 4
+
+-- The fault is of an input that was read, or memory was refused.
+abbrev pub IsOfInput : KitFault → Type 0
+IsOfInput Read = ⊥
+IsOfInput Write = ⊥
+IsOfInput _ = Unit {0}

@@ -1,0 +1,9 @@
+pub mod Faults
+pub mod Commands
+pub mod Written
+pub mod Replies
+pub mod Planned
+pub mod Runs
+pub mod Declarations
+pub mod Replaying
+pub mod Showing

@@ -1,0 +1,86 @@
+-- What a replay makes of the bytes of its input.
+use Rattle.std.specs.Prelude.{◌≡◌, ◌⊎◌, ◌&&◌, ℕ, true, false, not, List, Some}
+use Rattle.metric_text.specs.Lines.{lines_of}
+use Rattle.metric_parts.specs.Input.{IsFirstFault as IsFaultyLine}
+use Rattle.metric_parts.specs.Kept.{IsRead}
+use Rattle.metric_parts.specs.Texts.{ScriptLines}
+use Rattle.metric_parts.specs.declared.needs.Needs.{Needs}
+use Rattle.metric_parts.specs.declared.parts.Parts.{Parts}
+use Rattle.metric_script.specs.Scripts.{IsScript, IsFirstFaultAt}
+use Rattle.metric_catalogue.specs.declared.contents.Contents.{Contents}
+use Rattle.metric_views.specs.declared.config.Setup.{Setup}
+use Rattle.metric_core.specs.First.{is_taken}
+use Rattle.metric_core.specs.Plans.{PlanValue}
+use Rattle.metric_history.specs.declared.event.Event.{Event}
+use Rattle.metric_history.specs.declared.event.Reply.{Reply}
+use Rattle.metric_commands.specs.declared.options.ReplayOptions.{ReplayOptions}
+use Rattle.metric_commands.specs.declared.fault.KitFault.{KitFault}
+use Rattle.metric_commands.specs.declared.fault.KitFault.TheVariants.{Read, Input, Catalogue, Config as BadConfig, NotYet, Write, Memory}
+use Rattle.metric_commands.specs.Declarations.{IsDeclared, IsDeclaredFault, IsMisdeclared}
+use Rattle.metric_commands.specs.Planned.{plan_of}
+use Rattle.metric_commands.specs.Replies.{replies_text}
+use Rattle.metric_commands.specs.Runs.{IsRun}
+
+-- a trial needs no certificate
+abbrev pub needs_of : ReplayOptions → Needs
+needs_of options = record { certificate = not options.trial; script = true }
+
+-- The plan of what the parts declare.
+pub record IsPlanned (options : ReplayOptions) (read : Parts) (plan : PlanValue) : Type 0 where
+  pub contents : Contents
+  pub config : Setup
+  pub declared : IsDeclared read contents config
+  pub is_trial : options.trial ≡ true
+  pub taken : is_taken contents config ≡ true
+  pub planned : plan ≡ plan_of contents config
+
+-- The replies to the script of the input: a legal one for each event, and none of them want of memory.
+pub record IsReplayed (options : ReplayOptions) (input : List ℕ) (plan : PlanValue) (replies : List Reply) : Type 0 where
+  pub read : Parts
+  pub script : ScriptLines
+  pub start : ℕ
+  pub events : List Event
+  pub is_read : IsRead (needs_of options) (lines_of input) read
+  pub is_planned : IsPlanned options read plan
+  pub has_script : read.script ≡ Some script
+  pub is_script : IsScript script.lines start events
+  pub run : IsRun plan start events replies
+
+-- The text that a replay of the input writes.
+pub record IsOutput (options : ReplayOptions) (input text : List ℕ) : Type 0 where
+  pub plan : PlanValue
+  pub replies : List Reply
+  pub replayed : IsReplayed options input plan replies
+  pub written : text ≡ replies_text plan replies
+
+-- What the parts declare is not served yet.
+pub record IsUnserved (options : ReplayOptions) (read : Parts) : Type 0 where
+  pub contents : Contents
+  pub config : Setup
+  pub declared : IsDeclared read contents config
+  pub unserved : (options.trial && is_taken contents config) ≡ false
+
+-- The fault is the first that the parts have before the script is read.
+abbrev pub IsPlanFault : ReplayOptions → KitFault → Parts → Type 0
+IsPlanFault options NotYet read = IsUnserved options read
+IsPlanFault options fault read = IsDeclaredFault fault read
+
+-- Everything before the script is right, and this is the script's first faulty line.
+pub record IsFaultyScript (options : ReplayOptions) (input : List ℕ) (line : ℕ) : Type 0 where
+  pub read : Parts
+  pub script : ScriptLines
+  pub plan : PlanValue
+  pub is_read : IsRead (needs_of options) (lines_of input) read
+  pub is_planned : IsPlanned options read plan
+  pub has_script : read.script ≡ Some script
+  pub first : IsFirstFaultAt script line
+
+-- The fault is the first that the input has: of its parts, of what they declare, of its script.
+abbrev pub IsFirstFault : ReplayOptions → List ℕ → KitFault → Type 0
+IsFirstFault options input (Input line) = IsFaultyLine (needs_of options) (lines_of input) line ⊎ IsFaultyScript options input line
+IsFirstFault options input (Catalogue fault) = IsMisdeclared (needs_of options) input (IsPlanFault options (Catalogue fault))
+IsFirstFault options input (BadConfig fault) = IsMisdeclared (needs_of options) input (IsPlanFault options (BadConfig fault))
+IsFirstFault options input NotYet = IsMisdeclared (needs_of options) input (IsPlanFault options NotYet)
+IsFirstFault options input Memory = Unit {0}
+IsFirstFault options input Read = ⊥
+IsFirstFault options input Write = ⊥

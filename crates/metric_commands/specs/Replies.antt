@@ -1,0 +1,30 @@
+-- How the replies to a script are written.
+use Rattle.std.specs.Prelude.{ℕ, Bool, true, false, List, [], ◌∷◌, ◌++◌, codes}
+use Rattle.metric_catalogue.specs.Refusals.{refusal_text}
+use Rattle.metric_catalogue.specs.declared.refusal.Refusal.{Refusal}
+use Rattle.metric_catalogue.specs.declared.refusal.Refusal.TheVariants as refusals
+use Rattle.metric_history.specs.declared.event.Reply.{Reply}
+use Rattle.metric_history.specs.declared.event.Reply.TheVariants.{Accepted, Collected, Done, Refused}
+use Rattle.metric_core.specs.Plans.{PlanValue}
+use Rattle.metric_lines.specs.Batches.{batch_text}
+use Rattle.metric_commands.specs.Written.{parts_text}
+
+-- the line of a refusal
+abbrev pub refused_text : Refusal → List ℕ
+refused_text refusal = codes "refused " ++ (refusal_text refusal ++ codes "\n")
+
+-- one reply under the plan
+abbrev pub reply_text : PlanValue → Reply → List ℕ
+reply_text plan Accepted = codes "accepted" ++ 10 ∷ []
+reply_text plan (Collected batch) = batch_text plan.facts.contents plan.config plan.streams batch
+reply_text plan Done = codes "closed" ++ 10 ∷ []
+reply_text plan (Refused refusal) = refused_text refusal
+
+-- all of them
+abbrev pub replies_text : PlanValue → List Reply → List ℕ
+replies_text plan replies = parts_text (λ _ reply. reply_text plan reply) replies
+
+-- want of memory
+abbrev pub is_want_of_memory : Reply → Bool
+is_want_of_memory (Refused refusals.Memory) = true
+is_want_of_memory _ = false

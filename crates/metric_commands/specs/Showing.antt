@@ -1,0 +1,48 @@
+-- What showing a config makes of the bytes of its input.
+use Rattle.std.specs.Prelude.{◌≡◌, ◌++◌, ℕ, false, List}
+use Rattle.metric_text.specs.Lines.{lines_of}
+use Rattle.metric_parts.specs.Input.{IsFirstFault as IsFaultyLine}
+use Rattle.metric_parts.specs.Kept.{IsRead}
+use Rattle.metric_parts.specs.declared.needs.Needs.{Needs}
+use Rattle.metric_parts.specs.declared.parts.Parts.{Parts}
+use Rattle.metric_catalogue.specs.declared.contents.Contents.{Contents}
+use Rattle.metric_views.specs.declared.config.Setup.{Setup}
+use Rattle.metric_views.specs.declared.stream.Stream.{Stream}
+use Rattle.metric_resolve.specs.declared.warning.Warning.{Warning}
+use Rattle.metric_resolve.specs.Resolved.{streams_of}
+use Rattle.metric_resolve.specs.Warnings.{warnings_of}
+use Rattle.metric_lines.specs.Streams.{shown_text, warning_text}
+use Rattle.metric_commands.specs.declared.fault.KitFault.{KitFault}
+use Rattle.metric_commands.specs.declared.fault.KitFault.TheVariants.{Input, Catalogue, Config as BadConfig, Memory}
+use Rattle.metric_commands.specs.Declarations.{IsDeclared, IsDeclaredFault, IsMisdeclared}
+use Rattle.metric_commands.specs.Written.{parts_text}
+
+-- the catalogue and the config alone
+abbrev pub show_needs : Needs
+show_needs = record { certificate = false; script = false }
+
+-- the lines of streams, numbered from 0, and those of warnings
+unfoldable pub listing_text : Contents → Setup → List Stream → List Warning → List ℕ
+listing_text contents config streams warnings =
+    parts_text (shown_text contents config) streams ++ parts_text (λ _ warning. warning_text warning) warnings
+
+-- The lines of the streams that the parts declare, and those of the warnings.
+pub record IsListed (read : Parts) (text : List ℕ) : Type 0 where
+  pub contents : Contents
+  pub config : Setup
+  pub declared : IsDeclared read contents config
+  pub written : text ≡ listing_text contents config (streams_of contents config) (warnings_of contents config)
+
+-- The text that showing the input writes.
+pub record IsShown (input text : List ℕ) : Type 0 where
+  pub read : Parts
+  pub is_read : IsRead show_needs (lines_of input) read
+  pub listed : IsListed read text
+
+-- The fault is the first that the input has.
+abbrev pub IsFirstShowFault : List ℕ → KitFault → Type 0
+IsFirstShowFault input (Input line) = IsFaultyLine show_needs (lines_of input) line
+IsFirstShowFault input (Catalogue fault) = IsMisdeclared show_needs input (IsDeclaredFault (Catalogue fault))
+IsFirstShowFault input (BadConfig fault) = IsMisdeclared show_needs input (IsDeclaredFault (BadConfig fault))
+IsFirstShowFault input Memory = Unit {0}
+IsFirstShowFault input _ = ⊥

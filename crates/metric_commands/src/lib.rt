@@ -1,0 +1,22 @@
+//! The commands of the program: a script replayed, and the streams of a config shown.
+//!
+//! Each reads one input of parts from a source and writes one text to a sink, or stops with the first
+//! fault that the input has.
+#![tactic(auto)]
+
+mod answers;
+mod command;
+mod fault;
+mod laws;
+mod options;
+mod parts;
+mod planning;
+mod replays;
+mod replies;
+mod show;
+
+pub use fault::KitFault;
+pub use laws::one_output;
+pub use options::ReplayOptions;
+pub use replays::replay;
+pub use show::show_run;

@@ -1,4 +1,0 @@
-pub mod PointText
-pub mod StreamText
-pub mod BatchText
-pub mod Descriptions

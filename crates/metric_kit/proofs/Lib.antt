@@ -1,4 +1,0 @@
-mod AnswerLaws
-mod OutputLaws
-mod Replayed
-mod Told

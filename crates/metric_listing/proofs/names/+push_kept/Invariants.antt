@@ -1,6 +1,0 @@
--- It calls itself with fewer keys.
-use Rattle.std.proofs.Common.{length}
-use Rattle.metric_listing.proofs.names.+push_kept.Given as goal
-
-abbrev pub decreases-push_kept : goal.decreases-push_kept
-decreases-push_kept l = length l.keys.now
