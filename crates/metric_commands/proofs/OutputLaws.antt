@@ -12,11 +12,10 @@ use Rattle.metric_parts.specs.declared.needs.Needs.{Needs}
 use Rattle.metric_parts.specs.declared.parts.Parts.{Parts}
 use Rattle.metric_script.specs.Scripts.{IsScript}
 use Rattle.metric_history.specs.Legal.{AllLegal}
-use Rattle.metric_core.specs.Plans.{PlanValue}
+use Rattle.metric_check.specs.Plans.{PlanValue, plan_of}
 use Rattle.metric_history.specs.declared.event.Event.{Event}
 use Rattle.metric_history.specs.declared.event.Reply.{Reply}
 use Rattle.metric_commands.specs.declared.options.ReplayOptions.{ReplayOptions}
-use Rattle.metric_commands.specs.Planned.{plan_of}
 use Rattle.metric_commands.specs.Replies.{replies_text}
 use Rattle.metric_commands.specs.Replaying.{IsPlanned, IsOutput}
 use Rattle.metric_commands.proofs.AnswerLaws.{one_run}
@@ -32,7 +31,7 @@ same_plan : (options : ReplayOptions) (read : Parts) (a b : PlanValue) → IsPla
 same_plan options read a b p q =
     let contents : p.contents ≡ q.contents = ok_is p.contents q.contents (catalogue_of read.catalogue) p.declared.is_catalogue q.declared.is_catalogue in
     let config : p.config ≡ q.config = ok_is p.config q.config (config_of read.config) p.declared.is_config q.declared.is_config in
-    p.planned ∙ ap (λ (c : Declared). plan_of c p.config) contents ∙ ap (λ (c : Setup). plan_of q.contents c) config ∙ sym q.planned
+    p.planned ∙ ap (λ (c : Declared). plan_of false c p.config) contents ∙ ap (λ (c : Setup). plan_of false q.contents c) config ∙ sym q.planned
 
 pub one_output : (parts : (needs : Needs) (lines : List (List ℕ)) (a b : Contents) → IsInput needs lines a → IsInput needs lines b → a ≡ b)
     → (starts : (lines : List (List ℕ)) (s t : ℕ) (a b : List Event) → IsScript lines s a → IsScript lines t b → s ≡ t)

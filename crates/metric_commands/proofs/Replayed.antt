@@ -7,7 +7,7 @@ use Rattle.metric_parts.specs.declared.needs.Needs.{Needs}
 use Rattle.metric_parts.specs.declared.parts.Parts.{Parts}
 use Rattle.metric_script.specs.Scripts.{IsScript}
 use Rattle.metric_core.specs.CoreStands.{CoreValue}
-use Rattle.metric_core.specs.Plans.{PlanValue}
+use Rattle.metric_check.specs.Plans.{PlanValue}
 use Rattle.metric_history.specs.declared.event.Event.{Event}
 use Rattle.metric_history.specs.declared.event.Reply.{Reply}
 use Rattle.metric_commands.specs.declared.options.ReplayOptions.{ReplayOptions}

@@ -1,21 +1,14 @@
 -- What reading a catalogue, reading a config and planning give, as a command answers it.
-use Rattle.std.specs.Prelude.{◌≡◌, ◌&&◌, Bool, true, false, Result, Ok, Err}
+use Rattle.std.specs.Prelude.{◌≡◌, Bool, true, false, Result, Ok, Err}
 use Rattle.metric_catalogue.specs.declared.contents.Contents.{Contents}
 use Rattle.metric_catalogue.specs.declared.fault.CatalogueFault.{CatalogueFault}
 use Rattle.metric_views.specs.declared.config.Setup.{Setup}
 use Rattle.metric_views.specs.declared.fault.ViewFault.{ViewFault}
-use Rattle.metric_core.specs.First.{default_streams, is_taken}
-use Rattle.metric_core.specs.Plans.{PlanValue, facts_of}
+use Rattle.metric_check.specs.Counting.{is_counted}
+use Rattle.metric_check.specs.Plans.{PlanValue, plan_of}
+use Rattle.metric_check.specs.declared.fault.CheckFault.TheVariants.{CountRange}
 use Rattle.metric_commands.specs.declared.fault.KitFault.{KitFault}
-use Rattle.metric_commands.specs.declared.fault.KitFault.TheVariants.{Catalogue, Config as BadConfig, NotYet, Memory}
-
--- the plan of a catalogue with a config
-abbrev pub plan_of : Contents → Setup → PlanValue
-plan_of contents config = record {
-  config = config;
-  streams = default_streams contents config;
-  facts = facts_of contents config (default_streams contents config);
-}
+use Rattle.metric_commands.specs.declared.fault.KitFault.TheVariants.{Catalogue, Config as BadConfig, Check, NotYet, Memory}
 
 -- a catalogue, or its first fault, unless memory was refused
 abbrev pub ReadsCatalogue : Result Contents KitFault → Result Contents CatalogueFault → Type 0
@@ -30,9 +23,10 @@ ReadsConfig (Err (BadConfig fault)) read = read ≡ Err fault
 ReadsConfig (Err Memory) read = Unit {0}
 ReadsConfig (Err _) read = ⊥
 
--- the plan of a trial, or that there is none yet, unless memory was refused
+-- the plan of a trial, that its budgets cannot be counted, or that it is no trial, unless memory was refused
 abbrev pub Plans : Result PlanValue KitFault → Bool → Contents → Setup → Type 0
-Plans (Ok plan) trial contents config = (trial ≡ true) × (is_taken contents config ≡ true) × (plan ≡ plan_of contents config)
-Plans (Err NotYet) trial contents config = (trial && is_taken contents config) ≡ false
+Plans (Ok plan) trial contents config = (trial ≡ true) × (is_counted contents ≡ true) × (plan ≡ plan_of false contents config)
+Plans (Err (Check CountRange)) trial contents config = (trial ≡ true) × (is_counted contents ≡ false)
+Plans (Err NotYet) trial contents config = trial ≡ false
 Plans (Err Memory) trial contents config = Unit {0}
 Plans (Err _) trial contents config = ⊥

@@ -1,5 +1,5 @@
 -- What a replay makes of the bytes of its input.
-use Rattle.std.specs.Prelude.{◌≡◌, ◌⊎◌, ◌&&◌, ℕ, true, false, not, List, Some}
+use Rattle.std.specs.Prelude.{◌≡◌, ◌⊎◌, ℕ, true, false, not, List, Some}
 use Rattle.metric_text.specs.Lines.{lines_of}
 use Rattle.metric_parts.specs.Input.{IsFirstFault as IsFaultyLine}
 use Rattle.metric_parts.specs.Kept.{IsRead}
@@ -9,15 +9,15 @@ use Rattle.metric_parts.specs.declared.parts.Parts.{Parts}
 use Rattle.metric_script.specs.Scripts.{IsScript, IsFirstFaultAt}
 use Rattle.metric_catalogue.specs.declared.contents.Contents.{Contents}
 use Rattle.metric_views.specs.declared.config.Setup.{Setup}
-use Rattle.metric_core.specs.First.{is_taken}
-use Rattle.metric_core.specs.Plans.{PlanValue}
+use Rattle.metric_check.specs.Counting.{is_counted}
+use Rattle.metric_check.specs.Plans.{PlanValue, plan_of}
+use Rattle.metric_check.specs.declared.fault.CheckFault.TheVariants.{CountRange}
 use Rattle.metric_history.specs.declared.event.Event.{Event}
 use Rattle.metric_history.specs.declared.event.Reply.{Reply}
 use Rattle.metric_commands.specs.declared.options.ReplayOptions.{ReplayOptions}
 use Rattle.metric_commands.specs.declared.fault.KitFault.{KitFault}
-use Rattle.metric_commands.specs.declared.fault.KitFault.TheVariants.{Read, Input, Catalogue, Config as BadConfig, NotYet, Write, Memory}
+use Rattle.metric_commands.specs.declared.fault.KitFault.TheVariants.{Read, Input, Catalogue, Config as BadConfig, Check, NotYet, Write, Memory}
 use Rattle.metric_commands.specs.Declarations.{IsDeclared, IsDeclaredFault, IsMisdeclared}
-use Rattle.metric_commands.specs.Planned.{plan_of}
 use Rattle.metric_commands.specs.Replies.{replies_text}
 use Rattle.metric_commands.specs.Runs.{IsRun}
 
@@ -31,8 +31,8 @@ pub record IsPlanned (options : ReplayOptions) (read : Parts) (plan : PlanValue)
   pub config : Setup
   pub declared : IsDeclared read contents config
   pub is_trial : options.trial ≡ true
-  pub taken : is_taken contents config ≡ true
-  pub planned : plan ≡ plan_of contents config
+  pub counted : is_counted contents ≡ true
+  pub planned : plan ≡ plan_of false contents config
 
 -- The replies to the script of the input: a legal one for each event, and none of them want of memory.
 pub record IsReplayed (options : ReplayOptions) (input : List ℕ) (plan : PlanValue) (replies : List Reply) : Type 0 where
@@ -53,16 +53,25 @@ pub record IsOutput (options : ReplayOptions) (input text : List ℕ) : Type 0 w
   pub replayed : IsReplayed options input plan replies
   pub written : text ≡ replies_text plan replies
 
--- What the parts declare is not served yet.
+-- What the parts declare is right, and a replay that is no trial is not served yet.
 pub record IsUnserved (options : ReplayOptions) (read : Parts) : Type 0 where
   pub contents : Contents
   pub config : Setup
   pub declared : IsDeclared read contents config
-  pub unserved : (options.trial && is_taken contents config) ≡ false
+  pub unserved : options.trial ≡ false
+
+-- What the parts declare is right, but budgets for one instrument are together above the range of u64.
+pub record IsUncounted (options : ReplayOptions) (read : Parts) : Type 0 where
+  pub contents : Contents
+  pub config : Setup
+  pub declared : IsDeclared read contents config
+  pub is_trial : options.trial ≡ true
+  pub uncounted : is_counted contents ≡ false
 
 -- The fault is the first that the parts have before the script is read.
 abbrev pub IsPlanFault : ReplayOptions → KitFault → Parts → Type 0
 IsPlanFault options NotYet read = IsUnserved options read
+IsPlanFault options (Check CountRange) read = IsUncounted options read
 IsPlanFault options fault read = IsDeclaredFault fault read
 
 -- Everything before the script is right, and this is the script's first faulty line.
@@ -81,6 +90,7 @@ IsFirstFault options input (Input line) = IsFaultyLine (needs_of options) (lines
 IsFirstFault options input (Catalogue fault) = IsMisdeclared (needs_of options) input (IsPlanFault options (Catalogue fault))
 IsFirstFault options input (BadConfig fault) = IsMisdeclared (needs_of options) input (IsPlanFault options (BadConfig fault))
 IsFirstFault options input NotYet = IsMisdeclared (needs_of options) input (IsPlanFault options NotYet)
+IsFirstFault options input (Check fault) = IsMisdeclared (needs_of options) input (IsPlanFault options (Check fault))
 IsFirstFault options input Memory = Unit {0}
 IsFirstFault options input Read = ⊥
 IsFirstFault options input Write = ⊥

@@ -10,7 +10,7 @@ use crate::fault::KitFault;
 use crate::options::ReplayOptions;
 use crate::planning::{catalogue_of, config_of, plan_of};
 use metric_catalogue::Refusal;
-use metric_core::first::Plan;
+use metric_check::Plan;
 use metric_core::Core;
 use metric_history::{Event, Reply};
 use metric_parts::{Parts, parts_of};

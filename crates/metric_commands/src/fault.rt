@@ -3,6 +3,7 @@ ghost use Rattle.std.specs.Prelude.{◌≡◌};
 ghost use Rattle.metric_commands.specs.Faults.{status_of};
 
 use metric_catalogue::CatalogueFault;
+use metric_check::CheckFault;
 use metric_io::{Broken, ReadFault};
 use metric_parts::InputFault;
 use metric_views::ViewFault;
@@ -28,7 +29,10 @@ pub enum KitFault {
     /// The config is none.
     #[error("refused: config {0}")]
     Config(ViewFault),
-    /// This program does not serve such a config, catalogue or command yet.
+    /// There is no plan of the catalogue and the config.
+    #[error("refused: check {0}")]
+    Check(CheckFault),
+    /// A replay by a certificate, which is not served yet.
     #[error("refused: not yet")]
     NotYet,
     /// The sink failed, or took nothing of something.
@@ -45,7 +49,10 @@ impl KitFault {
         ensures { result ≡ status_of self.now }
     {
         match self {
-            KitFault::Catalogue(_) | KitFault::Config(_) | KitFault::NotYet => 1,
+            KitFault::Catalogue(_)
+            | KitFault::Config(_)
+            | KitFault::Check(_)
+            | KitFault::NotYet => 1,
             KitFault::Read | KitFault::Input { .. } => 3,
             KitFault::Memory => 4,
             KitFault::Write => 5,

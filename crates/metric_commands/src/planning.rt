@@ -6,7 +6,7 @@ ghost use Rattle.metric_commands.specs.Planned.{Plans, ReadsCatalogue, ReadsConf
 
 use crate::fault::KitFault;
 use metric_catalogue::{Catalogue, CatalogueFault};
-use metric_core::first::{FirstFault, Plan};
+use metric_check::{CheckFault, Plan};
 use metric_views::{Config, ViewFault};
 use std::alloc::Global;
 
@@ -32,7 +32,7 @@ pub(crate) fn config_of(alloc: Global, text: &str) -> Result<Config, KitFault>
     }
 }
 
-/// The plan of a trial, where this stage serves what is declared.
+/// The plan of a trial, which is not served yet where it is none.
 pub(crate) fn plan_of(
     alloc: Global,
     trial: bool,
@@ -46,7 +46,7 @@ pub(crate) fn plan_of(
     }
     match Plan::trial(alloc, catalogue, config) {
         Ok(plan) => Ok(plan),
-        Err((_, _, FirstFault::NotYet)) => Err(KitFault::NotYet),
-        Err((_, _, FirstFault::Memory)) => Err(KitFault::Memory),
+        Err((_, _, CheckFault::CountRange)) => Err(KitFault::Check(CheckFault::CountRange)),
+        Err((_, _, CheckFault::Memory)) => Err(KitFault::Memory),
     }
 }

@@ -10,7 +10,7 @@ use crate::fault::KitFault;
 use crate::parts::{Parts, write_parts};
 use metric_catalogue::Refusal;
 use metric_history::Reply;
-use metric_core::first::Plan;
+use metric_check::Plan;
 use metric_io::Sink;
 use metric_lines::push_batch;
 use metric_text::{push_byte, push_number, push_text};
