@@ -1,5 +1,5 @@
 -- An input has one output.
-use Rattle.std.proofs.Common.{◌≡◌, ℕ, List, [], Option, Some, sym, ap, subst, ◌∙◌}
+use Rattle.std.proofs.Common.{false, ◌≡◌, ℕ, List, [], Option, Some, sym, ap, subst, ◌∙◌}
 use Rattle.metric_base.specs.StepLaws.{ok_is}
 use Rattle.metric_catalogue.specs.Catalogues.{catalogue_of}
 use Rattle.metric_catalogue.specs.declared.contents.Contents.{Contents as Declared}
