@@ -16,8 +16,8 @@ use Rattle.metric_catalogue.specs.declared.contents.Recorder.{Recorder}
 use Rattle.metric_catalogue.specs.declared.meters.Metered.{Metered}
 use Rattle.metric_catalogue.specs.declared.fault.CatalogueFault.{CatalogueFault}
 use Rattle.metric_catalogue.specs.declared.fault.CatalogueFault.TheVariants.{BadRange, DuplicateBudget, DuplicateMeter, DuplicateRecorder, NotToml, UnknownInstrument}
-use Rattle.metric_catalogue.specs.declared.fault.Place.{Place}
-use Rattle.metric_catalogue.specs.declared.fault.Place.TheVariants as place
+use Rattle.metric_catalogue.specs.declared.fault.CataloguePlace.{CataloguePlace}
+use Rattle.metric_catalogue.specs.declared.fault.CataloguePlace.TheVariants as place
 use Rattle.metric_catalogue.specs.Catalogues.{catalogue_of, contents_of, nothing_metered, tables_of_top}
 use Rattle.metric_catalogue.specs.EachLaws.{EachAt-empty, EachAt-push, each_made}
 use Rattle.metric_catalogue.specs.Faults.{faults_at}
@@ -75,7 +75,7 @@ amount_made (pos m) n e = by (nat_lt m (2 ^ 63)) refl e
     by true h e = let same : m ≡ n = cc in grind (arith, nat_tests)
     by false h e = absurd cc
 
-budget_made : (at : Place) (count : ℕ) (before : List Budget) (table : Members) (budget : Budget) → budget_of at count before table ≡ Ok budget → IsSoundBudget count before budget
+budget_made : (at : CataloguePlace) (count : ℕ) (before : List Budget) (table : Members) (budget : Budget) → budget_of at count before table ≡ Ok budget → IsSoundBudget count before budget
 unfolding budget_of budgeted amount_field
 budget_made at count before table budget e0 =
     after_ok (only (faults_at at) (codes "instrument" ∷ codes "amount" ∷ []) table) _ budget e0 (λ _ _ e1.

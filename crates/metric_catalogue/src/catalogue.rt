@@ -15,7 +15,7 @@ ghost use Rattle.metric_catalogue.specs.Catalogues.{catalogue_of, contents_of, f
 use crate::attributes::{Attr, OwnedAttr};
 use crate::contents::{Budget, Contents, Instrument, Meter, Recorder};
 use crate::encode::{SetKey, encode_of};
-use crate::fault::{CatalogueFault, Place};
+use crate::fault::{CatalogueFault, CataloguePlace};
 use crate::meters::{Metered, add_meters};
 use crate::recorders::recorders_of;
 use crate::refusal::Refusal;
@@ -188,7 +188,7 @@ fn tables_of_top<'a>(
     ensures recorders { IfOk result (λ tables. length tables.1 ≤ 64) }
 {
     format_of_top(table)?;
-    let faults = faults_at(Place::Top);
+    let faults = faults_at(CataloguePlace::Top);
     let meters = tables_field(alloc, table, "meter", 64, &faults)?;
     let recorders = tables_field(alloc, table, "recorder", 64, &faults)?;
     Ok((meters, recorders))
@@ -198,7 +198,7 @@ fn tables_of_top<'a>(
 fn format_of_top(table: &Table) -> Result<(), CatalogueFault>
     ensures { result ≡ format_of_top (table_view table.now) }
 {
-    let faults = faults_at(Place::Top);
+    let faults = faults_at(CataloguePlace::Top);
     only(table, &["format", "meter", "recorder"], &faults)?;
     format_field(table, &faults)
 }
