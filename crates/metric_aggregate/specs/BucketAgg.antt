@@ -3,7 +3,6 @@ use Rattle.std.proofs.Common.{◌≡◌, ℕ, ◌+◌, ◌-◌, ◌^◌, ℤ, po
 use Rattle.std.specs.Prelude.{◌==◌, nat_lt, is_some}
 use Rattle.metric_aggregate.specs.Aggregation.{Aggregation, HistogramAggregation}
 use Rattle.metric_aggregate.specs.Range.{fits_i64, in_range}
-use Rattle.metric_base.specs.Boundaries.{is_rising}
 use Rattle.metric_aggregate.specs.Value.{sum_of, least_or, greatest_or, bucket_counts, kept_sum}
 use Rattle.std.proofs.lemmas.List.{length_push}
 use Rattle.std.proofs.lemmas.List.Sums.{fold_push}
@@ -19,7 +18,6 @@ pub record Histogram : Type 0 where
 
 -- what each of them keeps
 pub record IsHistogram (h : Histogram) : Type 0 where
-  pub rising : is_rising h.boundaries ≡ true
   pub one_more : length h.counts ≡ length h.boundaries + 1
   pub add_up : sum h.counts ≡ h.count
 

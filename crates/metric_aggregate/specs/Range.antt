@@ -12,3 +12,9 @@ abbrev pub in_range : Aggregation → List ℤ → Bool
 in_range SumAggregation values = fits_i64 (sum_of values)
 in_range LastValueAggregation values = true
 in_range (HistogramAggregation boundaries keeps_sum) values = nat_lt (length values) (2 ^ 64) && (not keeps_sum || fits_i64 (sum_of values))
+
+-- whether a sum is in range, where the aggregation keeps it
+abbrev pub sum_in_range : Aggregation → ℤ → Bool
+sum_in_range SumAggregation sum = fits_i64 sum
+sum_in_range LastValueAggregation sum = true
+sum_in_range (HistogramAggregation boundaries keeps_sum) sum = not keeps_sum || fits_i64 sum

@@ -1,13 +1,12 @@
 //! The histogram of the values over explicit boundaries.
 ghost use Rattle.std.specs.Prelude.{◌≡◌, ◌+◌, ◌^◌, ◌<◌, pos, ◌+ℤ◌, Bool, true, false, [], IfOk, length, is_some, slice_index, slice_set, option_map};
 ghost use Rattle.metric_aggregate.specs.BucketAgg.{fits_total};
-ghost use Rattle.metric_base.specs.Boundaries.{is_rising};
 ghost use Rattle.metric_aggregate.specs.Value.{kept_sum};
 
 use crate::aggregate::Aggregate;
 use crate::point_value::PointValue;
 use crate::search::count_less;
-use metric_base::Items;
+use metric_base::{Boundaries, Copied, Items};
 use std::alloc::{AllocError, Global};
 use std::marker::Model;
 
@@ -15,7 +14,7 @@ use std::marker::Model;
 /// where it is kept (Metrics SDK, explicit bucket histogram aggregation).
 #[derive(Debug, Drop)]
 pub struct BucketAgg {
-    boundaries: Vec<i64>,
+    boundaries: Boundaries,
     counts: Vec<u64>,
     count: u64,
     total: Option<i64>,
@@ -29,25 +28,28 @@ impl Model for BucketAgg {
 
     ghost Value = { Histogram };
 
-    ghost view = { λ a. record { boundaries = a.boundaries.items; counts = a.counts.items; count = a.count; total = a.total; least = a.least; greatest = a.greatest } };
+    ghost view = { λ a. record { boundaries = a.boundaries; counts = a.counts.items; count = a.count; total = a.total; least = a.least; greatest = a.greatest } };
 
-    ghost invariant = { λ a. IsHistogram (record { boundaries = a.boundaries.items; counts = a.counts.items; count = a.count; total = a.total; least = a.least; greatest = a.greatest }) };
+    ghost invariant = { λ a. IsHistogram (record { boundaries = a.boundaries; counts = a.counts.items; count = a.count; total = a.total; least = a.least; greatest = a.greatest }) };
 }
 
 impl BucketAgg {
     ghost use Rattle.metric_aggregate.specs.BucketAgg.{histogram_aggregation, StandsBuckets};
     ghost use Rattle.metric_aggregate.specs.Aggregation.{HistogramAggregation};
 
-    /// A histogram of no values over boundaries that rise strictly; none at all make a single bucket.
-    /// All room that it will use is made here. Fails only where memory is refused.
-    pub fn new(alloc: Global, boundaries: &[i64], keeps_sum: bool) -> Result<BucketAgg, AllocError>
-        requires { is_rising boundaries.now ≡ true }
+    /// A histogram of no values; no boundaries at all make a single bucket. All room that it will use is
+    /// made here. Fails only where memory is refused.
+    pub fn new(
+        alloc: Global,
+        boundaries: &Boundaries,
+        keeps_sum: bool,
+    ) -> Result<BucketAgg, AllocError>
         ensures aggregation { IfOk result (λ a. histogram_aggregation a ≡ HistogramAggregation boundaries.now keeps_sum) }
         ensures stands { IfOk result (λ a. StandsBuckets a []) }
     {
         Ok(BucketAgg {
-            boundaries: Vec::from_slice(alloc, boundaries)?,
-            counts: vec![in alloc; 0; boundaries.len() + 1]?,
+            boundaries: boundaries.copy(alloc)?,
+            counts: vec![in alloc; 0; boundaries.as_slice().len() + 1]?,
             count: 0,
             total: zero_total(keeps_sum),
             least: i64::MAX,
@@ -73,7 +75,7 @@ impl Aggregate for BucketAgg {
     }
 
     fn add(&mut self, value: i64) {
-        let bucket = count_less(&self.boundaries, value);
+        let bucket = count_less(self.boundaries.as_slice(), value);
         count_one(&mut self.counts, bucket);
         self.count += 1;
         self.total = with_value(self.total, value);

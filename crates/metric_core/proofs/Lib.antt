@@ -1,1 +1,5 @@
-mod Ascending
+pub mod FirstLaws
+pub mod HistoryLaws
+pub mod NewCells
+pub mod RangeLaws
+pub mod RunLaws

@@ -2,22 +2,17 @@
 use Rattle.std.specs.Prelude.{ℕ, ℤ, true, List, [], ◌∷◌, ◌++◌, Result, length, slice_index, slice_index_or, slice_set}
 use Rattle.std.specs.Result.{result_unwrap_or}
 use Rattle.metric_catalogue.specs.declared.refusal.Refusal.{Refusal}
-use Rattle.metric_core.specs.Encoded.{encoded}
-use Rattle.metric_core.specs.declared.entry.Entry.{Entry}
-use Rattle.metric_core.specs.declared.event.Event.{Event}
-use Rattle.metric_core.specs.declared.event.Event.TheVariants.{Record, Collect, Close}
-use Rattle.metric_core.specs.declared.event.Reply.{Reply}
-use Rattle.metric_core.specs.declared.event.Reply.TheVariants.{Accepted, Collected, Done}
+use Rattle.metric_history.specs.Encoded.{encoded}
+use Rattle.metric_history.specs.declared.entry.Entry.{Entry}
+use Rattle.metric_history.specs.declared.event.Event.{Event}
+use Rattle.metric_history.specs.declared.event.Event.TheVariants.{Record, Collect, Close}
+use Rattle.metric_history.specs.declared.event.Reply.{Reply}
+use Rattle.metric_history.specs.declared.event.Reply.TheVariants.{Accepted, Collected, Done}
 use Rattle.metric_catalogue.specs.declared.contents.Contents.{Contents}
-use Rattle.metric_core.specs.Rules.{InstrumentRules}
-use Rattle.metric_core.specs.Answers.{recorded, collected, closing}
-use Rattle.metric_core.specs.Legal.{LegalRecord, LegalCollect, LegalClose}
+use Rattle.metric_history.specs.Rules.{InstrumentRules}
+use Rattle.metric_history.specs.Answers.{recorded, collected, closing}
+use Rattle.metric_history.specs.Legal.{LegalRecord, LegalCollect, LegalClose}
 use Rattle.metric_core.specs.Cells.{CellValue}
-
-abbrev pub instrument_of : Event → ℕ
-instrument_of (Record recorder instrument attrs value) = instrument
-instrument_of (Collect reader instrument now) = instrument
-instrument_of (Close instrument) = instrument
 
 -- the state after the reply to a recording
 abbrev pub cell_recorded : CellValue → Entry → Reply → CellValue

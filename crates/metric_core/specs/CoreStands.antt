@@ -1,9 +1,9 @@
 -- For which history a core stands.
 use Rattle.std.specs.Prelude.{◌≡◌, ℕ, List, Some, length, slice_get, slice_index, slice_index_or}
-use Rattle.metric_core.specs.Rules.{RunRules, InstrumentRules}
+use Rattle.metric_history.specs.Rules.{RunRules, InstrumentRules}
 use Rattle.metric_core.specs.Cells.{CellValue}
 use Rattle.metric_core.specs.Plans.{PlanValue}
-use Rattle.metric_core.specs.History.{History, accepted, mark_of, previous_of, is_closed}
+use Rattle.metric_history.specs.History.{History, accepted, mark_of, previous_of, is_closed}
 
 -- a cell has what the history says of its instrument
 pub record CellStands (rules : RunRules) (own : InstrumentRules) (since : ℕ) (c : CellValue) (h : History) (i : ℕ) : Type 0 where

@@ -15,7 +15,7 @@ use Rattle.metric_views.specs.declared.config.Reader.{Reader}
 use Rattle.metric_views.specs.declared.stream.Fill.{Fill}
 use Rattle.metric_views.specs.declared.stream.Fill.TheVariants.{Kept}
 use Rattle.metric_views.specs.declared.stream.Stream.{Stream}
-use Rattle.metric_core.specs.Rules.{InstrumentRules, rules_of_streams}
+use Rattle.metric_history.specs.Rules.{InstrumentRules, rules_of_streams}
 
 abbrev pub is_delta : Temporality → Bool
 is_delta Delta = true

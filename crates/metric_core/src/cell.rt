@@ -1,18 +1,16 @@
 //! The state of one instrument: its accepted recordings and each reader's last collection.
 ghost use Rattle.std.specs.Prelude.{◌≡◌, ◌≤◌, ◌<◌, false, true, [], ◌∷◌, ◌++◌, length, max, replicate, slice_index, slice_index_or, slice_set, IfOk, OnOk, OnErr};
-ghost use Rattle.metric_core.specs.Answers.{recorded, collected, closing, spent as spent_of, batch as batch_of};
+ghost use Rattle.metric_history.specs.Answers.{recorded, collected, closing, spent as spent_of, batch as batch_of};
 ghost use Rattle.metric_core.specs.CellSteps.{cell_recorded, cell_collected, cell_closed, entry_of};
-ghost use Rattle.metric_core.specs.Legal.{LegalRecord, LegalCollect, LegalClose};
+ghost use Rattle.metric_history.specs.Legal.{LegalRecord, LegalCollect, LegalClose};
 ghost use Rattle.metric_core.specs.Ranges.{cell_in_range};
-ghost use Rattle.metric_core.specs.Windows.{is_delta, window as window_of, fits_stream as stays_in_range, fits_all};
+ghost use Rattle.metric_history.specs.Windows.{is_delta, window as window_of, fits_stream as stays_in_range, fits_all};
 
-use crate::batch::Batch;
-use crate::entry::Entry;
-use crate::event::Reply;
 use crate::points::stream_points;
 use crate::rules::{Rules, StreamRules};
 use crate::sums::fits_stream;
 use metric_catalogue::{Refusal, SetKey};
+use metric_history::{Batch, Entry, Reply};
 use std::alloc::{AllocError, Global};
 use std::marker::Model;
 
@@ -170,7 +168,7 @@ impl Cell {
     }
 
     // What a collection by the reader reports.
-    #[tactic(auto, using(crate::specs::RangeLaws::reader_of_cell))]
+    #[tactic(auto, using(crate::proofs::RangeLaws::reader_of_cell))]
     fn batch(
         &self,
         alloc: Global,

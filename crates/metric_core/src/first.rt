@@ -3,7 +3,7 @@ ghost use Rattle.std.specs.Prelude.{◌≡◌, ◌↔◌, ◌≤◌, ◌<◌, �
 ghost use Rattle.std.specs.List.{list_all};
 ghost use Rattle.metric_catalogue.specs.Budgets.{amount_of};
 ghost use Rattle.metric_views.specs.Choices.{choice_for};
-ghost use Rattle.metric_core.specs.Rules.{is_sound_stream, rule_of, rules_of_streams};
+ghost use Rattle.metric_history.specs.Rules.{is_sound_stream, rule_of, rules_of_streams};
 ghost use Rattle.metric_core.specs.First.{choices as choices_of, default_stream, default_streams as default_streams_of, instrument_rules, is_cumulative as is_cumulative_of, is_delta as is_delta_of, is_taken as is_taken_of, is_within_limit as is_within_limit_of, reader_streams, rules_from, rules_of, takes_config as takes_config_of, takes_instrument as takes_instrument_of, takes_instruments as takes_instruments_of, total_budget as total_of};
 
 use crate::rules::{Rules, StreamRules};
@@ -153,7 +153,7 @@ fn choices(key: &Key) -> u32
 }
 
 // Whether there are at most so many set keys.
-#[tactic(auto, using(crate::specs::FirstLaws::capped_more))]
+#[tactic(auto, using(crate::proofs::FirstLaws::capped_more))]
 fn has_few_sets(keys: &[Key], limit: u32) -> bool
     ensures { result ≡ nat_le (fold (λ count key. count * choices_of key) 1 keys.now) limit }
 {

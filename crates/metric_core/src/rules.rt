@@ -1,6 +1,6 @@
 //! What a plan says of each instrument.
 ghost use Rattle.std.specs.Prelude.{◌≡◌, true, length, IfOk};
-ghost use Rattle.metric_core.specs.Rules.{aggregation_of, has_rising_boundaries, is_sound_stream, stream_rule};
+ghost use Rattle.metric_history.specs.Rules.{aggregation_of, has_rising_boundaries, is_sound_stream, stream_rule};
 
 use metric_base::{Copied, Few, Items};
 use metric_views::{Stream, StreamAggregation};
@@ -20,7 +20,7 @@ pub struct StreamRules {
 
 impl Model for StreamRules {
     ghost use Rattle.std.specs.Prelude.{◌≡◌, true};
-    ghost use Rattle.metric_core.specs.Rules.{StreamRule, aggregation_of, has_rising_boundaries};
+    ghost use Rattle.metric_history.specs.Rules.{StreamRule, aggregation_of, has_rising_boundaries};
 
     ghost Value = { StreamRule };
 
@@ -95,7 +95,7 @@ pub struct Rules {
 }
 
 impl Model for Rules {
-    ghost use Rattle.metric_core.specs.Rules.{InstrumentRules};
+    ghost use Rattle.metric_history.specs.Rules.{InstrumentRules};
 
     ghost Value = { InstrumentRules };
 
@@ -103,8 +103,8 @@ impl Model for Rules {
 }
 
 impl Rules {
-    ghost use Rattle.metric_core.specs.Answers.{in_bounds};
-    ghost use Rattle.metric_core.specs.Windows.{is_delta};
+    ghost use Rattle.metric_history.specs.Answers.{in_bounds};
+    ghost use Rattle.metric_history.specs.Windows.{is_delta};
 
     /// The rules of an instrument: the range of its values, the budget of each recorder, whether each reader
     /// is delta for it, and its streams in order.

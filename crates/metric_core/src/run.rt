@@ -1,16 +1,16 @@
 //! All instruments of a plan.
 ghost use Rattle.std.specs.Prelude.{◌≡◌, ◌≤◌, [], length, map, vec_capacity, IfOk, IfErr, OnErr};
 ghost use Rattle.metric_core.specs.CoreStands.{CellsStand, CoreStands};
-ghost use Rattle.metric_core.specs.History.{History};
-ghost use Rattle.metric_core.specs.Legal.{AllLegal, grown};
-ghost use Rattle.metric_core.specs.NewCells.{new_cell};
+ghost use Rattle.metric_history.specs.History.{History};
+ghost use Rattle.metric_history.specs.Legal.{AllLegal, grown};
+ghost use Rattle.metric_core.specs.Cells.{new_cell};
 ghost use Rattle.metric_core.specs.Ranges.{CellsInRange};
 
 use crate::cell::Cell;
-use crate::event::{Event, Reply};
 use crate::first::Plan;
 use crate::rules::Rules;
 use crate::steps::step;
+use metric_history::{Event, Reply};
 use std::alloc::{AllocError, Global};
 use std::marker::Model;
 

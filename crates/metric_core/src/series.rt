@@ -1,10 +1,10 @@
 //! The series of recordings.
 ghost use Rattle.std.specs.Prelude.{◌≡◌, bytes_eq, ◌++◌, ◌∷◌, [], take};
 ghost use Rattle.std.specs.List.{list_any};
-ghost use Rattle.metric_core.specs.Series.{restricted, series, all_series, has, distinct};
+ghost use Rattle.metric_history.specs.Series.{restricted, series, all_series, has, distinct};
 
-use crate::entry::Entry;
 use metric_catalogue::SetKey;
+use metric_history::Entry;
 
 // Puts 0 in place of each key that is not kept.
 fn clear_dropped(kept: &[bool], set: &mut [u16])
@@ -30,7 +30,7 @@ pub fn series_of(kept: &[bool], entry: &Entry) -> SetKey
 }
 
 /// Whether some recording is of the series.
-#[tactic(auto, using(crate::specs::SeriesLaws::has_all_series))]
+#[tactic(auto, using(metric_history::specs::SeriesLaws::has_all_series))]
 pub fn is_among(kept: &[bool], entries: &[Entry], key: &SetKey) -> bool
     ensures { result ≡ list_any (λ entry. bytes_eq (series kept.now entry) key.now) entries.now }
 {

@@ -1,28 +1,15 @@
 //! One event after the other.
 ghost use Rattle.std.specs.Prelude.{◌≡◌, true, ◌≤◌, ℕ, length, vec_capacity, ◌++◌};
-ghost use Rattle.metric_core.specs.CellSteps.{instrument_of, cell_after, LegalOn};
+ghost use Rattle.metric_core.specs.CellSteps.{cell_after, LegalOn};
 ghost use Rattle.metric_core.specs.Ranges.{cell_in_range, CellsInRange};
-ghost use Rattle.metric_core.specs.RunLaws.{Steps};
+ghost use Rattle.metric_core.specs.Steps.{Steps};
 
 use crate::cell::Cell;
-use crate::event::{Event, Reply};
 use crate::first::Plan;
 use crate::rules::Rules;
 use metric_catalogue::{Catalogue, Refusal};
+use metric_history::{Event, Reply};
 use std::alloc::Global;
-
-impl Event {
-    /// The number of the instrument.
-    pub fn instrument(&self) -> u32
-        ensures { result ≡ instrument_of self.now }
-    {
-        match self {
-            Event::Record { instrument, .. } => *instrument,
-            Event::Collect { instrument, .. } => *instrument,
-            Event::Close { instrument } => *instrument,
-        }
-    }
-}
 
 // Answers an event of the cell's instrument.
 fn answer(

@@ -1,20 +1,19 @@
 //! Sums over the recordings of a window, made by reading it through. They take no memory.
 ghost use Rattle.std.specs.Prelude.{◌≡◌, true, if◌then◌else◌, ◌*◌, ◌^◌, ◌-◌, pos, ◌+ℤ◌, neg_ℤ, ◌≤ℤ◌, length};
-ghost use Rattle.metric_aggregate.specs.Range.{fits_i64};
+ghost use Rattle.metric_aggregate.specs.Range.{fits_i64, sum_in_range};
 ghost use Rattle.metric_aggregate.specs.Value.{sum_of};
-ghost use Rattle.metric_core.specs.SumLaws.{place_found, sum_in_range};
-ghost use Rattle.metric_core.specs.Series.{series, all_series, has, rows, belongs as is_row};
-ghost use Rattle.metric_core.specs.Points.{values};
-ghost use Rattle.metric_core.specs.Windows.{fits_stream as is_in_range};
+ghost use Rattle.metric_history.specs.Series.{series, all_series, has, rows, place_found, belongs as is_row};
+ghost use Rattle.metric_history.specs.Points.{values};
+ghost use Rattle.metric_history.specs.Windows.{fits_stream as is_in_range};
 
-use crate::entry::Entry;
 use crate::rules::StreamRules;
 use crate::series::{has_place, series_of};
 use metric_catalogue::SetKey;
+use metric_history::Entry;
 use metric_views::StreamAggregation;
 
 /// Whether a recording of the window belongs to a series, or, without one, to the overflow series.
-#[tactic(auto, using(crate::specs::SeriesLaws::known_place))]
+#[tactic(auto, using(metric_history::specs::SeriesLaws::known_place))]
 pub fn belongs(
     stream: &StreamRules,
     window: &[Entry],
@@ -42,7 +41,7 @@ fn share(is_row: bool, entry: &Entry) -> i128
 }
 
 /// The sum of the recordings of a series, or, without one, of the overflow series.
-#[tactic(auto, using(crate::specs::SeriesLaws::has_own_series))]
+#[tactic(auto, using(metric_history::specs::SeriesLaws::has_own_series))]
 pub fn sum_of_rows(stream: &StreamRules, window: &[Entry], place: &Option<SetKey>) -> i128
     ensures sum { result ≡ sum_of (values (rows stream.now window.now place.now)) }
     ensures low { neg_ℤ (pos (2 ^ 63 * length window.now)) ≤ℤ result }

@@ -10,9 +10,9 @@ use Rattle.metric_catalogue.specs.declared.contents.Meter.{Meter}
 use Rattle.metric_views.specs.declared.config.Config.{Config}
 use Rattle.metric_views.specs.declared.config.Reader.{Reader}
 use Rattle.metric_views.specs.declared.stream.Stream.{Stream}
-use Rattle.metric_core.specs.declared.batch.Batch.{Batch}
-use Rattle.metric_core.specs.declared.batch.Point.{Point}
-use Rattle.metric_core.specs.declared.batch.StreamPoints.{StreamPoints}
+use Rattle.metric_history.specs.declared.batch.Batch.{Batch}
+use Rattle.metric_history.specs.declared.batch.Point.{Point}
+use Rattle.metric_history.specs.declared.batch.StreamPoints.{StreamPoints}
 use Rattle.metric_export.specs.PointText.{point_text}
 use Rattle.metric_export.specs.StreamText.{stream_line}
 

@@ -10,7 +10,7 @@ use Rattle.metric_text.specs.Written.{pair_text}
 use Rattle.metric_catalogue.specs.declared.contents.Key.{Key}
 use Rattle.metric_aggregate.specs.declared.point_value.PointValue.{PointValue}
 use Rattle.metric_aggregate.specs.declared.point_value.PointValue.TheVariants.{Sum, Last, Buckets}
-use Rattle.metric_core.specs.declared.batch.Point.{Point}
+use Rattle.metric_history.specs.declared.batch.Point.{Point}
 
 -- an attribute: a key's name with its value
 abbrev pub Attribute : Type 0

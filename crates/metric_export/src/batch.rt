@@ -8,7 +8,7 @@ use crate::point::push_point;
 use crate::stream::push_stream_line;
 use itoa::Buffer;
 use metric_catalogue::Catalogue;
-use metric_core::{Batch, Point, StreamPoints};
+use metric_history::{Batch, Point, StreamPoints};
 use metric_text::{push_byte, push_number, push_text};
 use metric_views::{Config, Stream};
 use std::alloc::AllocError;

@@ -5,7 +5,7 @@ ghost use Rattle.metric_export.specs.PointText.{braced_text, counts_text, ending
 use crate::attributes::push_series;
 use metric_aggregate::PointValue;
 use metric_catalogue::{Key, SetKey};
-use metric_core::{Batch, Point};
+use metric_history::{Batch, Point};
 use metric_text::{push_byte, push_list, push_number, push_signed, push_text};
 use std::alloc::AllocError;
 

@@ -3,15 +3,15 @@ use Rattle.std.proofs.Common.{◌≡◌, Bool, true, false, ◌||◌, List, [], 
 use Rattle.std.specs.List.{list_any}
 use Rattle.metric_catalogue.specs.declared.refusal.Refusal.{Refusal}
 use Rattle.metric_catalogue.specs.declared.refusal.Refusal.TheVariants as refusals
-use Rattle.metric_core.specs.declared.batch.Batch.{Batch}
-use Rattle.metric_core.specs.declared.entry.Entry.{Entry}
-use Rattle.metric_core.specs.declared.event.Event.{Event}
-use Rattle.metric_core.specs.declared.event.Event.TheVariants.{Record, Collect, Close}
-use Rattle.metric_core.specs.declared.event.Reply.{Reply}
-use Rattle.metric_core.specs.declared.event.Reply.TheVariants.{Accepted, Collected, Done, Refused}
-use Rattle.metric_core.specs.History.{History}
-use Rattle.metric_core.specs.Legal.{LegalRecord, LegalCollect, LegalClose, Legal, AllLegal}
-use Rattle.metric_core.specs.Rules.{RunRules}
+use Rattle.metric_history.specs.declared.batch.Batch.{Batch}
+use Rattle.metric_history.specs.declared.entry.Entry.{Entry}
+use Rattle.metric_history.specs.declared.event.Event.{Event}
+use Rattle.metric_history.specs.declared.event.Event.TheVariants.{Record, Collect, Close}
+use Rattle.metric_history.specs.declared.event.Reply.{Reply}
+use Rattle.metric_history.specs.declared.event.Reply.TheVariants.{Accepted, Collected, Done, Refused}
+use Rattle.metric_history.specs.History.{History}
+use Rattle.metric_history.specs.Legal.{LegalRecord, LegalCollect, LegalClose, Legal, AllLegal}
+use Rattle.metric_history.specs.Rules.{RunRules}
 use Rattle.metric_kit.specs.Replies.{is_want_of_memory}
 
 -- a refusal that is want of memory is excluded

@@ -11,10 +11,10 @@ use Rattle.metric_parts.specs.Texts.{ScriptLines}
 use Rattle.metric_parts.specs.declared.needs.Needs.{Needs}
 use Rattle.metric_parts.specs.declared.parts.Parts.{Parts}
 use Rattle.metric_script.specs.Scripts.{IsScript}
-use Rattle.metric_core.specs.Legal.{AllLegal}
+use Rattle.metric_history.specs.Legal.{AllLegal}
 use Rattle.metric_core.specs.Plans.{PlanValue}
-use Rattle.metric_core.specs.declared.event.Event.{Event}
-use Rattle.metric_core.specs.declared.event.Reply.{Reply}
+use Rattle.metric_history.specs.declared.event.Event.{Event}
+use Rattle.metric_history.specs.declared.event.Reply.{Reply}
 use Rattle.metric_kit.specs.declared.options.ReplayOptions.{ReplayOptions}
 use Rattle.metric_kit.specs.Planned.{plan_of}
 use Rattle.metric_kit.specs.Replies.{replies_text}

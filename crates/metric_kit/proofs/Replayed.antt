@@ -8,8 +8,8 @@ use Rattle.metric_parts.specs.declared.parts.Parts.{Parts}
 use Rattle.metric_script.specs.Scripts.{IsScript}
 use Rattle.metric_core.specs.CoreStands.{CoreValue}
 use Rattle.metric_core.specs.Plans.{PlanValue}
-use Rattle.metric_core.specs.declared.event.Event.{Event}
-use Rattle.metric_core.specs.declared.event.Reply.{Reply}
+use Rattle.metric_history.specs.declared.event.Event.{Event}
+use Rattle.metric_history.specs.declared.event.Reply.{Reply}
 use Rattle.metric_kit.specs.declared.options.ReplayOptions.{ReplayOptions}
 use Rattle.metric_kit.specs.Replaying.{IsPlanned, IsReplayed, needs_of}
 use Rattle.metric_kit.specs.Runs.{IsRun}

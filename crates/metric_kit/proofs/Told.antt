@@ -1,7 +1,7 @@
 -- The output of an input of which a source tells the bytes.
 use Rattle.std.proofs.Common.{◌≡◌, ℕ, List, Option, Some, None, Result, Ok, Err, OnErr, IfSome, ap, subst, ◌∙◌}
 use Rattle.metric_core.specs.Plans.{PlanValue}
-use Rattle.metric_core.specs.declared.event.Reply.{Reply}
+use Rattle.metric_history.specs.declared.event.Reply.{Reply}
 use Rattle.metric_kit.specs.declared.options.ReplayOptions.{ReplayOptions}
 use Rattle.metric_kit.specs.Replaying.{IsReplayed, IsOutput}
 use Rattle.metric_kit.specs.Replies.{replies_text}

@@ -11,8 +11,8 @@ use Rattle.metric_catalogue.specs.declared.contents.Contents.{Contents}
 use Rattle.metric_views.specs.declared.config.Config.{Config}
 use Rattle.metric_core.specs.First.{is_taken}
 use Rattle.metric_core.specs.Plans.{PlanValue}
-use Rattle.metric_core.specs.declared.event.Event.{Event}
-use Rattle.metric_core.specs.declared.event.Reply.{Reply}
+use Rattle.metric_history.specs.declared.event.Event.{Event}
+use Rattle.metric_history.specs.declared.event.Reply.{Reply}
 use Rattle.metric_kit.specs.declared.options.ReplayOptions.{ReplayOptions}
 use Rattle.metric_kit.specs.declared.fault.KitFault.{KitFault}
 use Rattle.metric_kit.specs.declared.fault.KitFault.TheVariants.{Read, Input, Catalogue, Config as BadConfig, NotYet, Write, Memory}

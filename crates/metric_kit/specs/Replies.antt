@@ -4,8 +4,8 @@ use Rattle.std.specs.List.{flat_map}
 use Rattle.metric_catalogue.specs.Refusals.{refusal_text}
 use Rattle.metric_catalogue.specs.declared.refusal.Refusal.{Refusal}
 use Rattle.metric_catalogue.specs.declared.refusal.Refusal.TheVariants as refusals
-use Rattle.metric_core.specs.declared.event.Reply.{Reply}
-use Rattle.metric_core.specs.declared.event.Reply.TheVariants.{Accepted, Collected, Done, Refused}
+use Rattle.metric_history.specs.declared.event.Reply.{Reply}
+use Rattle.metric_history.specs.declared.event.Reply.TheVariants.{Accepted, Collected, Done, Refused}
 use Rattle.metric_core.specs.Plans.{PlanValue}
 use Rattle.metric_export.specs.BatchText.{batch_text}
 use Rattle.metric_io.specs.Counts.{HasFailed}

@@ -1,10 +1,10 @@
 -- A run of events from a start.
 use Rattle.std.specs.Prelude.{◌≡◌, ℕ, false, List, []}
 use Rattle.std.specs.List.{list_any}
-use Rattle.metric_core.specs.Legal.{AllLegal}
+use Rattle.metric_history.specs.Legal.{AllLegal}
 use Rattle.metric_core.specs.Plans.{PlanValue}
-use Rattle.metric_core.specs.declared.event.Event.{Event}
-use Rattle.metric_core.specs.declared.event.Reply.{Reply}
+use Rattle.metric_history.specs.declared.event.Event.{Event}
+use Rattle.metric_history.specs.declared.event.Reply.{Reply}
 use Rattle.metric_kit.specs.Replies.{is_want_of_memory}
 
 -- A legal reply to each event, and none of them want of memory.

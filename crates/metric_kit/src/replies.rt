@@ -7,7 +7,7 @@ ghost use Rattle.metric_kit.specs.Replies.{IsSinkFault, refused_text, reply_text
 
 use crate::fault::KitFault;
 use metric_catalogue::Refusal;
-use metric_core::Reply;
+use metric_history::Reply;
 use metric_core::first::Plan;
 use metric_export::push_batch;
 use metric_io::{Sink, write_all};

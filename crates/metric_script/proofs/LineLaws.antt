@@ -6,8 +6,8 @@ use Rattle.std.specs.List.{flat_map}
 use Rattle.std.specs.Str.{bytes_eq}
 use Rattle.std.proofs.lemmas.Slice.Eq.{bytes_eq-Decides}
 use Rattle.metric_catalogue.specs.declared.attributes.OwnedAttr.{OwnedAttr}
-use Rattle.metric_core.specs.declared.event.Event.{Event}
-use Rattle.metric_core.specs.declared.event.Event.TheVariants.{Record, Collect, Close}
+use Rattle.metric_history.specs.declared.event.Event.{Event}
+use Rattle.metric_history.specs.declared.event.Event.TheVariants.{Record, Collect, Close}
 use Rattle.metric_text.specs.Reading.{◌>>=◌, after_in, word_in, number_of, number_in}
 use Rattle.metric_text.specs.ReadingLaws.{IsWordEnd, after_some, after_in-some, word_in-whole, number_in-text, number_in-some, signed_in-text, signed_in-some, number_of-text, number_of-some}
 use Rattle.metric_script.specs.Spelling.{attribute_text, two_numbers_text, event_text, start_text, FitsEvent}

@@ -3,7 +3,7 @@ use Rattle.std.proofs.Common.{◌≡◌, ℕ, ◌<◌, ◌^◌, List, [], ◌∷
 use Rattle.std.specs.Prelude.{map}
 use Rattle.std.specs.List.{AllByRecursion}
 use Rattle.metric_base.specs.FrontLaws.{one_break, no_break}
-use Rattle.metric_core.specs.declared.event.Event.{Event}
+use Rattle.metric_history.specs.declared.event.Event.{Event}
 use Rattle.metric_script.specs.Spelling.{start_text, event_text, FitsEvent}
 use Rattle.metric_script.specs.Scripts.{read_lines, IsScript, IsSomeScript, IsFirstFault}
 use Rattle.metric_script.specs.Reading.{event_in, start_in}

@@ -2,7 +2,7 @@
 use Rattle.std.proofs.Common.{◌≡◌, ℕ, ◌+◌, ◌<◌, ◌≤◌, true, false, List, [], ◌∷◌, ◌++◌, length, drop, get_or, Option, None, Some, Result, Ok, Err, refl, sym, ap, subst, ◌∙◌, append_assoc, append-nil, arith}
 use Rattle.std.specs.Borrow.{Bor}
 use Rattle.std.proofs.lemmas.List.{drop_more, at_drop_all}
-use Rattle.metric_core.specs.declared.event.Event.{Event}
+use Rattle.metric_history.specs.declared.event.Event.{Event}
 use Rattle.metric_parts.specs.Reading.{texts}
 use Rattle.metric_text.specs.Reading.{Tells}
 use Rattle.metric_text.specs.declared.fault.LineFault.{LineFault}

@@ -7,7 +7,7 @@ use Rattle.std.proofs.lemmas.List.{length-map}
 use Rattle.std.proofs.lemmas.List.Elements.{filter-append}
 use Rattle.metric_base.specs.Steps.{◌>>=◌}
 use Rattle.metric_base.specs.Fronts.{BeginsWhole, IsStuck}
-use Rattle.metric_core.specs.declared.event.Event.{Event}
+use Rattle.metric_history.specs.declared.event.Event.{Event}
 use Rattle.metric_parts.specs.Reading.{texts}
 use Rattle.metric_script.specs.declared.events.ScriptEvents.{ScriptEvents}
 use Rattle.metric_script.specs.Spelling.{start_text, event_text, FitsEvent}

@@ -2,7 +2,7 @@
 use Rattle.std.specs.Prelude.{◌≡◌, ℕ, ◌+◌, ◌<◌, ◌^◌, Bool, true, not, ◌==◌, List, [], ◌∷◌, ◌++◌, length, filter, map}
 use Rattle.std.specs.List.{AllByRecursion}
 use Rattle.metric_base.specs.Fronts.{BreaksOffAt}
-use Rattle.metric_core.specs.declared.event.Event.{Event}
+use Rattle.metric_history.specs.declared.event.Event.{Event}
 use Rattle.metric_parts.specs.Texts.{ScriptLines}
 use Rattle.metric_script.specs.Spelling.{start_text, event_text, FitsEvent}
 use Rattle.metric_script.specs.declared.fault.ScriptFault.{ScriptFault}

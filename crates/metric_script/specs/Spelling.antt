@@ -4,8 +4,8 @@ use Rattle.std.specs.Int.{w64}
 use Rattle.std.specs.Fmt.{decimal, signed_decimal}
 use Rattle.std.specs.List.{AllByRecursion, flat_map}
 use Rattle.metric_catalogue.specs.declared.attributes.OwnedAttr.{OwnedAttr}
-use Rattle.metric_core.specs.declared.event.Event.{Event}
-use Rattle.metric_core.specs.declared.event.Event.TheVariants.{Record, Collect, Close}
+use Rattle.metric_history.specs.declared.event.Event.{Event}
+use Rattle.metric_history.specs.declared.event.Event.TheVariants.{Record, Collect, Close}
 use Rattle.metric_text.specs.Written.{IsValue, pair_text}
 
 -- an attribute, with the space before it

@@ -2,7 +2,7 @@
 use Rattle.std.specs.Prelude.{◌≡◌, ℕ, if◌then◌else◌, List, [], ◌∷◌, ◌++◌, Option, Some, None, Result, Ok, Err}
 use Rattle.std.specs.Borrow.{Bor}
 use Rattle.metric_base.specs.Steps.{◌>>=◌}
-use Rattle.metric_core.specs.declared.event.Event.{Event}
+use Rattle.metric_history.specs.declared.event.Event.{Event}
 use Rattle.metric_parts.specs.Reading.{texts}
 use Rattle.metric_text.specs.declared.fault.LineFault.{LineFault}
 use Rattle.metric_text.specs.declared.fault.LineFault.TheVariants.{Bad, Memory as WantOfMemory}

@@ -1,6 +1,6 @@
 //! What a script says.
 use metric_base::Items;
-use metric_core::Event;
+use metric_history::Event;
 
 /// What a script says: when it starts, and the events in order.
 #[derive(Drop)]

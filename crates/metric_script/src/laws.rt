@@ -1,7 +1,7 @@
 //! What the definitions of a script and of its first fault entail.
 ghost use Rattle.std.specs.Prelude.{◌≡◌, ◌<◌, ◌^◌, ◌∷◌, ℕ, List, map};
 ghost use Rattle.std.specs.List.{AllByRecursion};
-ghost use Rattle.metric_core.specs.declared.event.Event.{Event};
+ghost use Rattle.metric_history.specs.declared.event.Event.{Event};
 ghost use Rattle.metric_script.specs.Spelling.{FitsEvent, event_text, start_text};
 ghost use Rattle.metric_script.specs.Scripts.{IsScript, IsFirstFault};
 

@@ -6,7 +6,7 @@ ghost use Rattle.metric_script.specs.Reading.{all_attributes_in, amount_in, attr
 
 use metric_base::Items;
 use metric_catalogue::OwnedAttr;
-use metric_core::Event;
+use metric_history::Event;
 use metric_text::{
     LineFault, after_byte, after_keyword, i64_at, quoted_at, u32_at, u32_of, u64_of, value_at,
     word_at,

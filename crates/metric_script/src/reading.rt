@@ -8,7 +8,7 @@ use crate::line::{event_of, is_passed_over, start_of};
 use crate::stop::{Lines, Stop};
 use crate::{ScriptEvents, ScriptFault};
 use metric_base::Items;
-use metric_core::Event;
+use metric_history::Event;
 use metric_parts::Script;
 use std::alloc::Global;
 

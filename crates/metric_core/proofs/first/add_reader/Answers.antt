@@ -2,7 +2,7 @@
 use Rattle.std.proofs.Common.{◌++◌, List, ap, ◌∙◌}
 use Rattle.metric_views.specs.declared.stream.Stream.{Stream}
 use Rattle.metric_core.specs.First.{default_stream}
-use Rattle.metric_core.specs.FirstLaws.{flat_map_range_more}
+use Rattle.metric_core.proofs.FirstLaws.{flat_map_range_more}
 use Rattle.metric_core.proofs.first.add_reader.Goals as goal
 
 pub loop-number-preserved : goal.loop-number-preserved

@@ -1,8 +1,8 @@
 -- one instrument more
 use Rattle.std.proofs.Common.{◌+◌, ◌++◌, List, drop, ap, ◌∙◌}
 use Rattle.metric_core.specs.First.{rules_from}
-use Rattle.metric_core.specs.FirstLaws.{rules_more}
-use Rattle.metric_core.specs.Rules.{InstrumentRules}
+use Rattle.metric_core.proofs.FirstLaws.{rules_more}
+use Rattle.metric_history.specs.Rules.{InstrumentRules}
 use Rattle.metric_core.proofs.first.all_rules.Goals as goal
 
 pub loop-number-preserved : goal.loop-number-preserved

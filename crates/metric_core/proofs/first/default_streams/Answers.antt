@@ -3,9 +3,9 @@ use Rattle.std.proofs.Common.{◌≡◌, ℕ, ◌≤◌, ◌*◌, ◌++◌, [], 
 use Rattle.std.proofs.Math.Nat.{mul-le-mul_right}
 use Rattle.std.specs.List.{list_all, flat_map, range_with_len}
 use Rattle.metric_views.specs.declared.stream.Stream.{Stream}
-use Rattle.metric_core.specs.Rules.{is_sound_stream}
+use Rattle.metric_history.specs.Rules.{is_sound_stream}
 use Rattle.metric_core.specs.First.{reader_streams, default_streams}
-use Rattle.metric_core.specs.FirstLaws.{flat_map_range_more, length-default_streams, sound_default_streams}
+use Rattle.metric_core.proofs.FirstLaws.{flat_map_range_more, length-default_streams, sound_default_streams}
 use Rattle.metric_core.proofs.first.default_streams.Goals as goal
 
 pub loop-reader-preserved : goal.loop-reader-preserved

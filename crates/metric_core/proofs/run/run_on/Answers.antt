@@ -1,12 +1,12 @@
 -- one event more, and all events
 use Rattle.std.proofs.Common.{◌≡◌, ◌+◌, [], ◌∷◌, ◌++◌, List, length, take, sym, ap, subst, ◌∙◌, arith}
 use Rattle.std.proofs.lemmas.List.{take_more, take_all, length-take-le, length_push}
-use Rattle.metric_core.specs.declared.event.Event.{Event}
-use Rattle.metric_core.specs.declared.event.Reply.{Reply}
-use Rattle.metric_core.specs.History.{History}
+use Rattle.metric_history.specs.declared.event.Event.{Event}
+use Rattle.metric_history.specs.declared.event.Reply.{Reply}
+use Rattle.metric_history.specs.History.{History}
 use Rattle.metric_core.specs.CoreStands.{CellsStand}
-use Rattle.metric_core.specs.Legal.{AllLegal, grown}
-use Rattle.metric_core.specs.RunLaws.{AllLegal_push, grown_push}
+use Rattle.metric_history.specs.Legal.{AllLegal, grown}
+use Rattle.metric_core.proofs.RunLaws.{AllLegal_push, grown_push}
 use Rattle.metric_core.proofs.run.run_on.Goals as goal
 
 pub loop-event-preserved : goal.loop-event-preserved

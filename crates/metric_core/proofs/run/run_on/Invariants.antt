@@ -1,9 +1,9 @@
 -- what holds of the events so far
 use Rattle.std.proofs.Common.{◌≡◌, ◌≤◌, length, take, vec_capacity}
 use Rattle.metric_core.specs.CoreStands.{CellsStand}
-use Rattle.metric_core.specs.History.{History}
+use Rattle.metric_history.specs.History.{History}
 use Rattle.metric_core.specs.Ranges.{CellsInRange}
-use Rattle.metric_core.specs.Legal.{AllLegal, grown}
+use Rattle.metric_history.specs.Legal.{AllLegal, grown}
 use Rattle.metric_core.proofs.run.run_on.Given as goal
 
 abbrev pub invariant-loop-event : goal.invariant-loop-event

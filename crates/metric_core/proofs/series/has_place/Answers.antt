@@ -2,9 +2,9 @@
 use Rattle.std.proofs.Common.{◌≡◌, ℕ, ◌≤◌, false, List, length, take, ap, subst, ◌∙◌, arith}
 use Rattle.std.specs.Prelude.{nat_lt}
 use Rattle.std.proofs.lemmas.List.{take_all}
-use Rattle.metric_core.specs.declared.entry.Entry.{Entry}
-use Rattle.metric_core.specs.Series.{all_series, has, distinct}
-use Rattle.metric_core.specs.SeriesLaws.{place_short, place_here, place_late, place_next, has_more, places_more}
+use Rattle.metric_history.specs.declared.entry.Entry.{Entry}
+use Rattle.metric_history.specs.Series.{all_series, has, distinct}
+use Rattle.metric_history.specs.SeriesLaws.{place_short, place_here, place_late, place_next, has_more, places_more}
 use Rattle.metric_core.proofs.series.has_place.Goals as goal
 use Rattle.metric_core.proofs.series.has_place.Goals.{then-not-is_among, else-not-is_among}
 

@@ -1,6 +1,6 @@
 -- the places are the distinct series so far, and the series is none of them
 use Rattle.std.proofs.Common.{◌≡◌, ◌≤◌, false, length, take}
-use Rattle.metric_core.specs.Series.{all_series, has, distinct}
+use Rattle.metric_history.specs.Series.{all_series, has, distinct}
 use Rattle.metric_core.proofs.series.has_place.Given as goal
 
 abbrev pub invariant-loop-i : goal.invariant-loop-i

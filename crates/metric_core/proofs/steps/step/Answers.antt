@@ -1,6 +1,6 @@
 -- an event of an unknown instrument, and one of a known instrument
 use Rattle.std.proofs.Common.{◌<◌, ◌≤◌, length, ap, arith, inl, inr}
-use Rattle.metric_core.specs.RunLaws.{known_at, unknown_at, cell_at_in_range}
+use Rattle.metric_core.proofs.RunLaws.{known_at, unknown_at, cell_at_in_range}
 use Rattle.metric_core.proofs.steps.step.Goals as goal
 
 pub returns-then-at-cells : goal.returns-then-at-cells

@@ -3,10 +3,11 @@ use mir.Val.{SFits}
 use mir.Syntax.{w128}
 use Rattle.std.proofs.lemmas.Int.{to_z-of_z}
 use Rattle.std.proofs.Common.{rules, ap, sym, ◌∙◌, ◌^◌, ◌<◌, ◌+◌, length, ℤ, ◌+ℤ◌, List, ℕ, Option}
+use Rattle.metric_aggregate.specs.Range.{sum_in_range}
 use Rattle.metric_aggregate.specs.Value.{sum_of}
-use Rattle.metric_core.specs.Series.{rows}
-use Rattle.metric_core.specs.Points.{values}
-use Rattle.metric_core.specs.SumLaws.{sum_fits, sum_in_range}
+use Rattle.metric_history.specs.Series.{rows}
+use Rattle.metric_history.specs.Points.{values}
+use Rattle.metric_history.specs.SumLaws.{sum_fits}
 use Rattle.metric_core.proofs.sums.fits_stream.Goals as goal
 
 pub returns : goal.returns

@@ -1,9 +1,9 @@
 -- one recording more
 use Rattle.std.proofs.Common.{arith, pos, []}
 use Rattle.std.proofs.lemmas.Int.{ints, to_z-of_z}
-use Rattle.metric_core.specs.declared.entry.Entry.{Entry}
-use Rattle.metric_core.specs.Series.{belongs}
-use Rattle.metric_core.specs.SumLaws.{sum_more}
+use Rattle.metric_history.specs.declared.entry.Entry.{Entry}
+use Rattle.metric_history.specs.Series.{belongs}
+use Rattle.metric_history.specs.SumLaws.{sum_more}
 use Rattle.metric_core.proofs.sums.sum_of_rows.Goals as goal
 
 pub loop-entry-preserved : goal.loop-entry-preserved

@@ -2,8 +2,8 @@
 use Rattle.std.proofs.Common.{◌≡◌, ◌*◌, ◌^◌, take, pos, neg_ℤ, ◌≤ℤ◌}
 use Rattle.std.specs.Prelude.{filter}
 use Rattle.metric_aggregate.specs.Value.{sum_of}
-use Rattle.metric_core.specs.Series.{belongs}
-use Rattle.metric_core.specs.Points.{values}
+use Rattle.metric_history.specs.Series.{belongs}
+use Rattle.metric_history.specs.Points.{values}
 use Rattle.metric_core.proofs.sums.sum_of_rows.Given as goal
 
 abbrev pub invariant-loop-entry : goal.invariant-loop-entry

@@ -1,6 +1,6 @@
 use Rattle.std.proofs.Common.{rules, List, ap, subst, sym, ◌∙◌}
 use Rattle.std.proofs.lemmas.Result.{IfOk-weaker}
-use Rattle.metric_core.specs.declared.event.Event.{Event}
+use Rattle.metric_history.specs.declared.event.Event.{Event}
 use Rattle.metric_script.specs.Scripts.{IsScript}
 use Rattle.metric_parts.specs.Reading.{texts}
 use Rattle.metric_kit.proofs.Replayed.{replayed}

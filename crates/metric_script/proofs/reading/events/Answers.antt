@@ -1,7 +1,7 @@
 -- an event after the other
 use Rattle.std.proofs.Common.{sym, ◌∙◌}
 use Rattle.metric_base.specs.declared.items.Items.{Items}
-use Rattle.metric_core.specs.declared.event.Event.{Event}
+use Rattle.metric_history.specs.declared.event.Event.{Event}
 use Rattle.metric_script.proofs.PlaceLaws.{stop_told, told_none, events_passed, events_more, events_bad, events_end}
 use Rattle.metric_script.proofs.reading.events.Goals as goal
 use Rattle.metric_script.proofs.reading.events.Goals.{then-not-is_passed_over+in-Ok+in_ok-push-in-Ok, else-not-is_passed_over}

@@ -3,8 +3,8 @@ use Rattle.std.proofs.Common.{◌≡◌, ℕ, ◌+◌, ◌<◌, Bool, true, fals
 use Rattle.std.specs.Prelude.{slice_index}
 use Rattle.std.specs.List.{list_all}
 use Rattle.std.proofs.lemmas.List.Folds.{list_all_at, list_all_more}
-use Rattle.metric_core.specs.Rules.{StreamRule}
-use Rattle.metric_core.specs.Windows.{is_delta, window, fits_stream}
+use Rattle.metric_history.specs.Rules.{StreamRule}
+use Rattle.metric_history.specs.Windows.{is_delta, window, fits_stream}
 use Rattle.metric_core.proofs.cell.Cell.fits.Goals as goal
 
 stops : {X : Type 0} (p : X → Bool) (xs all : List X) (i : ℕ) (x : X) → xs ≡ all → i < length xs → x ≡ get_or xs i x → p x ≡ false → false ≡ list_all p all

@@ -2,8 +2,8 @@
 use Rattle.std.proofs.Common.{◌≡◌, true, take}
 use Rattle.std.specs.Prelude.{slice_index}
 use Rattle.std.specs.List.{list_all}
-use Rattle.metric_core.specs.Rules.{StreamRule}
-use Rattle.metric_core.specs.Windows.{is_delta, window, fits_stream}
+use Rattle.metric_history.specs.Rules.{StreamRule}
+use Rattle.metric_history.specs.Windows.{is_delta, window, fits_stream}
 use Rattle.metric_core.proofs.cell.Cell.fits.Given as goal
 
 abbrev pub invariant-loop-stream : goal.invariant-loop-stream

@@ -1,7 +1,8 @@
 -- the new states stand for the empty history, and are in range
 use Rattle.std.proofs.Common.{map, ap, ◌∙◌}
-use Rattle.metric_core.specs.NewCells.{new_cell, new_cells_stand}
-use Rattle.metric_core.specs.RangeLaws.{new_cells_in_range}
+use Rattle.metric_core.specs.Cells.{new_cell}
+use Rattle.metric_core.proofs.NewCells.{new_cells_stand}
+use Rattle.metric_core.proofs.RangeLaws.{new_cells_in_range}
 use Rattle.metric_core.proofs.run.Core.new.Goals as goal
 
 pub returns-in-Ok-clause-stands : goal.returns-in-Ok-clause-stands

@@ -3,7 +3,7 @@ use Rattle.std.proofs.Common.{◌≡◌, List, length, drop, sym, subst, arith}
 use Rattle.std.proofs.lemmas.List.{take_at}
 use Rattle.metric_core.specs.Cells.{CellValue}
 use Rattle.metric_core.specs.CoreStands.{CoreValue, CoreStands, CellsStand}
-use Rattle.metric_core.specs.Legal.{grown}
+use Rattle.metric_history.specs.Legal.{grown}
 use Rattle.metric_core.proofs.run.Core.run.Goals as goal
 
 pub returns-clause-stands : goal.returns-clause-stands

@@ -1,7 +1,0 @@
--- the keys, and their order
-use Rattle.metric_core.specs.PointLaws.{ascending-IsPermutation}
-use Rattle.metric_core.proofs.Ascending.{ascending-IsSorted}
-use Rattle.metric_core.proofs.laws.ascending_sorts_keys.Goals as goal
-
-pub returns : goal.returns
-returns c = record { keys = ascending-IsPermutation; sorted = ascending-IsSorted }

@@ -1,0 +1,10 @@
+-- What an event is about.
+use Rattle.std.specs.Prelude.{ℕ}
+use Rattle.metric_history.specs.declared.event.Event.{Event}
+use Rattle.metric_history.specs.declared.event.Event.TheVariants.{Record, Collect, Close}
+
+-- the number of its instrument
+abbrev pub instrument_of : Event → ℕ
+instrument_of (Record recorder instrument attrs value) = instrument
+instrument_of (Collect reader instrument now) = instrument
+instrument_of (Close instrument) = instrument

@@ -1,0 +1,63 @@
+-- What a history of events and replies, newest first, says of one instrument.
+use Rattle.std.specs.Prelude.{ℕ, Bool, true, false, ◌&&◌, List, [], ◌∷◌, ◌++◌, length, max, ◌==◌, if◌then◌else◌}
+use Rattle.std.specs.Result.{result_unwrap_or}
+use Rattle.metric_history.specs.Encoded.{encoded}
+use Rattle.metric_history.specs.declared.entry.Entry.{Entry}
+use Rattle.metric_history.specs.declared.event.Event.{Event}
+use Rattle.metric_history.specs.declared.event.Event.TheVariants.{Record, Collect, Close}
+use Rattle.metric_history.specs.declared.event.Reply.{Reply}
+use Rattle.metric_history.specs.declared.event.Reply.TheVariants.{Accepted, Collected, Done}
+use Rattle.metric_history.specs.Rules.{RunRules}
+
+-- an event and its reply
+pub record Answered : Type 0 where
+  pub event : Event
+  pub reply : Reply
+
+abbrev pub answered : Event → Reply → Answered
+answered event reply = record { event = event; reply = reply }
+
+-- newest first
+abbrev pub History : Type 0
+History = List Answered
+
+-- the entries that an event adds to an instrument
+abbrev pub added_by : RunRules → ℕ → Event → Reply → List Entry
+added_by rules i (Record recorder instrument attrs value) Accepted =
+    if instrument == i then record { recorder = recorder; set = result_unwrap_or (encoded rules.contents instrument attrs) []; value = value } ∷ [] else []
+added_by rules i (Record recorder instrument attrs value) _ = []
+added_by rules i _ _ = []
+
+-- the accepted recordings of an instrument, oldest first
+abbrev pub accepted : RunRules → History → ℕ → List Entry
+accepted rules [] i = []
+accepted rules (a ∷ older) i = accepted rules older i ++ added_by rules i a.event a.reply
+
+-- whether an event was a collection of the instrument by the reader that was answered with a batch
+abbrev pub collects : ℕ → ℕ → Event → Reply → Bool
+collects i reader (Collect by instrument now) (Collected b) = (instrument == i) && (by == reader)
+collects i reader _ _ = false
+
+-- how many recordings of the instrument were accepted before the reader's last collection of it, 0 before one
+abbrev pub mark_of : RunRules → History → ℕ → ℕ → ℕ
+mark_of rules [] i reader = 0
+mark_of rules (a ∷ older) i reader = if collects i reader a.event a.reply then length (accepted rules older i) else mark_of rules older i reader
+
+abbrev pub batch_time : Reply → ℕ
+batch_time (Collected b) = b.time
+batch_time _ = 0
+
+-- the greatest of the start and the times of the reader's batches of the instrument
+abbrev pub previous_of : ℕ → History → ℕ → ℕ → ℕ
+previous_of start [] i reader = start
+previous_of start (a ∷ older) i reader =
+    if collects i reader a.event a.reply then max (batch_time a.reply) (previous_of start older i reader) else previous_of start older i reader
+
+abbrev pub closes : ℕ → Event → Reply → Bool
+closes i (Close instrument) Done = instrument == i
+closes i _ _ = false
+
+-- whether the instrument was closed
+abbrev pub is_closed : History → ℕ → Bool
+is_closed [] i = false
+is_closed (a ∷ older) i = if closes i a.event a.reply then true else is_closed older i

@@ -1,0 +1,71 @@
+-- Which replies an event may get after a history.
+use Rattle.std.specs.Prelude.{◌≡◌, ℕ, ℤ, List, [], ◌∷◌, Result, Ok, Err, slice_get}
+use Rattle.metric_base.specs.Steps.{◌>>=◌, require_some}
+use Rattle.metric_catalogue.specs.declared.attributes.OwnedAttr.{OwnedAttr}
+use Rattle.metric_catalogue.specs.declared.refusal.Refusal.{Refusal}
+use Rattle.metric_catalogue.specs.declared.refusal.Refusal.TheVariants.{UnknownInstrument, Memory}
+use Rattle.metric_history.specs.Encoded.{encoded}
+use Rattle.metric_history.specs.declared.entry.Entry.{Entry}
+use Rattle.metric_history.specs.declared.event.Event.{Event}
+use Rattle.metric_history.specs.declared.event.Event.TheVariants.{Record, Collect, Close}
+use Rattle.metric_history.specs.declared.event.Reply.{Reply}
+use Rattle.metric_history.specs.declared.event.Reply.TheVariants.{Accepted, Collected, Done, Refused}
+use Rattle.metric_history.specs.declared.batch.Batch.{Batch}
+use Rattle.metric_history.specs.Rules.{RunRules}
+use Rattle.metric_history.specs.Answers.{recorded, collected, closing}
+use Rattle.metric_history.specs.History.{History, accepted, mark_of, previous_of, is_closed}
+
+-- the entry of a recording after a history, or the first refusal
+abbrev pub recording : RunRules → History → ℕ → ℕ → List OwnedAttr → ℤ → Result Entry Refusal
+recording rules h recorder instrument attrs value =
+    require_some (slice_get rules.instruments instrument) UnknownInstrument >>= λ own.
+    recorded own (encoded rules.contents instrument attrs) (is_closed h instrument) (mark_of rules h instrument) (accepted rules h instrument) recorder value
+
+-- the batch of a collection after a history, or the first refusal
+abbrev pub collection : RunRules → ℕ → History → ℕ → ℕ → ℕ → Result Batch Refusal
+collection rules start h reader instrument now =
+    require_some (slice_get rules.instruments instrument) UnknownInstrument >>= λ own.
+    collected own start (accepted rules h instrument) instrument reader (mark_of rules h instrument reader) (previous_of start h instrument reader) now
+
+-- a close after a history, or the first refusal
+abbrev pub close : RunRules → History → ℕ → Result (Unit {0}) Refusal
+close rules h instrument =
+    require_some (slice_get rules.instruments instrument) UnknownInstrument >>= λ own. closing (is_closed h instrument)
+
+-- Where nothing refuses a recording it is accepted, unless memory is refused; else the reply is the refusal.
+abbrev pub LegalRecord : Result Entry Refusal → Reply → Type 0
+LegalRecord (Ok entry) Accepted = Unit {0}
+LegalRecord (Ok entry) (Refused given) = given ≡ Memory
+LegalRecord (Err refusal) (Refused given) = given ≡ refusal
+LegalRecord _ _ = ⊥
+
+abbrev pub LegalCollect : Result Batch Refusal → Reply → Type 0
+LegalCollect (Ok b) (Collected given) = given ≡ b
+LegalCollect (Ok b) (Refused given) = given ≡ Memory
+LegalCollect (Err refusal) (Refused given) = given ≡ refusal
+LegalCollect _ _ = ⊥
+
+abbrev pub LegalClose : Result (Unit {0}) Refusal → Reply → Type 0
+LegalClose (Ok done) Done = Unit {0}
+LegalClose (Err refusal) (Refused given) = given ≡ refusal
+LegalClose _ _ = ⊥
+
+-- a reply that the event may get after the history
+abbrev pub Legal : RunRules → ℕ → History → Event → Reply → Type 0
+Legal rules start h (Record recorder instrument attrs value) reply = LegalRecord (recording rules h recorder instrument attrs value) reply
+Legal rules start h (Collect reader instrument now) reply = LegalCollect (collection rules start h reader instrument now) reply
+Legal rules start h (Close instrument) reply = LegalClose (close rules h instrument) reply
+
+-- one legal reply for each event, each judged after the events before it
+abbrev pub AllLegal : RunRules → ℕ → History → List Event → List Reply → Type 0
+AllLegal rules start h [] [] = Unit {0}
+AllLegal rules start h [] (reply ∷ replies) = ⊥
+AllLegal rules start h (event ∷ events) [] = ⊥
+AllLegal rules start h (event ∷ events) (reply ∷ replies) =
+    Legal rules start h event reply × AllLegal rules start (record { event = event; reply = reply } ∷ h) events replies
+
+-- the history after more events
+abbrev pub grown : History → List Event → List Reply → History
+grown h [] replies = h
+grown h (event ∷ events) [] = h
+grown h (event ∷ events) (reply ∷ replies) = grown (record { event = event; reply = reply } ∷ h) events replies

@@ -1,0 +1,13 @@
+pub mod Events
+pub mod Rules
+pub mod Encoded
+pub mod Series
+pub mod Points
+pub mod Windows
+pub mod Ranges
+pub mod Answers
+pub mod History
+pub mod Legal
+pub mod SeriesLaws
+pub mod SumLaws
+pub mod PointLaws

@@ -1,0 +1,64 @@
+//! Events and their replies.
+ghost use Rattle.std.specs.Prelude.{◌≡◌};
+
+use crate::batch::Batch;
+use metric_base::Items;
+use metric_catalogue::{OwnedAttr, Refusal};
+
+/// One step on the state of one instrument. Times are in nanoseconds.
+#[derive(Drop)]
+pub enum Event {
+    /// A measurement (Metrics API, instrument).
+    Record {
+        /// The number of the recorder.
+        recorder: u32,
+        /// The number of the instrument.
+        instrument: u32,
+        /// The attributes.
+        attrs: Items<OwnedAttr>,
+        /// The value.
+        value: i64,
+    },
+    /// A collection (Metrics SDK, collect).
+    Collect {
+        /// The number of the reader.
+        reader: u32,
+        /// The number of the instrument.
+        instrument: u32,
+        /// The time at which it is asked for.
+        now: u64,
+    },
+    /// The end of recordings on an instrument.
+    Close {
+        /// The number of the instrument.
+        instrument: u32,
+    },
+}
+
+/// What an event is answered.
+#[derive(Drop)]
+pub enum Reply {
+    /// The recording counts.
+    Accepted,
+    /// What the collection reports.
+    Collected(Batch),
+    /// The instrument is closed.
+    Done,
+    /// The event has changed nothing.
+    Refused(Refusal),
+}
+
+impl Event {
+    ghost use Rattle.metric_history.specs.Events.{instrument_of};
+
+    /// The number of the instrument.
+    pub fn instrument(&self) -> u32
+        ensures { result ≡ instrument_of self.now }
+    {
+        match self {
+            Event::Record { instrument, .. } => *instrument,
+            Event::Collect { instrument, .. } => *instrument,
+            Event::Close { instrument } => *instrument,
+        }
+    }
+}

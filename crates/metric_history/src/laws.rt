@@ -1,0 +1,19 @@
+//! What the definitions of a run come to, in words that do not follow the code.
+ghost use Rattle.std.specs.Prelude.{◌≡◌, ℕ, List, ◌∷◌};
+ghost use Rattle.std.specs.Cmp.Lexicographic.{slice_cmp};
+ghost use Rattle.std.specs.List.Sorted.{IsPermutation, IsSorted};
+ghost use Rattle.std.specs.Ordering.{nat_cmp};
+ghost use Rattle.metric_history.specs.Points.{ascending as in_order};
+ghost use Rattle.metric_history.specs.Series.{distinct, others};
+
+/// The keys in ascending order are the keys, and none of them comes before the one that it follows.
+pub fn ascending_sorts_keys()
+    ensures keys { (keys : List (List ℕ)) → IsPermutation keys (in_order keys) }
+    ensures sorted { (keys : List (List ℕ)) → IsSorted (slice_cmp nat_cmp) (in_order keys) }
+{}
+
+/// The distinct keys are the first key, and the distinct ones of the others.
+#[tactic(auto, using(crate::specs::SeriesLaws::distinct_laws))]
+pub fn distinct_drops_repetitions()
+    ensures { (key : List ℕ) (keys : List (List ℕ)) → distinct (key ∷ keys) ≡ key ∷ others key (distinct keys) }
+{}
