@@ -41,7 +41,7 @@ pub(crate) fn identity_of(
         meter: meter.name.copy(alloc)?,
         version: meter.version.copy(alloc)?,
         schema_url: meter.schema_url.copy(alloc)?,
-        name: folded(alloc, &stream.name)?,
+        name: folded(alloc, stream.name.get())?,
     })
 }
 

@@ -24,7 +24,7 @@ impl Selections {
     ) -> Result<Selections, AllocError>
         ensures { IfOk result (λ s. AreSelections catalogue.now config.now s.rows) }
     {
-        let views = config.views.as_slice();
+        let views = config.views();
         let mut rows = Items::new(alloc);
         for (number, instrument) in catalogue.instruments().iter().enumerate() {
             let meter = meter_of(catalogue, number as u32);
