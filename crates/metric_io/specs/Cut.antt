@@ -1,37 +1,46 @@
 -- What a source and a sink over memory do, call by call.
-use Rattle.std.specs.Prelude.{ℕ, Bool, false, ◌-◌, ◌==◌, nat_le, if◌then◌else◌, ◌&&◌, min, List, ◌++◌, length, take, drop, Option, None, Some}
-use Rattle.metric_io.specs.Counts.{next_count}
+use Rattle.std.specs.Prelude.{ℕ, Bool, false, ◌-◌, ◌==◌, nat_le, if◌then◌else◌, ◌&&◌, min, List, ◌++◌, length, take, drop, Option, None, Some, Result, Ok, Err}
+use Rattle.std.specs.Result.{result_unwrap_or}
+use Rattle.metric_io.specs.Counts.{counted, next_count}
+use Rattle.metric_io.specs.declared.counts.ReadCounts.{ReadCounts}
+use Rattle.metric_io.specs.declared.devices.SourceFault.{SourceFault}
+use Rattle.metric_io.specs.declared.devices.SourceFault.TheVariants.{Interrupted, Broken}
 
--- A source over memory: the bytes that are left, the most that one read gives, the read from which
--- on it fails, counted from 1, and how often it was read and failed.
+-- A source over memory: the bytes that are left, the most that one read gives, the read that a signal interrupts and the
+-- read from which on it fails, both counted from 1, and its counts.
 pub record SourceState : Type 0 where
   pub rest : List ℕ
   pub most : ℕ
+  pub interrupt_at : Option ℕ
   pub fail_at : Option ℕ
-  pub reads : ℕ
-  pub failures : ℕ
+  pub counts : ReadCounts
 
 -- the read of this number fails: it is the first that does, or a later one
 abbrev pub fails_from : Option ℕ → ℕ → Bool
 fails_from None number = false
 fails_from (Some first) number = nat_le first number
 
--- the next read fails
-abbrev pub is_cut : SourceState → Bool
-is_cut s = fails_from s.fail_at (next_count s.reads)
+-- the read of this number is the one that a signal interrupts
+abbrev pub is_interrupted : Option ℕ → ℕ → Bool
+is_interrupted None number = false
+is_interrupted (Some place) number = place == number
+
+-- what the next read into a buffer of this length answers
+abbrev pub answer_of : SourceState → ℕ → Result ℕ SourceFault
+answer_of s room =
+    if fails_from s.fail_at (next_count s.counts.reads) then Err Broken else (
+    if is_interrupted s.interrupt_at (next_count s.counts.reads) then Err Interrupted else
+    Ok (min room (min s.most (length s.rest))))
 
 -- how many bytes the next read puts into a buffer of this length
 abbrev pub given_count : SourceState → ℕ → ℕ
-given_count s room = if is_cut s then 0 else min room (min s.most (length s.rest))
+given_count s room = result_unwrap_or (answer_of s room) 0
 
 -- the source after a read into a buffer of this length
 abbrev pub after_read : SourceState → ℕ → SourceState
-after_read s room = record {
+after_read s room = record s {
   rest = drop (given_count s room) s.rest;
-  most = s.most;
-  fail_at = s.fail_at;
-  reads = next_count s.reads;
-  failures = if is_cut s then next_count s.failures else s.failures;
+  counts = counted s.counts (answer_of s room);
 }
 
 -- the buffer after a read into it

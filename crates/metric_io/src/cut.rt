@@ -1,25 +1,27 @@
 // A source and a sink over memory that fail where a test wants them to.
-ghost use Rattle.std.specs.Prelude.{◌≡◌, ◌<◌, ℕ, [], length, Some, IsErr, IsTrue, MatchResult, OnErr, IfOk, false, true, unwrap_or};
+ghost use Rattle.std.specs.Prelude.{◌≡◌, ◌<◌, [], length, Some, None, IsErr, MatchResult, IfOk, false, true, unwrap_or};
 ghost use Rattle.std.specs.Io.{ReadsAtMost, WritesAtMost};
 ghost use Rattle.std.specs.Io.KnownBytes.{Keeps, ReadConsumes, WriteAppends};
-ghost use Rattle.metric_io.specs.Counts.{CountsFlush, CountsRead, CountsWrite, next_count};
-ghost use Rattle.metric_io.specs.Cut.{SourceState, SinkState, after_failure, after_filled, after_read, after_taken, given_count, is_cut, taken_count};
+ghost use Rattle.metric_io.specs.Counts.{CountsFlush, CountsWrite, counted, no_reads};
+ghost use Rattle.metric_io.specs.Cut.{SourceState, SinkState, after_failure, after_filled, after_read, after_taken, answer_of, taken_count};
 
-use crate::devices::{Broken, Sink, Source};
+use crate::counts::ReadCounts;
+use crate::devices::{Broken, Sink, Source, SourceFault};
 use std::alloc::Global;
 use std::marker::Model;
 
-/// A source over bytes in memory, which fails from a given read on.
+/// A source over bytes in memory, which fails from a given read on, and of which a signal interrupts
+/// a given read.
 ///
 /// Contracts see it as a record: the bytes that are left, the most that one read gives, the read
-/// from which on it fails, and its two counts.
+/// that is interrupted, the read from which on it fails, and its counts.
 #[derive(Drop)]
 pub struct CutSource<'a> {
     rest: &'a [u8],
     most: usize,
+    interrupt_at: Option<u64>,
     fail_at: Option<u64>,
-    reads: u64,
-    failures: u64,
+    counts: ReadCounts,
 }
 
 impl<'a> Model for CutSource<'a> {
@@ -28,9 +30,9 @@ impl<'a> Model for CutSource<'a> {
     ghost view = { λ s. record {
       rest = s.rest.now;
       most = s.most;
+      interrupt_at = s.interrupt_at;
       fail_at = s.fail_at;
-      reads = s.reads;
-      failures = s.failures;
+      counts = s.counts;
     } };
 
     ghost invariant = { λ s. 0 < s.most };
@@ -38,22 +40,22 @@ impl<'a> Model for CutSource<'a> {
 
 impl<'a> CutSource<'a> {
     /// A source of these bytes. Its read number `fail_at`, counted from 1, and each later one
-    /// fail; with `None` no read does.
+    /// fail; with `None` no read does. No read is interrupted.
     pub fn new(bytes: &'a [u8], fail_at: Option<u64>) -> Self
         ensures { result ≡ record {
           rest = bytes.entry.now;
           most = usize.MAX;
+          interrupt_at = None;
           fail_at = fail_at;
-          reads = 0;
-          failures = 0;
+          counts = no_reads;
         } }
     {
         CutSource {
             rest: bytes,
             most: usize::MAX,
+            interrupt_at: None,
             fail_at,
-            reads: 0,
-            failures: 0,
+            counts: ReadCounts::none(),
         }
     }
 
@@ -65,6 +67,17 @@ impl<'a> CutSource<'a> {
         CutSource { most, ..self }
     }
 
+    /// The same source, of which a signal interrupts the read number `read`, counted from 1, unless
+    /// that read fails.
+    pub fn interrupted_at(self, read: u64) -> Self
+        ensures { result ≡ record self.entry { interrupt_at = Some read } }
+    {
+        CutSource {
+            interrupt_at: Some(read),
+            ..self
+        }
+    }
+
     /// The bytes that no read gave yet.
     pub fn rest(&self) -> &'a [u8]
         ensures { result.now ≡ self.now.rest }
@@ -74,47 +87,43 @@ impl<'a> CutSource<'a> {
 
     /// How often the source was read, up to 2^64 - 1.
     pub fn reads(&self) -> u64
-        ensures { result ≡ self.now.reads }
+        ensures { result ≡ self.now.counts.reads }
     {
-        self.reads
+        self.counts.reads
     }
 
-    fn is_cut(&self) -> bool
-        ensures { result ≡ is_cut self.now }
+    // What the next read into a buffer of this length answers.
+    fn answer(&self, room: usize) -> Result<usize, SourceFault>
+        ensures { result ≡ answer_of self.now room }
     {
-        match self.fail_at {
-            None => false,
-            Some(first) => first <= self.reads.saturating_add(1),
+        let number = self.counts.reads.saturating_add(1);
+        if self.fail_at.is_some_and(|first| first <= number) {
+            return Err(SourceFault::Broken);
         }
+        if self.interrupt_at == Some(number) {
+            return Err(SourceFault::Interrupted);
+        }
+        Ok(room.min(self.most.min(self.rest.len())))
     }
 }
 
 impl Source for CutSource<'_> {
     ghost remaining = { λ s. Some s.rest };
 
-    ghost failures = { λ s. s.failures };
+    ghost counts = { λ s. s.counts };
 
-    ghost reads = { λ s. s.reads };
-
-    fn read(&mut self, buf: &mut [u8]) -> Result<usize, Broken>
-        ensures answer { MatchResult result
-            (λ n. (is_cut self.old ≡ false) × (n ≡ given_count self.old (length buf.old)))
-            (λ _. is_cut self.old ≡ true) }
+    fn read(&mut self, buf: &mut [u8]) -> Result<usize, SourceFault>
+        ensures answer { result ≡ answer_of self.old (length buf.old) }
         ensures after { self.new ≡ after_read self.old (length buf.old) }
         ensures filled { buf.new ≡ after_filled self.old buf.old }
 
         ensures bound { ReadsAtMost result buf.new }
         ensures bytes { ReadConsumes (Some self.old.rest) (Some self.new.rest) result buf.new }
-        ensures failures { CountsRead self.old.failures self.new.failures result }
-        ensures reads { self.new.reads ≡ next_count self.old.reads }
+        ensures counts { self.new.counts ≡ counted self.old.counts result }
     {
-        let cut = self.is_cut();
-        self.reads = self.reads.saturating_add(1);
-        if cut {
-            self.failures = self.failures.saturating_add(1);
-            return Err(Broken);
-        }
-        let given = buf.len().min(self.most.min(self.rest.len()));
+        let answer = self.answer(buf.len());
+        self.counts.count(&answer);
+        let given = answer?;
         let (front, back) = self.rest.split_at(given);
         buf[..given].copy_from_slice(front);
         self.rest = back;

@@ -2,39 +2,49 @@
 ghost use Rattle.std.specs.Prelude.{◌≡◌, ℕ, List, Option};
 ghost use Rattle.std.specs.Io.{ReadsAtMost, WritesAtMost};
 ghost use Rattle.std.specs.Io.KnownBytes.{Keeps, ReadConsumes, WriteAppends};
-ghost use Rattle.metric_io.specs.Counts.{next_count, CountsRead, CountsWrite, CountsFlush};
+ghost use Rattle.metric_io.specs.Counts.{CountsFlush, CountsWrite, counted};
+ghost use Rattle.metric_io.specs.declared.counts.ReadCounts.{ReadCounts};
 
 use thiserror::Error;
 
-/// The device failed. It is the one fault of a [`Source`] or a [`Sink`].
+/// The device failed. It is the one fault of a [`Sink`].
 #[derive(Clone, Copy, Debug, PartialEq, Eq, Error)]
 #[error("the device failed")]
 pub struct Broken;
 
+/// Why a [`Source`] gave no bytes.
+#[derive(Clone, Copy, Debug, PartialEq, Eq, Error)]
+pub enum SourceFault {
+    /// A signal interrupted the read, which may be tried again.
+    #[error("a signal interrupted the read")]
+    Interrupted,
+    /// The source failed.
+    #[error("the device failed")]
+    Broken,
+}
+
 /// What bytes are read from, in the shape of `std::io::Read`.
 ///
-/// Contracts see the bytes that are left, where the source knows them, and two counts that stop
-/// at 2^64 - 1: how often the source was asked, and how often it failed.
+/// Contracts see the bytes that are left, where the source knows them, and its
+/// [`ReadCounts`](crate::ReadCounts).
 pub trait Source {
     ghost remaining: { Self → Option (List ℕ) };
 
-    ghost failures: { Self → ℕ };
-
-    ghost reads: { Self → ℕ };
+    ghost counts: { Self → ReadCounts };
 
     /// Reads into the front of `buf`, and answers how many bytes it gave: none only at the end
-    /// of the bytes or where `buf` is empty. After [`Broken`] no byte is lost.
-    fn read(&mut self, buf: &mut [u8]) -> Result<usize, Broken>
+    /// of the bytes or where `buf` is empty. After a [`SourceFault`] no byte is lost.
+    fn read(&mut self, buf: &mut [u8]) -> Result<usize, SourceFault>
         ensures bound { ReadsAtMost result buf.new }
         ensures bytes { ReadConsumes (remaining self.old) (remaining self.new) result buf.new }
-        ensures failures { CountsRead (failures self.old) (failures self.new) result }
-        ensures reads { reads self.new ≡ next_count (reads self.old) };
+        ensures counts { counts self.new ≡ counted (counts self.old) result };
 }
 
 /// What bytes are written to, in the shape of `std::io::Write`.
 ///
 /// Contracts see the bytes that the sink holds, where it knows them, and the count of its
-/// failures, which stops at 2^64 - 1. A write that takes nothing of something is a failure too.
+/// failures, which stops at 2^64 - 1. A write that takes nothing of something is a failure too. A
+/// write that a signal interrupts is tried again within the sink, and no caller sees it.
 pub trait Sink {
     ghost contents: { Self → Option (List ℕ) };
 

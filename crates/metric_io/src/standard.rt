@@ -1,28 +1,33 @@
 // The readers and writers of std as a source and a sink.
 ghost use Rattle.std.specs.Prelude.{◌≡◌};
+ghost use Rattle.std.specs.Io.{WritesAtMost};
+ghost use Rattle.std.specs.Io.KnownBytes.{WriteAppends};
+ghost use Rattle.metric_io.specs.Counts.{no_reads};
 
-use crate::devices::{Broken, Sink, Source};
-use std::io::{Read, Write};
+use crate::counts::ReadCounts;
+use crate::devices::{Broken, Sink, Source, SourceFault};
+use std::io::{Error, ErrorKind, Read, Write};
 
-/// A reader of std as a [`Source`]. Every error of the reader is [`Broken`], an interruption too.
+// How often a write is tried that a signal interrupts each time.
+const MAX_TRIES: u32 = 65_536;
+
+/// A reader of std as a [`Source`]. Every error of the reader but an interruption is
+/// [`SourceFault::Broken`].
 #[derive(Drop)]
 pub struct StdSource<R: Read + Drop> {
     reader: R,
-    failures: u64,
-    reads: u64,
+    counts: ReadCounts,
 }
 
 impl<R: Read + Drop> StdSource<R> {
     /// A source that was not read yet.
     pub fn new(reader: R) -> Self
         ensures bytes { ⟦<StdSource<R> as Source>⟧.remaining result ≡ R.remaining reader }
-        ensures failures { ⟦<StdSource<R> as Source>⟧.failures result ≡ 0 }
-        ensures reads { ⟦<StdSource<R> as Source>⟧.reads result ≡ 0 }
+        ensures counts { ⟦<StdSource<R> as Source>⟧.counts result ≡ no_reads }
     {
         StdSource {
             reader,
-            failures: 0,
-            reads: 0,
+            counts: ReadCounts::none(),
         }
     }
 
@@ -37,23 +42,27 @@ impl<R: Read + Drop> StdSource<R> {
 impl<R: Read + Drop> Source for StdSource<R> {
     ghost remaining = { λ s. R.remaining s.reader };
 
-    ghost failures = { λ s. s.failures };
+    ghost counts = { λ s. s.counts };
 
-    ghost reads = { λ s. s.reads };
-
-    fn read(&mut self, buf: &mut [u8]) -> Result<usize, Broken> {
-        self.reads = self.reads.saturating_add(1);
-        match self.reader.read(buf) {
+    fn read(&mut self, buf: &mut [u8]) -> Result<usize, SourceFault> {
+        let answer = match self.reader.read(buf) {
             Ok(given) => Ok(given),
-            Err(_) => {
-                self.failures = self.failures.saturating_add(1);
-                Err(Broken)
-            }
-        }
+            Err(error) => Err(source_fault(&error)),
+        };
+        self.counts.count(&answer);
+        answer
     }
 }
 
-/// A writer of std as a [`Sink`]. Every error of the writer is [`Broken`], an interruption too.
+fn source_fault(error: &Error) -> SourceFault {
+    match error.kind() {
+        ErrorKind::Interrupted => SourceFault::Interrupted,
+        _ => SourceFault::Broken,
+    }
+}
+
+/// A writer of std as a [`Sink`]. Every error of the writer is [`Broken`], also the interruption of a
+/// flush. A write that a signal interrupts is tried again, up to 65,536 times.
 #[derive(Drop)]
 pub struct StdSink<W: Write + Drop> {
     writer: W,
@@ -86,17 +95,12 @@ impl<W: Write + Drop> Sink for StdSink<W> {
     ghost failures = { λ s. s.failures };
 
     fn write(&mut self, buf: &[u8]) -> Result<usize, Broken> {
-        match self.writer.write(buf) {
-            Ok(0) if !buf.is_empty() => {
-                self.failures = self.failures.saturating_add(1);
-                Ok(0)
-            }
-            Ok(taken) => Ok(taken),
-            Err(_) => {
-                self.failures = self.failures.saturating_add(1);
-                Err(Broken)
-            }
+        let answer = write_again(&mut self.writer, buf);
+        match answer {
+            Ok(taken) if taken > 0 || buf.is_empty() => {}
+            _ => self.failures = self.failures.saturating_add(1),
         }
+        answer
     }
 
     fn flush(&mut self) -> Result<(), Broken> {
@@ -108,4 +112,19 @@ impl<W: Write + Drop> Sink for StdSink<W> {
             }
         }
     }
+}
+
+// Writes, and again where a signal interrupts it.
+fn write_again<W: Write>(writer: &mut W, buf: &[u8]) -> Result<usize, Broken>
+    ensures bound { WritesAtMost result buf.now }
+    ensures bytes { WriteAppends (W.contents writer.old) (W.contents writer.new) result buf.now }
+{
+    for _try in 0..MAX_TRIES {
+        match writer.write(buf) {
+            Ok(taken) => return Ok(taken),
+            Err(error) if error.kind() == ErrorKind::Interrupted => {}
+            Err(_) => return Err(Broken),
+        }
+    }
+    Err(Broken)
 }

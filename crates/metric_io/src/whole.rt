@@ -6,7 +6,7 @@ ghost use Rattle.metric_io.specs.Input.{IsReadFault};
 ghost use Rattle.metric_io.specs.Prefix.{AppendsPrefix};
 ghost use Rattle.metric_io.specs.declared.whole.ReadFault.TheVariants.{Memory, Read};
 
-use crate::devices::{Broken, Sink, Source};
+use crate::devices::{Broken, Sink, Source, SourceFault};
 use std::alloc::{AllocError, Global};
 use thiserror::Error;
 
@@ -30,14 +30,6 @@ pub enum ReadFault {
     Memory,
 }
 
-impl From<Broken> for ReadFault {
-    ghost from_gives = { λ _ fault. fault ≡ Read };
-
-    fn from(_broken: Broken) -> ReadFault {
-        ReadFault::Read
-    }
-}
-
 impl From<AllocError> for ReadFault {
     ghost from_gives = { λ _ fault. fault ≡ Memory };
 
@@ -47,31 +39,36 @@ impl From<AllocError> for ReadFault {
 }
 
 /// Reads all that the source has left, up to [`MAX_BYTES`] bytes by up to [`MAX_READS`] reads.
-/// An input of exactly [`MAX_BYTES`] bytes is read.
+/// An input of exactly [`MAX_BYTES`] bytes is read. A read that a signal interrupts is tried again,
+/// and each try is one of the reads.
 ///
 /// # Errors
 ///
-/// [`ReadFault::Read`] where the source fails or has more, and [`ReadFault::Memory`]. What was
-/// read until then is lost.
+/// [`ReadFault::Read`] where the source fails, has more bytes or takes more reads, and
+/// [`ReadFault::Memory`]. What was read until then is lost.
 pub fn read_all<R: Source>(alloc: Global, source: &mut R) -> Result<Vec<u8>, ReadFault>
     ensures bytes { IfOk result (λ all. IfSome (R.remaining source.old) (λ xs. all.items ≡ xs)) }
     ensures end { OnOk result (IsAtEnd (R.remaining source.new)) }
     ensures small { IfOk result (λ all. vec_len all ≤ MAX_BYTES) }
 
     // The source failed only where the answer is Read, and then it failed or a limit was passed.
-    ensures ok { OnOk result (R.failures source.new ≡ R.failures source.old) }
+    ensures ok { OnOk result
+        ((R.counts source.new).failures ≡ (R.counts source.old).failures) }
     ensures memory { IsErrOf result ReadFault.Memory →
-        R.failures source.new ≡ R.failures source.old }
+        (R.counts source.new).failures ≡ (R.counts source.old).failures }
     ensures read { IsErrOf result ReadFault.Read →
-        IsReadFault (R.failures source.old) (R.failures source.new)
-        (R.reads source.old) (R.reads source.new) (R.remaining source.old) }
+        IsReadFault (R.counts source.old) (R.counts source.new) (R.remaining source.old) }
 
-    ensures reads { R.reads source.new ≤ R.reads source.old + MAX_READS }
+    ensures reads { (R.counts source.new).reads ≤ (R.counts source.old).reads + MAX_READS }
 {
     let mut buffer = zeros(alloc, BUFFER_BYTES)?;
     let mut all = Vec::new(alloc);
     for _turn in 0..MAX_READS {
-        let given = source.read(&mut buffer)?;
+        let given = match source.read(&mut buffer) {
+            Ok(given) => given,
+            Err(SourceFault::Interrupted) => continue,
+            Err(SourceFault::Broken) => return Err(ReadFault::Read),
+        };
         if given == 0 {
             return Ok(all);
         }
