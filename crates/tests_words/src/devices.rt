@@ -1,7 +1,7 @@
 //! Sources that are read and sinks that are written, whole and with failures.
 use metric_io::{
-    Broken, CutSink, CutSource, MAX_BYTES, ReadFault, Sink, Source, StdSink, StdSource, read_all,
-    write_all,
+    Broken, CutSink, CutSource, MAX_BYTES, ReadFault, Sink, Source, SourceFault, StdSink, StdSource,
+    read_all, write_all,
 };
 use std::io;
 use std::io::{ErrorKind, Read, Write};
@@ -29,6 +29,43 @@ impl Write for Unplugged {
     }
 }
 
+// A reader and a writer of which a signal interrupts every other call.
+#[derive(Drop)]
+struct Halting<D: Drop> {
+    is_halted: bool,
+    device: D,
+}
+
+impl<D: Drop> Halting<D> {
+    fn turn(&mut self) -> io::Result<()> {
+        self.is_halted = !self.is_halted;
+        if self.is_halted {
+            Err(io::Error::from(ErrorKind::Interrupted))
+        } else {
+            Ok(())
+        }
+    }
+}
+
+impl<D: Read + Drop> Read for Halting<D> {
+    fn read(&mut self, buf: &mut [u8]) -> io::Result<usize> {
+        self.turn()?;
+        self.device.read(buf)
+    }
+}
+
+impl<D: Write + Drop> Write for Halting<D> {
+    fn write(&mut self, buf: &[u8]) -> io::Result<usize> {
+        self.turn()?;
+        self.device.write(buf)
+    }
+
+    fn flush(&mut self) -> io::Result<()> {
+        self.turn()?;
+        self.device.flush()
+    }
+}
+
 // A writer that takes nothing.
 #[derive(Drop)]
 struct Full;
@@ -43,18 +80,23 @@ impl Write for Full {
     }
 }
 
-// Bytes, the read that fails, the most of one read; whether all is read, after how many reads, and what is left.
-const READS: &[(&[u8], Option<u64>, usize, bool, u64, &[u8])] = &[
-    (b"", None, 3, true, 1, b""),
-    (ALPHABET, None, 3, true, 10, b""),
-    (ALPHABET, Some(3), 10, false, 3, b"uvwxyz"),
-    (ALPHABET, Some(1), 10, false, 1, ALPHABET),
+// Bytes, the read that fails, the one that is interrupted, the most of one read; whether all is read, after how many
+// reads, and what is left.
+const READS: &[(&[u8], Option<u64>, u64, usize, bool, u64, &[u8])] = &[
+    (b"", None, 0, 3, true, 1, b""),
+    (ALPHABET, None, 0, 3, true, 10, b""),
+    (ALPHABET, None, 3, 10, true, 5, b""),
+    (ALPHABET, Some(3), 2, 10, false, 3, b"klmnopqrstuvwxyz"),
+    (ALPHABET, Some(3), 0, 10, false, 3, b"uvwxyz"),
+    (ALPHABET, Some(1), 1, 10, false, 1, ALPHABET),
 ];
 
 #[test]
 fn an_input_is_read_whole_or_up_to_a_failure(rt: HostRuntime) {
-    for (bytes, fail_at, most, is_whole, reads, rest) in READS {
-        let mut source = CutSource::new(bytes, *fail_at).in_pieces((*most).max(1));
+    for (bytes, fail_at, interrupt_at, most, is_whole, reads, rest) in READS {
+        let mut source = CutSource::new(bytes, *fail_at)
+            .in_pieces((*most).max(1))
+            .interrupted_at(*interrupt_at);
         match read_all(rt.alloc(), &mut source) {
             Ok(all) => assert!(rt; *is_whole && all.as_slice() == *bytes),
             Err(fault) => assert!(rt; !*is_whole && fault == ReadFault::Read),
@@ -66,11 +108,33 @@ fn an_input_is_read_whole_or_up_to_a_failure(rt: HostRuntime) {
 
 #[test]
 fn a_source_that_failed_goes_on_failing(rt: HostRuntime) {
-    let mut source = CutSource::new(ALPHABET, Some(2)).in_pieces(3);
+    let mut source = CutSource::new(ALPHABET, Some(3)).in_pieces(3).interrupted_at(2);
     let mut buffer = [0; 4];
-    for given in [Ok(3), Err(Broken), Err(Broken)] {
+    for given in [
+        Ok(3),
+        Err(SourceFault::Interrupted),
+        Err(SourceFault::Broken),
+        Err(SourceFault::Broken),
+    ] {
         assert_eq!(rt; source.read(&mut buffer), given);
     }
+}
+
+#[test]
+fn what_a_signal_interrupts_is_tried_again(rt: HostRuntime) -> Result<(), Fail> {
+    let mut source = StdSource::new(Halting {
+        is_halted: false,
+        device: ALPHABET,
+    });
+    assert_eq!(rt; read_all(rt.alloc(), &mut source)?.as_slice(), ALPHABET);
+    let mut sink = StdSink::new(Halting {
+        is_halted: false,
+        device: Vec::new(rt.alloc()),
+    });
+    write_all(&mut sink, ALPHABET)?;
+    sink.flush()?;
+    assert_eq!(rt; sink.into_inner().device.as_slice(), ALPHABET);
+    Ok(())
 }
 
 #[test]
