@@ -1,9 +1,9 @@
 -- What is read as an instrument is sound.
-use Rattle.std.proofs.Common.{◌≡◌, ℕ, ℤ, pos, ◌≤ℤ◌, Bool, true, false, not, ◌&&◌, ◌||◌, List, [], length, Option, Some, None, Ok, refl, sym, ap, subst, ◌∙◌, arith, codes, int_le, IsTrue, IfSome}
+use Rattle.std.proofs.Common.{◌≡◌, ℕ, ℤ, pos, ◌≤ℤ◌, Bool, true, false, not, ◌&&◌, ◌||◌, List, [], length, Option, Some, None, Ok, refl, subst, arith, codes, int_le, IsTrue, IfSome}
 use Rattle.std.proofs.lemmas.Int.{ints}
 use Rattle.std.specs.List.{list_any}
 use Rattle.toml.specs.Data.{Data, Members, get_member}
-use Rattle.metric_base.specs.Steps.{◌>>=◌, require, each}
+use Rattle.metric_base.specs.Steps.{each}
 use Rattle.metric_base.specs.StepLaws.{after_ok, require_ok, ok_is}
 use Rattle.metric_table.specs.Fields.{field, integers_of, list_of, tables_field}
 use Rattle.metric_catalogue.specs.declared.contents.Instrument.{Instrument}
@@ -17,7 +17,7 @@ use Rattle.metric_catalogue.specs.Instruments.{advice_field, boundaries_of, boun
 use Rattle.metric_catalogue.specs.Keys.{key_of}
 use Rattle.metric_base.specs.Boundaries.{is_rising}
 use Rattle.metric_catalogue.specs.Kinds.{is_monotonic}
-use Rattle.metric_catalogue.specs.Sound.{EachAt, IsSoundInstrument, IsSoundKey}
+use Rattle.metric_catalogue.specs.Sound.{IsSoundInstrument, IsSoundKey}
 use Rattle.metric_catalogue.proofs.SoundKeys.{key_made, not_true}
 
 -- what a range is

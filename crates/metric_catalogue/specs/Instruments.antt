@@ -1,5 +1,5 @@
 -- The instruments of a meter.
-use Rattle.std.specs.Prelude.{ℕ, ℤ, pos, Bool, true, false, not, ◌&&◌, ◌||◌, ◌==◌, if◌then◌else◌, List, [], ◌∷◌, length, Option, Some, None, Result, Ok, Err, int_le, int_lt, unwrap_or, codes}
+use Rattle.std.specs.Prelude.{ℕ, ℤ, pos, Bool, not, ◌&&◌, ◌||◌, ◌==◌, List, [], ◌∷◌, length, Option, Some, None, Result, Ok, Err, int_le, unwrap_or, codes}
 use Rattle.std.specs.List.{list_any}
 use Rattle.std.specs.Str.{bytes_eq}
 use Rattle.toml.specs.Data.{Data, Members, get_member}
@@ -8,9 +8,7 @@ use Rattle.metric_names.specs.Names.{folded, name_of}
 use Rattle.metric_names.specs.Units.{unit_of}
 use Rattle.metric_table.specs.Fields.{only, field, text_field, optional_text, list_of, integer_of, integers_of, tables_field}
 use Rattle.metric_catalogue.specs.declared.contents.Instrument.{Instrument}
-use Rattle.metric_catalogue.specs.declared.contents.Key.{Key}
 use Rattle.metric_catalogue.specs.declared.contents.Kind.{Kind}
-use Rattle.metric_catalogue.specs.declared.contents.Kind.TheVariants.{Counter, UpDownCounter, Histogram, Gauge}
 use Rattle.metric_catalogue.specs.declared.instruments.Head.{Head}
 use Rattle.metric_catalogue.specs.declared.fault.CatalogueFault.{CatalogueFault}
 use Rattle.metric_catalogue.specs.declared.fault.CatalogueFault.TheVariants.{WrongKind, BadName, BadUnit, BadRange, BadBoundaries, DuplicateInstrument}

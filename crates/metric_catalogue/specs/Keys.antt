@@ -3,7 +3,7 @@ use Rattle.std.specs.Prelude.{ℕ, Bool, false, not, List, [], ◌∷◌, length
 use Rattle.std.specs.List.{list_any}
 use Rattle.std.specs.Str.{bytes_eq}
 use Rattle.toml.specs.Data.{Data, string, integer, boolean, Members}
-use Rattle.metric_base.specs.Steps.{◌>>=◌, require, each}
+use Rattle.metric_base.specs.Steps.{◌>>=◌, require}
 use Rattle.metric_names.specs.declared.value.AttrValue.{AttrValue}
 use Rattle.metric_names.specs.declared.value.AttrValue.TheVariants.{Text, Whole, Flag}
 use Rattle.metric_table.specs.Fields.{only, field, list_of, short_text, flag_or, each_alone}

@@ -1,11 +1,10 @@
 -- The meters of a catalogue, with the instruments of each.
-use Rattle.std.specs.Prelude.{ℕ, ◌-◌, Bool, not, ◌&&◌, List, [], ◌∷◌, ◌++◌, length, Result, Ok, codes}
+use Rattle.std.specs.Prelude.{◌-◌, Bool, not, ◌&&◌, [], ◌∷◌, ◌++◌, length, Result, Ok, codes}
 use Rattle.std.specs.List.{list_any}
 use Rattle.std.specs.Str.{bytes_eq}
 use Rattle.toml.specs.Data.{Members}
 use Rattle.metric_base.specs.Steps.{◌>>=◌, require, each}
 use Rattle.metric_table.specs.Fields.{only, tables_field}
-use Rattle.metric_catalogue.specs.declared.contents.Instrument.{Instrument}
 use Rattle.metric_catalogue.specs.declared.contents.Meter.{Meter}
 use Rattle.metric_catalogue.specs.declared.meters.Metered.{Metered}
 use Rattle.metric_catalogue.specs.declared.fault.CatalogueFault.{CatalogueFault}

@@ -13,6 +13,7 @@ mod meters;
 mod numbering;
 mod recorders;
 mod refusal;
+mod repeats;
 mod texts;
 mod values;
 
