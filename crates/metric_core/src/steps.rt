@@ -6,22 +6,20 @@ ghost use Rattle.metric_core.specs.Steps.{Steps};
 
 use crate::cell::Cell;
 use crate::first::Plan;
-use crate::rules::Rules;
 use metric_catalogue::{Catalogue, Refusal};
-use metric_history::{Event, Reply};
+use metric_history::{Event, Facts, Reply};
 use std::alloc::Global;
 
 // Answers an event of the cell's instrument.
 fn answer(
     alloc: Global,
     catalogue: &Catalogue,
-    rules: &Rules,
-    start: u64,
+    facts: &Facts,
     cell: &mut Cell,
     event: &Event,
 ) -> Reply
-    requires { cell_in_range rules.now cell.old ≡ true }
-    ensures legal { LegalOn catalogue.now rules.now start cell.old event.now result }
+    requires { cell_in_range facts.now cell.old ≡ true }
+    ensures legal { LegalOn catalogue.now facts.now cell.old event.now result }
     ensures new { cell.new ≡ cell_after catalogue.now cell.old event.now result }
 {
     match event {
@@ -32,28 +30,26 @@ fn answer(
             value,
         } => {
             let encoded = catalogue.encode_owned(*instrument, attrs.as_slice());
-            cell.record(rules, encoded, *recorder, value)
+            cell.record(facts, encoded, *recorder, value)
         }
         Event::Collect {
-            reader,
-            instrument,
-            now,
-        } => cell.collect(alloc, rules, start, *instrument, *reader, *now),
+            reader, now, ..
+        } => cell.collect(alloc, facts, *reader, *now),
         Event::Close { .. } => cell.close(),
     }
 }
 
 /// Answers one event.
-pub fn step(alloc: Global, plan: &Plan, start: u64, cells: &mut [Cell], event: &Event) -> Reply
-    requires { CellsInRange plan.now.rules.instruments cells.old }
-    ensures { Steps plan.now.rules start cells.old event.now result cells.new }
+pub fn step(alloc: Global, plan: &Plan, cells: &mut [Cell], event: &Event) -> Reply
+    requires { CellsInRange plan.now.facts.instruments cells.old }
+    ensures { Steps plan.now.facts cells.old event.now result cells.new }
 {
     let at = event.instrument() as usize;
     if at >= cells.len() {
         return Reply::Refused(Refusal::UnknownInstrument);
     }
-    match plan.rules().get(at) {
+    match plan.facts().get(at) {
         None => Reply::Refused(Refusal::UnknownInstrument),
-        Some(rules) => answer(alloc, plan.catalogue(), rules, start, &mut cells[at], event),
+        Some(facts) => answer(alloc, plan.catalogue(), facts, &mut cells[at], event),
     }
 }

@@ -1,1 +1,2 @@
 mod Ascending
+pub mod FactsLaws
