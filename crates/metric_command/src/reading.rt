@@ -1,4 +1,4 @@
-//! The reading of a command line.
+// The reading of a command line.
 ghost use Rattle.std.specs.Prelude.{◌≡◌, [], IfOk, IsErrOf, OnOk, Some, map, true};
 ghost use Rattle.clap.specs.Words.{app_of, fault_of, found_of, rows_of, subcommand_of, subcommand_rows_of, takes};
 ghost use Rattle.metric_command.specs.Kit.{kit_app};

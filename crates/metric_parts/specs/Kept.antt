@@ -2,8 +2,6 @@
 use Rattle.std.specs.Prelude.{◌≡◌, ℕ, ◌+◌, if◌then◌else◌, List, length, None, option_map}
 use Rattle.metric_parts.specs.declared.needs.Needs.{Needs}
 use Rattle.metric_parts.specs.declared.parts.Parts.{Parts}
-use Rattle.metric_parts.specs.declared.fault.PartsFault.{PartsFault}
-use Rattle.metric_parts.specs.declared.fault.PartsFault.TheVariants.{Input, Memory}
 use Rattle.metric_parts.specs.Input.{Contents, before_script, IsInput}
 use Rattle.metric_parts.specs.Texts.{joined, ScriptLines}
 
@@ -25,8 +23,3 @@ pub record IsRead (needs : Needs) (lines : List (List ℕ)) (read : Parts) : Typ
   pub parts : Contents
   pub is_input : IsInput needs lines parts
   pub texts : read ≡ read_of needs parts
-
--- a fact of the line that a fault names
-abbrev pub OnInput : PartsFault → (ℕ → Type 0) → Type 0
-OnInput (Input line) P = P line
-OnInput Memory P = Unit {0}

@@ -3,3 +3,4 @@ pub mod Reading
 pub mod Pieces
 pub mod Texts
 pub mod Kept
+pub mod Faults

@@ -1,15 +1,15 @@
-//! Why an input has no parts.
+// Why an input is not read.
 use std::alloc::AllocError;
 use thiserror::Error;
 
-/// Why an input has no parts.
+/// Why an input has no parts, or the lines of its script are no script.
 #[derive(Clone, Copy, Debug, PartialEq, Eq, Drop, Error)]
-pub enum PartsFault {
-    /// No input goes on with the line of this number, or what a command needs is missing at the
-    /// end, and then it is one more than the number of lines.
+pub enum InputFault {
+    /// No input, or no script, goes on with the line of this number. Where one is missing at the end,
+    /// it is one more than the number of lines.
     #[error("input line {line}")]
     Input {
-        /// The line's number, counted from 1.
+        /// The line's number in the input, counted from 1.
         line: u64,
     },
     /// Memory was refused.
@@ -17,13 +17,13 @@ pub enum PartsFault {
     Memory,
 }
 
-impl From<AllocError> for PartsFault {
+impl From<AllocError> for InputFault {
     ghost use Rattle.std.specs.Prelude.{◌≡◌};
-    ghost use Rattle.metric_parts.specs.declared.fault.PartsFault.TheVariants.{Memory};
+    ghost use Rattle.metric_parts.specs.declared.fault.InputFault.TheVariants.{Memory};
 
     ghost from_gives = { λ _ fault. fault ≡ Memory };
 
-    fn from(_refused: AllocError) -> PartsFault {
-        PartsFault::Memory
+    fn from(_refused: AllocError) -> InputFault {
+        InputFault::Memory
     }
 }

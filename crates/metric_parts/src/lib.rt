@@ -10,7 +10,7 @@ mod pieces;
 mod reading;
 mod script;
 
-pub use fault::PartsFault;
+pub use fault::InputFault;
 pub use laws::one_reading;
 pub use needs::Needs;
 pub use parts::Parts;

@@ -5,11 +5,12 @@ ghost use Rattle.metric_parts.specs.Input.{is_content, IsInput, IsFirstFault};
 ghost use Rattle.metric_parts.specs.Reading.{texts};
 ghost use Rattle.metric_parts.specs.Pieces.{contents_of};
 ghost use Rattle.metric_parts.specs.Texts.{joined};
-ghost use Rattle.metric_parts.specs.Kept.{read_of, IsRead, OnInput};
+ghost use Rattle.metric_parts.specs.Faults.{OnInput};
+ghost use Rattle.metric_parts.specs.Kept.{read_of, IsRead};
 
 use crate::joining::joined;
 use crate::pieces::{Pieces, pieces_of};
-use crate::{Needs, Parts, PartsFault, Script};
+use crate::{InputFault, Needs, Parts, Script};
 use metric_base::Text;
 use std::alloc::{AllocError, Global};
 
@@ -22,22 +23,23 @@ use std::alloc::{AllocError, Global};
 ///
 /// # Errors
 ///
-/// [`PartsFault::Input`] with the first line with which no input goes on, or with one more than
-/// the number of lines where a needed part is missing at the end, and [`PartsFault::Memory`].
+/// [`InputFault::Input`] with the first line with which no input goes on, or with one more than
+/// the number of lines where a needed part is missing at the end, and [`InputFault::Memory`].
 pub fn parts_of<'a>(
     alloc: Global,
     lines: &'a [&'a [u8]],
     needs: Needs,
-) -> Result<Parts<'a>, PartsFault>
+) -> Result<Parts<'a>, InputFault>
     ensures parts { IfOk result (IsRead needs (texts lines.entry.now)) }
-    ensures certificate { IfOk result (λ parts. IsTrue needs.certificate → IsSome parts.certificate) }
+    ensures certificate { IfOk result (λ parts.
+        IsTrue needs.certificate → IsSome parts.certificate) }
     ensures script { IfOk result (λ parts. IsTrue needs.script → IsSome parts.script) }
     ensures input { IfErr result
         (λ fault. OnInput fault (IsFirstFault needs (texts lines.entry.now))) }
 {
     match pieces_of(lines, needs) {
         Ok(pieces) => Ok(read(alloc, lines, needs, pieces)?),
-        Err(rest) => Err(PartsFault::Input {
+        Err(rest) => Err(InputFault::Input {
             line: (lines.len() - rest.len()) as u64 + 1,
         }),
     }

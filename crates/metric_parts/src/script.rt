@@ -1,4 +1,4 @@
-//! The lines of a script.
+// The lines of a script.
 ghost use Rattle.std.specs.Prelude.{◌≡◌, ◌+◌, ◌≤◌, length};
 ghost use Rattle.metric_parts.specs.Reading.{texts};
 
@@ -24,7 +24,7 @@ impl<'a> Model for Script<'a> {
 }
 
 impl<'a> Script<'a> {
-    /// The lines at the end of the input, with their numbers there.
+    // The lines at the end of the input, with their numbers there.
     pub(crate) fn at_end(lines: &'a [&'a [u8]], input: &[&[u8]]) -> Script<'a>
         requires { length lines.now ≤ length input.now }
         ensures lines { result.lines ≡ texts lines.entry.now }

@@ -6,8 +6,8 @@ use Rattle.std.specs.Option.{option_map}
 use Rattle.metric_catalogue.specs.declared.attributes.OwnedAttr.{OwnedAttr}
 use Rattle.metric_text.specs.Written.{quoted, value_text, pair_text}
 use Rattle.metric_text.specs.Reading.{◌>>=◌, Tells, after_in, text_in, value_in}
-use Rattle.metric_text.specs.declared.fault.LineFault.{LineFault}
-use Rattle.metric_text.specs.declared.fault.LineFault.TheVariants.{Bad, Memory}
+use Rattle.metric_text.specs.declared.fault.SpellingFault.{SpellingFault}
+use Rattle.metric_text.specs.declared.fault.SpellingFault.TheVariants.{Bad, Memory}
 use Rattle.metric_text.specs.ReadingLaws.{IsWordEnd, after_some, after_in-some, pair_is}
 use Rattle.metric_text.specs.QuoteLaws.{text_in-text, text_in-some}
 use Rattle.metric_text.specs.ValueLaws.{value_in-text, value_in-some}
@@ -134,7 +134,7 @@ attributes_none before (b ∷ bytes) all some e so_far =
     sym so_far ∙ ap (λ (o : Option (OwnedAttr × List ℕ)). after_attributes before (o >>= λ first. option_map (λ others. first.0 ∷ others) (attributes_in (length bytes) first.1))) e
 
 -- the same of a fault that is passed on
-pub attributes_refused : {X : Type 0} (view : X → OwnedAttr × List ℕ) (fault : LineFault) (result : Result (List OwnedAttr) LineFault) (before : List OwnedAttr) (bytes all : List ℕ) → 0 < length bytes
+pub attributes_refused : {X : Type 0} (view : X → OwnedAttr × List ℕ) (fault : SpellingFault) (result : Result (List OwnedAttr) SpellingFault) (before : List OwnedAttr) (bytes all : List ℕ) → 0 < length bytes
     → IsErrAnd result (λ e. e ≡ fault) → Tells view (Err fault) (attribute_in bytes)
     → after_attributes before (all_attributes_in bytes) ≡ all_attributes_in all → Tells (λ attrs. attrs) result (all_attributes_in all)
 attributes_refused view fault (Ok attrs) before bytes all some passed told so_far = absurd passed

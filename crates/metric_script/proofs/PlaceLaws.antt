@@ -5,8 +5,8 @@ use Rattle.std.proofs.lemmas.List.{drop_more, at_drop_all}
 use Rattle.metric_history.specs.declared.event.Event.{Event}
 use Rattle.metric_parts.specs.Reading.{texts}
 use Rattle.metric_text.specs.Reading.{Tells}
-use Rattle.metric_text.specs.declared.fault.LineFault.{LineFault}
-use Rattle.metric_text.specs.declared.fault.LineFault.TheVariants.{Bad, Memory as WantOfMemory}
+use Rattle.metric_text.specs.declared.fault.SpellingFault.{SpellingFault}
+use Rattle.metric_text.specs.declared.fault.SpellingFault.TheVariants.{Bad, Memory as WantOfMemory}
 use Rattle.metric_script.specs.declared.stop.Stop.{Stop}
 use Rattle.metric_script.specs.declared.stop.Stop.TheVariants.{At}
 use Rattle.metric_script.specs.Scripts.{is_passed_over}
@@ -22,12 +22,12 @@ texts_at : (lines : Slices) (i : ℕ) (d : Bor (List ℕ)) → i < length lines 
 texts_at lines i d below = ap texts (drop_more lines i d below)
 
 -- a fault of a line as the reason to stop
-pub stop_told : {X Y : Type 0} (view : X → Y) (fault : LineFault) (stop : Stop) (rest : Bor Slices) (read : Result Y Lines) → stop ≡ stop_of rest fault → (fault ≡ Bad → read ≡ Err (texts rest.now))
+pub stop_told : {X Y : Type 0} (view : X → Y) (fault : SpellingFault) (stop : Stop) (rest : Bor Slices) (read : Result Y Lines) → stop ≡ stop_of rest fault → (fault ≡ Bad → read ≡ Err (texts rest.now))
     → TellsLines view (Err stop) read
 stop_told view Bad stop rest read is bad = subst (λ s. TellsLines view (Err s) read) (sym is) (bad refl)
 stop_told view WantOfMemory stop rest read is bad = subst (λ s. TellsLines view (Err s) read) (sym is) tt
 
-pub told_none : {X Y : Type 0} (view : X → Y) (fault : LineFault) (read : Option Y) → Tells view (Err fault) read → fault ≡ Bad → read ≡ None
+pub told_none : {X Y : Type 0} (view : X → Y) (fault : SpellingFault) (read : Option Y) → Tells view (Err fault) read → fault ≡ Bad → read ≡ None
 told_none view Bad read told bad = told
 told_none view WantOfMemory read told bad = absurd cc
 

@@ -64,12 +64,17 @@ close_in bytes = do
   instrument ← number_of (2 ^ 32) bytes
   Some (Close instrument)
 
+-- the event of a line that is no recording, by its first word and what follows
+abbrev pub other_event_in : List ℕ → List ℕ → Option Event
+other_event_in word rest =
+    if bytes_eq word (codes "collect") then after_in (32 ∷ []) rest >>= collect_in else (
+    if bytes_eq word (codes "close") then after_in (32 ∷ []) rest >>= close_in else None)
+
 -- the event that a line spells: its first word says which it is
 unfoldable pub event_in : List ℕ → Option Event
 event_in line =
-    if bytes_eq (word_in line).0 (codes "record") then after_in (32 ∷ []) (word_in line).1 >>= record_in else (
-    if bytes_eq (word_in line).0 (codes "collect") then after_in (32 ∷ []) (word_in line).1 >>= collect_in else (
-    if bytes_eq (word_in line).0 (codes "close") then after_in (32 ∷ []) (word_in line).1 >>= close_in else None))
+    if bytes_eq (word_in line).0 (codes "record") then after_in (32 ∷ []) (word_in line).1 >>= record_in
+    else other_event_in (word_in line).0 (word_in line).1
 
 -- the start that a line spells
 unfoldable pub start_in : List ℕ → Option ℕ

@@ -1,12 +1,10 @@
 -- What a script is, and which of its lines is the first faulty one.
-use Rattle.std.specs.Prelude.{◌≡◌, ℕ, ◌+◌, ◌<◌, ◌^◌, Bool, true, not, ◌==◌, List, [], ◌∷◌, ◌++◌, length, filter, map}
+use Rattle.std.specs.Prelude.{◌≡◌, ℕ, ◌+◌, ◌<◌, ◌^◌, Bool, true, not, ◌==◌, List, [], ◌∷◌, filter, map}
 use Rattle.std.specs.List.{AllByRecursion}
 use Rattle.metric_base.specs.Fronts.{BreaksOffAt}
 use Rattle.metric_history.specs.declared.event.Event.{Event}
 use Rattle.metric_parts.specs.Texts.{ScriptLines}
 use Rattle.metric_script.specs.Spelling.{start_text, event_text, FitsEvent}
-use Rattle.metric_script.specs.declared.fault.ScriptFault.{ScriptFault}
-use Rattle.metric_script.specs.declared.fault.ScriptFault.TheVariants.{Input, Memory}
 
 -- a line that is passed over: it is empty, or begins with `#`
 abbrev pub is_passed_over : List ℕ → Bool
@@ -39,8 +37,3 @@ pub record IsFirstFaultAt (script : ScriptLines) (number : ℕ) : Type 0 where
   pub place : ℕ
   pub numbered : number ≡ script.first_line + place
   pub fault : IsFirstFault script.lines place
-
--- a fact of the line that a fault names
-abbrev pub OnInput : ScriptFault → (ℕ → Type 0) → Type 0
-OnInput (Input line) P = P line
-OnInput Memory P = Unit {0}

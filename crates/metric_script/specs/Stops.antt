@@ -4,8 +4,8 @@ use Rattle.std.specs.Borrow.{Bor}
 use Rattle.metric_base.specs.Steps.{◌>>=◌}
 use Rattle.metric_history.specs.declared.event.Event.{Event}
 use Rattle.metric_parts.specs.Reading.{texts}
-use Rattle.metric_text.specs.declared.fault.LineFault.{LineFault}
-use Rattle.metric_text.specs.declared.fault.LineFault.TheVariants.{Bad, Memory as WantOfMemory}
+use Rattle.metric_text.specs.declared.fault.SpellingFault.{SpellingFault}
+use Rattle.metric_text.specs.declared.fault.SpellingFault.TheVariants.{Bad, Memory as WantOfMemory}
 use Rattle.metric_script.specs.Reading.{event_in, start_in}
 use Rattle.metric_script.specs.Scripts.{is_passed_over}
 use Rattle.metric_script.specs.declared.events.ScriptEvents.{ScriptEvents}
@@ -19,7 +19,7 @@ TellsLines view (Err (At rest)) read = read ≡ Err (texts rest.now)
 TellsLines view (Err Memory) read = Unit {0}
 
 -- the reading stops at the first of these lines for this reason
-abbrev pub stop_of : Bor (List (Bor (List ℕ))) → LineFault → Stop
+abbrev pub stop_of : Bor (List (Bor (List ℕ))) → SpellingFault → Stop
 stop_of lines Bad = At lines
 stop_of lines WantOfMemory = Memory
 

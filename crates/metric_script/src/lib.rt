@@ -2,13 +2,11 @@
 #![tactic(auto)]
 
 mod events;
-mod fault;
 mod laws;
 mod line;
 mod reading;
 mod stop;
 
 pub use events::ScriptEvents;
-pub use fault::ScriptFault;
 pub use laws::one_script;
 pub use reading::events_of;

@@ -1,15 +1,16 @@
-//! The lines of a script read into its start and its events.
+// The lines of a script read into its start and its events.
 ghost use Rattle.std.specs.Prelude.{◌≡◌, ◌≤◌, length, drop, IfErr, IfOk};
+ghost use Rattle.metric_parts.specs.Faults.{OnInput};
 ghost use Rattle.metric_parts.specs.Reading.{texts};
-ghost use Rattle.metric_script.specs.Scripts.{IsScript, IsFirstFaultAt, OnInput};
+ghost use Rattle.metric_script.specs.Scripts.{IsScript, IsFirstFaultAt};
 ghost use Rattle.metric_script.specs.Stops.{TellsLines, begun_in, events_in, script_in};
 
+use crate::ScriptEvents;
 use crate::line::{event_of, is_passed_over, start_of};
 use crate::stop::{Lines, Stop};
-use crate::{ScriptEvents, ScriptFault};
 use metric_base::Items;
 use metric_history::Event;
-use metric_parts::Script;
+use metric_parts::{InputFault, Script};
 use std::alloc::Global;
 
 /// The start of a script and its events in order.
@@ -21,20 +22,20 @@ use std::alloc::Global;
 ///
 /// # Errors
 ///
-/// [`ScriptFault::Input`] with the number that the first line with which no script goes on has in
+/// [`InputFault::Input`] with the number that the first line with which no script goes on has in
 /// the input, or with one more than the number of lines where no line is the start, and
-/// [`ScriptFault::Memory`].
-pub fn events_of(alloc: Global, script: &Script<'_>) -> Result<ScriptEvents, ScriptFault>
+/// [`InputFault::Memory`].
+pub fn events_of(alloc: Global, script: &Script<'_>) -> Result<ScriptEvents, InputFault>
     ensures found { IfOk result (λ read. IsScript script.now.lines read.start read.events) }
     ensures input { IfErr result (λ fault. OnInput fault (IsFirstFaultAt script.now)) }
 {
     let lines = script.lines();
     match read(alloc, lines) {
         Ok(events) => Ok(events),
-        Err(Stop::At(rest)) => Err(ScriptFault::Input {
+        Err(Stop::At(rest)) => Err(InputFault::Input {
             line: script.line_number(lines.len() - rest.len()),
         }),
-        Err(Stop::Memory) => Err(ScriptFault::Memory),
+        Err(Stop::Memory) => Err(InputFault::Memory),
     }
 }
 
@@ -47,22 +48,22 @@ fn read<'a>(alloc: Global, lines: Lines<'a>) -> Result<ScriptEvents, Stop<'a>>
     Ok(ScriptEvents { start, events })
 }
 
-/// The time of the start, and the lines after it.
+// The time of the start, and the lines after it.
 fn begin<'a>(lines: Lines<'a>) -> Result<(u64, Lines<'a>), Stop<'a>>
     ensures { TellsLines (λ x. (x.0, texts x.1.now)) result (begun_in (texts lines.entry.now)) }
 {
     for (place, line) in lines.iter().enumerate() {
         if !is_passed_over(line) {
             return match start_of(line) {
-                Ok(start) => Ok((start, lines_from(lines, place + 1))),
-                Err(fault) => Err(Stop::at(lines_from(lines, place), fault)),
+                Some(start) => Ok((start, lines_from(lines, place + 1))),
+                None => Err(Stop::At(lines_from(lines, place))),
             };
         }
     }
     Err(Stop::At(lines_from(lines, lines.len())))
 }
 
-/// The events of the lines after the start.
+// The events of the lines after the start.
 fn events<'a>(alloc: Global, lines: Lines<'a>) -> Result<Items<Event>, Stop<'a>>
     ensures { TellsLines (λ events. events) result (events_in (texts lines.entry.now)) }
 {
@@ -78,7 +79,7 @@ fn events<'a>(alloc: Global, lines: Lines<'a>) -> Result<Items<Event>, Stop<'a>>
     Ok(events)
 }
 
-/// The lines from this place on.
+// The lines from this place on.
 fn lines_from<'a>(lines: Lines<'a>, place: usize) -> Lines<'a>
     requires { place ≤ length lines.now }
     ensures { result.now ≡ drop place lines.entry.now }

@@ -1,16 +1,16 @@
-//! Where the reading of lines stops.
-use metric_text::LineFault;
+// Where the reading of lines stops.
+use metric_text::SpellingFault;
 use std::alloc::AllocError;
 
-/// Lines of a script.
+// Lines of a script.
 pub(crate) type Lines<'a> = &'a [&'a [u8]];
 
-/// Why the reading of lines stops.
+// Why the reading of lines stops.
 #[derive(Clone, Copy, Debug, Drop)]
 pub(crate) enum Stop<'a> {
-    /// The first of these lines is faulty, or they are none and a line is missing.
+    // The first of these lines is faulty, or they are none and a line is missing.
     At(Lines<'a>),
-    /// Memory was refused.
+    // Memory was refused.
     Memory,
 }
 
@@ -18,13 +18,13 @@ impl<'a> Stop<'a> {
     ghost use Rattle.std.specs.Prelude.{◌≡◌};
     ghost use Rattle.metric_script.specs.Stops.{stop_of};
 
-    /// The reading stops at the first of these lines for this reason.
-    pub(crate) fn at(lines: Lines<'a>, fault: LineFault) -> Stop<'a>
+    // The reading stops at the first of these lines for this reason.
+    pub(crate) fn at(lines: Lines<'a>, fault: SpellingFault) -> Stop<'a>
         ensures { result ≡ stop_of lines.entry fault }
     {
         match fault {
-            LineFault::Bad => Stop::At(lines),
-            LineFault::Memory => Stop::Memory,
+            SpellingFault::Bad => Stop::At(lines),
+            SpellingFault::Memory => Stop::Memory,
         }
     }
 }

@@ -1,4 +1,4 @@
-//! The fields of a table that are lists.
+// The fields of a table that are lists.
 ghost use Rattle.std.specs.Prelude.{◌≡◌, ◌≤◌, Ok, Err, MatchResult, IfOk, map, length, vec_len};
 ghost use Rattle.toml.specs.View.{table_view, view};
 ghost use Rattle.metric_base.specs.Steps.{Gives, GivesBy};
@@ -62,7 +62,7 @@ pub fn table_of<'a, F: Copy>(value: &'a Value, faults: &FieldFaults<F>) -> Resul
     }
 }
 
-/// The tables that the values of a list are.
+// The tables that the values of a list are.
 #[tactic(auto, unfolding(crate::specs::Fields::tables_of))]
 fn tables_of<'a, F: Copy + Drop>(
     alloc: Global,
@@ -104,7 +104,7 @@ pub fn tables_field<'a, F: Copy + Drop>(
     }
 }
 
-/// The whole numbers that the values of a list are.
+// The whole numbers that the values of a list are.
 #[tactic(auto, unfolding(crate::specs::Fields::integers_of))]
 fn integers<F: Copy + Drop>(
     alloc: Global,
@@ -139,7 +139,7 @@ pub fn integers_of<F: Copy + Drop>(
     integers(alloc, values, faults)
 }
 
-/// The text of at most 1,023 characters that a value is.
+// The text of at most 1,023 characters that a value is.
 #[tactic(auto, unfolding(crate::specs::Fields::short_text_of))]
 fn short_text_of<'a, F: Copy>(value: &'a Value, faults: &FieldFaults<F>) -> Result<&'a str, F>
     ensures { MatchResult result (λ s. short_text_of faults.now (view value.now) ≡ Ok s.now)
@@ -149,7 +149,7 @@ fn short_text_of<'a, F: Copy>(value: &'a Value, faults: &FieldFaults<F>) -> Resu
     short_text(text, faults)
 }
 
-/// A copy of a text.
+// A copy of a text.
 fn copied<F: Copy>(alloc: Global, text: &str, memory: F) -> Result<Text, F>
     ensures { MatchResult result (λ t. t ≡ text.now) (λ e. e ≡ memory) }
 {

@@ -1,14 +1,16 @@
 -- Texts in quotes, a run of plain bytes and an escape at a time.
-use Rattle.std.proofs.Common.{◌≡◌, ◌<◌, ◌==◌, ℕ, true, false, List, [], ◌∷◌, ◌++◌, Option, Some, None, length, refl, sym, ap, subst, ◌∙◌, inl, inr, append_assoc, arith}
+use Rattle.std.proofs.Common.{◌≡◌, ◌<◌, ◌==◌, ℕ, true, false, List, [], ◌∷◌, ◌++◌, Option, Some, None, Result, length, refl, sym, ap, subst, ◌∙◌, inl, inr, append_assoc, arith}
 use Rattle.std.specs.Prelude.{IsUtf8}
 use Rattle.std.specs.List.{flat_map}
 use Rattle.std.specs.Str.{is_utf8}
 use Rattle.std.proofs.lemmas.Str.{is_utf8-from_IsUtf8, IsUtf8-from_is_utf8}
-use Rattle.std.specs.Option.{option_map}
+use Rattle.std.specs.Option.{option_map, ok_or}
 use Rattle.metric_text.specs.Written.{escape}
-use Rattle.metric_text.specs.Reading.{after_in, closed_in, is_special, byte_of, split_before, escaped_in, with_front, unquoted_in, text_in}
+use Rattle.metric_text.specs.Reading.{Tells, after_in, closed_in, is_special, byte_of, split_before, escaped_in, with_front, unquoted_in, text_in}
 use Rattle.metric_text.specs.ReadingLaws.{BeginsWith, length-split_before, split_before-begins}
 use Rattle.metric_text.specs.LineLaws.{true_or_false}
+use Rattle.metric_text.specs.declared.fault.SpellingFault.{SpellingFault}
+use Rattle.metric_text.specs.declared.fault.SpellingFault.TheVariants.{Bad}
 use Rattle.metric_text.specs.QuoteLaws.{escape-split, unquoted_in-split, unquoted_in-escaped, unquoted_in-end, with_front-append, some_if, read_letter}
 
 -- the plain bytes in front are written
@@ -90,3 +92,8 @@ unfolding text_in
 text_refused bytes start found rest opened inside bad =
     let tested : is_utf8 found ≡ false = elim (true_or_false (is_utf8 found)) [ inl good ↦ absurd (bad (IsUtf8-from_is_utf8 found good)) | inr none ↦ none ] in
     rw (opened, inside, tested) refl
+
+-- nothing found is outside the grammar
+pub Tells-ok_or : {X Y : Type 0} (view : X → Y) (found : Option X) (told : Result X SpellingFault) (read : Option Y) → told ≡ ok_or found Bad → option_map view found ≡ read → Tells view told read
+Tells-ok_or view None told read is found = rw is (sym found)
+Tells-ok_or view (Some x) told read is found = rw is (sym found)

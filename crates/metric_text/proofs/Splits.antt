@@ -1,11 +1,11 @@
 -- Where bytes are cut, and what a prefix or a suffix leaves.
-use Rattle.std.proofs.Common.{Result, subst, ◌≡◌, ◌≢◌, ◌<◌, ◌≤◌, ◌+◌, ◌-◌, ℕ, Bor, MatchOption, eqb, map, ◌++◌, inl, inr, append_assoc, Bool, true, false, not, cond, ltb, List, [], ◌∷◌, Option, Some, None, length, take, drop, suc, refl, sym, ap, ◌∙◌, arith}
+use Rattle.std.proofs.Common.{subst, ◌≡◌, ◌≢◌, ◌<◌, ◌≤◌, ◌+◌, ◌-◌, ℕ, Bor, MatchOption, eqb, map, ◌++◌, inl, inr, append_assoc, Bool, true, false, not, cond, ltb, List, [], ◌∷◌, Option, Some, None, length, take, drop, suc, refl, sym, ap, ◌∙◌, arith}
 use Rattle.std.specs.Prelude.{unwrap_or}
 use Rattle.std.specs.List.{position_or_len, position_from}
 use Rattle.std.proofs.lemmas.Bool.Decides.{nat_tests}
 use Rattle.std.proofs.lemmas.Iterator.Adapters.{position_from-zero}
 use Rattle.std.proofs.lemmas.List.Sums.{prefix_len-le-length}
-use Rattle.std.specs.Option.{option_map, ok_or}
+use Rattle.std.specs.Option.{option_map}
 use Rattle.std.specs.Cmp.Lexicographic.{pointwise}
 use Rattle.std.proofs.lemmas.Bool.Decides.{Decides-eqb, eqb_tells}
 use Rattle.std.proofs.lemmas.Grind.{common_steps}
@@ -13,9 +13,7 @@ use Rattle.std.proofs.lemmas.List.{map_push}
 use Rattle.std.proofs.lemmas.Slice.Eq.{strip_prefix_is, strip_suffix_is}
 use Rattle.metric_text.specs.Lines.{is_feed, line_in, lines_of, without_return}
 use Rattle.metric_text.specs.LineLaws.{lines_of-first, length-line_in, line_in-open, line_in-ended}
-use Rattle.metric_text.specs.Reading.{Tells, split_before, after_in}
-use Rattle.metric_text.specs.declared.fault.LineFault.{LineFault}
-use Rattle.metric_text.specs.declared.fault.LineFault.TheVariants.{Bad}
+use Rattle.metric_text.specs.Reading.{split_before, after_in}
 use Rattle.metric_text.specs.ReadingLaws.{after_in-text, after_in-some, none_from}
 
 cut_step : (test : Bool) (b : ℕ) (bytes : List ℕ) (front : List ℕ × List ℕ) (n : ℕ) → front.0 ≡ take n bytes → front.1 ≡ drop n bytes
@@ -55,17 +53,11 @@ told_after : (keyword bytes : List ℕ) (found : Option (Bor (List ℕ))) → Ma
 told_after keyword bytes None never = sym (prefix_none keyword bytes never)
 told_after keyword bytes (Some x) is = sym (ap (after_in keyword) is ∙ after_in-text keyword x.now)
 
-told_either : (found : Option (Bor (List ℕ))) → Tells (λ x. x.now) (ok_or found Bad) (option_map (λ x. x.now) found)
-told_either None = refl
-told_either (Some x) = refl
-
 -- what `strip_prefix` found follows the keyword
-pub keyword_told : (keyword prefix bytes : List ℕ) (found : Option (Bor (List ℕ))) (told : Result (Bor (List ℕ)) LineFault) → told ≡ ok_or found Bad → prefix ≡ keyword
+pub keyword_told : (keyword prefix bytes : List ℕ) (found : Option (Bor (List ℕ))) → prefix ≡ keyword
     → MatchOption found (pointwise eqb (take (length prefix) bytes) prefix ≡ false) (λ x. (pointwise eqb (take (length prefix) bytes) prefix ≡ true) × (x.now ≡ drop (length prefix) bytes) × (length x.now + length prefix ≡ length bytes))
-    → Tells (λ x. x.now) told (after_in keyword bytes)
-keyword_told keyword prefix bytes found told is same cases =
-    let read : option_map (λ x. x.now) found ≡ after_in keyword bytes = told_after prefix bytes found (strip_prefix_is Decides-eqb bytes prefix found cases) ∙ ap (λ k. after_in k bytes) same in
-    rw (is, ← read) (told_either found)
+    → option_map (λ x. x.now) found ≡ after_in keyword bytes
+keyword_told keyword prefix bytes found same cases = told_after prefix bytes found (strip_prefix_is Decides-eqb bytes prefix found cases) ∙ ap (λ k. after_in k bytes) same
 
 return_at_end : (front : List ℕ) → without_return (front ++ 13 ∷ []) ≡ front
 return_at_end [] = refl

@@ -9,15 +9,15 @@ use Rattle.std.specs.Str.Parse.{digits_value, signed_digits_value}
 use Rattle.metric_names.specs.declared.value.AttrValue.{AttrValue}
 use Rattle.metric_names.specs.declared.value.AttrValue.TheVariants.{Text, Whole, Flag}
 use Rattle.metric_text.specs.Written.{letter_of}
-use Rattle.metric_text.specs.declared.fault.LineFault.{LineFault}
-use Rattle.metric_text.specs.declared.fault.LineFault.TheVariants.{Bad, Memory}
+use Rattle.metric_text.specs.declared.fault.SpellingFault.{SpellingFault}
+use Rattle.metric_text.specs.declared.fault.SpellingFault.TheVariants.{Bad, Memory}
 
 infixl 10 ◌>>=◌
 abbrev pub ◌>>=◌ : {A B : Type 0} → Option A → (A → Option B) → Option B
 o >>= f = option_and_then f o
 
 -- What a function returned is what reading gives, unless memory was refused.
-abbrev pub Tells : {X Y : Type 0} → (X → Y) → Result X LineFault → Option Y → Type 0
+abbrev pub Tells : {X Y : Type 0} → (X → Y) → Result X SpellingFault → Option Y → Type 0
 Tells view (Ok x) read = read ≡ Some (view x)
 Tells view (Err Bad) read = read ≡ None
 Tells view (Err Memory) read = Unit {0}

@@ -1,12 +1,12 @@
-//! Why a part of a line is not read.
+// Why what is spelled is not read.
 ghost use Rattle.std.specs.Prelude.{◌≡◌};
 
 use std::alloc::AllocError;
 use thiserror::Error;
 
-/// Why a part of a line is not read.
+/// Why what is spelled is not read.
 #[derive(Clone, Copy, Debug, PartialEq, Eq, Drop, Error)]
-pub enum LineFault {
+pub enum SpellingFault {
     /// The bytes are outside the grammar.
     #[error("outside the grammar")]
     Bad,
@@ -15,12 +15,12 @@ pub enum LineFault {
     Memory,
 }
 
-impl From<AllocError> for LineFault {
-    ghost use Rattle.metric_text.specs.declared.fault.LineFault.TheVariants.{Memory};
+impl From<AllocError> for SpellingFault {
+    ghost use Rattle.metric_text.specs.declared.fault.SpellingFault.TheVariants.{Memory};
 
     ghost from_gives = { λ _ e. e ≡ Memory };
 
-    fn from(_refused: AllocError) -> LineFault {
-        LineFault::Memory
+    fn from(_refused: AllocError) -> SpellingFault {
+        SpellingFault::Memory
     }
 }

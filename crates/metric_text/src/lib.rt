@@ -13,11 +13,11 @@ mod spelled;
 mod values;
 mod writing;
 
-pub use fault::LineFault;
+pub use fault::SpellingFault;
 pub use labels::{push_labelled, push_numbered};
-pub use laws::each_value_has_one_spelling;
-pub use line::{line_at, lines};
-pub use numbers::{i64_at, i64_of, u32_at, u32_of, u64_at, u64_of};
+pub use laws::{each_number_has_one_spelling, each_value_has_one_spelling};
+pub use line::lines;
+pub use numbers::{i64_at, i64_of, u32_at, u32_of, u64_of};
 pub use quotes::{push_quoted, quoted_at};
 pub use scanning::{after_byte, after_keyword, word_at};
 pub use spelled::{Spelled, push_joined, push_list};

@@ -1,4 +1,4 @@
-//! The lines of an input.
+// The lines of an input.
 ghost use Rattle.std.specs.Prelude.{◌≡◌, ◌<◌, length, map, IfOk, IfSome};
 ghost use Rattle.std.specs.List.{position_from};
 ghost use Rattle.metric_text.specs.Lines.{is_feed, line_in, lines_of, without_return};
@@ -21,8 +21,8 @@ pub fn lines<'a>(alloc: Global, bytes: &'a [u8]) -> Result<Vec<&'a [u8]>, AllocE
     Ok(lines)
 }
 
-/// The first line, without its end, and what follows it.
-pub fn line_at(bytes: &[u8]) -> (&[u8], &[u8])
+// The first line, without its end, and what follows it.
+fn line_at(bytes: &[u8]) -> (&[u8], &[u8])
     ensures line { result.0.now ≡ (line_in bytes.now).0 }
     ensures rest { result.1.now ≡ (line_in bytes.now).1 }
 {
@@ -33,7 +33,7 @@ pub fn line_at(bytes: &[u8]) -> (&[u8], &[u8])
     }
 }
 
-/// The bytes before the first line feed, and the rest from it on.
+// The bytes before the first line feed, and the rest from it on.
 fn split_feed(bytes: &[u8]) -> (&[u8], &[u8])
     ensures line { result.0.now ≡ (split_before is_feed bytes.now).0 }
     ensures end { result.1.now ≡ (split_before is_feed bytes.now).1 }
@@ -48,7 +48,7 @@ fn first_feed(bytes: &[u8]) -> Option<usize>
     bytes.iter().position(|byte| *byte == b'\n')
 }
 
-/// A line without the carriage return at its end.
+// A line without the carriage return at its end.
 fn without_return(line: &[u8]) -> &[u8]
     ensures { result.now ≡ without_return line.now }
 {

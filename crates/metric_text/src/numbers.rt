@@ -1,8 +1,8 @@
-//! Numbers in decimal: without leading zeros and without `+`, and a negative one with `-`.
+// Numbers in decimal: without leading zeros and without `+`, and a negative one with `-`.
 ghost use Rattle.std.specs.Prelude.{◌≡◌, ◌^◌};
-ghost use Rattle.metric_text.specs.Reading.{Tells, number_in, number_of, signed_in, signed_of};
+ghost use Rattle.std.specs.Option.{option_map};
+ghost use Rattle.metric_text.specs.Reading.{number_in, number_of, signed_in, signed_of};
 
-use crate::fault::LineFault;
 use crate::scanning::word_at;
 use itoa::Buffer;
 
@@ -39,32 +39,20 @@ pub fn i64_of(word: &[u8]) -> Option<i64>
     }
 }
 
-/// The number that the first word spells, and the rest. `Bad` where it spells none.
+/// The number that the first word spells, if it spells one, and the rest.
 #[tactic(auto, unfolding(crate::specs::Reading::number_in))]
-pub fn u32_at(bytes: &[u8]) -> Result<(u32, &[u8]), LineFault>
-    ensures { Tells (λ x. (x.0, x.1.now)) result (number_in (2 ^ 32) bytes.now) }
+pub fn u32_at(bytes: &[u8]) -> Option<(u32, &[u8])>
+    ensures { option_map (λ x. (x.0, x.1.now)) result ≡ number_in (2 ^ 32) bytes.now }
 {
     let (word, rest) = word_at(bytes);
-    let number = u32_of(word).ok_or(LineFault::Bad)?;
-    Ok((number, rest))
+    Some((u32_of(word)?, rest))
 }
 
-/// The number that the first word spells, and the rest. `Bad` where it spells none.
-#[tactic(auto, unfolding(crate::specs::Reading::number_in))]
-pub fn u64_at(bytes: &[u8]) -> Result<(u64, &[u8]), LineFault>
-    ensures { Tells (λ x. (x.0, x.1.now)) result (number_in (2 ^ 64) bytes.now) }
-{
-    let (word, rest) = word_at(bytes);
-    let number = u64_of(word).ok_or(LineFault::Bad)?;
-    Ok((number, rest))
-}
-
-/// The number that the first word spells, and the rest. `Bad` where it spells none.
+/// The number that the first word spells, if it spells one, and the rest.
 #[tactic(auto, unfolding(crate::specs::Reading::signed_in))]
-pub fn i64_at(bytes: &[u8]) -> Result<(i64, &[u8]), LineFault>
-    ensures { Tells (λ x. (x.0, x.1.now)) result (signed_in bytes.now) }
+pub fn i64_at(bytes: &[u8]) -> Option<(i64, &[u8])>
+    ensures { option_map (λ x. (x.0, x.1.now)) result ≡ signed_in bytes.now }
 {
     let (word, rest) = word_at(bytes);
-    let value = i64_of(word).ok_or(LineFault::Bad)?;
-    Ok((value, rest))
+    Some((i64_of(word)?, rest))
 }

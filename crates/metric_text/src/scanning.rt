@@ -1,25 +1,24 @@
-//! Words and marks at the front of a line.
+// Words and marks at the front of a line.
 ghost use Rattle.std.specs.Prelude.{◌≡◌, ◌<◌, [], ◌∷◌, length, IfSome};
 ghost use Rattle.std.specs.List.{position_from};
-ghost use Rattle.metric_text.specs.Reading.{Tells, after_in, is_space, word_in};
+ghost use Rattle.std.specs.Option.{option_copied};
+ghost use Rattle.metric_text.specs.Reading.{after_in, is_space, word_in};
 
-use crate::fault::LineFault;
-
-/// What follows a byte that stands first. `Bad` where another byte or none stands first.
-pub fn after_byte(bytes: &[u8], byte: u8) -> Result<&[u8], LineFault>
-    ensures { Tells (λ rest. rest.now) result (after_in (byte ∷ []) bytes.now) }
+/// What follows a byte, if it stands first.
+pub fn after_byte(bytes: &[u8], byte: u8) -> Option<&[u8]>
+    ensures { option_copied result ≡ after_in (byte ∷ []) bytes.now }
 {
     match bytes {
-        [first, rest @ ..] if *first == byte => Ok(rest),
-        _ => Err(LineFault::Bad),
+        [first, rest @ ..] if *first == byte => Some(rest),
+        _ => None,
     }
 }
 
-/// What follows a keyword that stands first. `Bad` where it does not stand first.
-pub fn after_keyword<'a>(bytes: &'a [u8], keyword: &str) -> Result<&'a [u8], LineFault>
-    ensures { Tells (λ rest. rest.now) result (after_in keyword.now bytes.now) }
+/// What follows a keyword, if it stands first.
+pub fn after_keyword<'a>(bytes: &'a [u8], keyword: &str) -> Option<&'a [u8]>
+    ensures { option_copied result ≡ after_in keyword.now bytes.now }
 {
-    bytes.strip_prefix(keyword.as_bytes()).ok_or(LineFault::Bad)
+    bytes.strip_prefix(keyword.as_bytes())
 }
 
 /// The bytes up to the first space, and the rest from that space on.

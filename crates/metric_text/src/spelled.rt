@@ -1,4 +1,4 @@
-//! Values with one spelling, and lists of them.
+// Values with one spelling, and lists of them.
 ghost use Rattle.std.specs.Prelude.{◌≡◌, ◌∷◌, ◌++◌, OnOk};
 ghost use Rattle.std.specs.List.{flat_map};
 ghost use Rattle.metric_text.specs.Lists.{joined, list_text};
@@ -41,7 +41,7 @@ pub fn push_list<T: Spelled>(out: &mut Vec<u8>, values: &[T]) -> Result<(), Allo
     push_byte(out, b']')
 }
 
-/// Writes each value with a comma before it.
+// Writes each value with a comma before it.
 #[tactic(auto, using(crate::specs::ListLaws::steps))]
 fn push_more<T: Spelled>(out: &mut Vec<u8>, values: &[T]) -> Result<(), AllocError>
     ensures { OnOk result (out.new.items ≡ out.old.items ++ flat_map (λ x. 44 ∷ T.text x) values.now) }

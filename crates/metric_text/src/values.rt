@@ -1,9 +1,10 @@
-//! Attribute values, and keys with their values.
+// Attribute values, and keys with their values.
 ghost use Rattle.std.specs.Prelude.{◌≡◌, ◌++◌, OnOk};
+ghost use Rattle.std.specs.Option.{option_map};
 ghost use Rattle.metric_text.specs.Reading.{Tells, bare_in, bare_of, quoted_value_in, value_in};
 ghost use Rattle.metric_text.specs.Written.{pair_text, value_text};
 
-use crate::fault::LineFault;
+use crate::fault::SpellingFault;
 use crate::numbers::i64_of;
 use crate::quotes::{push_quoted, quoted_at};
 use crate::scanning::word_at;
@@ -44,17 +45,17 @@ pub fn push_pair(out: &mut Vec<u8>, key: &str, value: &AttrValue) -> Result<(), 
 
 /// Reads an attribute's value, and gives it with what follows. `Bad` where none stands first.
 #[tactic(auto, unfolding(crate::specs::Reading::value_in))]
-pub fn value_at(alloc: Global, bytes: &[u8]) -> Result<(AttrValue, &[u8]), LineFault>
+pub fn value_at(alloc: Global, bytes: &[u8]) -> Result<(AttrValue, &[u8]), SpellingFault>
     ensures { Tells (λ x. (x.0, x.1.now)) result (value_in bytes.now) }
 {
     match bytes {
         [b'"', ..] => quoted_value_at(alloc, bytes),
-        _ => bare_at(bytes),
+        _ => bare_at(bytes).ok_or(SpellingFault::Bad),
     }
 }
 
 #[tactic(auto, unfolding(crate::specs::Reading::quoted_value_in))]
-fn quoted_value_at(alloc: Global, bytes: &[u8]) -> Result<(AttrValue, &[u8]), LineFault>
+fn quoted_value_at(alloc: Global, bytes: &[u8]) -> Result<(AttrValue, &[u8]), SpellingFault>
     ensures { Tells (λ x. (x.0, x.1.now)) result (quoted_value_in bytes.now) }
 {
     let (text, rest) = quoted_at(alloc, bytes)?;
@@ -62,15 +63,14 @@ fn quoted_value_at(alloc: Global, bytes: &[u8]) -> Result<(AttrValue, &[u8]), Li
 }
 
 #[tactic(auto, unfolding(crate::specs::Reading::bare_in))]
-fn bare_at(bytes: &[u8]) -> Result<(AttrValue, &[u8]), LineFault>
-    ensures { Tells (λ x. (x.0, x.1.now)) result (bare_in bytes.now) }
+fn bare_at(bytes: &[u8]) -> Option<(AttrValue, &[u8])>
+    ensures { option_map (λ x. (x.0, x.1.now)) result ≡ bare_in bytes.now }
 {
     let (word, rest) = word_at(bytes);
-    let value = bare_of(word).ok_or(LineFault::Bad)?;
-    Ok((value, rest))
+    Some((bare_of(word)?, rest))
 }
 
-/// The number or the flag that a whole word spells, if it spells one.
+// The number or the flag that a whole word spells, if it spells one.
 #[tactic(auto, unfolding(crate::specs::Reading::bare_of))]
 fn bare_of(word: &[u8]) -> Option<AttrValue>
     ensures { result ≡ bare_of word.now }

@@ -1,19 +1,17 @@
 -- the first line that is not passed over is the start
-use Rattle.std.proofs.Common.{ℕ, List, sym, Bor}
-use Rattle.metric_parts.specs.Reading.{texts}
-use Rattle.metric_script.proofs.PlaceLaws.{stop_told, told_none, begun_passed, begun_start, begun_bad, begun_end}
+use Rattle.std.proofs.Common.{sym}
+use Rattle.metric_script.proofs.PlaceLaws.{begun_passed, begun_start, begun_bad, begun_end}
 use Rattle.metric_script.proofs.reading.begin.Goals as goal
 
-pub returns-in-Ok : goal.returns-in-Ok
-returns-in-Ok c =
-    begun_start c.args.lines.now c.lines_from.result.now c.loop-place.place c.in-Ok.start _ _ c.loop-place-test.true
-    (sym c.if-not-is_passed_over.ensures) c.in-Ok.ensures c.lines_from.ensures c.loop-place.invariant
+pub returns-in-Some : goal.returns-in-Some
+returns-in-Some c =
+    begun_start c.args.lines.now c.lines_from.result.now c.loop-place.place c.in-Some.start _ _ c.loop-place-test.true
+    (sym c.if-not-is_passed_over.ensures) (sym c.in-Some.ensures) c.lines_from.ensures c.loop-place.invariant
 
-pub returns-in-Err : goal.returns-in-Err
-returns-in-Err c =
-    stop_told (λ (x : ℕ × Bor (List (Bor (List ℕ)))). (x.0, texts x.1.now)) c.in-Err.fault c.at.result c.lines_from-in-Err.result _ c.at.ensures (λ bad.
-    begun_bad c.args.lines.now c.lines_from-in-Err.result.now c.loop-place.place _ _ c.loop-place-test.true
-    (sym c.if-not-is_passed_over.ensures) (told_none (λ (start : ℕ). start) c.in-Err.fault _ c.in-Err.ensures bad) c.lines_from-in-Err.ensures c.loop-place.invariant)
+pub returns-in-None : goal.returns-in-None
+returns-in-None c =
+    begun_bad c.args.lines.now c.lines_from-in-None.result.now c.loop-place.place _ _ c.loop-place-test.true
+    (sym c.if-not-is_passed_over.ensures) (sym c.in-None.ensures) c.lines_from-in-None.ensures c.loop-place.invariant
 
 pub loop-place-preserved : goal.loop-place-preserved
 loop-place-preserved c =

@@ -1,5 +1,6 @@
 -- a run of plain bytes, and then an escape with the next run
-use Rattle.metric_text.proofs.Escapes.{unquoted_start, unquoted_more, unquoted_last, shorter_after, begins}
+use Rattle.std.proofs.Common.{◌∙◌}
+use Rattle.metric_text.proofs.Escapes.{Tells-ok_or, unquoted_start, unquoted_more, unquoted_last, shorter_after, begins}
 use Rattle.metric_text.proofs.quotes.unquoted_at.Goals as goal
 
 pub loop-byte-init : goal.loop-byte-init
@@ -24,4 +25,5 @@ loop-byte-preserved c = record {
 
 pub returns : goal.returns
 returns c =
-    rw (← unquoted_last c.loop-byte.text.items c.loop-byte.rest.now c.args.bytes.now c.loop-byte.invariant.begins c.in_default.ensures c.loop-byte.invariant.read) c.closed_at.ensures
+    Tells-ok_or _ c.closed_at.result c.ok_or.result _ c.ok_or.ensures.value
+    (c.closed_at.ensures ∙ unquoted_last c.loop-byte.text.items c.loop-byte.rest.now c.args.bytes.now c.loop-byte.invariant.begins c.in_default.ensures c.loop-byte.invariant.read)
