@@ -1,16 +1,30 @@
 //! Texts, lists, shared values and copies.
 use metric_base::{Boundaries, Copied, Few, Items, Shared, Text, copy_all, is_rising, is_same};
+use std::alloc::{AllocError, Global};
 use std::collections::HashMap;
 use std::test::Fail;
 
 #[test]
 fn a_text_keeps_its_bytes(rt: HostRuntime) -> Result<(), Fail> {
     for bytes in ["é\"", "", "e"] {
-        let text = Text::from_string(String::from_str(rt.alloc(), bytes)?);
+        let text = Text::new(rt.alloc(), bytes)?;
         assert_eq!(rt; text.as_str(), bytes);
-        assert!(rt; is_same(&text, &Text::new(rt.alloc(), bytes)?));
-        assert!(rt; !is_same(&text, &Text::new(rt.alloc(), "é")?));
         assert_eq!(rt; text.copy(rt.alloc())?.into_string().as_str(), bytes);
+    }
+    Ok(())
+}
+
+#[test]
+fn texts_of_the_same_bytes_are_the_same(rt: HostRuntime) -> Result<(), Fail> {
+    for (one, other, wanted) in [
+        ("é", "é", true),
+        ("", "", true),
+        ("é", "e", false),
+        ("e", "ee", false),
+    ] {
+        let one = Text::from_string(String::from_str(rt.alloc(), one)?);
+        let other = Text::new(rt.alloc(), other)?;
+        assert_eq!(rt; is_same(&one, &other), wanted);
     }
     Ok(())
 }
@@ -19,22 +33,23 @@ fn a_text_keeps_its_bytes(rt: HostRuntime) -> Result<(), Fail> {
 fn lists_keep_their_values(rt: HostRuntime) -> Result<(), Fail> {
     let mut items: Items<u64> = Items::new(rt.alloc());
     assert!(rt; items.is_empty());
-    items.push(7)?;
-    items.push(9)?;
-    assert_eq!(rt; items.len(), 2);
+    for value in [7, 9] {
+        items.push(value)?;
+    }
     let same = Items::from_vec(items.copy(rt.alloc())?.into_vec());
     assert!(rt; is_same(&items, &same));
     assert_eq!(rt; items.as_slice(), [7, 9].as_slice());
+    assert_eq!(rt; items.len(), 2);
     Ok(())
 }
 
 #[test]
 fn bounded_lists_keep_their_values(rt: HostRuntime) -> Result<(), Fail> {
     let few: Few<u64, 2> = Few::from_items(copy_all(rt.alloc(), &[7u64, 9])?);
-    assert!(rt; is_same(&few, &few.copy(rt.alloc())?));
-    assert_eq!(rt; few.as_slice(), [7, 9].as_slice());
+    let copied = few.copy(rt.alloc())?;
+    assert!(rt; is_same(&few, &copied));
     assert_eq!(rt; few.len(), 2);
-    assert_eq!(rt; few.into_items().len(), 2);
+    assert_eq!(rt; copied.into_items().as_slice(), [7, 9].as_slice());
     Ok(())
 }
 
@@ -77,20 +92,23 @@ const NUMBERS: &[(&[i64], bool)] = &[
     (&[0, 4, 3], false),
 ];
 
-#[test]
-fn rising_numbers_are_told(rt: HostRuntime) {
-    for (numbers, rises) in NUMBERS {
-        assert_eq!(rt; is_rising(numbers), *rises, "{numbers:?}");
+// The boundaries that numbers are, where they rise.
+fn boundaries_of(alloc: Global, numbers: &[i64]) -> Result<Option<Boundaries>, AllocError> {
+    let items = copy_all(alloc, numbers)?;
+    if !is_rising(items.as_slice()) || items.len() > 128 {
+        return Ok(None);
     }
+    let boundaries = Boundaries::from_few(Few::from_items(items));
+    Ok(Some(boundaries.copy(alloc)?))
 }
 
 #[test]
-fn boundaries_keep_their_numbers(rt: HostRuntime) -> Result<(), Fail> {
-    let few: Few<i64, 128> = Few::from_items(copy_all(rt.alloc(), &[-3, 0, 4])?);
-    assert!(rt; is_rising(few.as_slice()));
-    let boundaries = Boundaries::from_few(few);
-    let copied = boundaries.copy(rt.alloc())?;
-    assert_eq!(rt; boundaries.as_slice(), [-3, 0, 4].as_slice());
-    assert_eq!(rt; copied.as_slice(), [-3, 0, 4].as_slice());
+fn boundaries_rise(rt: HostRuntime) -> Result<(), Fail> {
+    for (numbers, rises) in NUMBERS {
+        match boundaries_of(rt.alloc(), numbers)? {
+            Some(boundaries) => assert_eq!(rt; boundaries.as_slice(), *numbers),
+            None => assert!(rt; !*rises),
+        }
+    }
     Ok(())
 }

@@ -1,7 +1,7 @@
 //! Sources that are read and sinks that are written, whole and with failures.
 use metric_io::{
-    Broken, CutSink, CutSource, MAX_BYTES, ReadFault, Sink, Source, SourceFault, StdSink, StdSource,
-    read_all, write_all,
+    Broken, CutSink, CutSource, MAX_BYTES, ReadFault, Sink, Source, SourceFault, StdSink,
+    StdSource, read_all, write_all,
 };
 use std::io;
 use std::io::{ErrorKind, Read, Write};
@@ -29,7 +29,7 @@ impl Write for Unplugged {
     }
 }
 
-// A reader and a writer of which a signal interrupts every other call.
+// A reader and a writer of which a signal interrupts every other read or write.
 #[derive(Drop)]
 struct Halting<D: Drop> {
     is_halted: bool,
@@ -61,7 +61,6 @@ impl<D: Write + Drop> Write for Halting<D> {
     }
 
     fn flush(&mut self) -> io::Result<()> {
-        self.turn()?;
         self.device.flush()
     }
 }
@@ -108,7 +107,9 @@ fn an_input_is_read_whole_or_up_to_a_failure(rt: HostRuntime) {
 
 #[test]
 fn a_source_that_failed_goes_on_failing(rt: HostRuntime) {
-    let mut source = CutSource::new(ALPHABET, Some(3)).in_pieces(3).interrupted_at(2);
+    let mut source = CutSource::new(ALPHABET, Some(3))
+        .in_pieces(3)
+        .interrupted_at(2);
     let mut buffer = [0; 4];
     for given in [
         Ok(3),

@@ -1,5 +1,5 @@
 //! Inputs divided into their parts, and the first lines with which no input goes on.
-use metric_parts::{Needs, Parts, PartsFault, Script, one_reading, parts_of};
+use metric_parts::{InputFault, Needs, Parts, Script, one_reading, parts_of};
 use metric_text::lines;
 use std::alloc::Global;
 use std::test::Fail;
@@ -269,7 +269,7 @@ fn the_first_line_with_which_no_input_goes_on_is_told(rt: HostRuntime) -> Result
 #[test]
 fn want_of_memory_is_printed(rt: HostRuntime) -> Result<(), Fail> {
     one_reading();
-    let memory = PartsFault::Memory.to_string(rt.alloc())?;
+    let memory = InputFault::Memory.to_string(rt.alloc())?;
     assert_eq!(rt; memory.as_str(), "memory");
     Ok(())
 }

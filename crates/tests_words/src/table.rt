@@ -5,7 +5,7 @@ use metric_table::{
 };
 use std::alloc::Global;
 use std::test::Fail;
-use toml::Table;
+use toml::{Table, Value};
 
 #[derive(Clone, Copy, Debug, PartialEq, Eq)]
 enum Fault {
@@ -76,18 +76,45 @@ fn other_fields_are_refused(rt: HostRuntime) -> Result<(), Fail> {
     Ok(())
 }
 
+// The integers of a list, or the fault.
+fn integers(alloc: Global, value: &Value, most: usize) -> Result<String, Fail> {
+    match integers_of(alloc, value, most, &FAULTS) {
+        Ok(numbers) => {
+            let numbers = numbers.as_slice();
+            Ok(format!(in alloc; "{numbers:?}")?)
+        }
+        Err(fault) => Ok(format!(in alloc; "{fault:?}")?),
+    }
+}
+
 #[test]
-fn numbers_are_read(rt: HostRuntime) -> Result<(), Fail> {
+fn lists_of_integers_are_read(rt: HostRuntime) -> Result<(), Fail> {
     let table = table(rt.alloc())?;
-    let numbers = required(&table, "numbers", &FAULTS)?;
-    let read = integers_of(rt.alloc(), numbers, 2, &FAULTS)?;
-    assert_eq!(rt; read.as_slice(), [3, -1].as_slice());
-    let too_many = integers_of(rt.alloc(), numbers, 1, &FAULTS).err();
-    assert_eq!(rt; too_many, Some(Fault::TooMany));
-    assert_eq!(rt; integer_of(numbers, &FAULTS), Err(Fault::WrongKind));
-    assert_eq!(rt; list_of(numbers, 2, &FAULTS)?.len(), 2);
-    assert_eq!(rt; text_of(numbers, &FAULTS), Err(Fault::WrongKind));
-    assert!(rt; table_of(numbers, &FAULTS).is_err());
+    for (name, most, wanted) in [
+        ("numbers", 2, "[3, -1]"),
+        ("numbers", 1, "TooMany"),
+        ("texts", 2, "WrongKind"),
+        ("flag", 2, "WrongKind"),
+    ] {
+        let value = required(&table, name, &FAULTS)?;
+        assert_eq!(rt; integers(rt.alloc(), value, most)?.as_str(), wanted);
+    }
+    Ok(())
+}
+
+#[test]
+fn values_have_one_kind(rt: HostRuntime) -> Result<(), Fail> {
+    let table = table(rt.alloc())?;
+    for (name, integer, text) in [
+        ("format", Ok(1), Err(Fault::WrongKind)),
+        ("name", Err(Fault::WrongKind), Ok("é")),
+        ("row", Err(Fault::WrongKind), Err(Fault::WrongKind)),
+    ] {
+        let value = required(&table, name, &FAULTS)?;
+        assert_eq!(rt; integer_of(value, &FAULTS), integer);
+        assert_eq!(rt; text_of(value, &FAULTS), text);
+        assert!(rt; table_of(value, &FAULTS).is_err());
+    }
     Ok(())
 }
 
@@ -100,6 +127,7 @@ fn lists_of_texts_are_read(rt: HostRuntime) -> Result<(), Fail> {
         ("numbers", 2, Err(Fault::WrongKind)),
     ] {
         let value = required(&table, name, &FAULTS)?;
+        assert!(rt; list_of(value, 2, &FAULTS).is_ok());
         let texts = texts_of(rt.alloc(), value, most, &FAULTS);
         assert_eq!(rt; texts.map(|texts| texts.len()), wanted, "{name}");
     }

@@ -2,9 +2,10 @@
 use metric_base::{Text, is_same};
 use metric_names::AttrValue;
 use metric_text::{
-    LineFault, Pair, after_byte, after_keyword, each_value_has_one_spelling, i64_at, i64_of, lines,
-    push_byte, push_joined, push_labelled, push_list, push_numbered, push_quoted, push_text,
-    push_value, quoted_at, u32_at, u32_of, u64_at, u64_of, value_at, word_at,
+    Pair, SpellingFault, after_byte, after_keyword, each_number_has_one_spelling,
+    each_value_has_one_spelling, i64_at, i64_of, lines, push_byte, push_joined, push_labelled,
+    push_list, push_numbered, push_quoted, push_text, push_value, quoted_at, u32_at, u32_of,
+    u64_of, value_at, word_at,
 };
 use std::test::Fail;
 
@@ -48,7 +49,7 @@ const NOT_QUOTED: &[&[u8]] = &[
 #[test]
 fn other_quotes_are_refused(rt: HostRuntime) {
     for bytes in NOT_QUOTED {
-        assert!(rt; matches!(quoted_at(rt.alloc(), bytes), Err(LineFault::Bad)));
+        assert!(rt; matches!(quoted_at(rt.alloc(), bytes), Err(SpellingFault::Bad)));
     }
 }
 
@@ -98,26 +99,37 @@ fn numbers_are_read_in_their_ranges(rt: HostRuntime) {
     }
 }
 
-#[test]
-fn the_first_word_is_read(rt: HostRuntime) -> Result<(), Fail> {
-    let line = b"record 7 18446744073709551615 -5".as_slice();
-    assert_eq!(rt; word_at(line).0, b"record".as_slice());
+// The numbers that stand after `record `, with one space between, and what is left.
+fn numbers_after(line: &[u8]) -> Option<(u32, i64, &[u8])> {
     let (recorder, rest) = u32_at(after_keyword(line, "record ")?)?;
-    let (time, rest) = u64_at(after_byte(rest, b' ')?)?;
-    let (amount, end) = i64_at(after_byte(rest, b' ')?)?;
-    assert_eq!(rt; (recorder, time, amount), (7, u64::MAX, -5));
-    assert!(rt; end.is_empty());
-    Ok(())
+    let (amount, rest) = i64_at(after_byte(rest, b' ')?)?;
+    Some((recorder, amount, rest))
 }
 
+// Lines, their first words, and the numbers.
+const RECORDS: &[(&[u8], &[u8], Option<(u32, i64, &[u8])>)] = &[
+    (b"record 7 -5", b"record", Some((7, -5, b""))),
+    (
+        b"record 4294967295 5 x",
+        b"record",
+        Some((u32::MAX, 5, b" x")),
+    ),
+    (b"record", b"record", None),
+    (b"records 7 5", b"records", None),
+    (b"record 4294967296 5", b"record", None),
+    (b"record 7  5", b"record", None),
+    (b"record 7\t5", b"record", None),
+    (b"record -7 5", b"record", None),
+    (b"record 7 +5", b"record", None),
+    (b"", b"", None),
+];
+
 #[test]
-fn what_does_not_begin_so_is_refused(rt: HostRuntime) {
-    let line = b"-5 x".as_slice();
-    assert!(rt; u32_at(line).is_err());
-    assert!(rt; u64_at(line).is_err());
-    assert!(rt; i64_at(b"x".as_slice()).is_err());
-    assert!(rt; after_byte(line, b'=').is_err());
-    assert!(rt; after_keyword(line, "-51").is_err());
+fn words_are_read_one_after_the_other(rt: HostRuntime) {
+    for (line, word, numbers) in RECORDS {
+        assert_eq!(rt; word_at(line).0, *word);
+        assert_eq!(rt; numbers_after(line), *numbers);
+    }
 }
 
 #[test]
@@ -130,6 +142,7 @@ fn values_are_written_and_read_back(rt: HostRuntime) -> Result<(), Fail> {
         AttrValue::Flag(false),
     ];
     each_value_has_one_spelling();
+    each_number_has_one_spelling();
     for value in &values {
         let mut out = Vec::new(rt.alloc());
         push_value(&mut out, value)?;
@@ -149,7 +162,7 @@ fn other_values_are_refused(rt: HostRuntime) {
         b"-0".as_slice(),
         b"".as_slice(),
     ] {
-        assert!(rt; matches!(value_at(rt.alloc(), bytes), Err(LineFault::Bad)));
+        assert!(rt; matches!(value_at(rt.alloc(), bytes), Err(SpellingFault::Bad)));
     }
 }
 
