@@ -268,7 +268,12 @@ const LIMITS: Counts = Counts {
     budgets: 512,
 };
 
-// A catalogue whose first meter has all instruments, the last of them the keys, and whose last recorder has the budgets.
+/// A catalogue that is at each limit.
+pub(crate) fn at_limits(alloc: Global) -> Result<String, Fail> {
+    with_counts(alloc, LIMITS)
+}
+
+// A catalogue whose last meter has all instruments, the last of them the keys, and whose last recorder has the budgets.
 fn with_counts(alloc: Global, counts: Counts) -> Result<String, Fail> {
     let mut out = String::from_str(alloc, "format = 1\n")?;
     write_many(&mut out, "meter", counts.meters)?;
@@ -329,7 +334,7 @@ const COUNTS: &[(Counts, &str)] = &[
 
 #[test]
 fn lists_are_taken_up_to_their_limits(rt: HostRuntime) -> Result<(), Fail> {
-    let text = with_counts(rt.alloc(), LIMITS)?;
+    let text = at_limits(rt.alloc())?;
     let catalogue = read(rt.alloc(), &text)?;
     assert_eq!(rt; catalogue.meters().len(), 64);
     assert_eq!(rt; catalogue.instruments().len(), 512);

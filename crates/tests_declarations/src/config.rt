@@ -280,6 +280,13 @@ fn with_counts(alloc: Global, counts: Counts) -> Result<String, Fail> {
     Ok(out)
 }
 
+/// A config of sixteen readers without views.
+pub(crate) fn of_readers(alloc: Global) -> Result<String, Fail> {
+    let mut out = String::from_str(alloc, "format = 1\n")?;
+    write_many_readers(&mut out, 16)?;
+    Ok(out)
+}
+
 // A config that is at each limit but for one count, and its fault.
 const COUNTS: &[(Counts, &str)] = &[
     (

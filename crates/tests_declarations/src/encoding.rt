@@ -108,6 +108,16 @@ fn owned(alloc: Global, attrs: &[Attr<'_>]) -> Result<Items<OwnedAttr>, Fail> {
     Ok(owned)
 }
 
+fn encoded_with_room(
+    alloc: Global,
+    shop: &Catalogue,
+    instrument: u32,
+    attrs: &[OwnedAttr],
+) -> Result<String, Fail> {
+    let mut room = Vec::with_capacity(alloc, attrs.len())?;
+    printed(alloc, shop.encode_with_room(instrument, attrs, &mut room))
+}
+
 #[test]
 fn attributes_name_a_set_key_or_are_refused(rt: HostRuntime) -> Result<(), Fail> {
     let shop = read(rt.alloc(), SHOP)?;
@@ -115,9 +125,53 @@ fn attributes_name_a_set_key_or_are_refused(rt: HostRuntime) -> Result<(), Fail>
     for (instrument, attrs, wanted) in ENCODED {
         let encoded = shop.encode(*instrument, attrs);
         assert_eq!(rt; printed(rt.alloc(), encoded)?.as_str(), *wanted);
-        let owned = owned(rt.alloc(), attrs)?;
-        let encoded = shop.encode_owned(*instrument, owned.as_slice());
+    }
+    Ok(())
+}
+
+#[test]
+fn owned_attributes_are_encoded_alike(rt: HostRuntime) -> Result<(), Fail> {
+    let shop = read(rt.alloc(), SHOP)?;
+    for (instrument, attrs, wanted) in ENCODED {
+        let attrs = owned(rt.alloc(), attrs)?;
+        let encoded = shop.encode_owned(*instrument, attrs.as_slice());
         assert_eq!(rt; printed(rt.alloc(), encoded)?.as_str(), *wanted);
+        let encoded = encoded_with_room(rt.alloc(), &shop, *instrument, attrs.as_slice())?;
+        assert_eq!(rt; encoded.as_str(), *wanted);
+    }
+    Ok(())
+}
+
+fn flag(alloc: Global, key: &str) -> Result<OwnedAttr, Fail> {
+    Ok(OwnedAttr {
+        key: Text::new(alloc, key)?,
+        value: AttrValue::Flag(true),
+    })
+}
+
+// So many attributes of keys that no instrument declares, and one more.
+fn strange(alloc: Global, count: usize, last: &str) -> Result<Items<OwnedAttr>, Fail> {
+    let mut attrs = Items::new(alloc);
+    for number in 0..count {
+        attrs.push(flag(alloc, &format!(in alloc; "strange {number}")?)?)?;
+    }
+    attrs.push(flag(alloc, last)?)?;
+    Ok(attrs)
+}
+
+#[test]
+fn long_lists_are_refused_alike(rt: HostRuntime) -> Result<(), Fail> {
+    let shop = read(rt.alloc(), SHOP)?;
+    for (last, wanted) in [
+        ("strange 7", "3 DuplicateKey"),
+        ("strange 40", "4 UnknownKey"),
+        ("route", "4 UnknownKey"),
+    ] {
+        let attrs = strange(rt.alloc(), 40, last)?;
+        let encoded = shop.encode_owned(0, attrs.as_slice());
+        assert_eq!(rt; printed(rt.alloc(), encoded)?.as_str(), wanted);
+        let encoded = encoded_with_room(rt.alloc(), &shop, 0, attrs.as_slice())?;
+        assert_eq!(rt; encoded.as_str(), wanted);
     }
     Ok(())
 }

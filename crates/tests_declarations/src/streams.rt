@@ -1,11 +1,14 @@
 //! What views select, what they and the defaults make of instruments, and the warnings.
+use crate::catalogue;
+use crate::config;
+use crate::encoding::read;
 use crate::words::{kind_word, temporality_word};
 use metric_base::Copied;
 use metric_catalogue::Catalogue;
 use metric_resolve::{
     Streams, Warning, collisions_are_of_one_identity, resolve, streams_are_what_views_give,
 };
-use metric_views::{Config, Stream, StreamAggregation};
+use metric_views::{Config, Fill, Stream, StreamAggregation, fill};
 use std::alloc::Global;
 use std::test::Fail;
 
@@ -139,6 +142,11 @@ fn write_warnings(out: &mut String, warnings: &[Warning]) -> Result<(), Fail> {
     Ok(())
 }
 
+// Promises nothing of the config, so that no test is proved by the parts of its text.
+fn config_of(alloc: Global, text: &str) -> Result<Config, Fail> {
+    Ok(Config::read(alloc, text)?)
+}
+
 // What a catalogue and a config give.
 fn resolved(alloc: Global, catalogue: &str, config: &str) -> Result<Streams, Fail> {
     let catalogue = Catalogue::read(alloc, catalogue)?;
@@ -163,6 +171,16 @@ fn every_part_of_the_streams_is_given(rt: HostRuntime) -> Result<(), Fail> {
     collisions_are_of_one_identity();
     assert_eq!(rt; shown(rt.alloc(), SHOP, CONFIG)?.as_str(), SHOWN);
     assert_eq!(rt; shown(rt.alloc(), SHOP, "format = 1")?.as_str(), "");
+    Ok(())
+}
+
+#[test]
+fn each_reader_has_a_stream_of_each_instrument(rt: HostRuntime) -> Result<(), Fail> {
+    let catalogue = catalogue::at_limits(rt.alloc())?;
+    let config = config::of_readers(rt.alloc())?;
+    let streams = resolved(rt.alloc(), &catalogue, &config)?;
+    assert_eq!(rt; streams.list().len(), 8192);
+    assert!(rt; streams.warnings().is_empty());
     Ok(())
 }
 
@@ -243,6 +261,60 @@ fn streams_stand_by_reader_instrument_and_view(rt: HostRuntime) -> Result<(), Fa
     for (tables, wanted) in SMALL {
         let config = format!(in rt.alloc(); "format = 1\n{tables}")?;
         assert_eq!(rt; numbers(rt.alloc(), &config)?.as_str(), *wanted, "{tables}");
+    }
+    Ok(())
+}
+
+// What the view of this number, or the default, makes of an instrument for the first reader.
+fn filled(
+    alloc: Global,
+    catalogue: &Catalogue,
+    config: &Config,
+    instrument: u32,
+    view: Option<u32>,
+) -> Result<String, Fail> {
+    let has_view = match view {
+        Some(number) => (number as usize) < config.views().len(),
+        None => true,
+    };
+    let mut out = String::new(alloc);
+    if config.readers().is_empty()
+        || instrument as usize >= catalogue.instruments().len()
+        || !has_view
+    {
+        return Err(Fail::from("no such number"));
+    }
+    match fill(alloc, catalogue, config, 0, instrument, view)? {
+        Fill::Unfit => out.push_str("unfit\n")?,
+        Fill::Dropped => out.push_str("dropped\n")?,
+        Fill::Kept(stream) => write_stream(&mut out, &stream)?,
+    }
+    Ok(out)
+}
+
+// An instrument, a view, and what the view makes of it.
+const FILLS: &[(u32, Option<u32>, &str)] = &[
+    (
+        0,
+        Some(0),
+        "0 0 0 calls|given|By| counter sum [false, false, true] 7 cumulative\n",
+    ),
+    (
+        2,
+        None,
+        "0 2 - wait|until the answer|ms| histogram [5, 7] [true] 2000 cumulative\n",
+    ),
+    (1, Some(2), "unfit\n"),
+    (0, Some(5), "dropped\n"),
+];
+
+#[test]
+fn one_view_makes_one_stream_of_an_instrument(rt: HostRuntime) -> Result<(), Fail> {
+    let catalogue = read(rt.alloc(), SHOP)?;
+    let config = config_of(rt.alloc(), CONFIG)?;
+    for (instrument, view, wanted) in FILLS {
+        let filled = filled(rt.alloc(), &catalogue, &config, *instrument, *view)?;
+        assert_eq!(rt; filled.as_str(), *wanted);
     }
     Ok(())
 }

@@ -7,8 +7,6 @@
 #[cfg(test)]
 mod aggregates;
 #[cfg(test)]
-mod commands;
-#[cfg(test)]
 mod cores;
 #[cfg(test)]
 mod points;

@@ -1,8 +1,8 @@
 //! Scripts: the events that their lines spell, and the lines that spell none.
 use metric_catalogue::OwnedAttr;
-use metric_core::Event;
-use metric_parts::{Needs, parts_of};
-use metric_script::{ScriptEvents, ScriptFault, events_of, one_script};
+use metric_history::Event;
+use metric_parts::{InputFault, Needs, parts_of};
+use metric_script::{ScriptEvents, events_of, one_script};
 use metric_text::{lines, push_number, push_pair, push_signed, push_text};
 use std::alloc::Global;
 use std::test::Fail;
@@ -60,7 +60,7 @@ fn write_event(out: &mut Vec<u8>, event: &Event) -> Result<(), Fail> {
 }
 
 /// What is read of a script whose first line is the fourth of the input.
-pub(crate) fn read(alloc: Global, script: &str) -> Result<Result<ScriptEvents, ScriptFault>, Fail> {
+pub(crate) fn read(alloc: Global, script: &str) -> Result<Result<ScriptEvents, InputFault>, Fail> {
     let input = format!(in alloc; "%% catalogue\n%% config\n%% script\n{script}")?;
     let lines = lines(alloc, input.as_bytes())?;
     let parts = parts_of(alloc, &lines, TRIAL)?;

@@ -2,7 +2,7 @@
 use metric_aggregate::PointValue;
 use metric_base::{Items, copy_all};
 use metric_catalogue::{Catalogue, SetKey};
-use metric_core::{Batch, Point, StreamPoints};
+use metric_history::{Batch, Point, StreamPoints};
 use metric_export::push_batch;
 use metric_listing::push_listing;
 use metric_resolve::{Warning, resolve};
