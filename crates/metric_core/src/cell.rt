@@ -212,13 +212,7 @@ impl Cell {
     }
 
     /// Makes a collection by the reader. Each series of the instrument is in range.
-    pub fn collect(
-        &mut self,
-        alloc: Global,
-        facts: &Facts,
-        reader: u32,
-        now: u64,
-    ) -> Reply
+    pub fn collect(&mut self, alloc: Global, facts: &Facts, reader: u32, now: u64) -> Reply
         requires { cell_in_range facts.now self.old ≡ true }
         ensures legal { LegalCollect (collected facts.now self.old.start (told_by self.old) reader now) result }
         ensures new { self.new ≡ cell_collected self.old reader result }

@@ -116,9 +116,7 @@ fn is_taken(catalogue: &Catalogue, config: &Config) -> bool
 fn takes_config(config: &Config) -> bool
     ensures { result ≡ takes_config_of config.now }
 {
-    config.views().len() == 0
-        && config.readers().len() <= 1
-        && are_cumulative(config.readers())
+    config.views().len() == 0 && config.readers().len() <= 1 && are_cumulative(config.readers())
 }
 
 fn are_cumulative(readers: &[Reader]) -> bool

@@ -1,6 +1,7 @@
 //! All instruments of a plan.
-ghost use Rattle.std.specs.Prelude.{◌≡◌, ℕ, ◌≤◌, [], length, map, vec_capacity, IfOk, IfErr, OnErr};
+ghost use Rattle.std.specs.Prelude.{◌≡◌, ℕ, ◌≤◌, [], length, map, vec_capacity, All, IfOk, IfErr, OnErr};
 ghost use Rattle.metric_core.specs.CoreStands.{CellsStand, CoreStands};
+ghost use Rattle.metric_history.specs.Events.{attr_count};
 ghost use Rattle.metric_history.specs.History.{History};
 ghost use Rattle.metric_history.specs.Legal.{AllLegal, grown};
 ghost use Rattle.metric_core.specs.Cells.{new_cell_of};
@@ -46,16 +47,29 @@ fn new_cells(alloc: Global, all: &[Facts], start: u64) -> Result<Vec<Cell>, Allo
     Ok(cells)
 }
 
-// Answers the events in order. There is room for the replies.
-fn run_on(
+// How many attributes the longest list of the events has.
+fn longest(events: &[Event]) -> usize
+    ensures { All (λ event. attr_count event ≤ result) events.now }
+{
+    let mut most = 0;
+    for event in events {
+        most = most.max(event.attr_count());
+    }
+    most
+}
+
+// Answers the events in order. There is room for the replies, and for the keys of each list of attributes.
+fn run_on<'a>(
     alloc: Global,
     plan: &Plan,
     cells: &mut [Cell],
-    events: &[Event],
+    events: &'a [Event],
+    room: &mut Vec<&'a str>,
     replies: &mut Vec<Reply>,
 )
     requires none { replies.old.items ≡ [] }
-    requires room { length events.now ≤ vec_capacity replies.old }
+    requires replies { length events.now ≤ vec_capacity replies.old }
+    requires room { All (λ event. attr_count event ≤ vec_capacity room.old) events.now }
     requires in_range { CellsInRange plan.now.facts.instruments cells.old }
     ensures in_range { CellsInRange plan.now.facts.instruments cells.new }
     ensures legal { (since : ℕ) (h : History) → CellsStand plan.now.facts since cells.old h
@@ -64,7 +78,7 @@ fn run_on(
         → CellsStand plan.now.facts since cells.new (grown h events.now replies.new.items) }
 {
     for event in events {
-        let reply = step(alloc, plan, cells, event);
+        let reply = step(alloc, plan, cells, event, room);
         replies.push_reserved(reply);
     }
 }
@@ -84,8 +98,8 @@ impl Core {
         }
     }
 
-    /// Answers the events in order, each after those before it. Fails only where the room for the replies is
-    /// refused, and then nothing has changed.
+    /// Answers the events in order, each after those before it. Fails only where the room for the replies, or
+    /// for the keys of the longest list of attributes, is refused, and then nothing has changed.
     pub fn run(&mut self, alloc: Global, events: &[Event]) -> Result<Vec<Reply>, AllocError>
         ensures legal { IfOk result (λ replies. (h : History) → CoreStands self.old h
             → AllLegal self.old.plan.facts self.old.start h events.now replies.items) }
@@ -96,11 +110,13 @@ impl Core {
         ensures err { OnErr result (self.new ≡ self.old) }
     {
         let mut replies = Vec::with_capacity(alloc, events.len())?;
+        let mut room = Vec::with_capacity(alloc, longest(events))?;
         run_on(
             alloc,
             &self.plan,
             self.cells.as_mut_slice(),
             events,
+            &mut room,
             &mut replies,
         );
         Ok(replies)

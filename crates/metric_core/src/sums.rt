@@ -14,19 +14,19 @@ use metric_views::{Stream, StreamAggregation};
 
 /// Whether a recording of the window belongs to a series, or, without one, to the overflow series.
 #[tactic(auto, using(metric_history::specs::SeriesLaws::known_place))]
-pub fn belongs(
-    stream: &Stream,
-    window: &[Entry],
-    place: &Option<SetKey>,
-    entry: &Entry,
-) -> bool
+pub fn belongs(stream: &Stream, window: &[Entry], place: &Option<SetKey>, entry: &Entry) -> bool
     requires { has (all_series stream.now.kept window.now) (series stream.now.kept entry.now) ≡ true }
     ensures { result ≡ is_row stream.now window.now place.now entry.now }
 {
     let key = series_of(stream.kept.get().as_slice(), entry);
     match place {
         Some(place) => key == *place,
-        None => !has_place(stream.kept.get().as_slice(), stream.limit as usize, window, &key),
+        None => !has_place(
+            stream.kept.get().as_slice(),
+            stream.limit as usize,
+            window,
+            &key,
+        ),
     }
 }
 
@@ -90,7 +90,12 @@ fn place_of(stream: &Stream, window: &[Entry], entry: &Entry) -> Option<SetKey>
     ensures { result ≡ place_found stream.now window.now entry.now }
 {
     let key = series_of(stream.kept.get().as_slice(), entry);
-    let is_held = has_place(stream.kept.get().as_slice(), stream.limit as usize, window, &key);
+    let is_held = has_place(
+        stream.kept.get().as_slice(),
+        stream.limit as usize,
+        window,
+        &key,
+    );
     if is_held { Some(key) } else { None }
 }
 

@@ -1,2 +1,4 @@
 mod Ascending
+pub mod CountedOnce
 pub mod FactsLaws
+pub mod LegalLaws

@@ -75,3 +75,9 @@ grown h (event ∷ events) (reply ∷ replies) = grown (record { event = event; 
 abbrev pub IsLegal : RunFacts → ℕ → History → Type 0
 IsLegal facts start [] = Unit {0}
 IsLegal facts start (a ∷ older) = IsLegal facts start older × Legal facts start older a.event a.reply
+
+-- a run with legal replies keeps a history legal
+abbrev pub KeepsLegal : Type 0
+KeepsLegal =
+    (facts : RunFacts) (start : ℕ) (h : History) (events : List Event) (replies : List Reply) → IsLegal facts start h
+    → AllLegal facts start h events replies → IsLegal facts start (grown h events replies)

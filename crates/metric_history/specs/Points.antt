@@ -1,5 +1,5 @@
 -- What a collection reports of a stream.
-use Rattle.std.specs.Prelude.{ℕ, ℤ, Bool, List, [], ◌∷◌, ◌++◌, Option, Some, None, map, filter, fold, insert, if◌then◌else◌}
+use Rattle.std.specs.Prelude.{◌≡◌, ℕ, ℤ, Bool, List, [], ◌∷◌, ◌++◌, Option, Some, None, map, filter, fold, insert, count_by, slice_get, if◌then◌else◌}
 use Rattle.std.specs.List.{list_any, position_or_len}
 use Rattle.std.specs.Ordering.{nat_cmp, is_lt}
 use Rattle.std.specs.Cmp.Lexicographic.{slice_cmp}
@@ -56,3 +56,9 @@ with_overflow s window points = if list_any (belongs s window None) window then 
 -- the points of one more stream, where it is the reader's
 abbrev pub with_points : ℕ → List Entry → List StreamPoints → NumberedStream → List StreamPoints
 with_points reader window all s = if is_of_reader reader s then all ++ stream_points window s ∷ [] else all
+
+-- each recording of a window belongs to exactly one point, of a held series or of the overflow series
+abbrev pub CountsOnce : Stream → List Entry → Type 0
+CountsOnce s window =
+    (i : ℕ) (entry : Entry) → slice_get window i ≡ Some entry
+    → count_by (λ (p : Point). belongs s window p.set entry) (points s window) ≡ 1

@@ -22,17 +22,18 @@ loop-event-preserved c =
     let long : length done ≡ length front = omega (arith, c.loop-event.invariant.count, length-take-le c.loop-event.event-index c.args.events.now (omega arith)) in
     record {
       count = omega (arith, ap length pushed, length_push done reply);
-      in_range = c.step-reply.ensures.in_range c.loop-event.invariant.in_range;
-      room = omega (arith, c.push_reserved.ensures.capacity, c.loop-event.invariant.room);
+      in_range = c.step-reply.ensures.steps.in_range c.loop-event.invariant.in_range;
+      replies = omega (arith, c.push_reserved.ensures.capacity, c.loop-event.invariant.replies);
+      room = c.step-reply.ensures.room ∙ c.loop-event.invariant.room;
       legal = λ since h s.
           subst (λ (es : List Event). AllLegal facts since h es c.push_reserved.new.self.items) (sym more)
           (subst (λ (rs : List Reply). AllLegal facts since h (front ++ event ∷ []) rs) (sym pushed)
-          (AllLegal_push facts since front done h event reply long (c.loop-event.invariant.legal since h s) (c.step-reply.ensures.legal since (grown h front done) (c.loop-event.invariant.stands since h s))));
+          (AllLegal_push facts since front done h event reply long (c.loop-event.invariant.legal since h s) (c.step-reply.ensures.steps.legal since (grown h front done) (c.loop-event.invariant.stands since h s))));
       stands = λ since h s.
           subst (λ (es : List Event). CellsStand facts since c.step-reply.new.cells (grown h es c.push_reserved.new.self.items)) (sym more)
           (subst (λ (rs : List Reply). CellsStand facts since c.step-reply.new.cells (grown h (front ++ event ∷ []) rs)) (sym pushed)
           (subst (λ (g : History). CellsStand facts since c.step-reply.new.cells g) (sym (grown_push front done h event reply long))
-          (c.step-reply.ensures.stands since (grown h front done) (c.loop-event.invariant.stands since h s))));
+          (c.step-reply.ensures.steps.stands since (grown h front done) (c.loop-event.invariant.stands since h s))));
     }
 
 pub returns-clause-stands : goal.returns-clause-stands

@@ -10,7 +10,8 @@ abbrev pub invariant-loop-event : goal.invariant-loop-event
 invariant-loop-event l = record {
   count : length l.replies.items ≡ l.event-index;
   in_range : CellsInRange l.plan.facts.instruments l.cells;
-  room : length l.events ≤ vec_capacity l.replies;
+  replies : length l.events ≤ vec_capacity l.replies;
+  room : vec_capacity l.room ≡ vec_capacity l.fn.room;
   legal : (since : ℕ) (h : History) → CellsStand l.plan.facts since l.fn.cells h → AllLegal l.plan.facts since h (take l.event-index l.events) l.replies.items;
   stands : (since : ℕ) (h : History) → CellsStand l.plan.facts since l.fn.cells h → CellsStand l.plan.facts since l.cells (grown h (take l.event-index l.events) l.replies.items);
 }
