@@ -1,6 +1,8 @@
 //! The set keys and refusals of attributes.
 use metric_base::{Items, Text};
-use metric_catalogue::{Attr, Catalogue, Key, Kind, OwnedAttr, Refusal, SetKey, encode_ignores_order};
+use metric_catalogue::{
+    Attr, Catalogue, Key, Kind, OwnedAttr, Refusal, SetKey, encode_ignores_order,
+};
 use metric_names::{AttrValue, ValueRef};
 use std::alloc::Global;
 use std::test::Fail;

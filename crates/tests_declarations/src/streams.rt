@@ -1,8 +1,7 @@
 //! What views select, what they and the defaults make of instruments, and the warnings.
-use crate::catalogue;
-use crate::config;
 use crate::encoding::read;
 use crate::words::{kind_word, temporality_word};
+use crate::{catalogue, config};
 use metric_base::Copied;
 use metric_catalogue::Catalogue;
 use metric_resolve::{
@@ -188,9 +187,15 @@ fn each_reader_has_a_stream_of_each_instrument(rt: HostRuntime) -> Result<(), Fa
 const CRITERIA: &[(&str, [Option<u32>; 4])] = &[
     ("", [Some(0), Some(0), Some(0), Some(0)]),
     ("instrument_name = 'h*'", [Some(0), Some(0), None, None]),
-    ("instrument_name = '????'", [Some(0), Some(0), Some(0), None]),
+    (
+        "instrument_name = '????'",
+        [Some(0), Some(0), Some(0), None],
+    ),
     ("instrument_type = 'counter'", [Some(0), None, None, None]),
-    ("instrument_type = 'up_down_counter'", [None, None, None, Some(0)]),
+    (
+        "instrument_type = 'up_down_counter'",
+        [None, None, None, Some(0)],
+    ),
     ("instrument_type = 'histogram'", [None, None, Some(0), None]),
     ("instrument_type = 'gauge'", [None, Some(0), None, None]),
     ("instrument_unit = 'By'", [Some(0), None, None, None]),
@@ -198,14 +203,22 @@ const CRITERIA: &[(&str, [Option<u32>; 4])] = &[
     ("instrument_unit = ''", [None, Some(0), None, Some(0)]),
     ("meter_name = 'shop'", [Some(0), Some(0), None, None]),
     ("meter_version = ''", [None, None, Some(0), Some(0)]),
-    ("meter_schema_url = 'https://shop/1'", [Some(0), Some(0), None, None]),
-    ("meter_name = 'shop'\ninstrument_type = 'histogram'", [None, None, None, None]),
+    (
+        "meter_schema_url = 'https://shop/1'",
+        [Some(0), Some(0), None, None],
+    ),
+    (
+        "meter_name = 'shop'\ninstrument_type = 'histogram'",
+        [None, None, None, None],
+    ),
 ];
 
 #[test]
 fn a_view_selects_by_all_its_criteria(rt: HostRuntime) -> Result<(), Fail> {
     for (view, wanted) in CRITERIA {
-        let config = format!(in rt.alloc(); "format = 1\n[[reader]]\nname = 'r'\n[[view]]\n{view}\n")?;
+        let config = format!(in rt.alloc();
+            "format = 1\n[[reader]]\nname = 'r'\n[[view]]\n{view}\n"
+        )?;
         let streams = resolved(rt.alloc(), SHOP, &config)?;
         let views: Vec<Option<u32>> = streams.list().iter().map(|s| s.view).collect(rt.alloc())?;
         assert_eq!(rt; views.as_slice(), wanted.as_slice(), "{view}");
