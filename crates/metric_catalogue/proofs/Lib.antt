@@ -1,4 +1,5 @@
 mod Numbered
+mod SoundLists
 mod SoundKeys
 mod SoundInstruments
 mod SoundCatalogues

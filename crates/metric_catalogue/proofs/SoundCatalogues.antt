@@ -1,30 +1,34 @@
 -- What is read as a catalogue is sound.
-use Rattle.std.proofs.Common.{◌≡◌, ℕ, ℤ, pos, negsuc, ◌+◌, ◌-◌, ◌<◌, ◌^◌, Bool, true, false, not, cond, List, [], ◌∷◌, ◌++◌, length, Option, Some, None, Ok, refl, ap, subst, arith, codes, nat_lt}
+use Rattle.std.proofs.Common.{◌≡◌, ◌≢◌, ℕ, ℤ, pos, negsuc, ◌+◌, ◌-◌, ◌<◌, ◌≤◌, ◌^◌, Bool, true, false, not, cond, List, [], ◌∷◌, ◌++◌, length, map, get_or, Option, Some, None, Ok, refl, sym, ap, subst, ◌∙◌, arith, codes, nat_lt, eq-eqb, true≢false}
 use Rattle.std.proofs.lemmas.Bool.Decides.{nat_tests}
 use Rattle.std.proofs.lemmas.List.{length-append}
+use Rattle.std.proofs.lemmas.Slice.Eq.{bytes_eq-Decides}
 use Rattle.std.specs.List.{list_any}
+use Rattle.std.specs.Str.{bytes_eq}
 use Rattle.toml.specs.Data.{Members}
 use Rattle.metric_base.specs.Steps.{require_some, in_turn, each}
-use Rattle.metric_base.specs.StepLaws.{after_ok, require_ok, ok_is, in_turn_keeps}
+use Rattle.metric_base.specs.StepLaws.{after_ok, require_ok, ok_is}
+use Rattle.metric_catalogue.specs.declared.recorders.TheConstants.{BUDGET_FIELDS, RECORDER_FIELDS}
 use Rattle.metric_table.specs.Fields.{field, integer_of, only, tables_field}
 use Rattle.metric_catalogue.specs.declared.contents.Budget.{Budget}
 use Rattle.metric_catalogue.specs.declared.contents.Contents.{Contents}
 use Rattle.metric_catalogue.specs.declared.contents.Instrument.{Instrument}
+use Rattle.metric_catalogue.specs.declared.contents.Meter.{Meter}
 use Rattle.metric_catalogue.specs.declared.contents.Recorder.{Recorder}
 use Rattle.metric_catalogue.specs.declared.meters.Metered.{Metered}
 use Rattle.metric_catalogue.specs.declared.fault.CatalogueFault.TheVariants.{BadRange, DuplicateBudget, DuplicateMeter, DuplicateRecorder, UnknownInstrument}
 use Rattle.metric_catalogue.specs.declared.fault.CataloguePlace.{CataloguePlace}
 use Rattle.metric_catalogue.specs.declared.fault.CataloguePlace.TheVariants as place
-use Rattle.metric_catalogue.specs.Catalogues.{contents_of, nothing_metered, tables_of_top}
-use Rattle.metric_catalogue.specs.EachLaws.{EachAt-empty, EachAt-push, each_made}
+use Rattle.metric_catalogue.specs.Catalogues.{contents_of, format_of_top, nothing_metered, tables_of_top}
 use Rattle.metric_catalogue.specs.Faults.{faults_at}
 use Rattle.metric_catalogue.specs.Instruments.{instrument_of}
-use Rattle.metric_catalogue.specs.Meters.{is_meter, meter_of, with_meter}
+use Rattle.metric_catalogue.specs.Meters.{is_meter, meter_of, only_meter_fields, with_meter}
 use Rattle.metric_catalogue.specs.Recorders.{amount_field, amount_from, budget_of, budgeted, is_budget, is_recorder, number_below, recorder_of}
-use Rattle.metric_catalogue.specs.Sound.{AreOfMeters, EachAt, IsSound, IsSoundBudget, IsSoundInstrument, IsSoundMeter, IsSoundRecorder}
-use Rattle.metric_catalogue.specs.Texts.{label_field}
-use Rattle.metric_catalogue.proofs.SoundKeys.{label_made, not_true}
+use Rattle.metric_catalogue.specs.Sound.{AreInstrumentsApart, IsSound, IsSoundBudget, IsSoundInstrument, IsSoundMeter, IsSoundRecorder}
+use Rattle.metric_catalogue.specs.Texts.{free_text, label_field, needed_text}
 use Rattle.metric_catalogue.proofs.SoundInstruments.{instrument_made}
+use Rattle.metric_catalogue.proofs.SoundKeys.{free_made, label_made, needed_made}
+use Rattle.metric_catalogue.proofs.SoundLists.{AreSound, IsNext, apart_by, each_length, each_sound, made_sound, sound_none, sound_push, tables_few, texts_apart}
 
 -- a needed value that was there
 some_made : {A E : Type 0} (o : Option A) (e : E) (x : A) → require_some o e ≡ Ok x → o ≡ Some x
@@ -33,28 +37,89 @@ some_made (Some y) e x h = ap Some (ok_is y x (Ok y) refl h)
 
 -- the meters so far, and their instruments
 record IsSoundSoFar (m : Metered) : Type 0 where
-  meters : EachAt IsSoundMeter m.meters
-  of_meters : AreOfMeters (length m.meters) m.instruments
-  instruments : EachAt IsSoundInstrument m.instruments
+  meters : AreSound IsSoundMeter (λ meter other. meter ≢ other) m.meters
+  instruments : AreSound (IsSoundInstrument (length m.meters)) AreInstrumentsApart m.instruments
+  few : length m.instruments ≤ 512
 
-meter_made : (before : Metered) (table : Members) (after : Metered) → with_meter before table ≡ Ok after → IsSoundSoFar before → IsSoundSoFar after
+texts_made : (at : CataloguePlace) (table : Members) (meter : Meter) → meter_of at table ≡ Ok meter → IsSoundMeter meter
+unfolding meter_of
+texts_made at table meter e0 =
+    after_ok (only_meter_fields at table) _ meter e0 (λ _ _ e1.
+    after_ok (needed_text at (codes "name") table) _ meter e1 (λ name named e2.
+    after_ok (free_text at (codes "version") table) _ meter e2 (λ version versioned e3.
+    after_ok (free_text at (codes "schema_url") table) _ meter e3 (λ schema_url located e4.
+    let made : Meter = record { name = name; version = version; schema_url = schema_url } in
+    let sound : IsSoundMeter made = record {
+      name = needed_made at (codes "name") table name named;
+      version = free_made at (codes "version") table version versioned;
+      schema_url = free_made at (codes "schema_url") table schema_url located;
+    } in
+    subst IsSoundMeter (ok_is made meter (Ok made) refl e4) sound))))
+
+same_bytes : (text : List ℕ) → bytes_eq text text ≡ true
+same_bytes text = (bytes_eq-Decides text text).1 refl
+
+-- a meter is told apart from those that are not the same
+meters_apart : (meter other : Meter) → is_meter meter other ≡ false → other ≢ meter
+meters_apart meter other e same =
+    let alike : is_meter meter meter ≡ true = rw (same_bytes meter.name, same_bytes meter.version, same_bytes meter.schema_url) refl in
+    true≢false (sym alike ∙ ap (is_meter meter) (sym same) ∙ e)
+
+-- an instrument of one of some meters is of one of more
+one_more : (meters : ℕ) (instrument : Instrument) → IsSoundInstrument meters instrument → IsSoundInstrument (meters + 1) instrument
+one_more meters instrument sound = record {
+  known = omega (arith, sound.known);
+  name = sound.name;
+  unit = sound.unit;
+  description = sound.description;
+  ordered = sound.ordered;
+  not_negative = sound.not_negative;
+  advice = sound.advice;
+  keys = sound.keys;
+}
+
+meter_made : (before : Metered) (table : Members) (after : Metered) → with_meter before table ≡ Ok after → IsSoundSoFar before → IsSoundSoFar after × (length after.meters ≡ length before.meters + 1)
 unfolding with_meter
 meter_made before table after e0 so_far =
     let at = place.Meter (length before.meters) in
-    after_ok (meter_of at table) _ after e0 (λ meter _ e1.
-    after_ok (tables_field (faults_at at) (512 - length before.instruments) (codes "instrument") table) _ after e1 (λ tables _ e2.
+    let number = length before.meters in
+    after_ok (meter_of at table) _ after e0 (λ meter textual e1.
+    after_ok (tables_field (faults_at at) (512 - length before.instruments) (codes "instrument") table) _ after e1 (λ tables listed e2.
     let (new, e3) = require_ok (not (list_any (is_meter meter) before.meters)) (DuplicateMeter at) _ after e2 in
-    after_ok (each (instrument_of (length before.meters)) before.instruments tables) _ after e3 (λ instruments made e4.
-    let long : length (before.meters ++ meter ∷ []) ≡ length before.meters + 1 = length-append before.meters (meter ∷ []) in
-    let of_meter : (bs : List Instrument) (x : Members) (i : Instrument) → instrument_of (length before.meters) bs x ≡ Ok i → i.meter < length (before.meters ++ meter ∷ [])
-    = λ bs x i is. let own = (instrument_made (length before.meters) bs x i is).1 in omega arith in
-    let earlier : AreOfMeters (length (before.meters ++ meter ∷ [])) before.instruments = λ k i is. let own = so_far.of_meters k i is in omega arith in
-    let sound : IsSoundSoFar (record { meters = before.meters ++ meter ∷ []; instruments = instruments }) = record {
-      meters = EachAt-push IsSoundMeter before.meters meter so_far.meters (not_true (list_any (is_meter meter) before.meters) new);
-      of_meters = each_made (λ _ i. i.meter < length (before.meters ++ meter ∷ [])) (instrument_of (length before.meters)) of_meter before.instruments tables instruments made earlier;
-      instruments = each_made IsSoundInstrument (instrument_of (length before.meters)) (λ bs x i is. (instrument_made (length before.meters) bs x i is).0) before.instruments tables instruments made so_far.instruments;
+    after_ok (each (instrument_of number) before.instruments tables) _ after e3 (λ instruments made e4.
+    let all : Metered = record { meters = before.meters ++ meter ∷ []; instruments = instruments } in
+    let long : length all.meters ≡ number + 1 = length-append before.meters (meter ∷ []) in
+    let short = tables_few (faults_at at) (512 - length before.instruments) (codes "instrument") table tables listed in
+    let count = each_length (instrument_of number) before.instruments tables instruments made in
+    let few = so_far.few in
+    let earlier : AreSound (IsSoundInstrument (number + 1)) AreInstrumentsApart before.instruments = record {
+      each = λ k d within. one_more number (get_or before.instruments k d) (so_far.instruments.each k d within);
+      apart = so_far.instruments.apart;
     } in
-    subst IsSoundSoFar (ok_is _ after (Ok (record { meters = before.meters ++ meter ∷ []; instruments = instruments })) refl e4) sound)))
+    let later = each_sound (IsSoundInstrument (number + 1)) AreInstrumentsApart (instrument_of number) (instrument_made number (number + 1) (omega arith)) before.instruments tables instruments made earlier in
+    let next : IsNext IsSoundMeter (λ m o. m ≢ o) before.meters meter = record {
+      sound = texts_made at table meter textual;
+      apart = apart_by (λ m o. m ≢ o) (is_meter meter) before.meters meter (meters_apart meter) new;
+    } in
+    let sound : IsSoundSoFar all = record {
+      meters = sound_push IsSoundMeter (λ m o. m ≢ o) before.meters meter so_far.meters next;
+      instruments = subst (λ (n : ℕ). AreSound (IsSoundInstrument n) AreInstrumentsApart instruments) (sym long) later;
+      few = omega arith;
+    } in
+    let same = ok_is all after (Ok all) refl e4 in
+    (subst IsSoundSoFar same sound, subst (λ (m : Metered). length m.meters ≡ number + 1) same long))))
+
+-- all the meters of a file
+meters_made : (before : Metered) (tables : List Members) (after : Metered) → in_turn with_meter before tables ≡ Ok after → IsSoundSoFar before → IsSoundSoFar after × (length after.meters ≡ length before.meters + length tables)
+meters_made before [] after e so_far =
+    let same = ok_is before after (Ok before) refl e in
+    let none : length before.meters ≡ length before.meters + 0 = omega arith in
+    (subst IsSoundSoFar same so_far, subst (λ (m : Metered). length m.meters ≡ length before.meters + 0) same none)
+meters_made before (table ∷ tables) after e so_far =
+    after_ok (with_meter before table) _ after e (λ next made rest.
+    let (sound, one) = meter_made before table next made so_far in
+    let (all, more) = meters_made next tables after rest sound in
+    (all, omega arith))
 
 below_made : (count : ℕ) (z : ℤ) (n : ℕ) → number_below count z ≡ Some n → n < count
 below_made count (negsuc m) n e = absurd cc
@@ -72,10 +137,15 @@ amount_made (pos m) n e = by (nat_lt m (2 ^ 63)) refl e
     by true h e = let same : m ≡ n = cc in grind (arith, nat_tests)
     by false h e = absurd cc
 
-budget_made : (at : CataloguePlace) (count : ℕ) (before : List Budget) (table : Members) (budget : Budget) → budget_of at count before table ≡ Ok budget → IsSoundBudget count before budget
+-- a budget for another instrument
+numbers_apart : (instrument : ℕ) (other : Budget) → is_budget instrument other ≡ false → other.instrument ≢ instrument
+numbers_apart instrument other e = λ same. true≢false (sym (eq-eqb other.instrument instrument same) ∙ e)
+
+budget_made : (at : CataloguePlace) (count : ℕ) (before : List Budget) (table : Members) (budget : Budget) → budget_of at count before table ≡ Ok budget
+    → IsNext (IsSoundBudget count) (λ o b. o.instrument ≢ b.instrument) before budget
 unfolding budget_of budgeted amount_field
 budget_made at count before table budget e0 =
-    after_ok (only (faults_at at) (codes "instrument" ∷ codes "amount" ∷ []) table) _ budget e0 (λ _ _ e1.
+    after_ok (only (faults_at at) (map (λ name. name.now) BUDGET_FIELDS) table) _ budget e0 (λ _ _ e1.
     after_ok (budgeted at count table) _ budget e1 (λ instrument numbered e2.
     after_ok (amount_field at table) _ budget e2 (λ amount counted e3.
     let (new, e4) = require_ok (not (list_any (is_budget instrument) before)) (DuplicateBudget at) _ budget e3 in
@@ -88,41 +158,61 @@ budget_made at count before table budget e0 =
     after_ok (integer_of (faults_at at) d) _ amount n1 (λ z _ n2.
     amount_made z amount (some_made (amount_from z) (BadRange at) amount n2))) in
     let made : Budget = record { instrument = instrument; amount = amount } in
-    let sound : IsSoundBudget count before made = record { known = known; limited = limited; new = not_true (list_any (is_budget instrument) before) new } in
-    subst (IsSoundBudget count before) (ok_is made budget (Ok made) refl e4) sound)))
+    let next : IsNext (IsSoundBudget count) (λ o b. o.instrument ≢ b.instrument) before made = record {
+      sound = record { known = known; limited = limited };
+      apart = apart_by (λ o b. o.instrument ≢ b.instrument) (is_budget instrument) before made (numbers_apart instrument) new;
+    } in
+    subst (IsNext (IsSoundBudget count) (λ o b. o.instrument ≢ b.instrument) before) (ok_is made budget (Ok made) refl e4) next)))
 
-recorder_made : (count : ℕ) (before : List Recorder) (table : Members) (recorder : Recorder) → recorder_of count before table ≡ Ok recorder → IsSoundRecorder count before recorder
+recorder_made : (count : ℕ) (before : List Recorder) (table : Members) (recorder : Recorder) → recorder_of count before table ≡ Ok recorder
+    → IsNext (IsSoundRecorder count) (λ o r. o.name ≢ r.name) before recorder
 unfolding recorder_of
 recorder_made count before table recorder e0 =
     let at = place.Recorder (length before) in
-    after_ok (only (faults_at at) (codes "name" ∷ codes "budget" ∷ []) table) _ recorder e0 (λ _ _ e1.
+    after_ok (only (faults_at at) (map (λ name. name.now) RECORDER_FIELDS) table) _ recorder e0 (λ _ _ e1.
     after_ok (label_field at table) _ recorder e1 (λ name named e2.
-    after_ok (tables_field (faults_at at) 512 (codes "budget") table) _ recorder e2 (λ tables _ e3.
+    after_ok (tables_field (faults_at at) 512 (codes "budget") table) _ recorder e2 (λ tables listed e3.
     let (new, e4) = require_ok (not (list_any (is_recorder name) before)) (DuplicateRecorder at) _ recorder e3 in
     after_ok (each (budget_of at count) [] tables) _ recorder e4 (λ budgets budgeted e5.
-    let (full, short) = label_made at table name named in
+    let few = tables_few (faults_at at) 512 (codes "budget") table tables listed in
     let made : Recorder = record { name = name; budgets = budgets } in
-    let sound : IsSoundRecorder count before made = record {
-      named = full;
-      short = short;
-      budgets = each_made (IsSoundBudget count) (budget_of at count) (budget_made at count) [] tables budgets budgeted (EachAt-empty (IsSoundBudget count));
-      new = not_true (list_any (is_recorder name) before) new;
+    let next : IsNext (IsSoundRecorder count) (λ o r. o.name ≢ r.name) before made = record {
+      sound = record {
+        name = label_made at table name named;
+        budgets = made_sound 512 (IsSoundBudget count) (λ o b. o.instrument ≢ b.instrument) (budget_of at count) (budget_made at count) tables budgets budgeted few;
+      };
+      apart = apart_by (λ o r. o.name ≢ r.name) (is_recorder name) before made (λ o h. texts_apart o.name name h) new;
     } in
-    subst (IsSoundRecorder count before) (ok_is made recorder (Ok made) refl e5) sound))))
+    subst (IsNext (IsSoundRecorder count) (λ o r. o.name ≢ r.name) before) (ok_is made recorder (Ok made) refl e5) next))))
+
+-- the tables of the meters and of the recorders are few
+top_few : (table : Members) (tables : List Members × List Members) → tables_of_top table ≡ Ok tables → (length tables.0 ≤ 64) × (length tables.1 ≤ 64)
+unfolding tables_of_top
+top_few table tables e0 =
+    after_ok (format_of_top table) _ tables e0 (λ _ _ e1.
+    after_ok (tables_field (faults_at place.Top) 64 (codes "meter") table) _ tables e1 (λ meters metered e2.
+    after_ok (tables_field (faults_at place.Top) 64 (codes "recorder") table) _ tables e2 (λ recorders recorded e3.
+    subst (λ (ts : List Members × List Members). (length ts.0 ≤ 64) × (length ts.1 ≤ 64)) (ok_is (meters, recorders) tables (Ok (meters, recorders)) refl e3)
+    (tables_few (faults_at place.Top) 64 (codes "meter") table meters metered, tables_few (faults_at place.Top) 64 (codes "recorder") table recorders recorded))))
 
 pub contents_made : (table : Members) (c : Contents) → contents_of table ≡ Ok c → IsSound c
 unfolding contents_of
 contents_made table c e0 =
-    after_ok (tables_of_top table) _ c e0 (λ tables _ e1.
+    after_ok (tables_of_top table) _ c e0 (λ tables listed e1.
     after_ok (in_turn with_meter nothing_metered tables.0) _ c e1 (λ metered made e2.
     after_ok (each (recorder_of (length metered.instruments)) [] tables.1) _ c e2 (λ recorders recorded e3.
-    let first : IsSoundSoFar nothing_metered = record { meters = EachAt-empty IsSoundMeter; of_meters = λ k i e. absurd cc; instruments = EachAt-empty IsSoundInstrument } in
-    let all = in_turn_keeps IsSoundSoFar with_meter meter_made nothing_metered tables.0 metered made first in
+    let count = length metered.instruments in
+    let (few_meters, few_recorders) = top_few table tables listed in
+    let first : IsSoundSoFar nothing_metered = record {
+      meters = sound_none IsSoundMeter (λ m o. m ≢ o);
+      instruments = sound_none (IsSoundInstrument 0) AreInstrumentsApart;
+      few = omega arith;
+    } in
+    let (all, long) = meters_made nothing_metered tables.0 metered made first in
     let read : Contents = record { meters = metered.meters; instruments = metered.instruments; recorders = recorders } in
     let sound : IsSound read = record {
-      meters = all.meters;
-      of_meters = all.of_meters;
-      instruments = all.instruments;
-      recorders = each_made (IsSoundRecorder (length metered.instruments)) (recorder_of (length metered.instruments)) (recorder_made (length metered.instruments)) [] tables.1 recorders recorded (EachAt-empty (IsSoundRecorder (length metered.instruments)));
+      meters = record { few = omega arith; each = all.meters.each; apart = all.meters.apart };
+      instruments = record { few = all.few; each = all.instruments.each; apart = all.instruments.apart };
+      recorders = made_sound 64 (IsSoundRecorder count) (λ o r. o.name ≢ r.name) (recorder_of count) (recorder_made count) tables.1 recorders recorded few_recorders;
     } in
     subst IsSound (ok_is read c (Ok read) refl e3) sound)))

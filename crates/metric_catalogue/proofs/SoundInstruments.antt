@@ -1,24 +1,31 @@
 -- What is read as an instrument is sound.
-use Rattle.std.proofs.Common.{◌≡◌, ℕ, ℤ, pos, ◌≤ℤ◌, Bool, true, false, not, ◌&&◌, ◌||◌, List, [], length, Option, Some, None, Ok, refl, subst, arith, codes, int_le, IsTrue, IfSome}
+use Rattle.std.proofs.Common.{◌≡◌, ◌≢◌, ℕ, ℤ, pos, ◌≤ℤ◌, ◌<◌, ◌≤◌, Bool, true, false, not, ◌&&◌, ◌||◌, ◌==◌, List, [], length, Option, Some, None, Result, Ok, Err, refl, sym, ap, subst, ◌∙◌, arith, codes, int_le, IsTrue, IfSome, eq-eqb, true≢false, unwrap_or}
 use Rattle.std.proofs.lemmas.Int.{ints}
+use Rattle.std.proofs.lemmas.Slice.Eq.{bytes_eq-Decides}
 use Rattle.std.specs.List.{list_any}
+use Rattle.std.specs.Str.{bytes_eq}
 use Rattle.toml.specs.Data.{Data, Members, get_member}
-use Rattle.metric_base.specs.Steps.{each}
+use Rattle.metric_base.specs.Boundaries.{is_rising}
+use Rattle.metric_base.specs.Steps.{each, with_fault}
 use Rattle.metric_base.specs.StepLaws.{after_ok, require_ok, ok_is}
-use Rattle.metric_table.specs.Fields.{field, integers_of, list_of, tables_field}
+use Rattle.metric_names.specs.NameLaws.{name_of-IsName, unit_of-IsUnit}
+use Rattle.metric_names.specs.Names.{folded, IsName, IsSameName, name_of}
+use Rattle.metric_names.specs.Units.{IsUnit, unit_of}
+use Rattle.metric_table.specs.Fields.{field, integer_of, integers_of, list_of, optional_text, tables_field, text_field}
 use Rattle.metric_catalogue.specs.declared.contents.Instrument.{Instrument}
 use Rattle.metric_catalogue.specs.declared.contents.Kind.{Kind}
-use Rattle.metric_catalogue.specs.declared.fault.CatalogueFault.TheVariants.{BadBoundaries, BadRange, DuplicateInstrument}
+use Rattle.metric_catalogue.specs.declared.instruments.Head.{Head}
+use Rattle.metric_catalogue.specs.declared.fault.CatalogueFault.TheVariants.{BadBoundaries, BadName, BadRange, BadUnit, DuplicateInstrument}
 use Rattle.metric_catalogue.specs.declared.fault.CataloguePlace.{CataloguePlace}
 use Rattle.metric_catalogue.specs.declared.fault.CataloguePlace.TheVariants as place
-use Rattle.metric_catalogue.specs.EachLaws.{EachAt-empty, each_made}
 use Rattle.metric_catalogue.specs.Faults.{faults_at, pair_faults_at}
-use Rattle.metric_catalogue.specs.Instruments.{advice_field, boundaries_of, boundaries_within, head_of, instrument_of, is_instrument, is_range, pair_of, range_field}
+use Rattle.metric_catalogue.specs.Instruments.{advice_field, boundaries_of, boundaries_within, head_of, instrument_name, instrument_of, is_instrument, is_range, kind_field, only_instrument_fields, pair_of, range_field, unit_field}
 use Rattle.metric_catalogue.specs.Keys.{key_of}
-use Rattle.metric_base.specs.Boundaries.{is_rising}
 use Rattle.metric_catalogue.specs.Kinds.{is_monotonic}
-use Rattle.metric_catalogue.specs.Sound.{IsSoundInstrument, IsSoundKey}
-use Rattle.metric_catalogue.proofs.SoundKeys.{key_made, not_true}
+use Rattle.metric_catalogue.specs.Sound.{AreBoundaries, AreInstrumentsApart, IsFreeText, IsSoundInstrument, IsSoundKey}
+use Rattle.metric_catalogue.specs.Texts.{free_text}
+use Rattle.metric_catalogue.proofs.SoundKeys.{free_made, key_made}
+use Rattle.metric_catalogue.proofs.SoundLists.{IsNext, apart_by, each_length, list_few, made_sound, tables_few}
 
 -- what a range is
 range_is : (kind : Kind) (lo hi : ℤ) → is_range kind (lo, hi) ≡ true → (lo ≤ℤ hi) × (IsTrue (is_monotonic kind) → pos 0 ≤ℤ lo)
@@ -38,42 +45,97 @@ range_made at kind table range e0 =
     let (fits, e4) = require_ok (is_range kind pair) (BadRange at) _ range e3 in
     subst (λ (r : ℤ × ℤ). is_range kind r ≡ true) (ok_is pair range (Ok pair) refl e4) fits)))
 
-boundaries_made : (at : CataloguePlace) (d : Data) (boundaries : List ℤ) → boundaries_of at d ≡ Ok boundaries → is_rising boundaries ≡ true
-unfolding boundaries_of
+boundaries_made : (at : CataloguePlace) (d : Data) (boundaries : List ℤ) → boundaries_of at d ≡ Ok boundaries → AreBoundaries boundaries
+unfolding boundaries_of integers_of
 boundaries_made at d boundaries e0 =
-    after_ok (integers_of (faults_at at) 128 d) _ boundaries e0 (λ read _ e1.
+    after_ok (integers_of (faults_at at) 128 d) _ boundaries e0 (λ read made e1.
     let (rising, e2) = require_ok (is_rising read) (BadBoundaries at) _ boundaries e1 in
-    subst (λ (bs : List ℤ). is_rising bs ≡ true) (ok_is read boundaries (Ok read) refl e2) rising)
+    let few : length read ≤ 128 =
+    after_ok (list_of (faults_at at) 128 d) _ read made (λ values listed e3.
+    let short = list_few (faults_at at) 128 d values listed in
+    let long = each_length (λ _ x. integer_of (faults_at at) x) [] values read e3 in
+    omega arith) in
+    let sound : AreBoundaries read = record { few = few; rising = rising } in
+    subst AreBoundaries (ok_is read boundaries (Ok read) refl e2) sound)
 
-within_made : (at : CataloguePlace) (d : Option Data) (advice : Option (List ℤ)) → boundaries_within at d ≡ Ok advice → IfSome advice (λ boundaries. IsTrue (is_rising boundaries))
-within_made at None advice e = subst (λ (o : Option (List ℤ)). IfSome o (λ boundaries. IsTrue (is_rising boundaries))) (ok_is None advice (Ok None) refl e) tt
+within_made : (at : CataloguePlace) (d : Option Data) (advice : Option (List ℤ)) → boundaries_within at d ≡ Ok advice → IfSome advice AreBoundaries
+within_made at None advice e = subst (λ (o : Option (List ℤ)). IfSome o AreBoundaries) (ok_is None advice (Ok None) refl e) tt
 within_made at (Some d) advice e0 =
     after_ok (boundaries_of at d) _ advice e0 (λ boundaries made e1.
-    subst (λ (o : Option (List ℤ)). IfSome o (λ bs. IsTrue (is_rising bs))) (ok_is (Some boundaries) advice (Ok (Some boundaries)) refl e1) (boundaries_made at d boundaries made))
+    subst (λ (o : Option (List ℤ)). IfSome o AreBoundaries) (ok_is (Some boundaries) advice (Ok (Some boundaries)) refl e1) (boundaries_made at d boundaries made))
 
-advice_made : (at : CataloguePlace) (table : Members) (advice : Option (List ℤ)) → advice_field at table ≡ Ok advice → IfSome advice (λ boundaries. IsTrue (is_rising boundaries))
+advice_made : (at : CataloguePlace) (table : Members) (advice : Option (List ℤ)) → advice_field at table ≡ Ok advice → IfSome advice AreBoundaries
 unfolding advice_field
 advice_made at table advice e = within_made at (get_member (codes "boundaries") table) advice e
 
-pub instrument_made : (meter : ℕ) (before : List Instrument) (table : Members) (instrument : Instrument) → instrument_of meter before table ≡ Ok instrument
-    → IsSoundInstrument before instrument × (instrument.meter ≡ meter)
+-- what a check of a text answered in the words of the table
+told : {D E : Type 0} (f : D → E) (r : Result (List ℕ) D) (text : List ℕ) → with_fault f r ≡ Ok text → r ≡ Ok text
+told f (Ok t) text e = ap Ok (ok_is t text (Ok t) refl e)
+told f (Err d) text e = absurd cc
+
+-- what is read as a name or a unit is one
+name_made : (at : CataloguePlace) (table : Members) (name : List ℕ) → instrument_name at table ≡ Ok name → IsName name
+unfolding instrument_name
+name_made at table name e0 =
+    after_ok (only_instrument_fields at table) _ name e0 (λ _ _ e1.
+    after_ok (text_field (faults_at at) (codes "name") table) _ name e1 (λ text _ e2.
+    name_of-IsName text name (told (λ _. BadName at) (name_of text) name e2)))
+
+unit_made : (at : CataloguePlace) (table : Members) (unit : List ℕ) → unit_field at table ≡ Ok unit → IsUnit unit
+unfolding unit_field
+unit_made at table unit e0 =
+    after_ok (optional_text (faults_at at) (codes "unit") table) _ unit e0 (λ text _ e1.
+    unit_of-IsUnit (unwrap_or text []) unit (told (λ _. BadUnit at) (unit_of (unwrap_or text [])) unit e1))
+
+-- what names and describes an instrument
+record IsSoundHead (head : Head) : Type 0 where
+  name : IsName head.name
+  unit : IsUnit head.unit
+  description : IsFreeText head.description
+
+head_made : (at : CataloguePlace) (table : Members) (head : Head) → head_of at table ≡ Ok head → IsSoundHead head
+unfolding head_of
+head_made at table head e0 =
+    after_ok (instrument_name at table) _ head e0 (λ name named e1.
+    after_ok (kind_field at table) _ head e1 (λ kind _ e2.
+    after_ok (unit_field at table) _ head e2 (λ unit united e3.
+    after_ok (free_text at (codes "description") table) _ head e3 (λ description described e4.
+    let made : Head = record { name = name; kind = kind; unit = unit; description = description } in
+    let sound : IsSoundHead made = record { name = name_made at table name named; unit = unit_made at table unit united; description = free_made at (codes "description") table description described } in
+    subst IsSoundHead (ok_is made head (Ok made) refl e4) sound))))
+
+-- an instrument of another name without case, or of another meter
+names_apart : (meter : ℕ) (name : List ℕ) (other : Instrument) → is_instrument meter name other ≡ false → other.meter ≡ meter → ¬ IsSameName other.name name
+names_apart meter name other e same_meter same_name =
+    let one : (other.meter == meter) ≡ true = eq-eqb other.meter meter same_meter in
+    let two : bytes_eq (folded other.name) (folded name) ≡ true = (bytes_eq-Decides (folded other.name) (folded name)).1 same_name in
+    true≢false (sym (rw (one, two) refl) ∙ e)
+
+pub instrument_made : (meter meters : ℕ) → meter < meters → (before : List Instrument) (table : Members) (instrument : Instrument) → instrument_of meter before table ≡ Ok instrument
+    → IsNext (IsSoundInstrument meters) AreInstrumentsApart before instrument
 unfolding instrument_of
-instrument_made meter before table instrument e0 =
+instrument_made meter meters known before table instrument e0 =
     let at = place.Instrument (length before) in
-    after_ok (head_of at table) _ instrument e0 (λ head _ e1.
+    after_ok (head_of at table) _ instrument e0 (λ head headed e1.
     after_ok (range_field at head.kind table) _ instrument e1 (λ range ranged e2.
     after_ok (advice_field at table) _ instrument e2 (λ advice advised e3.
-    after_ok (tables_field (faults_at at) 8 (codes "key") table) _ instrument e3 (λ tables _ e4.
+    after_ok (tables_field (faults_at at) 8 (codes "key") table) _ instrument e3 (λ tables listed e4.
     let (new, e5) = require_ok (not (list_any (is_instrument meter head.name) before)) (DuplicateInstrument at) _ instrument e4 in
     after_ok (each (key_of at) [] tables) _ instrument e5 (λ keys keyed e6.
     let (ordered, not_negative) = range_is head.kind range.0 range.1 (range_made at head.kind table range ranged) in
+    let sound_head = head_made at table head headed in
     let made : Instrument = record { meter = meter; name = head.name; kind = head.kind; unit = head.unit; description = head.description; lo = range.0; hi = range.1; advice = advice; keys = keys } in
-    let sound : IsSoundInstrument before made = record {
-      ordered = ordered;
-      not_negative = not_negative;
-      rising = advice_made at table advice advised;
-      keys = each_made IsSoundKey (key_of at) (key_made at) [] tables keys keyed (EachAt-empty IsSoundKey);
-      new = not_true (list_any (is_instrument meter head.name) before) new;
+    let next : IsNext (IsSoundInstrument meters) AreInstrumentsApart before made = record {
+      sound = record {
+        known = known;
+        name = sound_head.name;
+        unit = sound_head.unit;
+        description = sound_head.description;
+        ordered = ordered;
+        not_negative = not_negative;
+        advice = advice_made at table advice advised;
+        keys = made_sound 8 IsSoundKey (λ o k. o.name ≢ k.name) (key_of at) (key_made at) tables keys keyed (tables_few (faults_at at) 8 (codes "key") table tables listed);
+      };
+      apart = apart_by AreInstrumentsApart (is_instrument meter head.name) before made (names_apart meter head.name) new;
     } in
-    let same = ok_is made instrument (Ok made) refl e6 in
-    (subst (IsSoundInstrument before) same sound, subst (λ (i : Instrument). i.meter ≡ meter) same refl))))))
+    subst (IsNext (IsSoundInstrument meters) AreInstrumentsApart before) (ok_is made instrument (Ok made) refl e6) next)))))

@@ -1,71 +1,115 @@
--- What is read as a key is sound.
-use Rattle.std.proofs.Common.{◌≡◌, ℕ, ◌<◌, ◌≤◌, Bool, true, false, not, ◌==◌, List, [], length, Ok, refl, subst, ◌∙◌, arith, codes, nat_le}
+-- What is read as a text or a key is sound.
+use Rattle.std.proofs.Common.{◌≡◌, ◌≢◌, ℕ, ◌+◌, ◌<◌, Bool, true, false, cond, not, ◌==◌, List, [], ◌∷◌, ◌++◌, length, Some, is_some, Ok, refl, sym, subst, ◌∙◌, arith, codes, nat_le, append_assoc, append-nil, true≢false, unwrap_or}
 use Rattle.std.proofs.lemmas.Bool.Decides.{nat_tests}
-use Rattle.std.specs.List.{list_any}
+use Rattle.std.proofs.lemmas.List.Elements.{All-from_recursion}
+use Rattle.std.proofs.lemmas.List.Quantifiers.{all_pairs_push}
+use Rattle.std.specs.List.{AllByRecursion, AllPairs, list_any, position_from}
 use Rattle.std.specs.Str.{bytes_eq, chars}
-use Rattle.toml.specs.Data.{Members}
+use Rattle.toml.specs.Data.{Data, Members, string, integer, boolean}
 use Rattle.metric_base.specs.StepLaws.{after_ok, require_ok, ok_is}
 use Rattle.metric_names.specs.declared.value.AttrValue.{AttrValue}
-use Rattle.metric_table.specs.Fields.{field, list_of, short_text, text_field}
+use Rattle.metric_names.specs.declared.value.AttrValue.TheVariants.{Text, Whole, Flag}
+use Rattle.metric_table.specs.Fields.{field, list_of, optional_text, short_text, text_field}
 use Rattle.metric_catalogue.specs.declared.contents.Key.{Key}
 use Rattle.metric_catalogue.specs.declared.fault.CatalogueFault.TheVariants.{BadName, DuplicateKey, DuplicateValue, MissingField, ReservedKey, TooMany}
 use Rattle.metric_catalogue.specs.declared.fault.CataloguePlace.{CataloguePlace}
-use Rattle.metric_catalogue.specs.EachLaws.{each_length}
 use Rattle.metric_catalogue.specs.Faults.{faults_at}
 use Rattle.metric_catalogue.specs.Keys.{is_key, key_name, key_of, only_key_fields, optional_field, some_values, value_at, values_field}
-use Rattle.metric_catalogue.specs.Places.{has_repeat}
-use Rattle.metric_catalogue.specs.Sound.{IsSoundKey}
-use Rattle.metric_catalogue.specs.Texts.{label_field}
+use Rattle.metric_catalogue.specs.PlaceLaws.{same_value-Decides}
+use Rattle.metric_catalogue.specs.Places.{has_repeat, place, repeats_after, same_value}
+use Rattle.metric_catalogue.specs.Sound.{IsFreeText, IsLabel, IsSoundKey, IsSoundList, IsSoundValue}
+use Rattle.metric_catalogue.specs.Texts.{free_text, label_field, needed_text}
+use Rattle.metric_catalogue.proofs.Differing.{neither}
+use Rattle.metric_catalogue.proofs.SoundLists.{IsNext, apart_by, each_length, list_few, made_sound, not_true, texts_apart}
 
--- a test that did not hold
-pub not_true : (b : Bool) → not b ≡ true → b ≡ false
-not_true true e = absurd cc
-not_true false e = refl
-
--- a short text is the text, and is short
-short_made : (at : CataloguePlace) (text name : List ℕ) → short_text (faults_at at) text ≡ Ok name → (text ≡ name) × (length (chars name) ≤ 1023)
+-- a short text is the text, and is a free text
+short_made : (at : CataloguePlace) (text name : List ℕ) → short_text (faults_at at) text ≡ Ok name → (text ≡ name) × IsFreeText name
 unfolding short_text
 short_made at text name e =
     let (short, e1) = require_ok (nat_le (length (chars text)) 1023) (TooMany at) _ name e in
     let same = ok_is text name (Ok text) refl e1 in
-    let few : length (chars text) ≤ 1023 = grind (arith, nat_tests) in
-    (same, subst (λ (t : List ℕ). length (chars t) ≤ 1023) same few)
+    let few : IsFreeText text = grind (arith, nat_tests) in
+    (same, subst IsFreeText same few)
 
--- the name of a key or a recorder is not empty, and is short
-pub label_made : (at : CataloguePlace) (table : Members) (name : List ℕ) → label_field at table ≡ Ok name → (0 < length name) × (length (chars name) ≤ 1023)
+pub needed_made : (at : CataloguePlace) (name : List ℕ) (table : Members) (text : List ℕ) → needed_text at name table ≡ Ok text → IsFreeText text
+unfolding needed_text
+needed_made at name table text e0 =
+    after_ok (text_field (faults_at at) name table) _ text e0 (λ t _ e1. (short_made at t text e1).1)
+
+pub free_made : (at : CataloguePlace) (name : List ℕ) (table : Members) (text : List ℕ) → free_text at name table ≡ Ok text → IsFreeText text
+unfolding free_text
+free_made at name table text e0 =
+    after_ok (optional_text (faults_at at) name table) _ text e0 (λ t _ e1. (short_made at (unwrap_or t []) text e1).1)
+
+-- the name of a key or a recorder is a label
+pub label_made : (at : CataloguePlace) (table : Members) (name : List ℕ) → label_field at table ≡ Ok name → IsLabel name
 unfolding label_field
 label_made at table name e0 =
     after_ok (text_field (faults_at at) (codes "name") table) _ name e0 (λ text _ e1.
     let (full, e2) = require_ok (not (length text == 0)) (BadName at) _ name e1 in
-    let (same, short) = short_made at text name e2 in
+    let (same, free) = short_made at text name e2 in
     let some : 0 < length text = grind (arith, nat_tests) in
-    (subst (λ (t : List ℕ). 0 < length t) same some, short))
+    record { some = subst (λ (t : List ℕ). 0 < length t) same some; free = free })
 
-name_made : (at : CataloguePlace) (table : Members) (name : List ℕ) → key_name at table ≡ Ok name → (0 < length name) × (length (chars name) ≤ 1023)
+name_made : (at : CataloguePlace) (table : Members) (name : List ℕ) → key_name at table ≡ Ok name → IsLabel name × (name ≢ codes "otel.metric.overflow")
 unfolding key_name
 name_made at table name e0 =
     after_ok (label_field at table) _ name e0 (λ text made e1.
     let (other, e2) = require_ok (not (bytes_eq text (codes "otel.metric.overflow"))) (ReservedKey at) _ name e1 in
-    label_made at table name (made ∙ e2))
+    let apart = texts_apart text (codes "otel.metric.overflow") (not_true (bytes_eq text (codes "otel.metric.overflow")) other) in
+    (label_made at table name (made ∙ e2), subst (λ (t : List ℕ). t ≢ codes "otel.metric.overflow") (ok_is text name (Ok text) refl e2) apart))
 
-some_made : (at : CataloguePlace) (table : Members) (values : List AttrValue) → some_values at table ≡ Ok values → 0 < length values
+value_made : (at : CataloguePlace) (d : Data) (value : AttrValue) → value_at at d ≡ Ok value → IsSoundValue value
+value_made at (string text) value e0 =
+    after_ok (short_text (faults_at at) text) _ value e0 (λ short made e1. subst IsSoundValue (ok_is (Text short) value (Ok (Text short)) refl e1) (short_made at text short made).1)
+value_made at (integer number) value e = subst IsSoundValue (ok_is (Whole number) value (Ok (Whole number)) refl e) tt
+value_made at (boolean flag) value e = subst IsSoundValue (ok_is (Flag flag) value (Ok (Flag flag)) refl e) tt
+value_made at _ value e = absurd cc
+
+-- no value of a list is the one that has no place there
+no_place : (value : AttrValue) (i : ℕ) (values : List AttrValue) → is_some (position_from (same_value value) i values) ≡ false → AllByRecursion (λ other. other ≢ value) values
+no_place value i [] e = tt
+no_place value i (other ∷ values) e = by (same_value value other) refl e (no_place value (i + 1) values)
+  where
+    by : (b : Bool) → same_value value other ≡ b → is_some (cond b (Some i) (position_from (same_value value) (i + 1) values)) ≡ false
+        → (is_some (position_from (same_value value) (i + 1) values) ≡ false → AllByRecursion (λ o. o ≢ value) values) → (other ≢ value) × AllByRecursion (λ o. o ≢ value) values
+    by true h e rest = absurd (true≢false e)
+    by false h e rest = (λ same. true≢false (sym ((same_value-Decides value other).1 (sym same)) ∙ h), rest e)
+
+-- values of which none stands before its own place differ
+differ_after : (before left : List AttrValue) → AllPairs (λ value other. value ≢ other) before → repeats_after before left ≡ false → AllPairs (λ value other. value ≢ other) (before ++ left)
+differ_after before [] all e = subst (AllPairs (λ (value other : AttrValue). value ≢ other)) (sym (append-nil before)) all
+differ_after before (value ∷ left) all e =
+    let (fresh, rest) = neither (is_some (place before value)) (repeats_after (before ++ value ∷ []) left) e in
+    let apart = All-from_recursion (λ other. other ≢ value) before (no_place value 0 before fresh) in
+    let more = all_pairs_push (λ v w. v ≢ w) before value all (λ k d within. apart k d within) in
+    subst (AllPairs (λ (v w : AttrValue). v ≢ w)) (append_assoc before (value ∷ []) left) (differ_after (before ++ value ∷ []) left more rest)
+
+-- each value by itself
+value_next : (at : CataloguePlace) (before : List AttrValue) (d : Data) (value : AttrValue) → value_at at d ≡ Ok value → IsNext IsSoundValue (λ _ _. Unit {0}) before value
+value_next at before d value e = record { sound = value_made at d value e; apart = λ k x within. tt }
+
+some_made : (at : CataloguePlace) (table : Members) (values : List AttrValue) → some_values at table ≡ Ok values → (0 < length values) × IsSoundList 1000 IsSoundValue (λ _ _. Unit {0}) values
 unfolding some_values
 some_made at table values e0 =
     after_ok (field (faults_at at) (codes "values") table) _ values e0 (λ d _ e1.
-    after_ok (list_of (faults_at at) 1000 d) _ values e1 (λ ds _ e2.
+    after_ok (list_of (faults_at at) 1000 d) _ values e1 (λ ds listed e2.
     let (full, e3) = require_ok (not (length ds == 0)) (MissingField at) _ values e2 in
     let same = each_length (λ _ x. value_at at x) [] ds values e3 in
     let some : 0 < length ds = grind (arith, nat_tests) in
-    omega arith))
+    (omega arith, made_sound 1000 IsSoundValue (λ _ _. Unit {0}) (λ _ x. value_at at x) (value_next at) ds values e3 (list_few (faults_at at) 1000 d ds listed))))
 
-values_made : (at : CataloguePlace) (table : Members) (values : List AttrValue) → values_field at table ≡ Ok values → 0 < length values
+values_made : (at : CataloguePlace) (table : Members) (values : List AttrValue) → values_field at table ≡ Ok values → (0 < length values) × IsSoundList 1000 IsSoundValue (λ value other. value ≢ other) values
 unfolding values_field
 values_made at table values e0 =
     after_ok (some_values at table) _ values e0 (λ vs made e1.
     let (distinct, e2) = require_ok (not (has_repeat vs)) (DuplicateValue at) _ values e1 in
-    some_made at table values (made ∙ e2))
+    let same = ok_is vs values (Ok vs) refl e2 in
+    let (some, sound) = some_made at table values (made ∙ e2) in
+    let differ = differ_after [] vs (λ i j d before within. absurd (omega arith)) (not_true (has_repeat vs) distinct) in
+    (some, record { few = sound.few; each = sound.each; apart = subst (AllPairs (λ (v w : AttrValue). v ≢ w)) same differ }))
 
-pub key_made : (at : CataloguePlace) (before : List Key) (table : Members) (key : Key) → key_of at before table ≡ Ok key → IsSoundKey before key
+pub key_made : (at : CataloguePlace) (before : List Key) (table : Members) (key : Key) → key_of at before table ≡ Ok key → IsNext IsSoundKey (λ other k. other.name ≢ k.name) before key
 unfolding key_of
 key_made at before table key e0 =
     after_ok (only_key_fields at table) _ key e0 (λ _ _ e1.
@@ -73,7 +117,11 @@ key_made at before table key e0 =
     after_ok (values_field at table) _ key e2 (λ values valued e3.
     after_ok (optional_field at table) _ key e3 (λ optional _ e4.
     let (new, e5) = require_ok (not (list_any (is_key name) before)) (DuplicateKey at) _ key e4 in
-    let (full, short) = name_made at table name named in
+    let (label, other) = name_made at table name named in
+    let (some, distinct) = values_made at table values valued in
     let made : Key = record { name = name; values = values; optional = optional } in
-    let sound : IsSoundKey before made = record { named = full; short = short; valued = values_made at table values valued; new = not_true (list_any (is_key name) before) new } in
-    subst (IsSoundKey before) (ok_is made key (Ok made) refl e5) sound))))
+    let next : IsNext IsSoundKey (λ o k. o.name ≢ k.name) before made = record {
+      sound = record { name = label; not_reserved = other; some = some; values = distinct };
+      apart = apart_by (λ o k. o.name ≢ k.name) (is_key name) before made (λ o h. texts_apart o.name name h) new;
+    } in
+    subst (IsNext IsSoundKey (λ o k. o.name ≢ k.name) before) (ok_is made key (Ok made) refl e5) next))))

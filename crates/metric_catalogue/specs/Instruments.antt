@@ -1,5 +1,5 @@
 -- The instruments of a meter.
-use Rattle.std.specs.Prelude.{ℕ, ℤ, pos, Bool, not, ◌&&◌, ◌||◌, ◌==◌, List, [], ◌∷◌, length, Option, Some, None, Result, Ok, Err, int_le, unwrap_or, codes}
+use Rattle.std.specs.Prelude.{ℕ, ℤ, pos, Bool, not, ◌&&◌, ◌||◌, ◌==◌, List, [], ◌∷◌, length, map, Option, Some, None, Result, Ok, Err, int_le, unwrap_or, codes}
 use Rattle.std.specs.List.{list_any}
 use Rattle.std.specs.Str.{bytes_eq}
 use Rattle.toml.specs.Data.{Data, Members, get_member}
@@ -10,6 +10,7 @@ use Rattle.metric_table.specs.Fields.{only, field, text_field, optional_text, li
 use Rattle.metric_catalogue.specs.declared.contents.Instrument.{Instrument}
 use Rattle.metric_catalogue.specs.declared.contents.Kind.{Kind}
 use Rattle.metric_catalogue.specs.declared.instruments.Head.{Head}
+use Rattle.metric_catalogue.specs.declared.instruments.TheConstants.{INSTRUMENT_FIELDS}
 use Rattle.metric_catalogue.specs.declared.fault.CatalogueFault.{CatalogueFault}
 use Rattle.metric_catalogue.specs.declared.fault.CatalogueFault.TheVariants.{WrongKind, BadName, BadUnit, BadRange, BadBoundaries, DuplicateInstrument}
 use Rattle.metric_catalogue.specs.declared.fault.CataloguePlace.{CataloguePlace}
@@ -22,7 +23,7 @@ use Rattle.metric_catalogue.specs.Keys.{key_of}
 
 -- an instrument has no other fields
 unfoldable pub only_instrument_fields : CataloguePlace → Members → Result (Unit {0}) CatalogueFault
-only_instrument_fields at table = only (faults_at at) (codes "name" ∷ codes "kind" ∷ codes "unit" ∷ codes "description" ∷ codes "range" ∷ codes "boundaries" ∷ codes "key" ∷ []) table
+only_instrument_fields at table = only (faults_at at) (map (λ name. name.now) INSTRUMENT_FIELDS) table
 
 -- the name of an instrument, of a table with no other fields
 unfoldable pub instrument_name : CataloguePlace → Members → Result (List ℕ) CatalogueFault

@@ -1,5 +1,5 @@
 -- The keys of an instrument.
-use Rattle.std.specs.Prelude.{ℕ, Bool, false, not, List, [], ◌∷◌, length, Result, Ok, Err, ◌==◌, codes}
+use Rattle.std.specs.Prelude.{ℕ, Bool, false, not, List, length, map, Result, Ok, Err, ◌==◌, codes}
 use Rattle.std.specs.List.{list_any}
 use Rattle.std.specs.Str.{bytes_eq}
 use Rattle.toml.specs.Data.{Data, string, integer, boolean, Members}
@@ -8,6 +8,7 @@ use Rattle.metric_names.specs.declared.value.AttrValue.{AttrValue}
 use Rattle.metric_names.specs.declared.value.AttrValue.TheVariants.{Text, Whole, Flag}
 use Rattle.metric_table.specs.Fields.{only, field, list_of, short_text, flag_or, each_alone}
 use Rattle.metric_catalogue.specs.declared.contents.Key.{Key}
+use Rattle.metric_catalogue.specs.declared.keys.TheConstants.{KEY_FIELDS}
 use Rattle.metric_catalogue.specs.declared.fault.CatalogueFault.{CatalogueFault}
 use Rattle.metric_catalogue.specs.declared.fault.CatalogueFault.TheVariants.{MissingField, WrongKind, ReservedKey, DuplicateValue, DuplicateKey}
 use Rattle.metric_catalogue.specs.declared.fault.CataloguePlace.{CataloguePlace}
@@ -52,7 +53,7 @@ is_key name key = bytes_eq key.name name
 
 -- a key has no other fields
 unfoldable pub only_key_fields : CataloguePlace → Members → Result (Unit {0}) CatalogueFault
-only_key_fields at table = only (faults_at at) (codes "name" ∷ codes "values" ∷ codes "optional" ∷ []) table
+only_key_fields at table = only (faults_at at) (map (λ name. name.now) KEY_FIELDS) table
 
 -- whether a recording may leave the key out
 unfoldable pub optional_field : CataloguePlace → Members → Result Bool CatalogueFault

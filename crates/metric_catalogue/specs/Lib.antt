@@ -12,7 +12,6 @@ pub mod Meters
 pub mod Recorders
 pub mod Catalogues
 pub mod Sound
-pub mod EachLaws
 pub mod Encoding
 pub mod Attributes
 pub mod Budgets

@@ -1,5 +1,5 @@
 -- The recorders of a catalogue, with their budgets.
-use Rattle.std.specs.Prelude.{ℕ, ℤ, pos, negsuc, Bool, not, ◌==◌, ◌^◌, nat_lt, if◌then◌else◌, List, [], ◌∷◌, length, Option, Some, None, Result, Ok, codes}
+use Rattle.std.specs.Prelude.{ℕ, ℤ, pos, negsuc, Bool, not, ◌==◌, ◌^◌, nat_lt, if◌then◌else◌, List, [], length, map, Option, Some, None, Result, Ok, codes}
 use Rattle.std.specs.List.{list_any}
 use Rattle.std.specs.Str.{bytes_eq}
 use Rattle.toml.specs.Data.{Members}
@@ -7,6 +7,7 @@ use Rattle.metric_base.specs.Steps.{◌>>=◌, require, require_some, each}
 use Rattle.metric_table.specs.Fields.{only, field, integer_of, tables_field}
 use Rattle.metric_catalogue.specs.declared.contents.Budget.{Budget}
 use Rattle.metric_catalogue.specs.declared.contents.Recorder.{Recorder}
+use Rattle.metric_catalogue.specs.declared.recorders.TheConstants.{BUDGET_FIELDS, RECORDER_FIELDS}
 use Rattle.metric_catalogue.specs.declared.fault.CatalogueFault.{CatalogueFault}
 use Rattle.metric_catalogue.specs.declared.fault.CatalogueFault.TheVariants.{BadRange, UnknownInstrument, DuplicateRecorder, DuplicateBudget}
 use Rattle.metric_catalogue.specs.declared.fault.CataloguePlace.{CataloguePlace}
@@ -45,7 +46,7 @@ is_budget instrument budget = budget.instrument == instrument
 -- one more budget of a recorder, after those before it
 unfoldable pub budget_of : CataloguePlace → ℕ → List Budget → Members → Result Budget CatalogueFault
 budget_of at count before table = do
-  _ ← only (faults_at at) (codes "instrument" ∷ codes "amount" ∷ []) table
+  _ ← only (faults_at at) (map (λ name. name.now) BUDGET_FIELDS) table
   instrument ← budgeted at count table
   amount ← amount_field at table
   _ ← require (not (list_any (is_budget instrument) before)) (DuplicateBudget at)
@@ -59,7 +60,7 @@ is_recorder name recorder = bytes_eq recorder.name name
 unfoldable pub recorder_of : ℕ → List Recorder → Members → Result Recorder CatalogueFault
 recorder_of count before table = do
   let at = place.Recorder (length before)
-  _ ← only (faults_at at) (codes "name" ∷ codes "budget" ∷ []) table
+  _ ← only (faults_at at) (map (λ name. name.now) RECORDER_FIELDS) table
   name ← label_field at table
   tables ← tables_field (faults_at at) 512 (codes "budget") table
   _ ← require (not (list_any (is_recorder name) before)) (DuplicateRecorder at)

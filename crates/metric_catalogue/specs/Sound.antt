@@ -1,64 +1,86 @@
 -- What holds of every catalogue.
-use Rattle.std.specs.Prelude.{◌≡◌, ℕ, pos, ◌<◌, ◌^◌, ◌≤◌, ◌≤ℤ◌, false, IsTrue, IfSome, List, length, take, Some, slice_get}
-use Rattle.std.specs.List.{list_any}
+use Rattle.std.specs.Prelude.{◌≡◌, ◌≢◌, ℕ, ℤ, pos, ◌<◌, ◌^◌, ◌≤◌, ◌≤ℤ◌, All, AllPairs, IfSome, IsTrue, List, codes, length, true}
 use Rattle.std.specs.Str.{chars}
+use Rattle.metric_base.specs.Boundaries.{is_rising}
+use Rattle.metric_names.specs.Names.{IsName, IsSameName}
+use Rattle.metric_names.specs.Units.{IsUnit}
+use Rattle.metric_names.specs.declared.value.AttrValue.{AttrValue}
+use Rattle.metric_names.specs.declared.value.AttrValue.TheVariants.{Text, Whole, Flag}
 use Rattle.metric_catalogue.specs.declared.contents.Budget.{Budget}
 use Rattle.metric_catalogue.specs.declared.contents.Contents.{Contents}
 use Rattle.metric_catalogue.specs.declared.contents.Instrument.{Instrument}
 use Rattle.metric_catalogue.specs.declared.contents.Key.{Key}
 use Rattle.metric_catalogue.specs.declared.contents.Meter.{Meter}
 use Rattle.metric_catalogue.specs.declared.contents.Recorder.{Recorder}
-use Rattle.metric_catalogue.specs.Instruments.{is_instrument}
-use Rattle.metric_catalogue.specs.Keys.{is_key}
-use Rattle.metric_base.specs.Boundaries.{is_rising}
 use Rattle.metric_catalogue.specs.Kinds.{is_monotonic}
-use Rattle.metric_catalogue.specs.Meters.{is_meter}
-use Rattle.metric_catalogue.specs.Recorders.{is_budget, is_recorder}
 
--- The fact holds of each element of a list, with the elements before it.
-abbrev pub EachAt : {Y : Type 0} → (List Y → Y → Type 0) → List Y → Type 0
-EachAt {Y} P ys = (k : ℕ) (y : Y) → slice_get ys k ≡ Some y → P (take k ys) y
+-- A list has at most so many elements, a fact holds of each, and any two are apart.
+pub record IsSoundList {X : Type 0} (most : ℕ) (P : X → Type 0) (AreApart : X → X → Type 0) (xs : List X) : Type 0 where
+  pub few : length xs ≤ most
+  pub each : All P xs
+  pub apart : AllPairs AreApart xs
 
--- A meter differs from those before it in name, version or schema URL.
-abbrev pub IsSoundMeter : List Meter → Meter → Type 0
-IsSoundMeter before meter = list_any (is_meter meter) before ≡ false
+-- A free text has at most 1,023 characters.
+abbrev pub IsFreeText : List ℕ → Type 0
+IsFreeText text = length (chars text) ≤ 1023
 
--- A key has a name that no key before it has, and at least one value.
-pub record IsSoundKey (before : List Key) (key : Key) : Type 0 where
-  pub named : 0 < length key.name
-  pub short : length (chars key.name) ≤ 1023
-  pub valued : 0 < length key.values
-  pub new : list_any (is_key key.name) before ≡ false
+-- A label is a free text that is not empty.
+pub record IsLabel (text : List ℕ) : Type 0 where
+  pub some : 0 < length text
+  pub free : IsFreeText text
 
--- An instrument has a range that is not empty and that fits its kind, boundaries that rise, sound keys, and a name that no
--- instrument of its meter before it has.
-pub record IsSoundInstrument (before : List Instrument) (instrument : Instrument) : Type 0 where
+-- A value that is a text is a free text.
+abbrev pub IsSoundValue : AttrValue → Type 0
+IsSoundValue (Text text) = IsFreeText text
+IsSoundValue (Whole number) = Unit {0}
+IsSoundValue (Flag flag) = Unit {0}
+
+-- A meter has free texts.
+pub record IsSoundMeter (meter : Meter) : Type 0 where
+  pub name : IsFreeText meter.name
+  pub version : IsFreeText meter.version
+  pub schema_url : IsFreeText meter.schema_url
+
+-- A key has a label that is not the overflow attribute's, and 1 to 1,000 distinct values.
+pub record IsSoundKey (key : Key) : Type 0 where
+  pub name : IsLabel key.name
+  pub not_reserved : key.name ≢ codes "otel.metric.overflow"
+  pub some : 0 < length key.values
+  pub values : IsSoundList 1000 IsSoundValue (λ value other. value ≢ other) key.values
+
+-- Boundaries are at most 128 numbers that rise strictly.
+pub record AreBoundaries (boundaries : List ℤ) : Type 0 where
+  pub few : length boundaries ≤ 128
+  pub rising : is_rising boundaries ≡ true
+
+-- An instrument is of one of so many meters. Its range is not empty, and has no negative value where sums only rise. It has at
+-- most 8 keys of distinct names.
+pub record IsSoundInstrument (meters : ℕ) (instrument : Instrument) : Type 0 where
+  pub known : instrument.meter < meters
+  pub name : IsName instrument.name
+  pub unit : IsUnit instrument.unit
+  pub description : IsFreeText instrument.description
   pub ordered : instrument.lo ≤ℤ instrument.hi
   pub not_negative : IsTrue (is_monotonic instrument.kind) → pos 0 ≤ℤ instrument.lo
-  pub rising : IfSome instrument.advice (λ boundaries. IsTrue (is_rising boundaries))
-  pub keys : EachAt IsSoundKey instrument.keys
-  pub new : list_any (is_instrument instrument.meter instrument.name) before ≡ false
+  pub advice : IfSome instrument.advice AreBoundaries
+  pub keys : IsSoundList 8 IsSoundKey (λ key other. key.name ≢ other.name) instrument.keys
 
--- A budget is for one of the instruments, for which no budget before it is, and is less than 2^63.
-pub record IsSoundBudget (instruments : ℕ) (before : List Budget) (budget : Budget) : Type 0 where
+-- Two instruments of one meter have names that differ without case.
+abbrev pub AreInstrumentsApart : Instrument → Instrument → Type 0
+AreInstrumentsApart instrument other = instrument.meter ≡ other.meter → ¬ IsSameName instrument.name other.name
+
+-- A budget is for one of so many instruments, and is at most 2^63 - 1.
+pub record IsSoundBudget (instruments : ℕ) (budget : Budget) : Type 0 where
   pub known : budget.instrument < instruments
   pub limited : budget.amount < 2 ^ 63
-  pub new : list_any (is_budget budget.instrument) before ≡ false
 
--- A recorder has a name that no recorder before it has, and sound budgets.
-pub record IsSoundRecorder (instruments : ℕ) (before : List Recorder) (recorder : Recorder) : Type 0 where
-  pub named : 0 < length recorder.name
-  pub short : length (chars recorder.name) ≤ 1023
-  pub budgets : EachAt (IsSoundBudget instruments) recorder.budgets
-  pub new : list_any (is_recorder recorder.name) before ≡ false
+-- A recorder has a label, and at most 512 budgets for distinct instruments.
+pub record IsSoundRecorder (instruments : ℕ) (recorder : Recorder) : Type 0 where
+  pub name : IsLabel recorder.name
+  pub budgets : IsSoundList 512 (IsSoundBudget instruments) (λ budget other. budget.instrument ≢ other.instrument) recorder.budgets
 
--- Each instrument is of a meter of the list.
-abbrev pub AreOfMeters : ℕ → List Instrument → Type 0
-AreOfMeters meters instruments = (k : ℕ) (i : Instrument) → slice_get instruments k ≡ Some i → i.meter < meters
-
--- what holds of every catalogue
+-- There are at most 64 meters, 512 instruments and 64 recorders. Meters differ in name, version or schema URL, recorders in name.
 pub record IsSound (c : Contents) : Type 0 where
-  pub meters : EachAt IsSoundMeter c.meters
-  pub of_meters : AreOfMeters (length c.meters) c.instruments
-  pub instruments : EachAt IsSoundInstrument c.instruments
-  pub recorders : EachAt (IsSoundRecorder (length c.instruments)) c.recorders
+  pub meters : IsSoundList 64 IsSoundMeter (λ meter other. meter ≢ other) c.meters
+  pub instruments : IsSoundList 512 (IsSoundInstrument (length c.meters)) AreInstrumentsApart c.instruments
+  pub recorders : IsSoundList 64 (IsSoundRecorder (length c.instruments)) (λ recorder other. recorder.name ≢ other.name) c.recorders

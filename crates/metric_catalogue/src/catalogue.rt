@@ -26,6 +26,9 @@ use std::alloc::Global;
 use std::marker::Model;
 use toml::Table;
 
+// The fields of the top table.
+const TOP_FIELDS: [&str; 3] = ["format", "meter", "recorder"];
+
 /// The instruments of a program with their meters and keys, and its recorders with their budgets.
 /// Instruments and recorders are numbered from 0 in the order of the file.
 #[derive(Drop)]
@@ -215,6 +218,6 @@ fn format_of_top(table: &Table) -> Result<(), CatalogueFault>
     ensures { result ≡ format_of_top (table_view table.now) }
 {
     let faults = faults_at(CataloguePlace::Top);
-    only(table, &["format", "meter", "recorder"], &faults)?;
+    only(table, &TOP_FIELDS, &faults)?;
     format_field(table, &faults)
 }

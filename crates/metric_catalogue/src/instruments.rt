@@ -19,7 +19,18 @@ use metric_table::{
 use std::alloc::Global;
 use toml::{Table, Value};
 
-/// What names and describes an instrument.
+// The fields of an instrument's table.
+const INSTRUMENT_FIELDS: [&str; 7] = [
+    "name",
+    "kind",
+    "unit",
+    "description",
+    "range",
+    "boundaries",
+    "key",
+];
+
+// What names and describes an instrument.
 #[derive(Drop)]
 pub(crate) struct Head {
     name: Shared<Name>,
@@ -120,16 +131,7 @@ fn head_of(alloc: Global, table: &Table, at: CataloguePlace) -> Result<Head, Cat
 fn only_instrument_fields(table: &Table, at: CataloguePlace) -> Result<(), CatalogueFault>
     ensures { result ≡ only_instrument_fields at (table_view table.now) }
 {
-    let names = [
-        "name",
-        "kind",
-        "unit",
-        "description",
-        "range",
-        "boundaries",
-        "key",
-    ];
-    only(table, &names, &faults_at(at))
+    only(table, &INSTRUMENT_FIELDS, &faults_at(at))
 }
 
 #[tactic(auto, unfolding(crate::specs::Instruments::instrument_name))]

@@ -16,7 +16,10 @@ use metric_table::{flag_or, list_of, only, required, short_text};
 use std::alloc::Global;
 use toml::{Table, Value};
 
-/// The keys of an instrument.
+// The fields of a key's table.
+const KEY_FIELDS: [&str; 3] = ["name", "values", "optional"];
+
+// The keys of an instrument.
 pub(crate) fn keys_of(
     alloc: Global,
     tables: &[&Table],
@@ -66,7 +69,7 @@ fn has_key(keys: &[Key], name: &Text) -> bool
 fn only_key_fields(table: &Table, at: CataloguePlace) -> Result<(), CatalogueFault>
     ensures { result ≡ only_key_fields at (table_view table.now) }
 {
-    only(table, &["name", "values", "optional"], &faults_at(at))
+    only(table, &KEY_FIELDS, &faults_at(at))
 }
 
 #[tactic(auto, unfolding(crate::specs::Keys::optional_field))]

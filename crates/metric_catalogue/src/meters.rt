@@ -14,7 +14,10 @@ use metric_table::{only, tables_field};
 use std::alloc::Global;
 use toml::Table;
 
-/// The meters so far, with all their instruments.
+// The fields of a meter's table.
+const METER_FIELDS: [&str; 4] = ["name", "version", "schema_url", "instrument"];
+
+// The meters so far, with all their instruments.
 #[derive(Drop)]
 pub(crate) struct Metered {
     pub(crate) meters: Items<Meter>,
@@ -78,8 +81,7 @@ fn is_meter(other: &Meter, meter: &Meter) -> bool
 fn only_meter_fields(table: &Table, at: CataloguePlace) -> Result<(), CatalogueFault>
     ensures { result ≡ only_meter_fields at (table_view table.now) }
 {
-    let names = ["name", "version", "schema_url", "instrument"];
-    only(table, &names, &faults_at(at))
+    only(table, &METER_FIELDS, &faults_at(at))
 }
 
 #[tactic(auto, unfolding(crate::specs::Meters::meter_of))]

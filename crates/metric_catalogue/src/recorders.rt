@@ -13,7 +13,13 @@ use metric_table::{integer_of, only, required, tables_field};
 use std::alloc::Global;
 use toml::Table;
 
-/// The recorders of a catalogue with so many instruments.
+// The fields of a recorder's table.
+const RECORDER_FIELDS: [&str; 2] = ["name", "budget"];
+
+// The fields of a budget's table.
+const BUDGET_FIELDS: [&str; 2] = ["instrument", "amount"];
+
+// The recorders of a catalogue with so many instruments.
 pub(crate) fn recorders_of(
     alloc: Global,
     tables: &[&Table],
@@ -43,7 +49,7 @@ fn recorder_of(
 {
     let at = CataloguePlace::Recorder(before.len() as u32);
     let faults = faults_at(at);
-    only(table, &["name", "budget"], &faults)?;
+    only(table, &RECORDER_FIELDS, &faults)?;
     let name = label_field(alloc, table, at)?;
     let tables = tables_field(alloc, table, "budget", 512, &faults)?;
     if has_recorder(before, &name) {
@@ -87,7 +93,7 @@ fn budget_of(
 ) -> Result<Budget, CatalogueFault>
     ensures { result ≡ budget_of at count before.now (table_view table.now) }
 {
-    only(table, &["instrument", "amount"], &faults_at(at))?;
+    only(table, &BUDGET_FIELDS, &faults_at(at))?;
     let instrument = budgeted(table, count, at)?;
     let amount = amount_field(table, at)?;
     if has_budget(before, instrument) {
