@@ -3,7 +3,7 @@ use crate::SourceFault;
 
 /// How often a source was read, how often a signal interrupted the read, and how often the source
 /// failed. Each count stops at 2^64 - 1.
-#[derive(Clone, Copy, Debug, PartialEq, Eq)]
+#[derive(Clone, Copy)]
 pub struct ReadCounts {
     /// The reads that were tried, interrupted and failed ones among them.
     pub reads: u64,

@@ -10,8 +10,8 @@ use crate::devices::{Broken, Sink, Source, SourceFault};
 use std::alloc::Global;
 use std::marker::Model;
 
-/// A source over bytes in memory, which fails from a given read on, and of which a signal interrupts
-/// a given read.
+/// A source over bytes in memory, which fails from a given read on, and of which a signal
+/// interrupts a given read.
 ///
 /// Contracts see it as a record: the bytes that are left, the most that one read gives, the read
 /// that is interrupted, the read from which on it fails, and its counts.

@@ -61,8 +61,8 @@ fn source_fault(error: &Error) -> SourceFault {
     }
 }
 
-/// A writer of std as a [`Sink`]. Every error of the writer is [`Broken`], also the interruption of a
-/// flush. A write that a signal interrupts is tried again, up to 65,536 times.
+/// A writer of std as a [`Sink`]. Every error of the writer is [`Broken`], but a write that a
+/// signal interrupts is tried up to 65,536 times before it is one. A flush is not tried again.
 #[derive(Drop)]
 pub struct StdSink<W: Write + Drop> {
     writer: W,

@@ -3,10 +3,10 @@ use std::alloc::AllocError;
 use thiserror::Error;
 
 /// Why an input has no parts, or the lines of its script are no script.
-#[derive(Clone, Copy, Debug, PartialEq, Eq, Drop, Error)]
+#[derive(Clone, Copy, Debug, PartialEq, Eq, Error)]
 pub enum InputFault {
-    /// No input, or no script, goes on with the line of this number. Where one is missing at the end,
-    /// it is one more than the number of lines.
+    /// No input, or no script, goes on with the line of this number. Where a line is missing at
+    /// the end, it is one more than the number of lines.
     #[error("input line {line}")]
     Input {
         /// The line's number in the input, counted from 1.

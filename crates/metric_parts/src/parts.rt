@@ -4,7 +4,7 @@ use metric_base::Text;
 
 /// What a command reads of its input: the texts of the parts that it needs. The lines of a text
 /// are joined by line feeds.
-#[derive(Debug, Drop)]
+#[derive(Drop)]
 pub struct Parts<'a> {
     /// The catalogue.
     pub catalogue: Text,

@@ -10,8 +10,8 @@ use std::str;
 
 pub type Lines<'a> = &'a [&'a [u8]];
 
-/// The lines of the parts, without their headers.
-#[derive(Clone, Copy, Debug)]
+// The lines of the parts, without their headers.
+#[derive(Clone, Copy)]
 pub struct Pieces<'a> {
     pub catalogue: Lines<'a>,
     pub config: Lines<'a>,
@@ -72,7 +72,7 @@ fn optional_part<'a>(
     }
 }
 
-/// The parts of an input, or its lines from the first faulty one on.
+// The parts of an input, or its lines from the first faulty one on.
 #[tactic(auto, unfolding(crate::specs::Reading::contents_in))]
 pub fn pieces_of<'a>(lines: Lines<'a>, needs: Needs) -> Result<Pieces<'a>, Lines<'a>>
     ensures { seen contents_of result ≡ contents_in needs (texts lines.entry.now) }

@@ -5,7 +5,7 @@ ghost use Rattle.metric_parts.specs.Reading.{texts};
 use std::marker::Model;
 
 /// The lines of a script, with the numbers that they have in the whole input.
-#[derive(Debug, Drop)]
+#[derive(Drop)]
 pub struct Script<'a> {
     lines: &'a [&'a [u8]],
     first_line: u64,

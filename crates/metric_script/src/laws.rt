@@ -9,9 +9,11 @@ ghost use Rattle.metric_script.specs.Scripts.{IsScript, IsFirstFault};
 /// one start and one list of events only, and they have one first fault unless they are a script.
 /// So [`events_of`](crate::events_of) has one answer that is not want of memory. Does nothing.
 pub fn one_script()
-    ensures script { (start : ℕ) (events : List Event) → start < 2 ^ 64 → AllByRecursion FitsEvent events
+    ensures script { (start : ℕ) (events : List Event)
+        → start < 2 ^ 64 → AllByRecursion FitsEvent events
         → IsScript (start_text start ∷ map event_text events) start events }
-    ensures event { (a b : Event) → FitsEvent a → FitsEvent b → event_text a ≡ event_text b → a ≡ b }
+    ensures event { (a b : Event)
+        → FitsEvent a → FitsEvent b → event_text a ≡ event_text b → a ≡ b }
     ensures start { (lines : List (List ℕ)) (s t : ℕ) (a b : List Event)
         → IsScript lines s a → IsScript lines t b → s ≡ t }
     ensures events { (lines : List (List ℕ)) (s t : ℕ) (a b : List Event)

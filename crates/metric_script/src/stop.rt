@@ -6,7 +6,7 @@ use std::alloc::AllocError;
 pub(crate) type Lines<'a> = &'a [&'a [u8]];
 
 // Why the reading of lines stops.
-#[derive(Clone, Copy, Debug, Drop)]
+#[derive(Clone, Copy)]
 pub(crate) enum Stop<'a> {
     // The first of these lines is faulty, or they are none and a line is missing.
     At(Lines<'a>),

@@ -1,5 +1,5 @@
 -- What a field of a table is read as: its value, or the first of the faults.
-use Rattle.std.specs.Prelude.{ℕ, ℤ, pos, codes, Bool, List, [], ◌∷◌, length, Option, Some, None, Result, Ok, nat_le}
+use Rattle.std.specs.Prelude.{◌≡◌, ℕ, ℤ, pos, codes, Bool, List, [], ◌∷◌, length, Option, Some, None, Result, Ok, Err, nat_le}
 use Rattle.std.specs.Ordering.{int_eq}
 use Rattle.std.specs.List.{list_all, list_any}
 use Rattle.std.specs.Option.{option_map}
@@ -8,6 +8,11 @@ use Rattle.toml.specs.Data.{Data, Items, no_items, item, Members, no_members, me
 use Rattle.metric_base.specs.Steps.{◌>>=◌, require, require_some, each}
 use Rattle.metric_table.specs.declared.faults.FieldFaults.{FieldFaults}
 use denote.Ref.{Bor}
+
+-- What a function returned, as it is seen, is what reading gives.
+abbrev pub Reads : {X Y F : Type 0} → (X → Y) → Result X F → Result Y F → Type 0
+Reads view (Ok x) read = read ≡ Ok (view x)
+Reads view (Err fault) read = read ≡ Err fault
 
 -- what a reference points to
 abbrev pub now_of : Bor (List ℕ) → List ℕ

@@ -1,7 +1,7 @@
 // The faults that the fields of a table may have.
 
 /// What the reader of a table answers for each fault of its fields, with the table's place in it.
-#[derive(Clone, Copy, Debug)]
+#[derive(Clone, Copy)]
 pub struct FieldFaults<F> {
     /// A needed field is missing.
     pub missing: F,

@@ -1,5 +1,5 @@
 // The fields of a table that are a text, a number or a flag.
-ghost use Rattle.std.specs.Prelude.{◌≡◌, Ok, Err, Some, MatchResult, map, length};
+ghost use Rattle.std.specs.Prelude.{◌≡◌, map, length};
 ghost use Rattle.std.specs.Option.{option_map};
 ghost use Rattle.std.specs.BTreeMap.{keys};
 ghost use Rattle.std.specs.List.{list_all, list_any};
@@ -7,7 +7,7 @@ ghost use Rattle.std.specs.Str.{bytes_eq, chars};
 ghost use Rattle.std.specs.String.{string_bytes};
 ghost use Rattle.toml.specs.Data.{get_member};
 ghost use Rattle.toml.specs.View.{table_view, view};
-ghost use Rattle.metric_table.specs.Fields.{field, flag_or, format_field, integer_of, now_of, only, optional_text, short_text, text_field, text_of};
+ghost use Rattle.metric_table.specs.Fields.{Reads, field, flag_or, format_field, integer_of, now_of, only, optional_text, short_text, text_field, text_of};
 
 use crate::faults::FieldFaults;
 use toml::{Table, Value};
@@ -25,13 +25,15 @@ pub fn only<F: Copy>(table: &Table, names: &[&str], faults: &FieldFaults<F>) -> 
 }
 
 fn has_only(table: &Table, names: &[&str]) -> bool
-    ensures { result ≡ list_all (λ k. list_any (λ n. bytes_eq n.now (string_bytes k)) names.now) (keys table.now) }
+    ensures { result ≡ list_all
+        (λ key. list_any (λ name. bytes_eq name.now (string_bytes key)) names.now)
+        (keys table.now) }
 {
     table.keys().all(|key| is_among(names, key.as_str()))
 }
 
 fn is_among(names: &[&str], key: &str) -> bool
-    ensures { result ≡ list_any (λ n. bytes_eq n.now key.now) names.now }
+    ensures { result ≡ list_any (λ name. bytes_eq name.now key.now) names.now }
 {
     names.iter().any(|name| *name == key)
 }
@@ -51,8 +53,8 @@ pub fn required<'a, F: Copy>(
     name: &str,
     faults: &FieldFaults<F>,
 ) -> Result<&'a Value, F>
-    ensures { MatchResult result (λ v. field faults.now name.now (table_view table.now) ≡ Ok (view v.now))
-        (λ e. field faults.now name.now (table_view table.now) ≡ Err e) }
+    ensures { Reads (λ value. view value.now) result
+        (field faults.now name.now (table_view table.now)) }
 {
     match member(table, name) {
         Some(value) => Ok(value),
@@ -63,8 +65,7 @@ pub fn required<'a, F: Copy>(
 /// The text that a value is.
 #[tactic(auto, unfolding(crate::specs::Fields::text_of))]
 pub fn text_of<'a, F: Copy>(value: &'a Value, faults: &FieldFaults<F>) -> Result<&'a str, F>
-    ensures { MatchResult result (λ s. text_of faults.now (view value.now) ≡ Ok s.now)
-        (λ e. text_of faults.now (view value.now) ≡ Err e) }
+    ensures { Reads now_of result (text_of faults.now (view value.now)) }
 {
     match value.as_str() {
         Some(text) => Ok(text),
@@ -79,8 +80,7 @@ pub fn text_field<'a, F: Copy>(
     name: &str,
     faults: &FieldFaults<F>,
 ) -> Result<&'a str, F>
-    ensures { MatchResult result (λ s. text_field faults.now name.now (table_view table.now) ≡ Ok s.now)
-        (λ e. text_field faults.now name.now (table_view table.now) ≡ Err e) }
+    ensures { Reads now_of result (text_field faults.now name.now (table_view table.now)) }
 {
     let value = required(table, name, faults)?;
     text_of(value, faults)
@@ -93,8 +93,8 @@ pub fn optional_text<'a, F: Copy>(
     name: &str,
     faults: &FieldFaults<F>,
 ) -> Result<Option<&'a str>, F>
-    ensures { MatchResult result (λ o. optional_text faults.now name.now (table_view table.now) ≡ Ok (option_map now_of o))
-        (λ e. optional_text faults.now name.now (table_view table.now) ≡ Err e) }
+    ensures { Reads (option_map now_of) result
+        (optional_text faults.now name.now (table_view table.now)) }
 {
     match member(table, name) {
         Some(value) => {
@@ -108,8 +108,7 @@ pub fn optional_text<'a, F: Copy>(
 /// Tries that a free text has at most 1,023 characters.
 #[tactic(auto, unfolding(crate::specs::Fields::short_text))]
 pub fn short_text<'a, F: Copy>(text: &'a str, faults: &FieldFaults<F>) -> Result<&'a str, F>
-    ensures { MatchResult result (λ s. short_text faults.now text.now ≡ Ok s.now)
-        (λ e. short_text faults.now text.now ≡ Err e) }
+    ensures { Reads now_of result (short_text faults.now text.now) }
 {
     if count_of_characters(text) <= 1023 {
         Ok(text)

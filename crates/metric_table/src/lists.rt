@@ -3,7 +3,7 @@ ghost use Rattle.std.specs.Prelude.{◌≡◌, ◌≤◌, Ok, Err, MatchResult, 
 ghost use Rattle.toml.specs.View.{table_view, view};
 ghost use Rattle.metric_base.specs.Steps.{Gives, GivesBy};
 ghost use Rattle.std.specs.Option.{option_map};
-ghost use Rattle.metric_table.specs.Fields.{as_list, at_most, each_alone, integer_of, integers_of, list_of, short_text_of, table_of, tables_field, tables_of, texts_of};
+ghost use Rattle.metric_table.specs.Fields.{Reads, as_list, at_most, each_alone, integer_of, integers_of, list_of, now_of, short_text_of, table_of, tables_field, tables_of, texts_of};
 
 use crate::faults::FieldFaults;
 use crate::fields::{integer_of, member, short_text, text_of};
@@ -18,8 +18,8 @@ pub fn list_of<'a, F: Copy>(
     most: usize,
     faults: &FieldFaults<F>,
 ) -> Result<&'a [Value], F>
-    ensures exact { MatchResult result (λ vs. list_of faults.now most (view value.now) ≡ Ok (map view vs.now))
-        (λ e. list_of faults.now most (view value.now) ≡ Err e) }
+    ensures exact { Reads (λ values. map view values.now) result
+        (list_of faults.now most (view value.now)) }
     ensures few { IfOk result (λ vs. length vs.now ≤ most) }
 {
     match as_list(value) {
@@ -39,8 +39,8 @@ fn as_list(value: &Value) -> Option<&[Value]>
 }
 
 fn at_most<'a, F: Copy>(values: &'a [Value], most: usize, too_many: F) -> Result<&'a [Value], F>
-    ensures exact { MatchResult result (λ vs. at_most most too_many (map view values.now) ≡ Ok (map view vs.now))
-        (λ e. at_most most too_many (map view values.now) ≡ Err e) }
+    ensures exact { Reads (λ values. map view values.now) result
+        (at_most most too_many (map view values.now)) }
     ensures few { IfOk result (λ vs. length vs.now ≤ most) }
 {
     if values.len() <= most {
@@ -53,8 +53,7 @@ fn at_most<'a, F: Copy>(values: &'a [Value], most: usize, too_many: F) -> Result
 /// The table that a value is.
 #[tactic(auto, unfolding(crate::specs::Fields::table_of))]
 pub fn table_of<'a, F: Copy>(value: &'a Value, faults: &FieldFaults<F>) -> Result<&'a Table, F>
-    ensures { MatchResult result (λ t. table_of faults.now (view value.now) ≡ Ok (table_view t.now))
-        (λ e. table_of faults.now (view value.now) ≡ Err e) }
+    ensures { Reads (λ table. table_view table.now) result (table_of faults.now (view value.now)) }
 {
     match value.as_table() {
         Some(table) => Ok(table),
@@ -69,7 +68,8 @@ fn tables_of<'a, F: Copy + Drop>(
     values: &'a [Value],
     faults: &FieldFaults<F>,
 ) -> Result<Items<&'a Table>, F>
-    ensures exact { GivesBy (map (λ t. table_view t.now)) faults.now.memory result (tables_of faults.now (map view values.now)) }
+    ensures exact { GivesBy (map (λ table. table_view table.now)) faults.now.memory result
+        (tables_of faults.now (map view values.now)) }
     ensures few { IfOk result (λ ts. length ts ≤ length values.now) }
 {
     let mut tables = Items::new(alloc);
@@ -92,7 +92,8 @@ pub fn tables_field<'a, F: Copy + Drop>(
     most: usize,
     faults: &FieldFaults<F>,
 ) -> Result<Items<&'a Table>, F>
-    ensures exact { GivesBy (map (λ t. table_view t.now)) faults.now.memory result (tables_field faults.now most name.now (table_view table.now)) }
+    ensures exact { GivesBy (map (λ table. table_view table.now)) faults.now.memory result
+        (tables_field faults.now most name.now (table_view table.now)) }
     ensures few { IfOk result (λ ts. length ts ≤ most) }
 {
     match member(table, name) {
@@ -111,7 +112,8 @@ fn integers<F: Copy + Drop>(
     values: &[Value],
     faults: &FieldFaults<F>,
 ) -> Result<Items<i64>, F>
-    ensures exact { Gives faults.now.memory result (each_alone (integer_of faults.now) (map view values.now)) }
+    ensures exact { Gives faults.now.memory result
+        (each_alone (integer_of faults.now) (map view values.now)) }
     ensures few { IfOk result (λ ns. length ns ≤ length values.now) }
 {
     let mut numbers = Items::new(alloc);
@@ -142,8 +144,7 @@ pub fn integers_of<F: Copy + Drop>(
 // The text of at most 1,023 characters that a value is.
 #[tactic(auto, unfolding(crate::specs::Fields::short_text_of))]
 fn short_text_of<'a, F: Copy>(value: &'a Value, faults: &FieldFaults<F>) -> Result<&'a str, F>
-    ensures { MatchResult result (λ s. short_text_of faults.now (view value.now) ≡ Ok s.now)
-        (λ e. short_text_of faults.now (view value.now) ≡ Err e) }
+    ensures { Reads now_of result (short_text_of faults.now (view value.now)) }
 {
     let text = text_of(value, faults)?;
     short_text(text, faults)
@@ -164,7 +165,8 @@ fn texts<F: Copy + Drop>(
     values: &[Value],
     faults: &FieldFaults<F>,
 ) -> Result<Items<Text>, F>
-    ensures exact { Gives faults.now.memory result (each_alone (short_text_of faults.now) (map view values.now)) }
+    ensures exact { Gives faults.now.memory result
+        (each_alone (short_text_of faults.now) (map view values.now)) }
     ensures few { IfOk result (λ ts. length ts ≤ length values.now) }
 {
     let mut texts = Items::new(alloc);

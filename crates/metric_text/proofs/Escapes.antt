@@ -7,11 +7,11 @@ use Rattle.std.proofs.lemmas.Str.{is_utf8-from_IsUtf8, IsUtf8-from_is_utf8}
 use Rattle.std.specs.Option.{option_map, ok_or}
 use Rattle.metric_text.specs.Written.{escape}
 use Rattle.metric_text.specs.Reading.{Tells, after_in, closed_in, is_special, byte_of, split_before, escaped_in, with_front, unquoted_in, text_in}
-use Rattle.metric_text.specs.ReadingLaws.{BeginsWith, length-split_before, split_before-begins}
-use Rattle.metric_text.specs.LineLaws.{true_or_false}
+use Rattle.metric_text.specs.ReadingLaws.{BeginsWith}
+use Rattle.metric_text.proofs.LineLaws.{true_or_false}
 use Rattle.metric_text.specs.declared.fault.SpellingFault.{SpellingFault}
 use Rattle.metric_text.specs.declared.fault.SpellingFault.TheVariants.{Bad}
-use Rattle.metric_text.specs.QuoteLaws.{escape-split, unquoted_in-split, unquoted_in-escaped, unquoted_in-end, with_front-append, some_if, read_letter}
+use Rattle.metric_text.proofs.PlainRuns.{length-split_before, split_before-begins, escape-split, unquoted_in-split, unquoted_in-escaped, unquoted_in-end, with_front-append, some_if, read_letter}
 
 -- the plain bytes in front are written
 pub escaped_start : (old new front back text : List ℕ) → new ≡ old ++ front → front ≡ (split_before is_special text).0 → back ≡ (split_before is_special text).1

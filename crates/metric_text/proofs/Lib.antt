@@ -1,3 +1,6 @@
-mod Escapes
+mod LineLaws
 mod Splits
+mod PlainRuns
+mod Escapes
 mod PrintedAgain
+mod OneSpelling

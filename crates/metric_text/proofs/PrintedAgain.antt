@@ -1,5 +1,5 @@
 -- Numbers that are parsed and printed again.
-use Rattle.std.proofs.Common.{true, false, Bor, MatchResult, to_z, of_z, ◌≡◌, ◌<◌, ◌≤◌, ◌^◌, ℕ, ℤ, w64, List, Some, None, Result, Ok, Err, refl, sym, ap, subst, ◌∙◌, arith, lit≤}
+use Rattle.std.proofs.Common.{pos, negsuc, true, false, Bor, MatchResult, to_z, of_z, ◌≡◌, ◌<◌, ◌≤◌, ◌^◌, ℕ, ℤ, w64, List, Some, None, Result, Ok, Err, refl, sym, ap, subst, ◌∙◌, arith, lit≤}
 use Rattle.std.specs.Prelude.{IsUtf8, FitsSigned}
 use Rattle.std.specs.Fmt.{decimal, signed_decimal}
 use Rattle.std.specs.Str.Parse.{ParsesUnsigned, ParsesSigned}
@@ -10,7 +10,13 @@ use Rattle.std.proofs.lemmas.Slice.Eq.{bytes_eq-Decides}
 use Rattle.std.proofs.lemmas.Fmt.{IsAscii-decimal, IsAscii-signed, parse-decimal, parse-signed_decimal}
 use Rattle.std.proofs.lemmas.Str.{IsUtf8-from_ascii}
 use Rattle.metric_text.specs.Reading.{number_of, signed_of}
-use Rattle.metric_text.specs.ReadingLaws.{number_of-text, number_of-some, signed_of-text, signed_of-some, mag-small, none_from}
+use Rattle.metric_text.specs.ReadingLaws.{number_of-text, number_of-some, signed_of-text, signed_of-some}
+use Rattle.metric_text.proofs.Splits.{none_from}
+use Rattle.std.specs.Int.Signed.{mag}
+
+mag-small : (z : ℤ) → FitsSigned w64 z → mag z < 2 ^ 63
+mag-small (pos n) fits = omega (arith, fits.sfits)
+mag-small (negsuc n) fits = omega (arith, fits.sfits)
 
 -- what is no text is no number
 pub number_of-not_utf8 : (word : List ℕ) → (IsUtf8 word → ⊥) → number_of (2 ^ 64) word ≡ None

@@ -6,4 +6,3 @@ pub mod ReadingLaws
 pub mod QuoteLaws
 pub mod ValueLaws
 pub mod Lines
-pub mod LineLaws

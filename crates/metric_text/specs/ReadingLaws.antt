@@ -1,5 +1,5 @@
 -- What is spelled is read, and what is read is spelled so.
-use Rattle.std.proofs.Common.{w64, cond, ◌≡◌, ◌≢◌, ℕ, ◌<◌, ◌≤◌, ◌^◌, Bool, true, false, ◌&&◌, ◌==◌, nat_lt, List, [], ◌∷◌, ◌++◌, Option, Some, None, length, ℤ, pos, negsuc, neg_ℤ, suc, refl, sym, ap, subst, ◌∙◌, ◌⊎◌, inl, inr, arith, eq-eqb, lit≤}
+use Rattle.std.proofs.Common.{w64, ◌≡◌, ◌≢◌, ℕ, ◌<◌, ◌≤◌, ◌^◌, Bool, true, false, ◌&&◌, ◌==◌, nat_lt, List, [], ◌∷◌, ◌++◌, Option, Some, None, length, ℤ, pos, negsuc, neg_ℤ, suc, refl, sym, ap, subst, ◌∙◌, ◌⊎◌, inl, inr, arith, lit≤}
 use Rattle.std.specs.Prelude.{FitsSigned, if◌then◌else◌}
 use Rattle.std.specs.Fmt.{decimal, signed_decimal}
 use Rattle.std.specs.Int.Signed.{mag}
@@ -18,10 +18,6 @@ pub some_when : {A : Type 0} (test : Bool) (x y : A) → (if test then Some x el
 some_when true x y e = (refl, cc)
 some_when false x y e = absurd cc
 
-pub none_from : {A : Type 0} (o : Option A) → ((x : A) → o ≡ Some x → ⊥) → o ≡ None
-none_from None never = refl
-none_from (Some x) never = absurd (never x refl)
-
 both_true : (a b : Bool) → (a && b) ≡ true → (a ≡ true) × (b ≡ true)
 both_true true b e = (refl, e)
 both_true false b e = absurd cc
@@ -36,10 +32,6 @@ after_some None f y e rest = absurd cc
 after_some (Some x) f y e rest = rest x refl e
 
 -- Keywords
-
-pub after_in-text : (keyword rest : List ℕ) → after_in keyword (keyword ++ rest) ≡ Some rest
-after_in-text [] rest = refl
-after_in-text (c ∷ keyword) rest = rw (eq-eqb c c refl) (after_in-text keyword rest)
 
 pub after_in-some : (keyword bytes rest : List ℕ) → after_in keyword bytes ≡ Some rest → bytes ≡ keyword ++ rest
 after_in-some [] bytes rest e = cc
@@ -69,7 +61,7 @@ BeginsWith passes (b ∷ bytes) = passes b ≡ true
 abbrev pub IsWordEnd : List ℕ → Type 0
 IsWordEnd rest = BeginsWith is_space rest
 
-pub split_before-append : (passes : ℕ → Bool) (front rest : List ℕ) → NonePass passes front → BeginsWith passes rest → split_before passes (front ++ rest) ≡ (front, rest)
+split_before-append : (passes : ℕ → Bool) (front rest : List ℕ) → NonePass passes front → BeginsWith passes rest → split_before passes (front ++ rest) ≡ (front, rest)
 split_before-append passes [] [] none begins = refl
 split_before-append passes [] (b ∷ rest) none begins = rw begins refl
 split_before-append passes (b ∷ front) rest none begins = rw (none.0, split_before-append passes front rest none.1 begins) refl
@@ -78,41 +70,17 @@ joined_either : (test : Bool) (x y : List ℕ × List ℕ) (whole : List ℕ) �
 joined_either true x y whole left right = left
 joined_either false x y whole left right = right
 
-pub split_before-whole : (passes : ℕ → Bool) (bytes : List ℕ) → (split_before passes bytes).0 ++ (split_before passes bytes).1 ≡ bytes
+split_before-whole : (passes : ℕ → Bool) (bytes : List ℕ) → (split_before passes bytes).0 ++ (split_before passes bytes).1 ≡ bytes
 split_before-whole passes [] = refl
 split_before-whole passes (b ∷ bytes) =
     joined_either (passes b) ([], b ∷ bytes) (b ∷ (split_before passes bytes).0, (split_before passes bytes).1) (b ∷ bytes)
     refl (ap (λ xs. b ∷ xs) (split_before-whole passes bytes))
-
-shorter_either : (b : ℕ) (bytes : List ℕ) (rest : List ℕ × List ℕ) (test : Bool) → length rest.1 ≤ length bytes
-    → length (cond {A = List ℕ × List ℕ} test ([], b ∷ bytes) (b ∷ rest.0, rest.1)).1 ≤ length (b ∷ bytes)
-shorter_either b bytes rest true shorter = omega arith
-shorter_either b bytes rest false shorter = omega arith
-
-begins_either : (passes : ℕ → Bool) (b : ℕ) (bytes : List ℕ) (rest : List ℕ × List ℕ) (test : Bool) → passes b ≡ test → BeginsWith passes rest.1
-    → BeginsWith passes (cond {A = List ℕ × List ℕ} test ([], b ∷ bytes) (b ∷ rest.0, rest.1)).1
-begins_either passes b bytes rest true e begins = e
-begins_either passes b bytes rest false e begins = begins
-
--- what follows is no longer
-pub length-split_before : (passes : ℕ → Bool) (bytes : List ℕ) → length (split_before passes bytes).1 ≤ length bytes
-length-split_before passes [] = omega arith
-length-split_before passes (b ∷ bytes) = shorter_either b bytes (split_before passes bytes) (passes b) (length-split_before passes bytes)
-
-pub split_before-begins : (passes : ℕ → Bool) (bytes : List ℕ) → BeginsWith passes (split_before passes bytes).1
-split_before-begins passes [] = tt
-split_before-begins passes (b ∷ bytes) = begins_either passes b bytes (split_before passes bytes) (passes b) refl (split_before-begins passes bytes)
 
 pub word_in-append : (word rest : List ℕ) → NonePass is_space word → IsWordEnd rest → word_in (word ++ rest) ≡ (word, rest)
 word_in-append word rest = split_before-append is_space word rest
 
 pub word_in-whole : (bytes : List ℕ) → (word_in bytes).0 ++ (word_in bytes).1 ≡ bytes
 word_in-whole bytes = split_before-whole is_space bytes
-
--- a whole line without spaces is one word
-pub word_in-all : (word : List ℕ) → NonePass is_space word → word_in word ≡ (word, [])
-word_in-all [] none = refl
-word_in-all (b ∷ word) none = rw (none.0, word_in-all word none.1) refl
 
 -- Numbers
 
@@ -123,7 +91,7 @@ digits_without b (d ∷ ds) out digits =
     let other : (d == b) ≡ false = elim (eqb_tells d b) [ inl same ↦ absurd (elim out [ inl above ↦ omega arith | inr below ↦ omega arith ]) | inr apart ↦ apart.0 ] in
     (other, digits_without b ds out digits.1)
 
-pub decimal-no_space : (n : ℕ) → n < 2 ^ 64 → NonePass is_space (decimal n)
+decimal-no_space : (n : ℕ) → n < 2 ^ 64 → NonePass is_space (decimal n)
 decimal-no_space n small = digits_without 32 (decimal n) (inr (omega arith)) (decimal_is_IsNumeral n small).0.1
 
 pub signed_decimal-no_space : (z : ℤ) → FitsSigned w64 z → NonePass is_space (signed_decimal z)
@@ -174,10 +142,6 @@ signed_digits_value-decimal (pos n) fits =
 signed_digits_value-decimal (negsuc n) fits =
     let numeral = decimal_is_IsNumeral (suc n) (omega (arith, fits.sfits)) in
     ap (λ m. neg_ℤ (pos m)) numeral.1
-
-pub mag-small : (z : ℤ) → FitsSigned w64 z → mag z < 2 ^ 63
-mag-small (pos n) fits = omega (arith, fits.sfits)
-mag-small (negsuc n) fits = omega (arith, fits.sfits)
 
 fits_test : (z : ℤ) → FitsSigned w64 z → nat_lt (mag z) (2 ^ 63) ≡ true
 fits_test (pos n) fits = let small : n < 2 ^ 63 = omega (arith, fits.sfits) in grind (arith, nat_tests)

@@ -1,18 +1,17 @@
 -- Attribute values: what is spelled is read, and what is read is spelled so.
-use Rattle.std.proofs.Common.{drop, w64, ◌≡◌, ℕ, Bool, true, false, ◌==◌, List, [], ◌∷◌, ◌++◌, Option, Some, None, codes, ℤ, refl, sym, ap, subst, ◌∙◌, inl, inr, arith, ◌<◌, lit<}
+use Rattle.std.proofs.Common.{w64, ◌≡◌, ℕ, Bool, true, false, ◌==◌, List, [], ◌∷◌, ◌++◌, Option, Some, None, codes, ℤ, refl, sym, ap, subst, ◌∙◌, inl, inr, arith, ◌<◌, lit<}
 use Rattle.std.specs.Prelude.{FitsSigned, if◌then◌else◌, is_some}
 use Rattle.std.specs.Fmt.{signed_decimal}
-use Rattle.std.specs.List.{flat_map}
 use Rattle.std.specs.Option.{option_map}
 use Rattle.std.specs.Str.{bytes_eq}
 use Rattle.std.proofs.lemmas.Bool.Decides.{eqb_tells}
 use Rattle.std.proofs.lemmas.Slice.Eq.{bytes_eq-Decides}
 use Rattle.metric_names.specs.declared.value.AttrValue.{AttrValue}
 use Rattle.metric_names.specs.declared.value.AttrValue.TheVariants.{Text, Whole, Flag}
-use Rattle.metric_text.specs.Written.{escape, quoted, value_text, flag_text, IsValue}
-use Rattle.metric_text.specs.Reading.{after_in, is_space, word_in, signed_of, unquoted_in, text_in, bare_of, bare_in, quoted_value_in, value_in}
+use Rattle.metric_text.specs.Written.{value_text, flag_text, IsValue}
+use Rattle.metric_text.specs.Reading.{after_in, is_space, word_in, signed_of, text_in, bare_of, bare_in, quoted_value_in, value_in}
 use Rattle.metric_text.specs.ReadingLaws.{after_some, pair_is, IsWordEnd, NonePass, word_in-append, word_in-whole, signed_decimal-no_space, signed_decimal-begins, signed_of-text, signed_of-some}
-use Rattle.metric_text.specs.QuoteLaws.{unquoted_in-text, text_in-text, text_in-some}
+use Rattle.metric_text.specs.QuoteLaws.{text_in-text, text_in-some}
 
 by_test : {A P : Type 0} (test : Bool) (x y r : A) → (if test then x else y) ≡ r → (test ≡ true → x ≡ r → P) → (y ≡ r → P) → P
 by_test true x y r e yes_case no_case = yes_case refl e
@@ -94,25 +93,9 @@ value_in-some value bytes rest e =
     )))
     (λ read. bare_in-some value bytes rest read)
 
--- Each value has exactly one spelling.
-pub value_text-one : (v w : AttrValue) → IsValue v → IsValue w → value_text v ≡ value_text w → v ≡ w
-value_text-one v w fits also same =
-    let left = value_in-text v [] fits tt in
-    let right = value_in-text w [] also tt in
-    let joint : value_in (value_text v ++ []) ≡ value_in (value_text w ++ []) = ap (λ xs. value_in (xs ++ [])) same in
-    (pair_is v w [] [] (sym left ∙ joint ∙ right)).0
-
 -- what stands first is read so, with what follows
 abbrev pub ReadsText : List ℕ → List ℕ → List ℕ → Type 0
 ReadsText bytes text rest = text_in bytes ≡ Some (text, rest)
 
 abbrev pub ReadsValue : List ℕ → AttrValue → List ℕ → Type 0
 ReadsValue bytes value rest = value_in bytes ≡ Some (value, rest)
-
-pub quoted-one : (text other : List ℕ) → quoted text ≡ quoted other → text ≡ other
-quoted-one text other same =
-    let left = unquoted_in-text text [] in
-    let right = unquoted_in-text other [] in
-    let joint : unquoted_in false (flat_map escape text ++ 34 ∷ []) ≡ unquoted_in false (flat_map escape other ++ 34 ∷ []) =
-    ap (λ (xs : List ℕ). unquoted_in false (drop 1 xs)) same in
-    (pair_is text other [] [] (sym left ∙ joint ∙ right)).0

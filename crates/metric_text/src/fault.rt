@@ -5,7 +5,7 @@ use std::alloc::AllocError;
 use thiserror::Error;
 
 /// Why what is spelled is not read.
-#[derive(Clone, Copy, Debug, PartialEq, Eq, Drop, Error)]
+#[derive(Clone, Copy, Debug, Error)]
 pub enum SpellingFault {
     /// The bytes are outside the grammar.
     #[error("outside the grammar")]

@@ -44,7 +44,8 @@ pub fn push_list<T: Spelled>(out: &mut Vec<u8>, values: &[T]) -> Result<(), Allo
 // Writes each value with a comma before it.
 #[tactic(auto, using(crate::specs::ListLaws::steps))]
 fn push_more<T: Spelled>(out: &mut Vec<u8>, values: &[T]) -> Result<(), AllocError>
-    ensures { OnOk result (out.new.items ≡ out.old.items ++ flat_map (λ x. 44 ∷ T.text x) values.now) }
+    ensures { OnOk result (out.new.items
+        ≡ out.old.items ++ flat_map (λ x. 44 ∷ T.text x) values.now) }
 {
     for value in values {
         push_byte(out, b',')?;

@@ -14,7 +14,7 @@ use metric_names::AttrValue;
 use std::alloc::{AllocError, Global};
 
 /// A key with its value, borrowed.
-#[derive(Clone, Copy, Debug)]
+#[derive(Clone, Copy)]
 pub struct Pair<'a> {
     /// The key.
     pub key: &'a str,

@@ -1,6 +1,7 @@
 -- the laws of the spellings
 use Rattle.metric_text.specs.QuoteLaws.{text_in-text, text_in-some}
-use Rattle.metric_text.specs.ValueLaws.{quoted-one, value_text-one, value_in-text, value_in-some}
+use Rattle.metric_text.specs.ValueLaws.{value_in-text, value_in-some}
+use Rattle.metric_text.proofs.OneSpelling.{quoted-one, value_text-one}
 use Rattle.metric_text.proofs.laws.each_value_has_one_spelling.Goals as goal
 
 pub returns-clause-one_text : goal.returns-clause-one_text
