@@ -75,7 +75,8 @@ fn told(alloc: Global, catalogue: &str, config: &str, script: &str) -> Result<St
     let read = scripts::read(alloc, script)??;
     let mut core = match core_of(alloc, catalogue, config, read.start)? {
         Ok(core) => core,
-        Err(fault) => return Ok(fault.to_string(alloc)?),
+        Err(FirstFault::NotYet) => return Ok(String::from_str(alloc, "not yet")?),
+        Err(FirstFault::Memory) => return Ok(String::from_str(alloc, "memory")?),
     };
     let mut out = String::new(alloc);
     let replies = core.run(alloc, read.events.as_slice())?;

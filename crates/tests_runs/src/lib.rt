@@ -7,6 +7,8 @@
 #[cfg(test)]
 mod aggregates;
 #[cfg(test)]
+mod commands;
+#[cfg(test)]
 mod cores;
 #[cfg(test)]
 mod points;

@@ -1,10 +1,9 @@
-//! Batches and listings as texts.
+//! Batches, streams and warnings as texts.
 use metric_aggregate::PointValue;
 use metric_base::{Items, copy_all};
 use metric_catalogue::{Catalogue, SetKey};
 use metric_history::{Batch, Point, StreamPoints};
-use metric_export::push_batch;
-use metric_listing::push_listing;
+use metric_lines::{push_batch, push_shown, push_warning};
 use metric_resolve::{Warning, resolve};
 use metric_views::Config;
 use std::alloc::Global;
@@ -114,9 +113,17 @@ fn batch_of(
     })
 }
 
+fn read_shop(alloc: Global, text: &str) -> Result<Catalogue, Fail> {
+    Ok(Catalogue::read(alloc, text)?)
+}
+
+fn read_config(alloc: Global, text: &str) -> Result<Config, Fail> {
+    Ok(Config::read(alloc, text)?)
+}
+
 fn text_of(alloc: Global, batch: &Batch) -> Result<Vec<u8>, Fail> {
-    let catalogue = Catalogue::read(alloc, SHOP)?;
-    let config = Config::read(alloc, CONFIG)?;
+    let catalogue = read_shop(alloc, SHOP)?;
+    let config = read_config(alloc, CONFIG)?;
     let plan = resolve(alloc, &catalogue, &config)?;
     let mut out = Vec::new(alloc);
     push_batch(&mut out, &catalogue, &config, plan.list(), batch)?;
@@ -192,24 +199,34 @@ stream 1 reader=\"main\" instrument=0 view=1 name=\"waits\" kind=sum monotonic=y
 stream 2 reader=\"main\" instrument=1 view=- name=\"hits\" kind=sum monotonic=yes temporality=cumulative limit=2000 keys=[]
 stream 3 reader=\"main\" instrument=2 view=- name=\"stock\" kind=sum monotonic=no temporality=cumulative limit=2000 keys=[]
 stream 4 reader=\"main\" instrument=3 view=- name=\"level\" kind=last temporality=cumulative limit=2000 keys=[]
-warning Unfit view=7 instrument=0
-warning Collision streams=0,1
 ";
 
 #[test]
-fn streams_and_warnings_have_lines(rt: HostRuntime) -> Result<(), Fail> {
-    let catalogue = Catalogue::read(rt.alloc(), SHOP)?;
-    let config = Config::read(rt.alloc(), CONFIG)?;
+fn a_stream_has_a_line(rt: HostRuntime) -> Result<(), Fail> {
+    let catalogue = read_shop(rt.alloc(), SHOP)?;
+    let config = read_config(rt.alloc(), CONFIG)?;
     let streams = resolve(rt.alloc(), &catalogue, &config)?;
-    let warnings = [
+    let mut out = Vec::new(rt.alloc());
+    for (number, stream) in streams.list().iter().enumerate() {
+        push_shown(&mut out, &catalogue, &config, number as u64, stream)?;
+    }
+    assert_eq!(rt; out.as_slice(), LISTING.as_bytes());
+    Ok(())
+}
+
+#[test]
+fn a_warning_has_a_line(rt: HostRuntime) -> Result<(), Fail> {
+    let mut out = Vec::new(rt.alloc());
+    for warning in [
         Warning::Unfit {
             view: 7,
-            instrument: 0,
+            instrument: 4294967295,
         },
-        Warning::Collision { a: 0, b: 1 },
-    ];
-    let mut out = Vec::new(rt.alloc());
-    push_listing(&mut out, &catalogue, &config, streams.list(), &warnings)?;
-    assert_eq!(rt; out.as_slice(), LISTING.as_bytes());
+        Warning::Collision { a: 0, b: 10 },
+    ] {
+        push_warning(&mut out, warning)?;
+    }
+    let wanted = b"warning Unfit view=7 instrument=4294967295\nwarning Collision streams=0,10\n";
+    assert_eq!(rt; out.as_slice(), wanted.as_slice());
     Ok(())
 }
