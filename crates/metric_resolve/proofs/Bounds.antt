@@ -14,7 +14,7 @@ use Rattle.metric_views.specs.declared.stream.Fill.{Fill}
 use Rattle.metric_views.specs.declared.stream.Fill.TheVariants.{Kept}
 use Rattle.metric_views.specs.declared.stream.Stream.{Stream}
 use Rattle.metric_views.specs.declared.stream.StreamAggregation.{StreamAggregation}
-use Rattle.metric_views.specs.Streams.{fill_at, fill_of, fill_with, kept_or_dropped, settings_at, stream_with, unless_unfit}
+use Rattle.metric_views.specs.Streams.{fill_at, fill_by, fill_with, kept_or_dropped, settings_at, stream_by, template_of, unless_unfit}
 use Rattle.metric_resolve.specs.Applying.{all_instruments, all_readers, all_views, applies, or_default, views_for}
 use Rattle.metric_resolve.specs.Resolved.{kept, stream_at, streams_of, streams_of_instrument, streams_of_reader}
 use Rattle.metric_resolve.proofs.Fills.{known_fill}
@@ -102,7 +102,7 @@ kept_with false make (Some a) stream e next = let same : make a ≡ stream = cc 
 
 pub stream_at-is : (contents : Contents) (config : Config) (reader instrument : ℕ) (view : Option ℕ) (stream : Stream)
     → stream_at contents config reader instrument view ≡ Some stream → IsOf contents config reader instrument view stream
-unfolding stream_at fill_of stream_with
+unfolding stream_at fill_by stream_by template_of
 stream_at-is contents config reader instrument view stream e =
     let parts = by (slice_get config.readers reader) (slice_get contents.instruments instrument) (settings_at config.views view) e in
     record { reader_is = parts.0; instrument_is = parts.1; view_is = parts.2; filled = parts.3 }

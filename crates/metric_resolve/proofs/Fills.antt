@@ -16,7 +16,7 @@ use Rattle.metric_views.specs.declared.stream.Fill.{Fill}
 use Rattle.metric_views.specs.declared.stream.Fill.TheVariants.{Unfit, Dropped, Kept}
 use Rattle.metric_views.specs.declared.stream.Stream.{Stream}
 use Rattle.metric_views.specs.declared.stream.StreamAggregation.{StreamAggregation}
-use Rattle.metric_views.specs.Streams.{fill_at, fill_of, fill_with, kept_or_dropped, settings_at, unless_unfit}
+use Rattle.metric_views.specs.Streams.{fill_at, fill_by, fill_with, kept_or_dropped, settings_at, template_of, unless_unfit}
 use Rattle.metric_resolve.specs.Applying.{applies, applying, all_views, fits, fits_with, is_selected, or_default}
 use Rattle.metric_resolve.specs.Resolved.{is_fit, kept, kept_of, stream_at, streams_by, streams_of_instrument}
 use Rattle.metric_resolve.proofs.Numbers.{filter_more}
@@ -32,7 +32,7 @@ some_is x y e = cc
 
 fits_fill_with : (number n : ℕ) (v : Option ℕ) (reader : Option Reader) (instrument : Option Instrument) (view : Option View) (filled : Fill)
     → fill_with number n v reader instrument (option_map (λ view. view.settings) view) ≡ Some filled → fits_with reader view instrument ≡ is_fit filled
-unfolding fill_of
+unfolding fill_by template_of
 fits_fill_with number n v (Some r) (Some i) (Some view) filled e = fit_of_fill _ _ _ ∙ ap is_fit (some_is _ filled e)
 fits_fill_with number n v (Some r) (Some i) None filled e = absurd cc
 fits_fill_with number n v (Some r) None view filled e = absurd cc

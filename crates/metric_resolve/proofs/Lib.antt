@@ -1,5 +1,4 @@
 pub mod Numbers
-pub mod Tables
 pub mod Fills
 pub mod Bounds
 pub mod Same
@@ -8,3 +7,4 @@ pub mod Ordered
 pub mod StreamLaws
 pub mod CollisionLaws
 mod StreamKeyLaws
+mod OfferLaws

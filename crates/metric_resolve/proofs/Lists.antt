@@ -1,7 +1,8 @@
 -- What joined lists contain.
-use Rattle.std.proofs.Common.{◌≡◌, slice_get, ℕ, zero, suc, take, ◌<◌, List, [], ◌∷◌, get_or, Contains, Option, Some, None, refl, sym, ap, subst, ◌∙◌, arith, ◌⊎◌, inl, inr}
+use Rattle.std.proofs.Common.{◌≡◌, slice_get, ℕ, zero, suc, take, length, ◌<◌, List, [], ◌∷◌, get_or, Contains, Option, Some, None, refl, sym, ap, subst, ◌∙◌, arith, ◌⊎◌, inl, inr}
 use Rattle.std.specs.List.{cons_option, filter_map, flat_map, range_with_len}
 use Rattle.std.proofs.lemmas.List.Elements.{Contains-append_cases, Contains-append_left, Contains-append_right, Contains-get_or, Contains-push_cases, at_from_Contains}
+use Rattle.std.proofs.lemmas.Option.{slice_get_read}
 use Rattle.std.proofs.lemmas.List.FromFn.{get_or-range_with_len, length-range_with_len}
 
 pub nothing_in_nil : {A : Type 0} (x : A) → Contains [] x → ⊥
@@ -71,3 +72,7 @@ slice_get-take zero xs k less = absurd (omega arith)
 slice_get-take (suc n) [] k less = refl
 slice_get-take (suc n) (x ∷ xs) zero less = refl
 slice_get-take (suc n) (x ∷ xs) (suc k) less = slice_get-take n xs k (omega arith)
+
+-- an element of a list that is another
+pub element_at : {X : Type 0} (xs ys : List X) (n : ℕ) (x : X) → ys ≡ xs → n < length ys → x ≡ get_or ys n x → slice_get xs n ≡ Some x
+element_at xs ys n x same within is = ap (λ (zs : List _). slice_get zs n) (sym same) ∙ slice_get_read ys (length ys) n x refl within is

@@ -38,7 +38,7 @@ map_filter_more f p n = ap (map f) (filter_more p n) ∙ map-append f (filter p 
 pub filter_map_more : {A : Type 0} (h : ℕ → Option A) (n : ℕ) → filter_map h (range_with_len 0 (n + 1)) ≡ filter_map h (range_with_len 0 n) ++ cons_option (h n) []
 filter_map_more h n = ap (filter_map h) (range_more n) ∙ filter_map-append h (range_with_len 0 n) (n ∷ [])
 
-or_false : (b : Bool) → (b || false) ≡ b
+pub or_false : (b : Bool) → (b || false) ≡ b
 or_false true = refl
 or_false false = refl
 

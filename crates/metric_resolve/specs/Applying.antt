@@ -35,7 +35,7 @@ is_selected contents config instrument view =
     selects_with (slice_get config.views view) (meter_at contents instrument) (slice_get contents.instruments instrument)
 
 abbrev pub fits_with : Option Reader → Option View → Option Instrument → Bool
-fits_with (Some reader) (Some view) (Some instrument) = not (is_unfit instrument.kind (chosen_aggregation reader instrument.kind view.settings))
+fits_with (Some reader) (Some view) (Some instrument) = not (is_unfit instrument.kind (chosen_aggregation reader instrument.kind view.settings.aggregation))
 fits_with _ _ _ = false
 
 -- the view's aggregation, else the reader's, fits the kind of the instrument

@@ -1,6 +1,6 @@
 pub mod Applying
-pub mod Flags
 pub mod Resolved
+pub mod Offers
 pub mod Unfit
 pub mod Collisions
 pub mod Warnings

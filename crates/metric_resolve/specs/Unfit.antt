@@ -9,7 +9,7 @@ use Rattle.metric_views.specs.declared.config.View.{View}
 use Rattle.metric_views.specs.Choices.{is_unfit}
 use Rattle.metric_resolve.specs.declared.warning.Warning.{Warning}
 use Rattle.metric_resolve.specs.declared.warning.Warning.TheVariants as warnings
-use Rattle.metric_resolve.specs.Applying.{all_instruments, all_views, is_selected}
+use Rattle.metric_resolve.specs.Applying.{all_instruments, all_views, meter_at, selects_with}
 
 -- the view itself names an aggregation that does not fit the instrument, so a sum of a gauge
 abbrev pub names_unfit : View → Instrument → Bool
@@ -19,14 +19,19 @@ abbrev pub names_unfit_with : Option View → Option Instrument → Bool
 names_unfit_with (Some view) (Some instrument) = names_unfit view instrument
 names_unfit_with _ _ = false
 
--- the view of a number is to be warned of at the instrument of a number
-unfoldable pub is_unfit_pair : Contents → Config → ℕ → ℕ → Bool
-is_unfit_pair contents config view instrument =
-    names_unfit_with (slice_get config.views view) (slice_get contents.instruments instrument) && is_selected contents config instrument view
+-- the view, where there is one, is to be warned of at the instrument of a number
+abbrev pub is_unfit_with : Contents → Option View → ℕ → Bool
+is_unfit_with contents view number =
+    names_unfit_with view (slice_get contents.instruments number)
+    && selects_with view (meter_at contents number) (slice_get contents.instruments number)
 
--- the warnings of a view, by instrument
+unfoldable pub is_unfit_at : Contents → View → ℕ → Bool
+is_unfit_at contents view number = is_unfit_with contents (Some view) number
+
+-- the warnings of the view of a number, by instrument
 unfoldable pub unfit_of_view : Contents → Config → ℕ → List Warning
-unfit_of_view contents config view = map (λ instrument. warnings.Unfit view instrument) (filter (is_unfit_pair contents config view) (all_instruments contents))
+unfit_of_view contents config view =
+    map (λ instrument. warnings.Unfit view instrument) (filter (is_unfit_with contents (slice_get config.views view)) (all_instruments contents))
 
 -- the warnings of all views, in order
 unfoldable pub unfit_of : Contents → Config → List Warning

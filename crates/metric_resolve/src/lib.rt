@@ -3,8 +3,8 @@
 
 mod collisions;
 mod laws;
+mod offers;
 mod resolved;
-mod selections;
 mod stream_key;
 mod stream_list;
 mod unfit;

@@ -4,8 +4,8 @@ ghost use Rattle.metric_resolve.specs.Resolved.{streams_of};
 ghost use Rattle.metric_resolve.specs.Warnings.{warnings_of};
 
 use crate::collisions::add_collisions;
-use crate::selections::Selections;
-use crate::stream_list::{Source, streams_of};
+use crate::offers::offers_of;
+use crate::stream_list::streams_of;
 use crate::unfit::add_unfit;
 use crate::warning::Warning;
 use metric_base::{Few, Items};
@@ -59,17 +59,10 @@ pub fn resolve(alloc: Global, catalogue: &Catalogue, config: &Config) -> Result<
     ensures list { IfOk result (λ s. s.list ≡ streams_of catalogue.now config.now) }
     ensures warnings { IfOk result (λ s. s.warnings ≡ warnings_of catalogue.now config.now) }
 {
-    let selections = Selections::new(alloc, catalogue, config)?;
-    let list = streams_of(
-        alloc,
-        Source {
-            catalogue,
-            config,
-            selections: &selections,
-        },
-    )?;
+    let offers = offers_of(alloc, catalogue, config)?;
+    let list = streams_of(alloc, catalogue, config, offers.as_slice())?;
     let mut warnings = Items::new(alloc);
-    add_unfit(catalogue, config, &selections, &mut warnings)?;
+    add_unfit(catalogue, config, &mut warnings)?;
     add_collisions(alloc, catalogue, list.as_slice(), &mut warnings)?;
     Ok(Streams {
         list: Few::from_items(list),

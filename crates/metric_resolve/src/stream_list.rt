@@ -1,34 +1,31 @@
 //! The streams of all readers, in order.
-ghost use Rattle.std.specs.Prelude.{◌≡◌, ◌<◌, ◌≤◌, All, ◌++◌, [], ◌∷◌, filter, IfOk, OnOk, length};
-ghost use Rattle.std.specs.List.{list_any};
-ghost use Rattle.metric_resolve.specs.Applying.{all_views, applies, applying};
-ghost use Rattle.metric_resolve.specs.Flags.{AreSelections};
-ghost use Rattle.metric_resolve.specs.Resolved.{is_fit, kept_of, streams_by, streams_of, streams_of_instrument, streams_of_reader};
+ghost use Rattle.std.specs.Prelude.{◌≡◌, ◌<◌, ◌≤◌, All, ◌++◌, IfOk, OnOk, length, map};
+ghost use Rattle.std.specs.List.{filter_map, flat_map, list_any};
+ghost use Rattle.metric_views.specs.Streams.{fill_by};
+ghost use Rattle.metric_resolve.specs.Offers.{AreOffers, streams_of_offer};
+ghost use Rattle.metric_resolve.specs.Resolved.{is_fit, kept, kept_of, streams_of};
 
-use crate::selections::Selections;
+use crate::offers::Offer;
 use metric_base::Items;
 use metric_catalogue::Catalogue;
-use metric_views::{Config, Fill, Stream, fill};
+use metric_views::{Config, Fill, Reader, Stream, Template};
 use std::alloc::{AllocError, Global};
 
-/// What streams are made of: a catalogue, a config, and which views select which instruments.
-#[derive(Clone, Copy)]
-pub(crate) struct Source<'a> {
-    pub catalogue: &'a Catalogue,
-    pub config: &'a Config,
-    pub selections: &'a Selections,
-}
-
 /// The streams of all readers, in order.
-pub(crate) fn streams_of(alloc: Global, source: Source<'_>) -> Result<Items<Stream>, AllocError>
-    requires { AreSelections source.catalogue.now source.config.now source.selections.now.rows }
-    ensures exact { IfOk result (λ s. s ≡ streams_of source.entry.catalogue.now source.entry.config.now) }
+pub(crate) fn streams_of(
+    alloc: Global,
+    catalogue: &Catalogue,
+    config: &Config,
+    offers: &[Offer],
+) -> Result<Items<Stream>, AllocError>
+    requires { AreOffers catalogue.now config.now offers.now }
+    ensures exact { IfOk result (λ s. s ≡ streams_of catalogue.now config.now) }
     ensures few { IfOk result (λ s. length s ≤ 2097152) }
-    ensures known { IfOk result (All (λ stream. stream.instrument < length source.entry.catalogue.now.instruments)) }
+    ensures known { IfOk result (All (λ stream. stream.instrument < length catalogue.now.instruments)) }
 {
     let mut streams = Items::new(alloc);
-    for reader in 0..source.config.readers().len() as u32 {
-        add_reader(alloc, source, reader, &mut streams)?;
+    for (number, reader) in config.readers().iter().enumerate() {
+        add_reader(alloc, number as u32, reader, offers, &mut streams)?;
     }
     Ok(streams)
 }
@@ -36,44 +33,34 @@ pub(crate) fn streams_of(alloc: Global, source: Source<'_>) -> Result<Items<Stre
 /// Puts the streams of a reader last.
 fn add_reader(
     alloc: Global,
-    source: Source<'_>,
-    reader: u32,
+    number: u32,
+    reader: &Reader,
+    offers: &[Offer],
     streams: &mut Items<Stream>,
 ) -> Result<(), AllocError>
-    requires selections { AreSelections source.catalogue.now source.config.now source.selections.now.rows }
-    requires reader { reader < length source.config.now.readers }
-    ensures { OnOk result (streams.new ≡ streams.old ++ streams_of_reader source.entry.catalogue.now source.entry.config.now reader) }
+    ensures { OnOk result (streams.new
+        ≡ streams.old ++ flat_map (streams_of_offer number reader.now) offers.now) }
 {
-    for instrument in 0..source.catalogue.instruments().len() as u32 {
-        add_instrument(alloc, source, reader, instrument, streams)?;
+    for offer in offers {
+        add_offer(alloc, number, reader, offer, streams)?;
     }
     Ok(())
 }
 
 /// Puts the streams of an instrument for a reader last: those of the views that apply, or that of the
 /// default where none applies.
-fn add_instrument(
+fn add_offer(
     alloc: Global,
-    source: Source<'_>,
-    reader: u32,
-    instrument: u32,
+    number: u32,
+    reader: &Reader,
+    offer: &Offer,
     streams: &mut Items<Stream>,
 ) -> Result<(), AllocError>
-    requires selections { AreSelections source.catalogue.now source.config.now source.selections.now.rows }
-    requires reader { reader < length source.config.now.readers }
-    requires instrument { instrument < length source.catalogue.now.instruments }
-    ensures { OnOk result (streams.new ≡ streams.old ++ streams_of_instrument source.entry.catalogue.now source.entry.config.now reader instrument) }
+    ensures { OnOk result (streams.new ≡ streams.old ++ streams_of_offer number reader.now offer.now) }
 {
-    let applied = add_views(alloc, source, reader, instrument, streams)?;
+    let applied = add_views(alloc, number, reader, offer.by_views.as_slice(), streams)?;
     if !applied {
-        let filled = fill(
-            alloc,
-            source.catalogue,
-            source.config,
-            reader,
-            instrument,
-            None,
-        )?;
+        let filled = offer.default.fill(alloc, number, reader)?;
         add_kept(filled, streams)?;
     }
     Ok(())
@@ -82,58 +69,23 @@ fn add_instrument(
 /// Puts the streams of the views that apply last, and answers whether there is such a view.
 fn add_views(
     alloc: Global,
-    source: Source<'_>,
-    reader: u32,
-    instrument: u32,
+    number: u32,
+    reader: &Reader,
+    templates: &[Template],
     streams: &mut Items<Stream>,
 ) -> Result<bool, AllocError>
-    requires selections { AreSelections source.catalogue.now source.config.now source.selections.now.rows }
-    requires reader { reader < length source.config.now.readers }
-    requires instrument { instrument < length source.catalogue.now.instruments }
-    ensures streams { OnOk result (streams.new ≡ streams.old
-        ++ streams_by source.entry.catalogue.now source.entry.config.now reader instrument
-        (applying source.entry.catalogue.now source.entry.config.now reader instrument)) }
+    ensures streams { OnOk result (streams.new
+        ≡ streams.old ++ filter_map kept (map (fill_by number reader.now) templates.now)) }
     ensures applied { IfOk result (λ applied. applied
-        ≡ list_any (applies source.entry.catalogue.now source.entry.config.now reader instrument) (all_views source.entry.config.now)) }
+        ≡ list_any is_fit (map (fill_by number reader.now) templates.now)) }
 {
     let mut applied = false;
-    for view in 0..source.config.views().len() as u32 {
-        let applies = add_view(alloc, source, reader, instrument, view, streams)?;
-        applied = applied || applies;
+    for template in templates {
+        let filled = template.fill(alloc, number, reader)?;
+        let fits = add_kept(filled, streams)?;
+        applied = applied || fits;
     }
     Ok(applied)
-}
-
-/// Puts the stream of a view last, where the view applies and keeps one, and answers whether it applies.
-fn add_view(
-    alloc: Global,
-    source: Source<'_>,
-    reader: u32,
-    instrument: u32,
-    view: u32,
-    streams: &mut Items<Stream>,
-) -> Result<bool, AllocError>
-    requires selections { AreSelections source.catalogue.now source.config.now source.selections.now.rows }
-    requires reader { reader < length source.config.now.readers }
-    requires instrument { instrument < length source.catalogue.now.instruments }
-    requires view { view < length source.config.now.views }
-    ensures streams { OnOk result (streams.new ≡ streams.old
-        ++ streams_by source.entry.catalogue.now source.entry.config.now reader instrument
-        (filter (applies source.entry.catalogue.now source.entry.config.now reader instrument) (view ∷ []))) }
-    ensures applied { IfOk result (λ applied. applied ≡ applies source.entry.catalogue.now source.entry.config.now reader instrument view) }
-{
-    if !source.selections.has(instrument, view) {
-        return Ok(false);
-    }
-    let filled = fill(
-        alloc,
-        source.catalogue,
-        source.config,
-        reader,
-        instrument,
-        Some(view),
-    )?;
-    add_kept(filled, streams)
 }
 
 /// Puts the stream last, where one is kept, and answers whether the aggregation fits.

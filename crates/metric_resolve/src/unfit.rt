@@ -1,9 +1,10 @@
 //! Warnings of views that themselves name an aggregation that does not fit what they select.
-ghost use Rattle.std.specs.Prelude.{◌≡◌, ◌<◌, ◌++◌, OnOk, length};
-ghost use Rattle.metric_resolve.specs.Flags.{AreSelections};
-ghost use Rattle.metric_resolve.specs.Unfit.{is_unfit_pair, names_unfit, unfit_of, unfit_of_view};
+ghost use Rattle.std.specs.Prelude.{◌≡◌, ◌<◌, ◌++◌, OnOk, Some, filter, length, map};
+ghost use Rattle.metric_resolve.specs.declared.warning.Warning.TheVariants.{Unfit};
+ghost use Rattle.metric_resolve.specs.Applying.{all_instruments};
+ghost use Rattle.metric_resolve.specs.Unfit.{is_unfit_at, names_unfit, unfit_of};
 
-use crate::selections::Selections;
+use crate::offers::meter_of;
 use crate::warning::Warning;
 use metric_base::Items;
 use metric_catalogue::{Catalogue, Instrument, Kind};
@@ -14,14 +15,12 @@ use std::alloc::AllocError;
 pub(crate) fn add_unfit(
     catalogue: &Catalogue,
     config: &Config,
-    selections: &Selections,
     warnings: &mut Items<Warning>,
 ) -> Result<(), AllocError>
-    requires { AreSelections catalogue.now config.now selections.now.rows }
     ensures { OnOk result (warnings.new ≡ warnings.old ++ unfit_of catalogue.now config.now) }
 {
-    for view in 0..config.views().len() as u32 {
-        add_view(catalogue, config, selections, view, warnings)?;
+    for (number, view) in config.views().iter().enumerate() {
+        add_view(catalogue, number as u32, view, warnings)?;
     }
     Ok(())
 }
@@ -29,39 +28,31 @@ pub(crate) fn add_unfit(
 /// Puts the warnings of a view last.
 fn add_view(
     catalogue: &Catalogue,
-    config: &Config,
-    selections: &Selections,
-    view: u32,
+    number: u32,
+    view: &View,
     warnings: &mut Items<Warning>,
 ) -> Result<(), AllocError>
-    requires selections { AreSelections catalogue.now config.now selections.now.rows }
-    requires view { view < length config.now.views }
-    ensures { OnOk result (warnings.new ≡ warnings.old ++ unfit_of_view catalogue.now config.now view) }
+    ensures { OnOk result (warnings.new ≡ warnings.old
+        ++ map (λ i. Unfit number i) (filter (is_unfit_at catalogue.now view.now) (all_instruments catalogue.now))) }
 {
     for instrument in 0..catalogue.instruments().len() as u32 {
-        if is_unfit_pair(catalogue, config, selections, view, instrument) {
-            warnings.push(Warning::Unfit { view, instrument })?;
+        if is_unfit_at(catalogue, view, instrument) {
+            warnings.push(Warning::Unfit {
+                view: number,
+                instrument,
+            })?;
         }
     }
     Ok(())
 }
 
-fn is_unfit_pair(
-    catalogue: &Catalogue,
-    config: &Config,
-    selections: &Selections,
-    view: u32,
-    instrument: u32,
-) -> bool
-    requires selections { AreSelections catalogue.now config.now selections.now.rows }
-    requires view { view < length config.now.views }
-    requires instrument { instrument < length catalogue.now.instruments }
-    ensures { result ≡ is_unfit_pair catalogue.now config.now view instrument }
+/// Whether a view is to be warned of at the instrument of a number.
+fn is_unfit_at(catalogue: &Catalogue, view: &View, number: u32) -> bool
+    requires { number < length catalogue.now.instruments }
+    ensures { result ≡ is_unfit_at catalogue.now view.now number }
 {
-    names_unfit(
-        &config.views()[view as usize],
-        &catalogue.instruments()[instrument as usize],
-    ) && selections.has(instrument, view)
+    let instrument = &catalogue.instruments()[number as usize];
+    names_unfit(view, instrument) && view.selects(meter_of(catalogue, number), instrument)
 }
 
 /// Whether a view itself names a sum, and the instrument is a gauge.

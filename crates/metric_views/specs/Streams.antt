@@ -17,6 +17,7 @@ use Rattle.metric_views.specs.declared.config.View.{View}
 use Rattle.metric_views.specs.declared.stream.Fill.{Fill}
 use Rattle.metric_views.specs.declared.stream.Fill.TheVariants.{Unfit, Dropped, Kept}
 use Rattle.metric_views.specs.declared.stream.Stream.{Stream}
+use Rattle.metric_views.specs.declared.template.Template.{Template}
 use Rattle.metric_views.specs.declared.stream.StreamAggregation.{StreamAggregation}
 use Rattle.metric_views.specs.declared.stream.StreamAggregation.TheVariants.{Sum, LastValue, Histogram}
 use Rattle.metric_views.specs.Choices.{choice_for, is_unfit}
@@ -25,9 +26,9 @@ use Rattle.metric_views.specs.Choices.{choice_for, is_unfit}
 abbrev pub no_settings : Settings
 no_settings = record { stream_name = None; description = None; aggregation = None; boundaries = None; keep = None; exclude = None; limit = None }
 
--- the view's aggregation, else the reader's for the kind
-abbrev pub chosen_aggregation : Reader → Kind → Settings → Aggregation
-chosen_aggregation reader kind settings = unwrap_or settings.aggregation (choice_for reader.aggregation kind)
+-- the aggregation that a view names, else the reader's for the kind
+abbrev pub chosen_aggregation : Reader → Kind → Option Aggregation → Aggregation
+chosen_aggregation reader kind named = unwrap_or named (choice_for reader.aggregation kind)
 
 -- the boundaries of a histogram where neither view nor instrument gives any
 abbrev pub usual_boundaries : List ℤ
@@ -80,20 +81,35 @@ is_excluded name (Some keys) = is_listed name keys
 abbrev pub is_kept : Option (List (List ℕ)) → Option (List (List ℕ)) → Key → Bool
 is_kept keep exclude key = is_wanted key.name keep && not (is_excluded key.name exclude)
 
--- the stream with this aggregation
-unfoldable pub stream_with : ℕ → Reader → ℕ → Instrument → Option ℕ → Settings → StreamAggregation → Stream
-stream_with reader_number reader number instrument view settings aggregation = record {
-  reader = reader_number;
+-- what the streams of an instrument by the view of this number with these settings, or by the default with none, have in common
+unfoldable pub template_of : ℕ → Instrument → Option ℕ → Settings → Template
+template_of number instrument view settings = record {
   instrument = number;
   view = view;
+  kind = instrument.kind;
   name = unwrap_or settings.stream_name instrument.name;
   description = unwrap_or settings.description instrument.description;
   unit = instrument.unit;
-  kind = instrument.kind;
-  aggregation = aggregation;
+  aggregation = settings.aggregation;
+  boundaries = boundaries_for instrument settings;
   kept = map (is_kept settings.keep settings.exclude) instrument.keys;
-  limit = unwrap_or settings.limit (choice_for reader.limit instrument.kind);
-  temporality = choice_for reader.temporality instrument.kind;
+  limit = settings.limit;
+}
+
+-- the stream of a reader with this aggregation
+unfoldable pub stream_by : ℕ → Reader → Template → StreamAggregation → Stream
+stream_by number reader template aggregation = record {
+  reader = number;
+  instrument = template.instrument;
+  view = template.view;
+  name = template.name;
+  description = template.description;
+  unit = template.unit;
+  kind = template.kind;
+  aggregation = aggregation;
+  kept = template.kept;
+  limit = unwrap_or template.limit (choice_for reader.limit template.kind);
+  temporality = choice_for reader.temporality template.kind;
 }
 
 abbrev pub kept_or_dropped : (StreamAggregation → Stream) → Option StreamAggregation → Fill
@@ -104,12 +120,11 @@ abbrev pub unless_unfit : Bool → Fill → Fill
 unless_unfit true fill = Unfit
 unless_unfit false fill = fill
 
--- what the view of this number with these settings, or the default with none, makes of the instrument
-unfoldable pub fill_of : ℕ → Reader → ℕ → Instrument → Option ℕ → Settings → Fill
-fill_of reader_number reader number instrument view settings =
-    unless_unfit (is_unfit instrument.kind (chosen_aggregation reader instrument.kind settings))
-    (kept_or_dropped (stream_with reader_number reader number instrument view settings)
-    (aggregation_with (chosen_aggregation reader instrument.kind settings) instrument.kind (boundaries_for instrument settings)))
+-- what a view, or the default, makes of an instrument for the reader of a number
+unfoldable pub fill_by : ℕ → Reader → Template → Fill
+fill_by number reader template =
+    unless_unfit (is_unfit template.kind (chosen_aggregation reader template.kind template.aggregation))
+    (kept_or_dropped (stream_by number reader template) (aggregation_with (chosen_aggregation reader template.kind template.aggregation) template.kind template.boundaries))
 
 -- what the view of a number gives, or nothing for the default
 abbrev pub settings_at : List View → Option ℕ → Option Settings
@@ -117,7 +132,7 @@ settings_at views None = Some no_settings
 settings_at views (Some number) = option_map (λ view. view.settings) (slice_get views number)
 
 abbrev pub fill_with : ℕ → ℕ → Option ℕ → Option Reader → Option Instrument → Option Settings → Option Fill
-fill_with reader number view (Some r) (Some i) (Some settings) = Some (fill_of reader r number i view settings)
+fill_with reader number view (Some r) (Some i) (Some settings) = Some (fill_by reader r (template_of number i view settings))
 fill_with reader number view _ _ _ = None
 
 -- what the view of a number, or the default without one, makes of the instrument of a number for the reader of a number

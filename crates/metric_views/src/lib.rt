@@ -11,6 +11,7 @@ mod readers;
 mod reading;
 mod selection;
 mod stream;
+mod template;
 mod views;
 
 pub use choices::{Aggregation, ByKind, Temporality, is_unfit};
@@ -18,3 +19,4 @@ pub use config::{Config, Criteria, Reader, Settings, Setup, View};
 pub use fault::{ConfigPlace, ViewFault};
 pub use filling::fill;
 pub use stream::{Fill, Stream, StreamAggregation};
+pub use template::Template;

@@ -1,9 +1,8 @@
 -- the streams of the instruments so far
-use Rattle.std.proofs.Common.{◌≡◌, ◌++◌}
-use Rattle.std.specs.List.{flat_map, range_with_len}
-use Rattle.metric_resolve.specs.Resolved.{streams_of_instrument}
+use Rattle.std.proofs.Common.{◌≡◌, ◌++◌, take}
+use Rattle.std.specs.List.{flat_map}
+use Rattle.metric_resolve.specs.Offers.{streams_of_offer}
 use Rattle.metric_resolve.proofs.stream_list.add_reader.Given as goal
 
-abbrev pub invariant-loop-instrument : goal.invariant-loop-instrument
-invariant-loop-instrument l =
-    l.streams ≡ l.fn.streams ++ flat_map (streams_of_instrument l.source.catalogue.now l.source.config.now l.reader) (range_with_len 0 l.instrument)
+abbrev pub invariant-loop-offer : goal.invariant-loop-offer
+invariant-loop-offer l = l.streams ≡ l.fn.streams ++ flat_map (streams_of_offer l.number l.reader) (take l.offer-index l.offers)
