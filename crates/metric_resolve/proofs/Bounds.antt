@@ -77,7 +77,7 @@ pub All-flat_map : {A : Type 0} (P : A → Type 0) (f : ℕ → List A) → ((x 
 All-flat_map P f each [] = All-nil P
 All-flat_map P f each (x ∷ xs) = All-append P (f x) (flat_map f xs) (each x) (All-flat_map P f each xs)
 
-All-filter_map : {X A : Type 0} (P : A → Type 0) (h : X → Option A) → ((x : X) (y : A) → h x ≡ Some y → P y) → (xs : List X) → All P (filter_map h xs)
+pub All-filter_map : {X A : Type 0} (P : A → Type 0) (h : X → Option A) → ((x : X) (y : A) → h x ≡ Some y → P y) → (xs : List X) → All P (filter_map h xs)
 All-filter_map P h each [] = All-nil P
 All-filter_map {A = A} P h each (x ∷ xs) = by (h x) refl (All-filter_map P h each xs)
   where

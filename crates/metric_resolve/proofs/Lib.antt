@@ -8,3 +8,4 @@ pub mod StreamLaws
 pub mod CollisionLaws
 mod StreamKeyLaws
 mod OfferLaws
+mod UnfitLaws

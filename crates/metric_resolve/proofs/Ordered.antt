@@ -51,7 +51,7 @@ above : (a b n : ℕ) → a < b → All (λ x. a < x) (range_with_len b n)
 above a b zero less = All-nil (λ x. a < x)
 above a b (suc n) less = All-cons (λ x. a < x) b (range_with_len (b + 1) n) less (above a (b + 1) n (omega arith))
 
-Ordered-range : (a n : ℕ) → Ordered (λ x y. x < y) (range_with_len a n)
+pub Ordered-range : (a n : ℕ) → Ordered (λ x y. x < y) (range_with_len a n)
 Ordered-range a zero = tt
 Ordered-range a (suc n) = (above a (a + 1) n (omega arith), Ordered-range (a + 1) n)
 

@@ -1,6 +1,6 @@
 -- Views that themselves name an aggregation that does not fit what they select.
-use Rattle.std.specs.Prelude.{ℕ, Bool, false, ◌&&◌, List, map, filter, Option, Some, slice_get}
-use Rattle.std.specs.List.{flat_map}
+use Rattle.std.specs.Prelude.{ℕ, Bool, false, ◌&&◌, List, Option, Some, None, slice_get, if◌then◌else◌}
+use Rattle.std.specs.List.{filter_map, flat_map}
 use Rattle.std.specs.Option.{option_map_or}
 use Rattle.metric_catalogue.specs.declared.contents.Contents.{Contents}
 use Rattle.metric_catalogue.specs.declared.contents.Instrument.{Instrument}
@@ -25,13 +25,16 @@ is_unfit_with contents view number =
     names_unfit_with view (slice_get contents.instruments number)
     && selects_with view (meter_at contents number) (slice_get contents.instruments number)
 
+-- the warning of the view of this number at the instrument of a number, where there is one
+abbrev pub unfit_with : Contents → ℕ → Option View → ℕ → Option Warning
+unfit_with contents number view instrument = if is_unfit_with contents view instrument then Some (warnings.Unfit number instrument) else None
+
 unfoldable pub is_unfit_at : Contents → View → ℕ → Bool
 is_unfit_at contents view number = is_unfit_with contents (Some view) number
 
 -- the warnings of the view of a number, by instrument
 unfoldable pub unfit_of_view : Contents → Config → ℕ → List Warning
-unfit_of_view contents config view =
-    map (λ instrument. warnings.Unfit view instrument) (filter (is_unfit_with contents (slice_get config.views view)) (all_instruments contents))
+unfit_of_view contents config number = filter_map (unfit_with contents number (slice_get config.views number)) (all_instruments contents)
 
 -- the warnings of all views, in order
 unfoldable pub unfit_of : Contents → Config → List Warning

@@ -10,6 +10,8 @@ mod stream_list;
 mod unfit;
 mod warning;
 
-pub use laws::{collisions_are_of_one_identity, streams_are_what_views_give};
+pub use laws::{
+    collisions_are_of_one_identity, streams_are_what_views_give, unfit_views_sum_gauges,
+};
 pub use resolved::{Streams, resolve};
 pub use warning::Warning;

@@ -1,8 +1,8 @@
 //! Warnings of views that themselves name an aggregation that does not fit what they select.
-ghost use Rattle.std.specs.Prelude.{◌≡◌, ◌<◌, ◌++◌, OnOk, Some, filter, length, map};
-ghost use Rattle.metric_resolve.specs.declared.warning.Warning.TheVariants.{Unfit};
+ghost use Rattle.std.specs.Prelude.{◌≡◌, ◌<◌, ◌++◌, OnOk, Some, length};
+ghost use Rattle.std.specs.List.{filter_map};
 ghost use Rattle.metric_resolve.specs.Applying.{all_instruments};
-ghost use Rattle.metric_resolve.specs.Unfit.{is_unfit_at, names_unfit, unfit_of};
+ghost use Rattle.metric_resolve.specs.Unfit.{is_unfit_at, names_unfit, unfit_of, unfit_with};
 
 use crate::offers::meter_of;
 use crate::warning::Warning;
@@ -33,7 +33,7 @@ fn add_view(
     warnings: &mut Items<Warning>,
 ) -> Result<(), AllocError>
     ensures { OnOk result (warnings.new ≡ warnings.old
-        ++ map (λ i. Unfit number i) (filter (is_unfit_at catalogue.now view.now) (all_instruments catalogue.now))) }
+        ++ filter_map (unfit_with catalogue.now number (Some view.now)) (all_instruments catalogue.now)) }
 {
     for instrument in 0..catalogue.instruments().len() as u32 {
         if is_unfit_at(catalogue, view, instrument) {

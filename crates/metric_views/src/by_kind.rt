@@ -8,7 +8,7 @@ ghost use Rattle.metric_views.specs.declared.fault.ViewFault.{ViewFault};
 ghost use Rattle.metric_table.specs.Fields.{only};
 ghost use Rattle.metric_views.specs.Faults.{faults_at};
 ghost use Rattle.metric_views.specs.Choices.{aggregation_named, temporality_named};
-ghost use Rattle.metric_views.specs.Readers.{aggregation_for, aggregation_of, choice_at, choices_field, choices_of, for_all, is_limit, kind_names, limit_of, temporality_of};
+ghost use Rattle.metric_views.specs.Readers.{aggregation_for, aggregation_of, choice_at, choices_field, choices_of, for_all, is_limit, limit_of, temporality_of};
 
 use crate::choices::{Aggregation, ByKind, Temporality, is_unfit};
 use crate::fault::{ConfigPlace, ViewFault, faults_at};
@@ -69,7 +69,7 @@ fn for_all<T: Choice>(choice: T) -> ByKind<T>
 fn choices_of<T: Choice>(table: &Table, at: ConfigPlace) -> Result<ByKind<T>, ViewFault>
     ensures { result ≡ choices_of T.usual T.chosen at (table_view table.now) }
 {
-    only_kinds(table, at)?;
+    only(table, &KIND_FIELDS, &faults_at(at))?;
     let counter = choice_at(table, "counter", Kind::Counter, at)?;
     let up_down_counter = choice_at(table, "up_down_counter", Kind::UpDownCounter, at)?;
     let histogram = choice_at(table, "histogram", Kind::Histogram, at)?;
@@ -82,15 +82,8 @@ fn choices_of<T: Choice>(table: &Table, at: ConfigPlace) -> Result<ByKind<T>, Vi
     })
 }
 
-fn only_kinds(table: &Table, at: ConfigPlace) -> Result<(), ViewFault>
-    ensures { result ≡ only (faults_at at) kind_names (table_view table.now) }
-{
-    only(
-        table,
-        &["counter", "up_down_counter", "histogram", "gauge"],
-        &faults_at(at),
-    )
-}
+// The fields of a table of choices.
+const KIND_FIELDS: [&str; 4] = ["counter", "up_down_counter", "histogram", "gauge"];
 
 #[tactic(auto, unfolding(crate::specs::Readers::choice_at))]
 fn choice_at<T: Choice>(table: &Table, name: &str, kind: Kind, at: ConfigPlace) -> Result<T, ViewFault>

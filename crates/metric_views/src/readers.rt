@@ -5,7 +5,7 @@ ghost use Rattle.metric_base.specs.Steps.{Gives};
 ghost use Rattle.metric_table.specs.Fields.{only};
 ghost use Rattle.metric_views.specs.declared.fault.ViewFault.{ViewFault};
 ghost use Rattle.metric_views.specs.Faults.{faults_at};
-ghost use Rattle.metric_views.specs.Readers.{has_reader, reader_choices, reader_fields, reader_name, reader_of, readers_of};
+ghost use Rattle.metric_views.specs.Readers.{has_reader, reader_choices, reader_name, reader_of, readers_of};
 
 use crate::by_kind::choices_field;
 use crate::choices::{Aggregation, ByKind, Temporality};
@@ -38,7 +38,7 @@ fn reader_of(alloc: Global, before: &[Reader], table: &Table) -> Result<Reader, 
     ensures { Gives ViewFault.Memory result (reader_of before.now (table_view table.now)) }
 {
     let at = ConfigPlace::Reader(before.len() as u32);
-    only_reader(table, at)?;
+    only(table, &READER_FIELDS, &faults_at(at))?;
     let name = reader_name(before, table, at)?;
     let (temporality, aggregation, limit) = reader_choices(table, at)?;
     let name = Text::new(alloc, name)?;
@@ -63,15 +63,8 @@ fn reader_choices(table: &Table, at: ConfigPlace) -> Result<Choices, ViewFault>
     Ok((temporality, aggregation, limit))
 }
 
-fn only_reader(table: &Table, at: ConfigPlace) -> Result<(), ViewFault>
-    ensures { result ≡ only (faults_at at) reader_fields (table_view table.now) }
-{
-    only(
-        table,
-        &["name", "temporality", "aggregation", "limit"],
-        &faults_at(at),
-    )
-}
+// The fields of a reader.
+const READER_FIELDS: [&str; 4] = ["name", "temporality", "aggregation", "limit"];
 
 /// The name of one more reader.
 #[tactic(auto, unfolding(crate::specs::Readers::reader_name))]

@@ -4,7 +4,7 @@ ghost use Rattle.toml.specs.View.{table_view};
 ghost use Rattle.metric_base.specs.Steps.{Gives, GivesBy};
 ghost use Rattle.metric_table.specs.Fields.{only};
 ghost use Rattle.metric_views.specs.declared.fault.ConfigPlace.TheVariants.{Top};
-ghost use Rattle.metric_views.specs.Configs.{config_of, setup_of_table, tables_of_top, top_fields};
+ghost use Rattle.metric_views.specs.Configs.{config_of, setup_of_table, tables_of_top};
 ghost use Rattle.metric_views.specs.Faults.{faults_at};
 
 use crate::config::Setup;
@@ -49,15 +49,12 @@ fn tables_of_top(alloc: Global, table: &Table) -> Result<Tables<'_>, ViewFault>
     ensures views { IfOk result (λ t. length t.1 ≤ 256) }
 {
     let faults = faults_at(ConfigPlace::Top);
-    only_top(table)?;
+    only(table, &TOP_FIELDS, &faults)?;
     format_field(table, &faults)?;
     let readers = tables_field(alloc, table, "reader", 16, &faults)?;
     let views = tables_field(alloc, table, "view", 256, &faults)?;
     Ok((readers, views))
 }
 
-fn only_top(table: &Table) -> Result<(), ViewFault>
-    ensures { result ≡ only (faults_at Top) top_fields (table_view table.now) }
-{
-    only(table, &["format", "reader", "view"], &faults_at(ConfigPlace::Top))
-}
+// The fields of the top table.
+const TOP_FIELDS: [&str; 3] = ["format", "reader", "view"];

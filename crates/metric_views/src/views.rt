@@ -2,10 +2,8 @@
 ghost use Rattle.std.specs.Prelude.{◌≡◌, ◌≤◌, ◌<◌, IfOk, length, map};
 ghost use Rattle.toml.specs.View.{table_view};
 ghost use Rattle.metric_base.specs.Steps.{Gives};
-ghost use Rattle.metric_table.specs.Fields.{only};
-ghost use Rattle.metric_views.specs.Faults.{faults_at};
 ghost use Rattle.metric_views.specs.Readers.{aggregation_of};
-ghost use Rattle.metric_views.specs.Views.{criteria_of, instrument_criteria, kind_at, list_settings, meter_criteria, name_at, optional_field, pattern_at, settings_of, stream_settings, text_at, view_fields, view_of, views_of};
+ghost use Rattle.metric_views.specs.Views.{criteria_of, instrument_criteria, kind_at, list_settings, meter_criteria, name_at, optional_field, pattern_at, settings_of, stream_settings, text_at, view_of, views_of};
 
 use crate::choices::Aggregation;
 use crate::config::{Criteria, Settings, View};
@@ -39,35 +37,28 @@ fn view_of(alloc: Global, number: u32, table: &Table) -> Result<View, ViewFault>
     ensures { Gives ViewFault.Memory result (view_of number (table_view table.now)) }
 {
     let at = ConfigPlace::View(number);
-    only_view(table, at)?;
+    only(table, &VIEW_FIELDS, &faults_at(at))?;
     let criteria = criteria_of(alloc, table, at)?;
     let settings = settings_of(alloc, table, at)?;
     Ok(View { criteria, settings })
 }
 
-fn only_view(table: &Table, at: ConfigPlace) -> Result<(), ViewFault>
-    ensures { result ≡ only (faults_at at) view_fields (table_view table.now) }
-{
-    only(
-        table,
-        &[
-            "instrument_name",
-            "instrument_type",
-            "instrument_unit",
-            "meter_name",
-            "meter_version",
-            "meter_schema_url",
-            "stream_name",
-            "description",
-            "aggregation",
-            "boundaries",
-            "keep",
-            "exclude",
-            "limit",
-        ],
-        &faults_at(at),
-    )
-}
+// The fields of a view.
+const VIEW_FIELDS: [&str; 13] = [
+    "instrument_name",
+    "instrument_type",
+    "instrument_unit",
+    "meter_name",
+    "meter_version",
+    "meter_schema_url",
+    "stream_name",
+    "description",
+    "aggregation",
+    "boundaries",
+    "keep",
+    "exclude",
+    "limit",
+];
 
 #[tactic(auto, unfolding(crate::specs::Views::criteria_of))]
 fn criteria_of(alloc: Global, table: &Table, at: ConfigPlace) -> Result<Criteria, ViewFault>
