@@ -5,12 +5,12 @@ use Rattle.metric_io.specs.declared.devices.SourceFault.{SourceFault}
 use Rattle.metric_io.specs.declared.devices.SourceFault.TheVariants.{Interrupted, Broken}
 
 -- a count that is so much higher, or at its top
-abbrev pub raised : ℕ → ℕ → ℕ
-raised n by = min (n + by) (2 ^ 64 - 1)
+abbrev pub higher_count : ℕ → ℕ → ℕ
+higher_count n by = min (n + by) (2 ^ 64 - 1)
 
 -- a count that is one higher, or at its top
 abbrev pub next_count : ℕ → ℕ
-next_count n = raised n 1
+next_count n = higher_count n 1
 
 -- the count of failures rose, or is at its top: the device failed in between
 abbrev pub HasFailed : ℕ → ℕ → Type 0
@@ -21,10 +21,10 @@ abbrev pub no_reads : ReadCounts
 no_reads = record { reads = 0; interruptions = 0; failures = 0 }
 
 -- the counts after a read that gave this answer: an interrupted read is no failure
-abbrev pub counted : ReadCounts → Result ℕ SourceFault → ReadCounts
-counted old (Ok given) = record old { reads = next_count old.reads }
-counted old (Err Interrupted) = record old { reads = next_count old.reads; interruptions = next_count old.interruptions }
-counted old (Err Broken) = record old { reads = next_count old.reads; failures = next_count old.failures }
+abbrev pub counts_after : ReadCounts → Result ℕ SourceFault → ReadCounts
+counts_after old (Ok given) = record old { reads = next_count old.reads }
+counts_after old (Err Interrupted) = record old { reads = next_count old.reads; interruptions = next_count old.interruptions }
+counts_after old (Err Broken) = record old { reads = next_count old.reads; failures = next_count old.failures }
 
 -- a write that answers an error, or takes nothing of something, is a failure, and no other
 abbrev pub CountsWrite : {E : Type 0} → ℕ → ℕ → Result ℕ E → List ℕ → Type 0

@@ -1,7 +1,7 @@
 -- What a source and a sink over memory do, call by call.
 use Rattle.std.specs.Prelude.{ℕ, Bool, false, ◌-◌, ◌==◌, nat_le, if◌then◌else◌, ◌&&◌, min, List, ◌++◌, length, take, drop, Option, None, Some, Result, Ok, Err}
 use Rattle.std.specs.Result.{result_unwrap_or}
-use Rattle.metric_io.specs.Counts.{counted, next_count}
+use Rattle.metric_io.specs.Counts.{counts_after, next_count}
 use Rattle.metric_io.specs.declared.counts.ReadCounts.{ReadCounts}
 use Rattle.metric_io.specs.declared.devices.SourceFault.{SourceFault}
 use Rattle.metric_io.specs.declared.devices.SourceFault.TheVariants.{Interrupted, Broken}
@@ -40,7 +40,7 @@ given_count s room = result_unwrap_or (answer_of s room) 0
 abbrev pub after_read : SourceState → ℕ → SourceState
 after_read s room = record s {
   rest = drop (given_count s room) s.rest;
-  counts = counted s.counts (answer_of s room);
+  counts = counts_after s.counts (answer_of s room);
 }
 
 -- the buffer after a read into it

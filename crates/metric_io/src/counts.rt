@@ -15,7 +15,7 @@ pub struct ReadCounts {
 
 impl ReadCounts {
     ghost use Rattle.std.specs.Prelude.{◌≡◌};
-    ghost use Rattle.metric_io.specs.Counts.{counted, no_reads};
+    ghost use Rattle.metric_io.specs.Counts.{counts_after, no_reads};
 
     /// The counts of a source that was not read yet.
     pub fn none() -> ReadCounts
@@ -30,7 +30,7 @@ impl ReadCounts {
 
     /// Counts a read that gave this answer.
     pub fn count(&mut self, answer: &Result<usize, SourceFault>)
-        ensures { self.new ≡ counted self.old answer.now }
+        ensures { self.new ≡ counts_after self.old answer.now }
     {
         self.reads = self.reads.saturating_add(1);
         match answer {

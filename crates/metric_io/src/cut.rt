@@ -2,7 +2,7 @@
 ghost use Rattle.std.specs.Prelude.{◌≡◌, ◌<◌, [], length, Some, None, IsErr, MatchResult, IfOk, false, true, unwrap_or};
 ghost use Rattle.std.specs.Io.{ReadsAtMost, WritesAtMost};
 ghost use Rattle.std.specs.Io.KnownBytes.{Keeps, ReadConsumes, WriteAppends};
-ghost use Rattle.metric_io.specs.Counts.{CountsFlush, CountsWrite, counted, no_reads};
+ghost use Rattle.metric_io.specs.Counts.{CountsFlush, CountsWrite, counts_after, no_reads};
 ghost use Rattle.metric_io.specs.Cut.{SourceState, SinkState, after_failure, after_filled, after_read, after_taken, answer_of, taken_count};
 
 use crate::counts::ReadCounts;
@@ -119,7 +119,7 @@ impl Source for CutSource<'_> {
 
         ensures bound { ReadsAtMost result buf.new }
         ensures bytes { ReadConsumes (Some self.old.rest) (Some self.new.rest) result buf.new }
-        ensures counts { self.new.counts ≡ counted self.old.counts result }
+        ensures counts { self.new.counts ≡ counts_after self.old.counts result }
     {
         let answer = self.answer(buf.len());
         self.counts.count(&answer);

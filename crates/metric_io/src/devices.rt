@@ -2,7 +2,7 @@
 ghost use Rattle.std.specs.Prelude.{◌≡◌, ℕ, List, Option};
 ghost use Rattle.std.specs.Io.{ReadsAtMost, WritesAtMost};
 ghost use Rattle.std.specs.Io.KnownBytes.{Keeps, ReadConsumes, WriteAppends};
-ghost use Rattle.metric_io.specs.Counts.{CountsFlush, CountsWrite, counted};
+ghost use Rattle.metric_io.specs.Counts.{CountsFlush, CountsWrite, counts_after};
 ghost use Rattle.metric_io.specs.declared.counts.ReadCounts.{ReadCounts};
 
 use thiserror::Error;
@@ -37,7 +37,7 @@ pub trait Source {
     fn read(&mut self, buf: &mut [u8]) -> Result<usize, SourceFault>
         ensures bound { ReadsAtMost result buf.new }
         ensures bytes { ReadConsumes (remaining self.old) (remaining self.new) result buf.new }
-        ensures counts { counts self.new ≡ counted (counts self.old) result };
+        ensures counts { counts self.new ≡ counts_after (counts self.old) result };
 }
 
 /// What bytes are written to, in the shape of `std::io::Write`.

@@ -33,9 +33,9 @@ pub fn replay<R: Source, W: Sink>(
     ensures nothing { IfErr result (λ fault. fault ≢ KitFault.Write → fault ≢ KitFault.Memory → Keeps (W.contents sink.old) (W.contents sink.new)) }
     // Each other fault is the first that the input has.
     ensures first { IfErr result (λ fault. fault ≢ KitFault.Read → fault ≢ KitFault.Write → IfSome (R.remaining source.old) (λ input. IsFirstFault options input fault)) }
-    ensures read { IsErrOf result KitFault.Read → IsReadFault (R.counts source.old) (R.counts source.new) (R.remaining source.old) }
+    ensures read { IsErrOf result KitFault.Read → IsReadFault (R.failures source.old) (R.failures source.new) (R.reads source.old) (R.reads source.new) (R.remaining source.old) }
     ensures write { IsErrOf result KitFault.Write → HasFailed (W.failures sink.old) (W.failures sink.new) }
-    ensures asked { (R.counts source.new).reads ≤ (R.counts source.old).reads + 4194304 }
+    ensures asked { R.reads source.new ≤ R.reads source.old + 4194304 }
 {
     let input = read_all(alloc, source)?;
     let (core, replies) = answers_to(alloc, options, &input)?;
