@@ -1,3 +1,4 @@
+mod SameValues
 mod Numbered
 mod SoundLists
 mod SoundKeys

@@ -1,6 +1,7 @@
 -- Laws of numberings.
 use Rattle.std.proofs.lemmas.List.{take_more, drop_more}
 use Rattle.std.proofs.Common.{take, drop, get_or, length-take, is_some, ◌≡◌, ℕ, ◌+◌, Bool, true, false, cond, List, [], ◌∷◌, ◌++◌, length, Option, Some, None, String, Global, refl, sym, ap, subst, ◌∙◌, arith, IfSome, ◌<◌, string_bytes}
+use Rattle.std.specs.List.{position_from}
 use Rattle.std.specs.Str.{bytes_eq}
 use Rattle.std.specs.String.{string_eq}
 use Rattle.std.specs.HashMap.{Updates}
@@ -9,7 +10,8 @@ use Rattle.metric_names.specs.declared.value.AttrValue.{AttrValue}
 use Rattle.metric_names.specs.declared.value.AttrValue.TheVariants.{Text, Whole, Flag}
 use Rattle.metric_catalogue.specs.declared.numbering.Numbering.{Numbering}
 use Rattle.metric_catalogue.specs.Places.{place, repeats_after, same_value}
-use Rattle.metric_catalogue.specs.PlaceLaws.{same_value-Decides, or_else, position_from-push, position_from-within}
+use Rattle.metric_catalogue.specs.PlaceLaws.{or_else, position_from-push}
+use Rattle.metric_catalogue.proofs.SameValues.{same_value-Decides}
 use Rattle.metric_catalogue.specs.Numbering.{number_in, Numbers}
 
 -- the value and its number are given last
@@ -46,6 +48,15 @@ text_written n m value text key number is bytes wholes flag other updates v = su
     at (Whole z) = rw wholes
     at (Flag true) = flag
     at (Flag false) = other
+
+-- a place is in the list
+position_from-within : {X : Type 0} (test : X → Bool) (i : ℕ) (xs : List X) (p : ℕ) → position_from test i xs ≡ Some p → p < i + length xs
+position_from-within test i [] p e = absurd cc
+position_from-within test i (x ∷ xs) p e = by (test x) e (λ e1. position_from-within test (i + 1) xs p e1)
+  where
+    by : (b : Bool) → cond b (Some i) (position_from test (i + 1) xs) ≡ Some p → (position_from test (i + 1) xs ≡ Some p → p < i + 1 + length xs) → p < i + length (x ∷ xs)
+    by true e1 later = let same : i ≡ p = cc in omega arith
+    by false e1 later = let within = later e1 in omega arith
 
 -- a number is less than how many there are
 pub place_within : (values : List AttrValue) (v : AttrValue) (o : Option ℕ) → o ≡ place values v → IfSome o (λ p. p < length values)

@@ -16,7 +16,7 @@ use Rattle.metric_catalogue.specs.declared.refusal.Refusal.TheVariants.{UnknownI
 use Rattle.metric_catalogue.specs.Encoding.{Given, encode_of, entry_at, entry_of, has_repeated_key, is_complete, is_declared, is_of, set_of}
 use Rattle.metric_catalogue.specs.Places.{place, same_value}
 use Rattle.metric_catalogue.proofs.Differing.{neither, repeated_same}
-use Rattle.metric_catalogue.specs.PlaceLaws.{same_value-Decides}
+use Rattle.metric_catalogue.proofs.SameValues.{same_value-Decides}
 
 -- how many of one more element
 count_by-cons : {X : Type 0} (p : X → Bool) (x : X) (xs : List X) → count_by p (x ∷ xs) ≡ cond (p x) 1 0 + count_by p xs

@@ -15,7 +15,7 @@ use Rattle.metric_catalogue.specs.declared.fault.CatalogueFault.TheVariants.{Bad
 use Rattle.metric_catalogue.specs.declared.fault.CataloguePlace.{CataloguePlace}
 use Rattle.metric_catalogue.specs.Faults.{faults_at}
 use Rattle.metric_catalogue.specs.Keys.{is_key, key_name, key_of, only_key_fields, optional_field, some_values, value_at, values_field}
-use Rattle.metric_catalogue.specs.PlaceLaws.{same_value-Decides}
+use Rattle.metric_catalogue.proofs.SameValues.{same_value-Decides}
 use Rattle.metric_catalogue.specs.Places.{has_repeat, place, repeats_after, same_value}
 use Rattle.metric_catalogue.specs.Sound.{IsFreeText, IsLabel, IsSoundKey, IsSoundList, IsSoundValue}
 use Rattle.metric_catalogue.specs.Texts.{free_text, label_field, needed_text}

@@ -39,8 +39,12 @@ contents_of table = do
   recorders ← each (recorder_of (length metered.instruments)) [] tables.1
   Ok (record { meters = metered.meters; instruments = metered.instruments; recorders = recorders })
 
+-- the table that a text in TOML is
+abbrev pub document_of : List ℕ → Result Members CatalogueFault
+document_of text = require_some (parse_document text) NotToml
+
 -- the catalogue that a text is
 unfoldable pub catalogue_of : List ℕ → Result Contents CatalogueFault
 catalogue_of text = do
-  table ← require_some (parse_document text) NotToml
+  table ← document_of text
   contents_of table

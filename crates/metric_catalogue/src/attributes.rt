@@ -6,7 +6,7 @@ use metric_base::Text;
 use metric_names::{AttrValue, ValueRef};
 
 /// An attribute that is borrowed (Common concepts, attribute).
-#[derive(Clone, Copy, Debug)]
+#[derive(Clone, Copy)]
 pub struct Attr<'a> {
     /// The name of the key.
     pub key: &'a str,
@@ -15,7 +15,7 @@ pub struct Attr<'a> {
 }
 
 /// An attribute that is owned (Common concepts, attribute).
-#[derive(Debug, Drop)]
+#[derive(Drop)]
 pub struct OwnedAttr {
     /// The name of the key.
     pub key: Text,
@@ -23,7 +23,7 @@ pub struct OwnedAttr {
     pub value: AttrValue,
 }
 
-/// What has a key and a value.
+// What has a key and a value.
 pub(crate) trait Attribute {
     ghost use Rattle.metric_catalogue.specs.Encoding.{Given};
 

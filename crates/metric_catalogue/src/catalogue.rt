@@ -1,8 +1,7 @@
 //! Reading a catalogue from TOML.
 ghost use Rattle.std.specs.Prelude.{◌≡◌, ◌≤◌, length, map, find, IfOk, vec_capacity};
-ghost use Rattle.toml.specs.Parse.{parse_document};
 ghost use Rattle.toml.specs.View.{table_view};
-ghost use Rattle.metric_base.specs.Steps.{Gives, GivesBy, in_turn, require_some};
+ghost use Rattle.metric_base.specs.Steps.{Gives, GivesBy, in_turn};
 ghost use Rattle.std.specs.Option.{option_copied};
 ghost use Rattle.metric_catalogue.specs.Attributes.{given_by, given_by_owned};
 ghost use Rattle.metric_catalogue.specs.Budgets.{amount_of, budget_at};
@@ -10,7 +9,7 @@ ghost use Rattle.metric_catalogue.specs.Encoding.{encode_of};
 ghost use Rattle.metric_catalogue.specs.Meters.{with_meter};
 ghost use Rattle.metric_catalogue.specs.Recorders.{is_budget};
 ghost use Rattle.metric_catalogue.specs.Sound.{IsSound};
-ghost use Rattle.metric_catalogue.specs.Catalogues.{catalogue_of, contents_of, format_of_top, nothing_metered, tables_of_top};
+ghost use Rattle.metric_catalogue.specs.Catalogues.{catalogue_of, contents_of, document_of, format_of_top, nothing_metered, tables_of_top};
 
 use crate::attributes::{Attr, OwnedAttr};
 use crate::contents::{Budget, Contents, Instrument, Meter, Recorder};
@@ -109,7 +108,8 @@ impl Catalogue {
 
     /// The same for attributes that are owned.
     pub fn encode_owned(&self, instrument: u32, attrs: &[OwnedAttr]) -> Result<SetKey, Refusal>
-        ensures { result ≡ encode_of self.now.instruments instrument (map given_by_owned attrs.now) }
+        ensures { result
+            ≡ encode_of self.now.instruments instrument (map given_by_owned attrs.now) }
     {
         encode_of(self.instruments(), instrument, attrs)
     }
@@ -124,7 +124,8 @@ impl Catalogue {
         room: &mut Vec<&'a str>,
     ) -> Result<SetKey, Refusal>
         requires { length attrs.now ≤ vec_capacity room.old }
-        ensures exact { result ≡ encode_of self.now.instruments instrument (map given_by_owned attrs.now) }
+        ensures exact { result
+            ≡ encode_of self.now.instruments instrument (map given_by_owned attrs.now) }
         ensures room { vec_capacity room.new ≡ vec_capacity room.old }
     {
         encode_with_room(self.instruments(), instrument, attrs, room)
@@ -151,9 +152,9 @@ fn budget_for(budgets: &[Budget], instrument: u32) -> Option<&Budget>
         .find(|budget| budget.instrument == instrument)
 }
 
-/// The table that a text in TOML is.
+// The table that a text in TOML is.
 fn document(alloc: Global, text: &str) -> Result<Table, CatalogueFault>
-    ensures { GivesBy table_view CatalogueFault.Memory result (require_some (parse_document text.now) CatalogueFault.NotToml) }
+    ensures { GivesBy table_view CatalogueFault.Memory result (document_of text.now) }
 {
     match toml::table_from_str(alloc, text) {
         Ok(table) => Ok(table),
@@ -184,7 +185,8 @@ fn contents_of(alloc: Global, table: &Table) -> Result<Contents, CatalogueFault>
 
 fn metered_of(alloc: Global, tables: &[&Table]) -> Result<Metered, CatalogueFault>
     requires { length tables.now ≤ 64 }
-    ensures exact { Gives CatalogueFault.Memory result (in_turn with_meter nothing_metered (map (λ t. table_view t.now) tables.now)) }
+    ensures exact { Gives CatalogueFault.Memory result
+        (in_turn with_meter nothing_metered (map (λ t. table_view t.now) tables.now)) }
     ensures meters { IfOk result (λ metered. length metered.meters ≤ 64) }
     ensures instruments { IfOk result (λ metered. length metered.instruments ≤ 512) }
 {
@@ -196,13 +198,15 @@ fn metered_of(alloc: Global, tables: &[&Table]) -> Result<Metered, CatalogueFaul
     Ok(metered)
 }
 
-/// The tables of the meters and those of the recorders.
+// The tables of the meters and those of the recorders.
 #[tactic(auto, unfolding(crate::specs::Catalogues::tables_of_top))]
 fn tables_of_top<'a>(
     alloc: Global,
     table: &'a Table,
 ) -> Result<(Items<&'a Table>, Items<&'a Table>), CatalogueFault>
-    ensures exact { GivesBy (λ tables. (map (λ t. table_view t.now) tables.0, map (λ t. table_view t.now) tables.1)) CatalogueFault.Memory result (tables_of_top (table_view table.now)) }
+    ensures exact { GivesBy
+        (λ tables. (map (λ t. table_view t.now) tables.0, map (λ t. table_view t.now) tables.1))
+        CatalogueFault.Memory result (tables_of_top (table_view table.now)) }
     ensures meters { IfOk result (λ tables. length tables.0 ≤ 64) }
     ensures recorders { IfOk result (λ tables. length tables.1 ≤ 64) }
 {

@@ -63,7 +63,7 @@ pub struct Key {
 }
 
 /// How many recordings a recorder may make on one instrument.
-#[derive(Clone, Copy, Debug, PartialEq, Eq, Drop)]
+#[derive(Drop)]
 pub struct Budget {
     /// The number of the instrument.
     pub instrument: u32,

@@ -17,7 +17,7 @@ use metric_names::ValueRef;
 /// that are left.
 pub type SetKey = [u16; 8];
 
-/// The set key of attributes for the instrument of this number, or the first refusal.
+// The set key of attributes for the instrument of this number, or the first refusal.
 #[tactic(auto, unfolding(crate::specs::Encoding::encode_of))]
 pub(crate) fn encode_of<A: Attribute>(
     instruments: &[Instrument],
@@ -38,7 +38,7 @@ pub fn encode_ignores_order()
     ensures { IgnoresOrder }
 {}
 
-/// The same by way of a room that holds as many keys as there are attributes.
+// The same by way of a room that holds as many keys as there are attributes.
 #[tactic(auto, unfolding(crate::specs::Encoding::encode_of))]
 pub(crate) fn encode_with_room<'a>(
     instruments: &[Instrument],
@@ -91,7 +91,7 @@ fn set_with_room<'a>(
     Err(Refusal::UnknownKey)
 }
 
-/// The set key of attributes whose keys are all declared, or the first refusal.
+// The set key of attributes whose keys are all declared, or the first refusal.
 #[tactic(auto, unfolding(crate::specs::Encoding::set_of))]
 fn set_of_declared<A: Attribute>(keys: &[Key], attrs: &[A]) -> Result<SetKey, Refusal>
     requires keys { length keys.now ≤ 8 }
@@ -108,7 +108,7 @@ fn set_of_declared<A: Attribute>(keys: &[Key], attrs: &[A]) -> Result<SetKey, Re
     Ok(set)
 }
 
-/// Whether each key is declared.
+// Whether each key is declared.
 #[tactic(auto, using(crate::proofs::Mapped::maps))]
 fn are_declared<A: Attribute>(keys: &[Key], attrs: &[A]) -> bool
     ensures { result ≡ list_all (is_declared keys.now) (map A.given attrs.now) }
@@ -134,7 +134,7 @@ fn has_key(keys: &[Key], name: &str) -> bool
     keys.iter().any(|key| key.name.as_str() == name)
 }
 
-/// Whether each key is given or may be left out.
+// Whether each key is given or may be left out.
 fn are_complete<A: Attribute>(keys: &[Key], attrs: &[A]) -> bool
     ensures { result ≡ list_all (is_complete (map A.given attrs.now)) keys.now }
 {
@@ -147,7 +147,7 @@ fn is_complete<A: Attribute>(key: &Key, attrs: &[A]) -> bool
     key.optional || is_given(attrs, key.name.as_str())
 }
 
-/// The set key of attributes, or nothing where a key does not declare the value that it is given.
+// The set key of attributes, or nothing where a key does not declare the value that it is given.
 fn set_key<A: Attribute>(keys: &[Key], attrs: &[A]) -> Option<SetKey>
     requires { length keys.now ≤ 8 }
     ensures { result ≡ (if list_all (is_allowed (map A.given attrs.now)) keys.now
@@ -160,7 +160,7 @@ fn set_key<A: Attribute>(keys: &[Key], attrs: &[A]) -> Option<SetKey>
     Some(set)
 }
 
-/// The entry of a key, or nothing where it does not declare the value that it is given.
+// The entry of a key, or nothing where it does not declare the value that it is given.
 #[tactic(auto, using(crate::proofs::Mapped::maps))]
 fn entry_at<A: Attribute>(key: &Key, attrs: &[A]) -> Option<u16>
     ensures { result ≡ entry_at (map A.given attrs.now) key.now }

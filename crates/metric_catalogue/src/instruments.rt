@@ -39,8 +39,8 @@ pub(crate) struct Head {
     description: Shared<Text>,
 }
 
-/// Puts the instruments of a meter after those of the meters before it. Where there is a fault, some
-/// of them may have been put.
+// Puts the instruments of a meter after those of the meters before it. Where there is a fault, some
+// of them may have been put.
 pub(crate) fn add_instruments(
     alloc: Global,
     tables: &[&Table],
@@ -67,7 +67,8 @@ fn instrument_of(
     before: &[Instrument],
 ) -> Result<Instrument, CatalogueFault>
     requires { length before.now < 512 }
-    ensures { Gives CatalogueFault.Memory result (instrument_of meter before.now (table_view table.now)) }
+    ensures { Gives CatalogueFault.Memory result
+        (instrument_of meter before.now (table_view table.now)) }
 {
     let at = CataloguePlace::Instrument(before.len() as u32);
     let head = head_of(alloc, table, at)?;

@@ -25,7 +25,8 @@ pub(crate) fn keys_of(
     tables: &[&Table],
     at: CataloguePlace,
 ) -> Result<Items<Key>, CatalogueFault>
-    ensures exact { Gives CatalogueFault.Memory result (each (key_of at) [] (map (λ t. table_view t.now) tables.now)) }
+    ensures exact { Gives CatalogueFault.Memory result
+        (each (key_of at) [] (map (λ t. table_view t.now) tables.now)) }
     ensures few { IfOk result (λ keys. length keys ≤ length tables.now) }
 {
     let mut keys = Items::new(alloc);
@@ -79,7 +80,7 @@ fn optional_field(table: &Table, at: CataloguePlace) -> Result<bool, CatalogueFa
     flag_or(table, "optional", false, &faults_at(at))
 }
 
-/// The name of a key.
+// The name of a key.
 #[tactic(auto, unfolding(crate::specs::Keys::key_name))]
 fn key_name(alloc: Global, table: &Table, at: CataloguePlace) -> Result<Text, CatalogueFault>
     ensures { Gives CatalogueFault.Memory result (key_name at (table_view table.now)) }
@@ -91,7 +92,7 @@ fn key_name(alloc: Global, table: &Table, at: CataloguePlace) -> Result<Text, Ca
     Ok(name)
 }
 
-/// The values of a key, of which none stands twice.
+// The values of a key, of which none stands twice.
 #[tactic(auto, unfolding(crate::specs::Keys::values_field))]
 fn values_field(alloc: Global, table: &Table, at: CataloguePlace) -> Result<Values, CatalogueFault>
     ensures { Gives CatalogueFault.Memory result (values_field at (table_view table.now)) }
@@ -126,7 +127,8 @@ fn values_at(
     values: &[Value],
     at: CataloguePlace,
 ) -> Result<Items<AttrValue>, CatalogueFault>
-    ensures exact { Gives CatalogueFault.Memory result (each_alone (value_at at) (map view values.now)) }
+    ensures exact { Gives CatalogueFault.Memory result
+        (each_alone (value_at at) (map view values.now)) }
     ensures few { IfOk result (λ read. length read ≤ length values.now) }
 {
     let mut read = Items::new(alloc);
@@ -137,7 +139,7 @@ fn values_at(
     Ok(read)
 }
 
-/// The attribute value that a value is.
+// The attribute value that a value is.
 fn value_at(alloc: Global, value: &Value, at: CataloguePlace) -> Result<AttrValue, CatalogueFault>
     ensures { Gives CatalogueFault.Memory result (value_at at (view value.now)) }
 {

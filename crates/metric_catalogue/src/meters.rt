@@ -24,7 +24,7 @@ pub(crate) struct Metered {
     pub(crate) instruments: Items<Instrument>,
 }
 
-/// Puts the meters of these tables after those before. Where there is a fault, some may have been put.
+// Puts the meters of these tables after those before. Where there is a fault, some may have been put.
 pub(crate) fn add_meters(
     alloc: Global,
     metered: &mut Metered,
@@ -34,7 +34,8 @@ pub(crate) fn add_meters(
     requires instruments { length metered.old.instruments ≤ 512 }
     ensures exact { Advances CatalogueFault.Memory result metered.new
         (in_turn with_meter metered.old (map (λ t. table_view t.now) tables.now)) }
-    ensures meters { OnOk result (length metered.new.meters ≡ length metered.old.meters + length tables.now) }
+    ensures meters { OnOk result
+        (length metered.new.meters ≡ length metered.old.meters + length tables.now) }
     ensures instruments { OnOk result (length metered.new.instruments ≤ 512) }
 {
     for table in tables {
@@ -47,7 +48,8 @@ pub(crate) fn add_meters(
 fn add_meter(alloc: Global, metered: &mut Metered, table: &Table) -> Result<(), CatalogueFault>
     requires meters { length metered.old.meters < 64 }
     requires instruments { length metered.old.instruments ≤ 512 }
-    ensures exact { Advances CatalogueFault.Memory result metered.new (with_meter metered.old (table_view table.now)) }
+    ensures exact { Advances CatalogueFault.Memory result metered.new
+        (with_meter metered.old (table_view table.now)) }
     ensures meters { OnOk result (length metered.new.meters ≡ length metered.old.meters + 1) }
     ensures instruments { OnOk result (length metered.new.instruments ≤ 512) }
 {

@@ -1,15 +1,14 @@
 //! The numbers of values, found by hash.
 ghost use Rattle.std.specs.Prelude.{◌≡◌, ◌≤◌, [], Ok, Some, true, not, length, IfOk, OnOk, if◌then◌else◌};
-ghost use Rattle.metric_names.specs.declared.value.AttrValue.{AttrValue as Attributed};
 ghost use Rattle.metric_names.specs.Values.{value_of};
-ghost use Rattle.metric_catalogue.specs.Places.{has_repeat, same_value};
-ghost use Rattle.metric_catalogue.specs.Numbering.{Numbers, number_in};
+ghost use Rattle.metric_catalogue.specs.Places.{has_repeat};
+ghost use Rattle.metric_catalogue.specs.Numbering.{Numbers, PutsNumber, number_in};
 
 use indexmap::IndexMap;
 use metric_names::{AttrValue, ValueRef};
 use std::alloc::{AllocError, Global};
 
-/// Gives values their numbers: texts and whole numbers by hash, flags by a look.
+// Gives values their numbers: texts and whole numbers by hash, flags by a look.
 pub(crate) struct Numbering {
     texts: IndexMap<String, u16>,
     wholes: IndexMap<i64, u16>,
@@ -30,7 +29,7 @@ impl Drop for Numbering {
 }
 
 impl Numbering {
-    /// The numbering of no value. Takes no memory.
+    // The numbering of no value. Takes no memory.
     pub(crate) fn new(alloc: Global) -> Numbering
         ensures { Numbers result [] }
     {
@@ -42,7 +41,7 @@ impl Numbering {
         }
     }
 
-    /// The number of a value.
+    // The number of a value.
     pub(crate) fn number_of(&self, value: ValueRef<'_>) -> Option<u16>
         ensures { result ≡ number_in self.now (value_of value.entry) }
     {
@@ -54,7 +53,7 @@ impl Numbering {
         }
     }
 
-    /// Gives a value this number, and answers the number that it had.
+    // Gives a value this number, and answers the number that it had.
     fn insert(
         &mut self,
         alloc: Global,
@@ -62,7 +61,7 @@ impl Numbering {
         number: u16,
     ) -> Result<Option<u16>, AllocError>
         ensures old { IfOk result (λ old. old ≡ number_in self.old value.now) }
-        ensures new { OnOk result ((v : Attributed) → number_in self.new v ≡ (if same_value value.now v then Some number else number_in self.old v)) }
+        ensures new { OnOk result (PutsNumber self.old self.new value.now number) }
     {
         match value {
             AttrValue::Text(text) => {
@@ -75,7 +74,7 @@ impl Numbering {
         }
     }
 
-    /// Gives each value its place in the list, and answers whether no value stands twice.
+    // Gives each value its place in the list, and answers whether no value stands twice.
     pub(crate) fn number_all(
         &mut self,
         alloc: Global,

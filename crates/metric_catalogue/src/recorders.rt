@@ -26,7 +26,8 @@ pub(crate) fn recorders_of(
     count: u32,
 ) -> Result<Items<Recorder>, CatalogueFault>
     requires { length tables.now ≤ 64 }
-    ensures exact { Gives CatalogueFault.Memory result (each (recorder_of count) [] (map (λ t. table_view t.now) tables.now)) }
+    ensures exact { Gives CatalogueFault.Memory result
+        (each (recorder_of count) [] (map (λ t. table_view t.now) tables.now)) }
     ensures few { IfOk result (λ recorders. length recorders ≤ length tables.now) }
 {
     let mut recorders = Items::new(alloc);
@@ -45,7 +46,8 @@ fn recorder_of(
     before: &[Recorder],
 ) -> Result<Recorder, CatalogueFault>
     requires { length before.now < 64 }
-    ensures { Gives CatalogueFault.Memory result (recorder_of count before.now (table_view table.now)) }
+    ensures { Gives CatalogueFault.Memory result
+        (recorder_of count before.now (table_view table.now)) }
 {
     let at = CataloguePlace::Recorder(before.len() as u32);
     let faults = faults_at(at);
@@ -73,7 +75,8 @@ fn budgets_of(
     count: u32,
     at: CataloguePlace,
 ) -> Result<Items<Budget>, CatalogueFault>
-    ensures exact { Gives CatalogueFault.Memory result (each (budget_of at count) [] (map (λ t. table_view t.now) tables.now)) }
+    ensures exact { Gives CatalogueFault.Memory result
+        (each (budget_of at count) [] (map (λ t. table_view t.now) tables.now)) }
     ensures few { IfOk result (λ budgets. length budgets ≤ length tables.now) }
 {
     let mut budgets = Items::new(alloc);

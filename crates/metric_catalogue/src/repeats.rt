@@ -6,7 +6,7 @@ ghost use Rattle.metric_catalogue.specs.Encoding.{has_repeated_key, is_of};
 
 use crate::attributes::{Attribute, OwnedAttr};
 
-/// Whether some key stands twice. Each key is compared with all after it.
+// Whether some key stands twice. Each key is compared with all after it.
 pub(crate) fn has_repeated_key<A: Attribute>(attrs: &[A]) -> bool
     ensures { result ≡ has_repeated_key (map A.given attrs.now) }
 {
@@ -20,7 +20,7 @@ pub(crate) fn has_repeated_key<A: Attribute>(attrs: &[A]) -> bool
     false
 }
 
-/// Whether an attribute is of the key of this name.
+// Whether an attribute is of the key of this name.
 #[tactic(auto, using(crate::proofs::Mapped::maps))]
 pub(crate) fn is_given<A: Attribute>(attrs: &[A], name: &str) -> bool
     ensures { result ≡ list_any (is_of name.now) (map A.given attrs.now) }
@@ -34,7 +34,7 @@ fn is_key_of_some<A: Attribute>(attrs: &[A], name: &str) -> bool
     attrs.iter().any(|attr| attr.key() == name)
 }
 
-/// Whether some key stands twice, found by sorting the keys in a room that holds them all.
+// Whether some key stands twice, found by sorting the keys in a room that holds them all.
 pub(crate) fn has_repeated_key_with_room<'a>(
     attrs: &'a [OwnedAttr],
     room: &mut Vec<&'a str>,
@@ -48,7 +48,7 @@ pub(crate) fn has_repeated_key_with_room<'a>(
     !room.is_sorted_by(|key, next| key < next)
 }
 
-/// Puts the keys of the attributes into the room in place of what is there.
+// Puts the keys of the attributes into the room in place of what is there.
 fn put_keys<'a>(attrs: &'a [OwnedAttr], room: &mut Vec<&'a str>)
     requires { length attrs.now ≤ vec_capacity room.old }
     ensures keys { map (λ k. k.now) room.new.items ≡ map (λ a. a.key) attrs.now }

@@ -11,7 +11,7 @@ use metric_table::{FieldFaults, optional_text, short_text, text_field};
 use std::alloc::Global;
 use toml::Table;
 
-/// What the fields of a table at this place answer for their faults.
+// What the fields of a table at this place answer for their faults.
 pub(crate) fn faults_at(at: CataloguePlace) -> FieldFaults<CatalogueFault>
     ensures { result ≡ faults_at at }
 {
@@ -24,7 +24,7 @@ pub(crate) fn faults_at(at: CataloguePlace) -> FieldFaults<CatalogueFault>
     }
 }
 
-/// The same where a list of another length is of another kind.
+// The same where a list of another length is of another kind.
 pub(crate) fn pair_faults_at(at: CataloguePlace) -> FieldFaults<CatalogueFault>
     ensures { result ≡ pair_faults_at at }
 {
@@ -37,7 +37,7 @@ pub(crate) fn pair_faults_at(at: CataloguePlace) -> FieldFaults<CatalogueFault>
     }
 }
 
-/// A needed text, not too long.
+// A needed text, not too long.
 #[tactic(auto, unfolding(crate::specs::Texts::needed_text))]
 pub(crate) fn needed_text(
     alloc: Global,
@@ -53,7 +53,7 @@ pub(crate) fn needed_text(
     Ok(Text::new(alloc, text)?)
 }
 
-/// A text that may be left out, and is then empty.
+// A text that may be left out, and is then empty.
 #[tactic(auto, unfolding(crate::specs::Texts::free_text))]
 pub(crate) fn free_text(
     alloc: Global,
@@ -69,7 +69,7 @@ pub(crate) fn free_text(
     Ok(Text::new(alloc, text)?)
 }
 
-/// The name of a key or a recorder.
+// The name of a key or a recorder.
 #[tactic(auto, unfolding(crate::specs::Texts::label_field))]
 pub(crate) fn label_field(
     alloc: Global,

@@ -29,13 +29,14 @@ impl Model for Values {
 }
 
 impl Values {
-    /// The values of a list, or nothing where a value stands twice.
+    // The values of a list, or nothing where a value stands twice.
     pub(crate) fn from_items(
         alloc: Global,
         values: Items<AttrValue>,
     ) -> Result<Option<Values>, AllocError>
         requires { length values ≤ 1000 }
-        ensures { IfOk result (λ made. made ≡ (if has_repeat values then None else Some values)) }
+        ensures { IfOk result
+            (λ made. made ≡ (if has_repeat values then None else Some values)) }
     {
         let mut numbering = Numbering::new(alloc);
         if !numbering.number_all(alloc, values.as_slice())? {

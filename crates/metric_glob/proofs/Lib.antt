@@ -4,3 +4,4 @@ pub mod SpellLemmas
 pub mod SuffixLemmas
 pub mod TakesLemmas
 pub mod WalkLemmas
+mod PatternLemmas

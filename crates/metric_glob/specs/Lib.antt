@@ -1,6 +1,5 @@
 pub mod Matching
 pub mod MatchingLaws
-pub mod PatternLaws
 pub mod Patterns
 pub mod Reach
 pub mod Reasons

@@ -8,10 +8,11 @@ use crate::characters::{ANY_TEXT, is_star, stands, stands_for};
 use crate::reason::Reason;
 use metric_base::Items;
 
-/// What the piece of a pattern character leaves of the takes and of the text, or None where it has
-/// no piece.
+// What the piece of a pattern character leaves of the takes and of the text, or None where it has
+// no piece.
 fn after_piece<'a>(character: u8, takes: &'a [u16], text: &'a [u8]) -> Option<(&'a [u16], &'a [u8])>
-    ensures { option_map (λ left. (left.0.now, left.1.now)) result ≡ after_piece character takes.now text.now }
+    ensures { option_map (λ left. (left.0.now, left.1.now)) result
+        ≡ after_piece character takes.now text.now }
 {
     if character == ANY_TEXT {
         let (count, others) = takes.split_first()?;
@@ -29,7 +30,7 @@ fn after_piece<'a>(character: u8, takes: &'a [u16], text: &'a [u8]) -> Option<(&
     }
 }
 
-/// Whether each `*` has a number of characters, and the pieces so given spell the text.
+// Whether each `*` has a number of characters, and the pieces so given spell the text.
 fn is_spelled(pattern: &[u8], takes: &[u16], text: &[u8]) -> bool
     ensures { result ≡ is_spelled pattern.now takes.now text.now }
 {
@@ -43,15 +44,15 @@ fn is_spelled(pattern: &[u8], takes: &[u16], text: &[u8]) -> bool
     left.0.is_empty() && left.1.is_empty()
 }
 
-/// Whether each place of a row is below the next.
+// Whether each place of a row is below the next.
 fn is_rising(row: &[u16]) -> bool
     ensures { IsTrue result ↔ IsStrictlyIncreasing row.now }
 {
     row.windows(2).all(|pair| pair[0] < pair[1])
 }
 
-/// Whether a row has this place.
-pub fn has_place(row: &[u16], place: usize) -> bool
+// Whether a row has this place.
+pub(crate) fn has_place(row: &[u16], place: usize) -> bool
     requires rising { IsStrictlyIncreasing row.now }
     requires small { place < 2 ^ 16 }
     ensures has { IsTrue result ↔ Contains row.now place }
@@ -60,8 +61,8 @@ pub fn has_place(row: &[u16], place: usize) -> bool
     row.binary_search(&(place as u16)).is_ok()
 }
 
-/// The row at a place of the text, which is empty past the last.
-pub fn row_of(rows: &[Items<u16>], at: usize) -> &[u16]
+// The row at a place of the text, which is empty past the last.
+pub(crate) fn row_of(rows: &[Items<u16>], at: usize) -> &[u16]
     ensures row { result.now ≡ row_at rows.now at }
     ensures rising { All IsStrictlyIncreasing rows.now → IsStrictlyIncreasing result.now }
 {
@@ -71,7 +72,7 @@ pub fn row_of(rows: &[Items<u16>], at: usize) -> &[u16]
     }
 }
 
-/// Whether the steps from a place of a row stay in it and in the next.
+// Whether the steps from a place of a row stay in it and in the next.
 fn steps_stay(pattern: &[u8], found: Option<u8>, row: &[u16], next: &[u16], place: usize) -> bool
     requires short { length pattern.now < 2 ^ 16 }
     requires rising { IsStrictlyIncreasing row.now }
@@ -87,7 +88,7 @@ fn steps_stay(pattern: &[u8], found: Option<u8>, row: &[u16], next: &[u16], plac
     }
 }
 
-/// Whether the steps from each place of a row stay in it and in the next.
+// Whether the steps from each place of a row stay in it and in the next.
 fn row_stays(pattern: &[u8], found: Option<u8>, row: &[u16], next: &[u16]) -> bool
     requires short { length pattern.now < 2 ^ 16 }
     requires rising { IsStrictlyIncreasing row.now }
@@ -97,14 +98,14 @@ fn row_stays(pattern: &[u8], found: Option<u8>, row: &[u16], next: &[u16]) -> bo
     row.iter().all(|place| steps_stay(pattern, found, row, next, usize::from(*place)))
 }
 
-/// The character at a place of the text, if there is one.
+// The character at a place of the text, if there is one.
 fn found_at(text: &[u8], at: usize) -> Option<u8>
     ensures { result ≡ slice_get text.now at }
 {
     text.get(at).copied()
 }
 
-/// Whether each step from a place of a row stays in the rows.
+// Whether each step from a place of a row stays in the rows.
 fn are_closed(pattern: &[u8], text: &[u8], rows: &[Items<u16>]) -> bool
     requires short { length pattern.now < 2 ^ 16 }
     requires short_text { length text.now < 2 ^ 16 }
@@ -120,14 +121,14 @@ fn are_closed(pattern: &[u8], text: &[u8], rows: &[Items<u16>]) -> bool
     true
 }
 
-/// Whether each row rises.
+// Whether each row rises.
 fn are_rising(rows: &[Items<u16>]) -> bool
     ensures { IsTrue result ↔ All IsStrictlyIncreasing rows.now }
 {
     rows.iter().all(|row| is_rising(row.as_slice()))
 }
 
-/// Whether the rows show that the text does not match.
+// Whether the rows show that the text does not match.
 fn shuts_out(pattern: &[u8], text: &[u8], rows: &[Items<u16>]) -> bool
     requires short { length pattern.now < 2 ^ 16 }
     requires short_text { length text.now < 2 ^ 16 }
@@ -141,8 +142,8 @@ fn shuts_out(pattern: &[u8], text: &[u8], rows: &[Items<u16>]) -> bool
     begins && !ends && are_closed(pattern, text, rows)
 }
 
-/// Whether a reason is true of a pattern and a text. Takes no memory.
-pub fn is_confirmed(pattern: &[u8], text: &[u8], reason: &Reason) -> bool
+// Whether a reason is true of a pattern and a text. Takes no memory.
+pub(crate) fn is_confirmed(pattern: &[u8], text: &[u8], reason: &Reason) -> bool
     requires short { length pattern.now < 2 ^ 16 }
     requires short_text { length text.now < 2 ^ 16 }
     ensures confirmed { IsTrue result ↔ Confirms pattern.now text.now reason.now }

@@ -5,8 +5,8 @@ ghost use Rattle.metric_glob.specs.Matching.{is_match};
 use crate::characters::is_star;
 use crate::walk::Walk;
 
-/// Whether the text matches. Takes no memory.
-pub fn matches_text(pattern: &[u8], text: &[u8]) -> bool
+// Whether the text matches. Takes no memory.
+pub(crate) fn matches_text(pattern: &[u8], text: &[u8]) -> bool
     ensures { result ≡ is_match pattern.now text.now }
 {
     let mut walk = Walk::new();
@@ -18,8 +18,8 @@ pub fn matches_text(pattern: &[u8], text: &[u8]) -> bool
     only_stars(pattern, walk.place)
 }
 
-/// Whether nothing but `*` stands from this place on, so that the empty text matches.
-pub fn only_stars(pattern: &[u8], start: usize) -> bool
+// Whether nothing but `*` stands from this place on, so that the empty text matches.
+pub(crate) fn only_stars(pattern: &[u8], start: usize) -> bool
     requires { start ≤ length pattern.now }
     ensures { result ≡ is_match (drop start pattern.now) [] }
 {

@@ -18,7 +18,7 @@ use thiserror::Error;
 /// A pattern of instrument names: 1 to 255 printable ASCII characters (Metrics SDK, instrument
 /// selection criteria, name). A `*` stands for any number of characters, none included, and a `?` for
 /// exactly one. Each other character stands for itself, without ASCII case. There is no escape.
-#[derive(Debug, Drop)]
+#[derive(Drop)]
 pub struct Pattern {
     text: Text,
 }
@@ -119,7 +119,7 @@ impl Copied for Pattern {
     }
 }
 
-/// Finds the first fault of a text as a pattern.
+// Finds the first fault of a text as a pattern.
 fn check(text: &[u8]) -> Result<(), PatternFault>
     ensures { CheckedPattern text.now result }
 {

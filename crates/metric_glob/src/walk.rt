@@ -7,42 +7,42 @@ ghost use Rattle.metric_glob.specs.Walk.{IsWalk, Moves};
 
 use crate::characters::{is_star, stands};
 
-/// The last `*` that the walk has met.
+// The last `*` that the walk has met.
 #[derive(Clone, Copy)]
-pub struct Star {
-    /// the pattern's place after it
-    pub after: usize,
-    /// where its piece of the text begins
-    pub start: usize,
-    /// where its piece ends, as far as was tried
-    pub end: usize,
+pub(crate) struct Star {
+    // the pattern's place after it
+    pub(crate) after: usize,
+    // where its piece of the text begins
+    pub(crate) start: usize,
+    // where its piece ends, as far as was tried
+    pub(crate) end: usize,
 }
 
-/// Where the two cursors stand.
+// Where the two cursors stand.
 #[derive(Clone, Copy)]
-pub struct Walk {
-    /// the place in the pattern
-    pub place: usize,
-    /// the place in the text
-    pub at: usize,
-    /// the last `*`, if there was one
-    pub star: Option<Star>,
+pub(crate) struct Walk {
+    // the place in the pattern
+    pub(crate) place: usize,
+    // the place in the text
+    pub(crate) at: usize,
+    // the last `*`, if there was one
+    pub(crate) star: Option<Star>,
 }
 
-/// What a step did.
+// What a step did.
 #[derive(Clone, Copy)]
-pub enum Step {
-    /// met a `*`
+pub(crate) enum Step {
+    // met a `*`
     Opened,
-    /// took a character that the pattern's stands for
+    // took a character that the pattern's stands for
     Took,
-    /// made the last `*`'s piece longer by one
+    // made the last `*`'s piece longer by one
     Again,
 }
 
 impl Walk {
-    /// The walk before its first step.
-    pub fn new() -> Walk
+    // The walk before its first step.
+    pub(crate) fn new() -> Walk
         ensures { result ≡ record { place = 0; at = 0; star = None } }
     {
         Walk {
@@ -52,8 +52,8 @@ impl Walk {
         }
     }
 
-    /// One step, or None where there is none to make: the text does not match.
-    pub fn step(&mut self, pattern: &[u8], text: &[u8]) -> Option<Step>
+    // One step, or None where there is none to make: the text does not match.
+    pub(crate) fn step(&mut self, pattern: &[u8], text: &[u8]) -> Option<Step>
         requires walk { IsWalk pattern.now text.now self.old }
         requires within { self.old.at < length text.now }
         ensures moves { Moves pattern.now text.now self.old self.new result }

@@ -17,7 +17,7 @@ use crate::walk::{Star, Step, Walk};
 use metric_base::Items;
 use std::alloc::{AllocError, Global};
 
-/// Puts down what a `*` takes, once a later one is met or the text has ended.
+// Puts down what a `*` takes, once a later one is met or the text has ended.
 fn settle(takes: &mut Items<u16>, star: Option<Star>) -> Result<(), AllocError>
     requires { IsShortStar star }
     ensures { OnOk result (takes.new ≡ takes.old ++ settled star) }
@@ -28,7 +28,7 @@ fn settle(takes: &mut Items<u16>, star: Option<Star>) -> Result<(), AllocError>
     Ok(())
 }
 
-/// Takes nothing for each `*` that stands from this place on. Says whether nothing else does.
+// Takes nothing for each `*` that stands from this place on. Says whether nothing else does.
 fn take_nothing(pattern: &[u8], start: usize, takes: &mut Items<u16>) -> Result<bool, AllocError>
     requires { start ≤ length pattern.now }
     ensures { IfOk result (λ ended. TakesNothing pattern.now start takes.old takes.new ended) }
@@ -41,7 +41,7 @@ fn take_nothing(pattern: &[u8], start: usize, takes: &mut Items<u16>) -> Result<
     Ok(place == pattern.len())
 }
 
-/// Puts down what a step settles.
+// Puts down what a step settles.
 fn note(takes: &mut Items<u16>, step: Step, last: Option<Star>) -> Result<(), AllocError>
     requires { IsShortStar last }
     ensures { OnOk result (takes.new ≡ takes.old ++ noted step last) }
@@ -52,10 +52,11 @@ fn note(takes: &mut Items<u16>, step: Step, last: Option<Star>) -> Result<(), Al
     }
 }
 
-/// What each `*` takes, or None where the text does not match.
+// What each `*` takes, or None where the text does not match.
 fn takes_of(alloc: Global, pattern: &[u8], text: &[u8]) -> Result<Option<Items<u16>>, AllocError>
     requires { length text.now < 2 ^ 16 }
-    ensures { IfOk result (λ found. MatchOption found (is_match pattern.now text.now ≡ false) (λ takes. Spells pattern.now takes text.now)) }
+    ensures { IfOk result (λ found. MatchOption found
+        (is_match pattern.now text.now ≡ false) (λ takes. Spells pattern.now takes text.now)) }
 {
     let mut takes = Items::new(alloc);
     let mut walk = Walk::new();
@@ -71,8 +72,8 @@ fn takes_of(alloc: Global, pattern: &[u8], text: &[u8]) -> Result<Option<Items<u
     if ended { Ok(Some(takes)) } else { Ok(None) }
 }
 
-/// Whether a place is reached from the row before by the character between the rows. The first row
-/// begins at the pattern's start.
+// Whether a place is reached from the row before by the character between the rows. The first row
+// begins at the pattern's start.
 fn is_entered(pattern: &[u8], before: &[u16], found: Option<u8>, place: usize) -> bool
     requires short { place < 2 ^ 16 }
     requires rising { IsStrictlyIncreasing before.now }
@@ -87,7 +88,7 @@ fn is_entered(pattern: &[u8], before: &[u16], found: Option<u8>, place: usize) -
     place > 0 && stands(pattern, place - 1, found) && has_place(before, place - 1)
 }
 
-/// The row after a row and a character, or the first row.
+// The row after a row and a character, or the first row.
 #[tactic(auto, using(crate::proofs::ReachLemmas::row_steps))]
 fn row_after(
     alloc: Global,
@@ -111,7 +112,7 @@ fn row_after(
     Ok(row)
 }
 
-/// The places that can be reached before each character of the text, and at its end.
+// The places that can be reached before each character of the text, and at its end.
 fn rows_of(alloc: Global, pattern: &[u8], text: &[u8]) -> Result<Items<Items<u16>>, AllocError>
     requires short { length pattern.now < 2 ^ 16 }
     ensures { IfOk result (λ rows. rows ≡ reached_rows pattern.now text.now (length text.now)) }
@@ -126,8 +127,8 @@ fn rows_of(alloc: Global, pattern: &[u8], text: &[u8]) -> Result<Items<Items<u16
     Ok(rows)
 }
 
-/// A reason that is confirmed: Takes where the text matches, Rows where it does not.
-pub fn why_text(alloc: Global, pattern: &[u8], text: &[u8]) -> Result<Reason, AllocError>
+// A reason that is confirmed: Takes where the text matches, Rows where it does not.
+pub(crate) fn why_text(alloc: Global, pattern: &[u8], text: &[u8]) -> Result<Reason, AllocError>
     requires short { length pattern.now < 2 ^ 16 }
     requires short_text { length text.now < 2 ^ 16 }
     ensures confirmed { IfOk result (Confirms pattern.now text.now) }

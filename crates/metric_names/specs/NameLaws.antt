@@ -1,4 +1,4 @@
--- The texts that are read as names are exactly the names, and so for units.
+-- What is read as a name or a unit is one.
 use Rattle.std.proofs.Common.{◌≡◌, ℕ, ◌+◌, ◌≤◌, Bool, true, false, cond, List, [], ◌∷◌, length, Option, Some, None, Ok, refl, subst, arith}
 use Rattle.std.specs.Prelude.{nat_le, ◌&&◌, not}
 use Rattle.std.specs.Char.{is_ascii_alphabetic}
@@ -36,17 +36,6 @@ unit_of-IsUnit text unit e =
     let (short, e2) = require_ok (nat_le (length text) 63) unit_faults.TooLong _ unit e1 in
     subst IsUnit (ok_is text unit (Ok text) refl e2) (none_other is_printable 0 text none, grind (arith, nat_tests))
 
--- each unit is read as itself
-pub IsUnit-unit_of : (text : List ℕ) → IsUnit text → unit_of text ≡ Ok text
-IsUnit-unit_of text h =
-    let none : first_other is_printable text ≡ None = all_none is_printable 0 text h.0 in
-    let short : nat_le (length text) 63 ≡ true = grind (arith, nat_tests) in
-    rw (none, short) refl
-
--- a letter is a name character
-pub letter_passes : (c : ℕ) → is_ascii_alphabetic c ≡ true → is_name_character c ≡ true
-letter_passes c h = grind (arith, nat_tests)
-
 -- what is read as a name is one
 pub name_of-IsName : (text name : List ℕ) → name_of text ≡ Ok name → IsName name
 name_of-IsName [] name e = absurd cc
@@ -61,14 +50,3 @@ name_of-IsName (first ∷ rest) name e =
     rest_pass : (a b : Bool) → (a && b) ≡ true → b ≡ true
     rest_pass true b h = h
     rest_pass false b h = absurd cc
-
--- each name is read as itself
-pub IsName-name_of : (text : List ℕ) → IsName text → name_of text ≡ Ok text
-IsName-name_of [] h = absurd h
-IsName-name_of (first ∷ rest) h =
-    let letter : is_ascii_alphabetic first ≡ true = h.0 in
-    let passes = letter_passes first letter in
-    let all : list_all is_name_character (first ∷ rest) ≡ true = rw passes h.1 in
-    let none : first_other is_name_character (first ∷ rest) ≡ None = all_none is_name_character 0 (first ∷ rest) all in
-    let short : nat_le (length (first ∷ rest)) 255 ≡ true = grind (arith, nat_tests) in
-    rw (letter, none, short) refl

@@ -12,7 +12,7 @@ use thiserror::Error;
 
 /// An instrument name: an ASCII letter followed by 0 to 254 ASCII letters, digits, `_`, `.`, `-` or
 /// `/` (Metrics API, instrument name syntax). Names are compared without ASCII case.
-#[derive(Debug, Drop)]
+#[derive(Drop)]
 pub struct Name {
     text: Text,
 }
@@ -104,7 +104,7 @@ impl Copied for Name {
     }
 }
 
-/// Finds the first fault of a text as a name.
+// Finds the first fault of a text as a name.
 fn check(text: &[u8]) -> Result<(), NameFault>
     ensures { CheckedName text.now result }
 {

@@ -11,7 +11,7 @@ use thiserror::Error;
 
 /// A unit: 0 to 63 printable ASCII characters, compared by bytes (Metrics API, instrument unit; that
 /// each of its characters is printable is this product's own choice).
-#[derive(Debug, Drop)]
+#[derive(Drop)]
 pub struct Unit {
     text: Text,
 }
@@ -83,7 +83,7 @@ impl Copied for Unit {
     }
 }
 
-/// Finds the first fault of a text as a unit.
+// Finds the first fault of a text as a unit.
 fn check(text: &[u8]) -> Result<(), UnitFault>
     ensures { CheckedUnit text.now result }
 {

@@ -7,7 +7,7 @@ use std::alloc::{AllocError, Global};
 
 /// The value of an attribute: a text (the empty text is a value), a whole number or a flag. Values are
 /// equal where type and value are equal (Common concepts, attribute).
-#[derive(Debug, PartialEq, Eq, Hash, Drop)]
+#[derive(PartialEq, Eq, Drop)]
 pub enum AttrValue {
     /// A text.
     Text(Text),
@@ -18,7 +18,7 @@ pub enum AttrValue {
 }
 
 /// An attribute's value that is borrowed.
-#[derive(Clone, Copy, Debug)]
+#[derive(Clone, Copy)]
 pub enum ValueRef<'a> {
     /// A text.
     Text(&'a str),

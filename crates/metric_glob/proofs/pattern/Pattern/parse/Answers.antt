@@ -1,7 +1,7 @@
 -- What is read as a pattern is one, and each pattern is read.
 use Rattle.std.proofs.Common.{◌≡◌, subst, sym}
 use Rattle.metric_glob.specs.Patterns.{IsPattern}
-use Rattle.metric_glob.specs.PatternLaws.{pattern_of-IsPattern, IsPattern-pattern_of}
+use Rattle.metric_glob.proofs.PatternLemmas.{pattern_of-IsPattern, IsPattern-pattern_of}
 use Rattle.metric_glob.proofs.pattern.Pattern.parse.Goals as goal
 
 pub returns-in_err-check-clause-accepts : goal.returns-in_err-check-clause-accepts

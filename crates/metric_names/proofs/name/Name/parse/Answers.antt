@@ -1,7 +1,8 @@
 -- What is read as a name is one, and each name is read.
 use Rattle.std.proofs.Common.{◌≡◌, subst, sym}
 use Rattle.metric_names.specs.Names.{IsName}
-use Rattle.metric_names.specs.NameLaws.{name_of-IsName, IsName-name_of}
+use Rattle.metric_names.specs.NameLaws.{name_of-IsName}
+use Rattle.metric_names.proofs.Accepted.{IsName-name_of}
 use Rattle.metric_names.proofs.name.Name.parse.Goals as goal
 
 pub returns-in_err-check-clause-accepts : goal.returns-in_err-check-clause-accepts

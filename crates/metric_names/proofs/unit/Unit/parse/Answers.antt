@@ -1,7 +1,8 @@
 -- What is read as a unit is one, and each unit is read.
 use Rattle.std.proofs.Common.{◌≡◌, subst, sym}
 use Rattle.metric_names.specs.Units.{IsUnit}
-use Rattle.metric_names.specs.NameLaws.{unit_of-IsUnit, IsUnit-unit_of}
+use Rattle.metric_names.specs.NameLaws.{unit_of-IsUnit}
+use Rattle.metric_names.proofs.Accepted.{IsUnit-unit_of}
 use Rattle.metric_names.proofs.unit.Unit.parse.Goals as goal
 
 pub returns-in_err-check-clause-accepts : goal.returns-in_err-check-clause-accepts

@@ -1,9 +1,9 @@
 -- The texts that are read as patterns are exactly the patterns.
-use Rattle.std.proofs.Common.{◌≡◌, ℕ, ◌≤◌, ◌<◌, ◌^◌, true, List, [], ◌∷◌, length, None, Ok, refl, subst, arith}
+use Rattle.std.proofs.Common.{◌≡◌, ℕ, ◌≤◌, true, List, length, None, Ok, refl, subst, arith}
 use Rattle.std.specs.Prelude.{nat_le}
 use Rattle.std.proofs.lemmas.Bool.Decides.{nat_tests}
 use Rattle.metric_base.specs.StepLaws.{require_ok, require_none_ok, ok_is}
-use Rattle.metric_names.specs.Names.{IsName, first_other}
+use Rattle.metric_names.specs.Names.{first_other}
 use Rattle.metric_names.specs.NameLaws.{none_other, all_none}
 use Rattle.metric_names.specs.Units.{is_printable}
 use Rattle.metric_glob.specs.Patterns.{IsPattern, pattern_of}
@@ -26,11 +26,3 @@ IsPattern-pattern_of text h =
     let none : first_other is_printable text ≡ None = all_none is_printable 0 text h.1 in
     let short : nat_le (length text) 255 ≡ true = grind (arith, nat_tests) in
     rw (some, none, short) refl
-
--- patterns and names are short
-pub IsPattern-short : (text : List ℕ) → IsPattern text → length text < 2 ^ 16
-IsPattern-short text h = let short : length text ≤ 255 = h.2 in omega arith
-
-pub IsName-short : (text : List ℕ) → IsName text → length text < 2 ^ 16
-IsName-short [] h = absurd h
-IsName-short (first ∷ rest) h = let short : length rest ≤ 254 = h.2 in omega arith
