@@ -1,10 +1,8 @@
 -- What fills say of the views that apply and of their streams.
-use Rattle.std.proofs.Common.{◌≡◌, ℕ, ◌+◌, ◌<◌, Bool, true, false, not, cond, ◌||◌, filter, map, List, [], ◌∷◌, ◌++◌, length, Option, Some, None, refl, ap, ◌∙◌}
-use Rattle.std.specs.List.{filter_map, list_any, range_with_len}
-use Rattle.std.specs.Prelude.{slice_get, option_and_then}
+use Rattle.std.proofs.Common.{◌≡◌, ℕ, ◌<◌, Bool, true, false, not, cond, ◌||◌, filter, map, List, [], ◌∷◌, ◌++◌, length, Option, Some, None, refl, ap, ◌∙◌}
+use Rattle.std.specs.List.{filter_map, list_any}
+use Rattle.std.specs.Prelude.{slice_get}
 use Rattle.std.specs.Option.{option_map}
-use Rattle.std.proofs.lemmas.List.{map-append}
-use Rattle.std.proofs.lemmas.List.Elements.{filter_map-append}
 use Rattle.std.proofs.lemmas.Option.{slice_get_within}
 use Rattle.metric_catalogue.specs.declared.contents.Contents.{Contents}
 use Rattle.metric_catalogue.specs.declared.contents.Instrument.{Instrument}
@@ -13,13 +11,11 @@ use Rattle.metric_views.specs.declared.config.Reader.{Reader}
 use Rattle.metric_views.specs.declared.config.Settings.{Settings}
 use Rattle.metric_views.specs.declared.config.View.{View}
 use Rattle.metric_views.specs.declared.stream.Fill.{Fill}
-use Rattle.metric_views.specs.declared.stream.Fill.TheVariants.{Unfit, Dropped, Kept}
 use Rattle.metric_views.specs.declared.stream.Stream.{Stream}
 use Rattle.metric_views.specs.declared.stream.StreamAggregation.{StreamAggregation}
 use Rattle.metric_views.specs.Streams.{fill_at, fill_by, fill_with, kept_or_dropped, settings_at, template_of, unless_unfit}
 use Rattle.metric_resolve.specs.Applying.{applies, applying, all_views, fits, fits_with, is_selected, or_default}
-use Rattle.metric_resolve.specs.Resolved.{is_fit, kept, kept_of, stream_at, streams_by, streams_of_instrument}
-use Rattle.metric_resolve.proofs.Numbers.{filter_more}
+use Rattle.metric_resolve.specs.Resolved.{is_fit, kept_of, stream_at, streams_by, streams_of_instrument}
 
 fit_of_fill : (unfit : Bool) (stream : StreamAggregation → Stream) (aggregation : Option StreamAggregation)
     → not unfit ≡ is_fit (unless_unfit unfit (kept_or_dropped stream aggregation))
@@ -53,37 +49,6 @@ applies-unselected contents config reader instrument view e = rw e refl
 pub applies-selected : (contents : Contents) (config : Config) (reader instrument view : ℕ) (filled : Fill) → is_selected contents config instrument view ≡ true
     → fill_at contents config reader instrument (Some view) ≡ Some filled → applies contents config reader instrument view ≡ is_fit filled
 applies-selected contents config reader instrument view filled selected e = rw selected (fits_fill contents config reader instrument view filled e)
-
--- what a view that does not apply gives
-pub streams_by-unselected : (contents : Contents) (config : Config) (reader instrument view : ℕ)
-    → is_selected contents config instrument view ≡ false → streams_by contents config reader instrument (filter (applies contents config reader instrument) (view ∷ [])) ≡ []
-unfolding streams_by
-streams_by-unselected contents config reader instrument view e = rw (applies-unselected contents config reader instrument view e) refl
-
-one_view : (p : ℕ → Bool) (f : Option ℕ → Option Stream) (view : ℕ) (filled : Fill) → p view ≡ is_fit filled → f (Some view) ≡ kept filled
-    → filter_map f (map (λ v. Some v) (filter p (view ∷ []))) ≡ kept_of filled
-one_view p f view Unfit fit gives = rw fit refl
-one_view p f view Dropped fit gives = rw (fit, gives) refl
-one_view p f view (Kept stream) fit gives = rw (fit, gives) refl
-
--- what a view that selects gives
-pub streams_by-selected : (contents : Contents) (config : Config) (reader instrument view : ℕ) (filled : Fill) → is_selected contents config instrument view ≡ true
-    → fill_at contents config reader instrument (Some view) ≡ Some filled
-    → streams_by contents config reader instrument (filter (applies contents config reader instrument) (view ∷ [])) ≡ kept_of filled
-unfolding streams_by stream_at
-streams_by-selected contents config reader instrument view filled selected e =
-    one_view (applies contents config reader instrument) (stream_at contents config reader instrument) view filled
-    (applies-selected contents config reader instrument view filled selected e) (ap (option_and_then kept) e)
-
--- one view more
-pub streams_by-more : (contents : Contents) (config : Config) (reader instrument n : ℕ) (p : ℕ → Bool)
-    → streams_by contents config reader instrument (filter p (range_with_len 0 (n + 1)))
-    ≡ streams_by contents config reader instrument (filter p (range_with_len 0 n)) ++ streams_by contents config reader instrument (filter p (n ∷ []))
-unfolding streams_by
-streams_by-more contents config reader instrument n p =
-    ap (λ vs. filter_map (stream_at contents config reader instrument) (map (λ v. Some v) vs)) (filter_more p n)
-    ∙ ap (filter_map (stream_at contents config reader instrument)) (map-append (λ v. Some v) (filter p (range_with_len 0 n)) (filter p (n ∷ [])))
-    ∙ filter_map-append (stream_at contents config reader instrument) (map (λ v. Some v) (filter p (range_with_len 0 n))) (map (λ v. Some v) (filter p (n ∷ [])))
 
 some_apply : (p : ℕ → Bool) (views : List ℕ) → list_any p views ≡ true → or_default (filter p views) ≡ map (λ v. Some v) (filter p views)
 some_apply p [] e = absurd cc

@@ -1,10 +1,9 @@
 -- Loops over the numbers below a bound that append to a list.
-use Rattle.std.proofs.Common.{◌≡◌, ℕ, zero, suc, ◌+◌, Bool, true, false, cond, ◌||◌, filter, map, List, [], ◌∷◌, ◌++◌, Option, refl, sym, ap, ◌∙◌, append_assoc, arith}
-use Rattle.std.specs.List.{cons_option, filter_map, flat_map, list_any, range_with_len}
-use Rattle.std.proofs.lemmas.List.{append-nil, map-append}
+use Rattle.std.proofs.Common.{◌≡◌, ℕ, zero, suc, ◌+◌, Bool, true, false, ◌||◌, List, [], ◌∷◌, ◌++◌, Option, refl, sym, ap, ◌∙◌, append_assoc, arith}
+use Rattle.std.specs.List.{cons_option, filter_map, flat_map, range_with_len}
+use Rattle.std.proofs.lemmas.List.{append-nil}
 use Rattle.std.proofs.lemmas.List.Concat.{flat_map-append}
-use Rattle.std.proofs.lemmas.List.Elements.{filter-append, filter_map-append}
-use Rattle.std.proofs.lemmas.List.Folds.{list_any-append}
+use Rattle.std.proofs.lemmas.List.Elements.{filter_map-append}
 
 -- the numbers below one more
 range_more_from : (a n j : ℕ) → a + n ≡ j → range_with_len a (n + 1) ≡ range_with_len a n ++ j ∷ []
@@ -29,44 +28,12 @@ flat_map_more f n =
 pub flat_map_turn : {A : Type 0} (f : ℕ → List A) (n : ℕ) (old now next : List A) → now ≡ old ++ flat_map f (range_with_len 0 n) → next ≡ now ++ f n → next ≡ old ++ flat_map f (range_with_len 0 (n + 1))
 flat_map_turn f n old now next before after = append_twice old now next _ (f n) _ before after (flat_map_more f n)
 
-pub filter_more : (p : ℕ → Bool) (n : ℕ) → filter p (range_with_len 0 (n + 1)) ≡ filter p (range_with_len 0 n) ++ filter p (n ∷ [])
-filter_more p n = ap (filter p) (range_more n) ∙ filter-append p (range_with_len 0 n) (n ∷ [])
-
-pub map_filter_more : {A : Type 0} (f : ℕ → A) (p : ℕ → Bool) (n : ℕ) → map f (filter p (range_with_len 0 (n + 1))) ≡ map f (filter p (range_with_len 0 n)) ++ map f (filter p (n ∷ []))
-map_filter_more f p n = ap (map f) (filter_more p n) ∙ map-append f (filter p (range_with_len 0 n)) (filter p (n ∷ []))
-
 pub filter_map_more : {A : Type 0} (h : ℕ → Option A) (n : ℕ) → filter_map h (range_with_len 0 (n + 1)) ≡ filter_map h (range_with_len 0 n) ++ cons_option (h n) []
 filter_map_more h n = ap (filter_map h) (range_more n) ∙ filter_map-append h (range_with_len 0 n) (n ∷ [])
 
 pub or_false : (b : Bool) → (b || false) ≡ b
 or_false true = refl
 or_false false = refl
-
-pub list_any_more : (p : ℕ → Bool) (n : ℕ) → list_any p (range_with_len 0 (n + 1)) ≡ (list_any p (range_with_len 0 n) || p n)
-list_any_more p n =
-    ap (list_any p) (range_more n) ∙ list_any-append p (range_with_len 0 n) (n ∷ []) ∙ ap (λ b. list_any p (range_with_len 0 n) || b) (or_false (p n))
-
--- whether one number more passes, with a test that stands first
-pub any_true : (p : ℕ → Bool) (n : ℕ) → list_any p (range_with_len 0 n) ≡ true → list_any p (range_with_len 0 (n + 1)) ≡ true
-any_true p n e = list_any_more p n ∙ ap (λ b. b || p n) e
-
-pub any_false : (p : ℕ → Bool) (n : ℕ) → list_any p (range_with_len 0 n) ≡ false → list_any p (range_with_len 0 (n + 1)) ≡ p n
-any_false p n e = list_any_more p n ∙ ap (λ b. b || p n) e
-
-one_passes : {A : Type 0} (f : ℕ → A) (p : ℕ → Bool) (n : ℕ) (b : Bool) → p n ≡ b → map f (filter p (n ∷ [])) ≡ cond b (f n ∷ []) []
-one_passes f p n true e = rw e refl
-one_passes f p n false e = rw e refl
-
--- one number more that passes, or does not
-pub filter_turn : {A : Type 0} (f : ℕ → A) (p : ℕ → Bool) (n : ℕ) (old now next : List A) → now ≡ old ++ map f (filter p (range_with_len 0 n)) → p n ≡ true
-    → next ≡ now ++ f n ∷ [] → next ≡ old ++ map f (filter p (range_with_len 0 (n + 1)))
-filter_turn f p n old now next before passes after =
-    append_twice old now next _ (f n ∷ []) _ before after (map_filter_more f p n ∙ ap (λ xs. map f (filter p (range_with_len 0 n)) ++ xs) (one_passes f p n true passes))
-
-pub filter_skip : {A : Type 0} (f : ℕ → A) (p : ℕ → Bool) (n : ℕ) (old now : List A) → now ≡ old ++ map f (filter p (range_with_len 0 n)) → p n ≡ false
-    → now ≡ old ++ map f (filter p (range_with_len 0 (n + 1)))
-filter_skip f p n old now before fails =
-    append_twice old now now _ [] _ before (sym (append-nil now)) (map_filter_more f p n ∙ ap (λ xs. map f (filter p (range_with_len 0 n)) ++ xs) (one_passes f p n false fails))
 
 -- one number more that gives something, or nothing
 pub filter_map_turn : {A : Type 0} (h : ℕ → Option A) (n : ℕ) (old now next : List A) → now ≡ old ++ filter_map h (range_with_len 0 n)

@@ -1,5 +1,5 @@
 -- What the offers of the instruments say of the streams of a reader.
-use Rattle.std.proofs.Common.{◌≡◌, ℕ, zero, suc, ◌+◌, ◌<◌, Bool, true, false, cond, ◌||◌, filter, map, List, [], ◌∷◌, ◌++◌, length, take, get_or, Option, Some, None, slice_get, refl, sym, ap, subst, ◌∙◌, arith, if◌then◌else◌}
+use Rattle.std.proofs.Common.{◌≡◌, ℕ, zero, suc, ◌+◌, ◌<◌, Bool, true, false, cond, ◌||◌, filter, map, List, [], ◌∷◌, ◌++◌, length, take, get_or, Some, None, slice_get, refl, sym, ap, subst, ◌∙◌, arith, if◌then◌else◌}
 use Rattle.std.specs.List.{cons_option, enumerate_from, filter_map, flat_map, list_any, range_with_len}
 use Rattle.std.proofs.lemmas.List.{append-nil, take_more}
 use Rattle.std.proofs.lemmas.List.Elements.{filter_map-append}
@@ -18,7 +18,7 @@ use Rattle.metric_views.specs.Selection.{selects}
 use Rattle.metric_views.specs.Streams.{fill_at, fill_by, no_settings, template_of}
 use Rattle.metric_resolve.specs.declared.offers.Offer.{Offer}
 use Rattle.metric_resolve.specs.Applying.{all_views, applies, applying, is_selected, meter_at}
-use Rattle.metric_resolve.specs.Offers.{AreOffers, IsOffer, offer_of, streams_of_offer, view_template}
+use Rattle.metric_resolve.specs.Offers.{AreOffers, offer_of, streams_of_offer, view_template}
 use Rattle.metric_resolve.specs.Resolved.{is_fit, kept, kept_of, stream_at, streams_by, streams_of_instrument, streams_of_reader}
 use Rattle.metric_resolve.proofs.Fills.{applies-selected, applies-unselected, streams_of_instrument-none, streams_of_instrument-some}
 

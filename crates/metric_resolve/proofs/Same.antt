@@ -5,14 +5,11 @@ use Rattle.std.proofs.lemmas.Option.{slice_get_read}
 use Rattle.std.proofs.lemmas.Bool.Decides.{Decides-eqb}
 use Rattle.std.proofs.lemmas.List.{take_more}
 use Rattle.std.proofs.lemmas.Slice.Eq.{bytes_eq-Decides}
-use Rattle.metric_names.specs.Names.{folded}
 use Rattle.metric_catalogue.specs.declared.contents.Contents.{Contents}
-use Rattle.metric_catalogue.specs.declared.contents.Meter.{Meter}
 use Rattle.metric_catalogue.specs.PlaceLaws.{or_else, position_from-push}
 use Rattle.metric_views.specs.declared.stream.Stream.{Stream}
 use Rattle.metric_resolve.specs.declared.warning.Warning.TheVariants as warnings
-use Rattle.metric_resolve.specs.Applying.{meter_at}
-use Rattle.metric_resolve.specs.Collisions.{Identity, collision_at, first_of, identity_of, identity_with, is_identity, is_same}
+use Rattle.metric_resolve.specs.Collisions.{Identity, collision_at, first_of, identity_of, is_identity, is_same}
 
 pub both : {P Q : Type 0} (a b : Bool) → Decides a P → Decides b Q → Decides (a && b) (P × Q)
 both true b p q = (λ e. (p.0 refl, q.0 e), λ h. q.1 h.1)

@@ -4,6 +4,7 @@ pub mod Offers
 pub mod Unfit
 pub mod Collisions
 pub mod Warnings
+pub mod Identities
 pub mod StreamKeys
 pub mod Firsts
 pub mod Laws

@@ -1,5 +1,5 @@
 -- The streams that a config gives for a catalogue.
-use Rattle.std.specs.Prelude.{ℕ, Bool, true, false, List, [], map, Option, Some, None, option_and_then}
+use Rattle.std.specs.Prelude.{ℕ, ◌<◌, Bool, true, false, List, [], length, map, Option, Some, None, option_and_then}
 use Rattle.std.specs.List.{cons_option, filter_map, flat_map}
 use Rattle.metric_catalogue.specs.declared.contents.Contents.{Contents}
 use Rattle.metric_views.specs.declared.config.Config.{Config}
@@ -45,3 +45,7 @@ abbrev pub is_fit : Fill → Bool
 is_fit Unfit = false
 is_fit Dropped = true
 is_fit (Kept stream) = true
+
+-- The stream is of an instrument that is there.
+abbrev pub IsKnown : Contents → Stream → Type 0
+IsKnown contents stream = stream.instrument < length contents.instruments

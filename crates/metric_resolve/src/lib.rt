@@ -2,6 +2,7 @@
 #![tactic(auto)]
 
 mod collisions;
+mod identity;
 mod laws;
 mod offers;
 mod resolved;
@@ -10,6 +11,7 @@ mod stream_list;
 mod unfit;
 mod warning;
 
+pub use identity::identity_order;
 pub use laws::{
     collisions_are_of_one_identity, streams_are_what_views_give, unfit_views_sum_gauges,
 };

@@ -9,16 +9,16 @@ use metric_catalogue::{Catalogue, Instrument, Meter};
 use metric_views::{Config, Template, View};
 use std::alloc::{AllocError, Global};
 
-/// The streams that a reader can see of an instrument.
+// The streams that a reader can see of an instrument.
 #[derive(Drop)]
 pub(crate) struct Offer {
-    /// Those of the views that select the instrument, in the order of the views.
+    // Those of the views that select the instrument, in the order of the views.
     pub by_views: Items<Template>,
-    /// That of the default.
+    // That of the default.
     pub default: Template,
 }
 
-/// What each instrument offers. A view is matched with an instrument once, for all readers.
+// What each instrument offers. A view is matched with an instrument once, for all readers.
 pub(crate) fn offers_of(
     alloc: Global,
     catalogue: &Catalogue,
@@ -37,7 +37,7 @@ pub(crate) fn offers_of(
     Ok(offers)
 }
 
-/// The meter of the instrument of a number.
+// The meter of the instrument of a number.
 pub(crate) fn meter_of(catalogue: &Catalogue, instrument: u32) -> &Meter
     requires { instrument < length catalogue.now.instruments }
     ensures { meter_at catalogue.now instrument ≡ Some result.now }

@@ -6,26 +6,30 @@ use metric_base::Shared;
 use metric_names::Name;
 use std::cmp::Ordering;
 
-/// The reader, the meter and the name of a stream. As the meters of a catalogue differ in name, version or
-/// schema URL, its streams have equal keys exactly where they have equal identities.
+// The reader, the meter and the name of a stream. As the meters of a catalogue differ in name, version or
+// schema URL, its streams have equal keys exactly where they have equal identities.
 #[derive(Drop)]
 pub(crate) struct StreamKey {
-    /// The number of the reader.
+    // The number of the reader.
     pub reader: u32,
-    /// The number of the meter.
+    // The number of the meter.
     pub meter: u32,
-    /// The name, which is compared without ASCII case.
+    // The name, which is compared without ASCII case.
     pub name: Shared<Name>,
 }
 
-/// The order of keys: by reader, meter and name.
+// The order of keys: by reader, meter and name.
 fn key_order(left: &StreamKey, right: &StreamKey) -> Ordering
     ensures { result ≡ key_order left.now right.now }
 {
-    left.reader
+    match left
+        .reader
         .cmp(&right.reader)
         .then(left.meter.cmp(&right.meter))
-        .then(left.name.get().fold_order(right.name.get()))
+    {
+        Ordering::Equal => left.name.get().fold_order(right.name.get()),
+        order => order,
+    }
 }
 
 impl PartialEq for StreamKey {

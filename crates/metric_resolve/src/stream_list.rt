@@ -1,9 +1,9 @@
 //! The streams of all readers, in order.
-ghost use Rattle.std.specs.Prelude.{◌≡◌, ◌<◌, ◌≤◌, All, ◌++◌, IfOk, OnOk, length, map};
+ghost use Rattle.std.specs.Prelude.{◌≡◌, ◌≤◌, All, ◌++◌, IfOk, OnOk, length, map};
 ghost use Rattle.std.specs.List.{filter_map, flat_map, list_any};
 ghost use Rattle.metric_views.specs.Streams.{fill_by};
 ghost use Rattle.metric_resolve.specs.Offers.{AreOffers, streams_of_offer};
-ghost use Rattle.metric_resolve.specs.Resolved.{is_fit, kept, kept_of, streams_of};
+ghost use Rattle.metric_resolve.specs.Resolved.{IsKnown, is_fit, kept, kept_of, streams_of};
 
 use crate::offers::Offer;
 use metric_base::Items;
@@ -11,7 +11,7 @@ use metric_catalogue::Catalogue;
 use metric_views::{Config, Fill, Reader, Stream, Template};
 use std::alloc::{AllocError, Global};
 
-/// The streams of all readers, in order.
+// The streams of all readers, in order.
 pub(crate) fn streams_of(
     alloc: Global,
     catalogue: &Catalogue,
@@ -21,7 +21,7 @@ pub(crate) fn streams_of(
     requires { AreOffers catalogue.now config.now offers.now }
     ensures exact { IfOk result (λ s. s ≡ streams_of catalogue.now config.now) }
     ensures few { IfOk result (λ s. length s ≤ 2097152) }
-    ensures known { IfOk result (All (λ stream. stream.instrument < length catalogue.now.instruments)) }
+    ensures known { IfOk result (All (IsKnown catalogue.now)) }
 {
     let mut streams = Items::new(alloc);
     for (number, reader) in config.readers().iter().enumerate() {
@@ -30,7 +30,7 @@ pub(crate) fn streams_of(
     Ok(streams)
 }
 
-/// Puts the streams of a reader last.
+// Puts the streams of a reader last.
 fn add_reader(
     alloc: Global,
     number: u32,
@@ -47,8 +47,8 @@ fn add_reader(
     Ok(())
 }
 
-/// Puts the streams of an instrument for a reader last: those of the views that apply, or that of the
-/// default where none applies.
+// Puts the streams of an instrument for a reader last: those of the views that apply, or that of the
+// default where none applies.
 fn add_offer(
     alloc: Global,
     number: u32,
@@ -56,7 +56,8 @@ fn add_offer(
     offer: &Offer,
     streams: &mut Items<Stream>,
 ) -> Result<(), AllocError>
-    ensures { OnOk result (streams.new ≡ streams.old ++ streams_of_offer number reader.now offer.now) }
+    ensures { OnOk result (streams.new
+        ≡ streams.old ++ streams_of_offer number reader.now offer.now) }
 {
     let applied = add_views(alloc, number, reader, offer.by_views.as_slice(), streams)?;
     if !applied {
@@ -66,7 +67,7 @@ fn add_offer(
     Ok(())
 }
 
-/// Puts the streams of the views that apply last, and answers whether there is such a view.
+// Puts the streams of the views that apply last, and answers whether there is such a view.
 fn add_views(
     alloc: Global,
     number: u32,
@@ -88,7 +89,7 @@ fn add_views(
     Ok(applied)
 }
 
-/// Puts the stream last, where one is kept, and answers whether the aggregation fits.
+// Puts the stream last, where one is kept, and answers whether the aggregation fits.
 fn add_kept(filled: Fill, streams: &mut Items<Stream>) -> Result<bool, AllocError>
     ensures streams { OnOk result (streams.new ≡ streams.old ++ kept_of filled) }
     ensures fits { IfOk result (λ fits. fits ≡ is_fit filled) }

@@ -11,7 +11,7 @@ use metric_catalogue::{Catalogue, Instrument, Kind};
 use metric_views::{Aggregation, Config, View};
 use std::alloc::AllocError;
 
-/// Puts the warnings of all views last.
+// Puts the warnings of all views last.
 pub(crate) fn add_unfit(
     catalogue: &Catalogue,
     config: &Config,
@@ -25,7 +25,7 @@ pub(crate) fn add_unfit(
     Ok(())
 }
 
-/// Puts the warnings of a view last.
+// Puts the warnings of a view last.
 fn add_view(
     catalogue: &Catalogue,
     number: u32,
@@ -33,7 +33,8 @@ fn add_view(
     warnings: &mut Items<Warning>,
 ) -> Result<(), AllocError>
     ensures { OnOk result (warnings.new ≡ warnings.old
-        ++ filter_map (unfit_with catalogue.now number (Some view.now)) (all_instruments catalogue.now)) }
+        ++ filter_map (unfit_with catalogue.now number (Some view.now))
+        (all_instruments catalogue.now)) }
 {
     for instrument in 0..catalogue.instruments().len() as u32 {
         if is_unfit_at(catalogue, view, instrument) {
@@ -46,7 +47,7 @@ fn add_view(
     Ok(())
 }
 
-/// Whether a view is to be warned of at the instrument of a number.
+// Whether a view is to be warned of at the instrument of a number.
 fn is_unfit_at(catalogue: &Catalogue, view: &View, number: u32) -> bool
     requires { number < length catalogue.now.instruments }
     ensures { result ≡ is_unfit_at catalogue.now view.now number }
@@ -55,7 +56,7 @@ fn is_unfit_at(catalogue: &Catalogue, view: &View, number: u32) -> bool
     names_unfit(view, instrument) && view.selects(meter_of(catalogue, number), instrument)
 }
 
-/// Whether a view itself names a sum, and the instrument is a gauge.
+// Whether a view itself names a sum, and the instrument is a gauge.
 fn names_unfit(view: &View, instrument: &Instrument) -> bool
     ensures { result ≡ names_unfit view.now instrument.now }
 {

@@ -1,10 +1,9 @@
 -- What is read as a reader is sound.
-use Rattle.std.proofs.Common.{◌≡◌, ℕ, ℤ, pos, ◌<◌, ◌≤◌, Bool, true, false, not, ◌&&◌, ◌==◌, List, [], ◌∷◌, length, Option, Some, None, Result, Ok, refl, sym, subst, arith, codes, int_le, nat_le, nat_abs}
+use Rattle.std.proofs.Common.{◌≡◌, ℕ, ℤ, ◌<◌, Bool, true, false, not, ◌==◌, List, length, Option, Some, None, Result, Ok, refl, subst, arith, codes, nat_le, nat_abs}
 use Rattle.std.proofs.lemmas.Int.{ints}
 use Rattle.std.proofs.lemmas.Bool.Decides.{nat_tests}
 use Rattle.std.specs.Str.{chars}
 use Rattle.toml.specs.Data.{Data, Members, get_member}
-use Rattle.metric_base.specs.Steps.{◌>>=◌, require}
 use Rattle.metric_base.specs.StepLaws.{after_ok, require_ok, ok_is}
 use Rattle.metric_table.specs.Fields.{integer_of, only, short_text, table_of, text_field}
 use Rattle.metric_catalogue.specs.declared.contents.Kind.{Kind}
@@ -78,10 +77,10 @@ table_made {T} P usual chosen at first each table choices e0 =
     after_ok (choice_at usual (chosen at Gauge) (codes "gauge") table) _ choices e4 (λ gauge g e5.
     let made : ByKind T = record { counter = counter; up_down_counter = up_down_counter; histogram = histogram; gauge = gauge } in
     let sound : (kind : Kind) → P kind (choice_for made kind) = λ kind. by_kind made
-        (choice_made (P Counter) usual (chosen at Counter) (first Counter) (each Counter) (codes "counter") table counter c)
-        (choice_made (P UpDownCounter) usual (chosen at UpDownCounter) (first UpDownCounter) (each UpDownCounter) (codes "up_down_counter") table up_down_counter u)
-        (choice_made (P Histogram) usual (chosen at Histogram) (first Histogram) (each Histogram) (codes "histogram") table histogram h)
-        (choice_made (P Gauge) usual (chosen at Gauge) (first Gauge) (each Gauge) (codes "gauge") table gauge g) kind in
+    (choice_made (P Counter) usual (chosen at Counter) (first Counter) (each Counter) (codes "counter") table counter c)
+    (choice_made (P UpDownCounter) usual (chosen at UpDownCounter) (first UpDownCounter) (each UpDownCounter) (codes "up_down_counter") table up_down_counter u)
+    (choice_made (P Histogram) usual (chosen at Histogram) (first Histogram) (each Histogram) (codes "histogram") table histogram h)
+    (choice_made (P Gauge) usual (chosen at Gauge) (first Gauge) (each Gauge) (codes "gauge") table gauge g) kind in
     subst (λ (cs : ByKind T). (kind : Kind) → P kind (choice_for cs kind)) (ok_is made choices (Ok made) refl e5) sound)))))
   where
     by_kind : (made : ByKind T) → P Counter made.counter → P UpDownCounter made.up_down_counter → P Histogram made.histogram → P Gauge made.gauge
@@ -145,9 +144,9 @@ reader_made before table reader e0 =
     let same = ok_is (temporality, aggregation, limit) choices (Ok (temporality, aggregation, limit)) refl c3 in
     let made : Reader = record { name = name; temporality = choices.0; aggregation = choices.1; limit = choices.2 } in
     let fits : (kind : Kind) → is_unfit kind (choice_for aggregation kind) ≡ false =
-        choices_made (λ kind a. is_unfit kind a ≡ false) aggregations.Default aggregation_for at usual_fits (fit_made at) (codes "aggregation") table aggregation fit in
+    choices_made (λ kind a. is_unfit kind a ≡ false) aggregations.Default aggregation_for at usual_fits (fit_made at) (codes "aggregation") table aggregation fit in
     let limits : (kind : Kind) → IsLimit (choice_for limit kind) =
-        choices_made (λ _ n. IsLimit n) 2000 (λ at _ d. limit_of at d) at (λ _. (omega arith, omega arith)) (λ _. limit_made at) (codes "limit") table limit limited in
+    choices_made (λ _ n. IsLimit n) 2000 (λ at _ d. limit_of at d) at (λ _. (omega arith, omega arith)) (λ _. limit_made at) (codes "limit") table limit limited in
     let sound : IsSoundReader before made = record {
       named = own.named;
       short = own.short;

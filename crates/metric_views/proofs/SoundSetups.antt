@@ -3,9 +3,9 @@ use Rattle.std.proofs.Common.{◌≡◌, ℕ, All, List, [], ◌∷◌, ◌++◌
 use Rattle.std.proofs.lemmas.List.Elements.{All-nil, All-push}
 use Rattle.toml.specs.Data.{Data, Members, get_member}
 use Rattle.toml.specs.Parse.{parse_document}
-use Rattle.metric_base.specs.Steps.{◌>>=◌, each, in_turn, require_some, with_next}
+use Rattle.metric_base.specs.Steps.{each, require_some, with_next}
 use Rattle.metric_base.specs.StepLaws.{after_ok, in_turn_keeps, ok_is}
-use Rattle.metric_table.specs.Fields.{list_of, only, short_text, short_text_of, text_of, texts_of}
+use Rattle.metric_table.specs.Fields.{list_of, only, short_text_of, text_of, texts_of}
 use Rattle.metric_catalogue.specs.EachLaws.{EachAt-empty, each_made}
 use Rattle.metric_views.specs.declared.config.Criteria.{Criteria}
 use Rattle.metric_views.specs.declared.config.Settings.{Settings}

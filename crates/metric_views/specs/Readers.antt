@@ -1,15 +1,15 @@
 -- What the tables of readers are read as, up to the first fault.
-use Rattle.std.specs.Prelude.{◌≡◌, ℕ, ℤ, pos, codes, Bool, not, ◌&&◌, ◌==◌, List, [], ◌∷◌, length, map, Option, Some, None, Result, Ok, Err, int_le, nat_lt, nat_abs}
+use Rattle.std.specs.Prelude.{ℕ, ℤ, pos, codes, Bool, not, ◌&&◌, ◌==◌, List, [], length, map, Option, Some, None, Result, Ok, int_le, nat_abs}
 use Rattle.std.specs.List.{list_any}
 use Rattle.std.specs.Str.{bytes_eq}
 use Rattle.toml.specs.Data.{Data, Members, get_member}
 use Rattle.metric_base.specs.Steps.{◌>>=◌, require, require_some, each}
-use Rattle.metric_table.specs.Fields.{only, field, integer_of, short_text, table_of, tables_field, text_field, text_of}
+use Rattle.metric_table.specs.Fields.{only, integer_of, short_text, table_of, text_field, text_of}
 use Rattle.metric_catalogue.specs.declared.contents.Kind.{Kind}
 use Rattle.metric_catalogue.specs.declared.contents.Kind.TheVariants.{Counter, UpDownCounter, Histogram, Gauge}
 use Rattle.metric_views.specs.declared.choices.ByKind.{ByKind}
 use Rattle.metric_views.specs.declared.choices.Temporality.{Temporality}
-use Rattle.metric_views.specs.declared.choices.Temporality.TheVariants.{Delta, Cumulative}
+use Rattle.metric_views.specs.declared.choices.Temporality.TheVariants.{Cumulative}
 use Rattle.metric_views.specs.declared.choices.Aggregation.{Aggregation}
 use Rattle.metric_views.specs.declared.choices.Aggregation.TheVariants as aggregations
 use Rattle.metric_views.specs.declared.by_kind.TheConstants.{KIND_FIELDS}

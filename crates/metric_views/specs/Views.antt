@@ -1,5 +1,5 @@
 -- What the tables of views are read as, up to the first fault.
-use Rattle.std.specs.Prelude.{◌≡◌, ℕ, ℤ, codes, List, [], ◌∷◌, length, map, Option, Some, None, Result, Ok, Err}
+use Rattle.std.specs.Prelude.{ℕ, ℤ, codes, List, [], length, map, Option, Some, None, Result, Ok}
 use Rattle.toml.specs.Data.{Data, Members, get_member}
 use Rattle.metric_base.specs.Steps.{◌>>=◌, require, require_some, each, with_fault}
 use Rattle.metric_names.specs.Names.{name_of}

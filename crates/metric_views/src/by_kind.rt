@@ -16,27 +16,27 @@ use metric_catalogue::Kind;
 use metric_table::{integer_of, member, only, table_of, text_of};
 use toml::{Table, Value};
 
-/// The cardinality limit where the config gives none (Metrics SDK, cardinality limits).
+// The cardinality limit where the config gives none (Metrics SDK, cardinality limits).
 const DEFAULT_LIMIT: u32 = 2000;
 
-/// What a reader can choose for a kind of instrument.
+// What a reader can choose for a kind of instrument.
 pub(crate) trait Choice: Copy + Drop {
-    /// The choice where the config gives none.
+    // The choice where the config gives none.
     ghost usual: { Self };
 
-    /// The choice that a value gives for a kind, or its first fault.
+    // The choice that a value gives for a kind, or its first fault.
     ghost chosen: { ConfigPlace → Kind → Data → Result Self ViewFault };
 
-    /// The choice where the config gives none.
+    // The choice where the config gives none.
     fn when_absent() -> Self
         ensures { result ≡ usual };
 
-    /// The choice that a value gives for a kind.
+    // The choice that a value gives for a kind.
     fn read(value: &Value, kind: Kind, at: ConfigPlace) -> Result<Self, ViewFault>
         ensures { result ≡ chosen at kind (view value.now) };
 }
 
-/// The choices of a reader's field.
+// The choices of a reader's field.
 #[tactic(auto, unfolding(crate::specs::Readers::choices_field))]
 pub(crate) fn choices_field<T: Choice>(
     table: &Table,
@@ -86,7 +86,12 @@ fn choices_of<T: Choice>(table: &Table, at: ConfigPlace) -> Result<ByKind<T>, Vi
 const KIND_FIELDS: [&str; 4] = ["counter", "up_down_counter", "histogram", "gauge"];
 
 #[tactic(auto, unfolding(crate::specs::Readers::choice_at))]
-fn choice_at<T: Choice>(table: &Table, name: &str, kind: Kind, at: ConfigPlace) -> Result<T, ViewFault>
+fn choice_at<T: Choice>(
+    table: &Table,
+    name: &str,
+    kind: Kind,
+    at: ConfigPlace,
+) -> Result<T, ViewFault>
     ensures { result ≡ choice_at T.usual (T.chosen at kind) name.now (table_view table.now) }
 {
     match member(table, name) {
@@ -153,7 +158,7 @@ impl Choice for Aggregation {
     }
 }
 
-/// The aggregation that a value names.
+// The aggregation that a value names.
 #[tactic(auto, unfolding(crate::specs::Readers::aggregation_of))]
 pub(crate) fn aggregation_of(value: &Value, at: ConfigPlace) -> Result<Aggregation, ViewFault>
     ensures { result ≡ aggregation_of at (view value.now) }
@@ -191,7 +196,7 @@ impl Choice for u32 {
     }
 }
 
-/// The cardinality limit that a value is.
+// The cardinality limit that a value is.
 #[tactic(auto, unfolding(crate::specs::Readers::limit_of))]
 pub(crate) fn limit_of(value: &Value, at: ConfigPlace) -> Result<u32, ViewFault>
     ensures { result ≡ limit_of at (view value.now) }

@@ -109,7 +109,7 @@ impl fmt::Display for ConfigPlace {
     }
 }
 
-/// What each fault of a field is at a place.
+// What each fault of a field is at a place.
 pub(crate) fn faults_at(at: ConfigPlace) -> FieldFaults<ViewFault>
     ensures { result ≡ faults_at at }
 {

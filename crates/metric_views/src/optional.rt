@@ -20,19 +20,19 @@ use metric_table::{integers_of, member, short_text, text_of, texts_of};
 use std::alloc::Global;
 use toml::{Table, Value};
 
-/// What a field of a view can be.
+// What a field of a view can be.
 pub(crate) trait FieldValue: Drop {
-    /// What a value is read as, or its first fault.
+    // What a value is read as, or its first fault.
     ghost read_as: { ConfigPlace → Data → Result Self ViewFault };
 
-    /// What a value is read as.
+    // What a value is read as.
     fn read(alloc: Global, value: &Value, at: ConfigPlace) -> Result<Self, ViewFault>
     where
         Self: Sized,
         ensures { Gives ViewFault.Memory result (read_as at (view value.now)) };
 }
 
-/// The value of a field, where the table has it.
+// The value of a field, where the table has it.
 #[tactic(auto, unfolding(crate::specs::Views::optional_field))]
 pub(crate) fn optional_field<T: FieldValue>(
     alloc: Global,
@@ -40,7 +40,8 @@ pub(crate) fn optional_field<T: FieldValue>(
     name: &str,
     at: ConfigPlace,
 ) -> Result<Option<T>, ViewFault>
-    ensures { Gives ViewFault.Memory result (optional_field (T.read_as at) name.now (table_view table.now)) }
+    ensures { Gives ViewFault.Memory result
+        (optional_field (T.read_as at) name.now (table_view table.now)) }
 {
     match member(table, name) {
         Some(value) => {
@@ -79,7 +80,8 @@ impl FieldValue for Pattern {
 }
 
 fn pattern(alloc: Global, text: &str, at: ConfigPlace) -> Result<Pattern, ViewFault>
-    ensures { Gives ViewFault.Memory result (with_fault (λ _. ViewFault.BadPattern at) (pattern_of text.now)) }
+    ensures { Gives ViewFault.Memory result
+        (with_fault (λ _. ViewFault.BadPattern at) (pattern_of text.now)) }
 {
     match Pattern::parse(alloc, text) {
         Ok(pattern) => Ok(pattern),
@@ -101,7 +103,8 @@ impl FieldValue for Name {
 }
 
 fn name(alloc: Global, text: &str, at: ConfigPlace) -> Result<Name, ViewFault>
-    ensures { Gives ViewFault.Memory result (with_fault (λ _. ViewFault.BadName at) (name_of text.now)) }
+    ensures { Gives ViewFault.Memory result
+        (with_fault (λ _. ViewFault.BadName at) (name_of text.now)) }
 {
     match Name::parse(alloc, text) {
         Ok(name) => Ok(name),

@@ -16,11 +16,12 @@ use metric_table::{only, short_text, text_field};
 use std::alloc::Global;
 use toml::Table;
 
-/// The readers of all tables, in order.
+// The readers of all tables, in order.
 #[tactic(auto)]
 pub(crate) fn readers_of(alloc: Global, tables: &[&Table]) -> Result<Items<Reader>, ViewFault>
     requires { length tables.now ≤ 16 }
-    ensures exact { Gives ViewFault.Memory result (readers_of (map (λ t. table_view t.now) tables.now)) }
+    ensures exact { Gives ViewFault.Memory result
+        (readers_of (map (λ t. table_view t.now) tables.now)) }
     ensures few { IfOk result (λ readers. length readers ≤ length tables.now) }
 {
     let mut readers = Items::new(alloc);
@@ -31,7 +32,7 @@ pub(crate) fn readers_of(alloc: Global, tables: &[&Table]) -> Result<Items<Reade
     Ok(readers)
 }
 
-/// One more reader, after all those before it.
+// One more reader, after all those before it.
 #[tactic(auto, unfolding(crate::specs::Readers::reader_of))]
 fn reader_of(alloc: Global, before: &[Reader], table: &Table) -> Result<Reader, ViewFault>
     requires { length before.now < 16 }
@@ -52,7 +53,7 @@ fn reader_of(alloc: Global, before: &[Reader], table: &Table) -> Result<Reader, 
 
 type Choices = (ByKind<Temporality>, ByKind<Aggregation>, ByKind<u32>);
 
-/// What a reader chooses for the kinds.
+// What a reader chooses for the kinds.
 #[tactic(auto, unfolding(crate::specs::Readers::reader_choices))]
 fn reader_choices(table: &Table, at: ConfigPlace) -> Result<Choices, ViewFault>
     ensures { result ≡ reader_choices at (table_view table.now) }
@@ -66,9 +67,13 @@ fn reader_choices(table: &Table, at: ConfigPlace) -> Result<Choices, ViewFault>
 // The fields of a reader.
 const READER_FIELDS: [&str; 4] = ["name", "temporality", "aggregation", "limit"];
 
-/// The name of one more reader.
+// The name of one more reader.
 #[tactic(auto, unfolding(crate::specs::Readers::reader_name))]
-fn reader_name<'a>(before: &[Reader], table: &'a Table, at: ConfigPlace) -> Result<&'a str, ViewFault>
+fn reader_name<'a>(
+    before: &[Reader],
+    table: &'a Table,
+    at: ConfigPlace,
+) -> Result<&'a str, ViewFault>
     ensures { MatchResult result (λ s. reader_name before.now at (table_view table.now) ≡ Ok s.now)
         (λ e. reader_name before.now at (table_view table.now) ≡ Err e) }
 {

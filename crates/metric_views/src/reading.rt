@@ -16,7 +16,7 @@ use metric_table::{format_field, only, tables_field};
 use std::alloc::Global;
 use toml::Table;
 
-/// What a text says.
+// What a text says.
 pub(crate) fn setup_of(alloc: Global, text: &str) -> Result<Setup, ViewFault>
     ensures { Gives ViewFault.Memory result (config_of text.now) }
 {
@@ -44,7 +44,9 @@ type Tables<'a> = (Items<&'a Table>, Items<&'a Table>);
 
 #[tactic(auto, unfolding(crate::specs::Configs::tables_of_top))]
 fn tables_of_top(alloc: Global, table: &Table) -> Result<Tables<'_>, ViewFault>
-    ensures exact { GivesBy (λ t. (map (λ r. table_view r.now) t.0, map (λ v. table_view v.now) t.1)) ViewFault.Memory result (tables_of_top (table_view table.now)) }
+    ensures exact { GivesBy
+        (λ t. (map (λ r. table_view r.now) t.0, map (λ v. table_view v.now) t.1))
+        ViewFault.Memory result (tables_of_top (table_view table.now)) }
     ensures readers { IfOk result (λ t. length t.0 ≤ 16) }
     ensures views { IfOk result (λ t. length t.1 ≤ 256) }
 {

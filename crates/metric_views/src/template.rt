@@ -57,7 +57,8 @@ impl Template {
         view_number: u32,
         view: &View,
     ) -> Result<Template, AllocError>
-        ensures { IfOk result (λ t. t ≡ template_of number instrument.now (Some view_number) view.now.settings) }
+        ensures { IfOk result (λ t. t
+            ≡ template_of number instrument.now (Some view_number) view.now.settings) }
     {
         template_of(alloc, number, instrument, Some(view_number), &view.settings)
     }
@@ -181,7 +182,8 @@ fn kept_keys(
 }
 
 fn kept_flags(alloc: Global, settings: &Settings, keys: &[Key]) -> Result<Vec<bool>, AllocError>
-    ensures { IfOk result (λ k. k.items ≡ map (λ key. is_kept settings.now.keep settings.now.exclude key) keys.now) }
+    ensures { IfOk result (λ k. k.items
+        ≡ map (λ key. is_kept settings.now.keep settings.now.exclude key) keys.now) }
 {
     keys.iter().map(|key| is_kept(settings, key)).collect(alloc)
 }

@@ -17,10 +17,11 @@ use metric_table::only;
 use std::alloc::Global;
 use toml::Table;
 
-/// The views of all tables, in order.
+// The views of all tables, in order.
 pub(crate) fn views_of(alloc: Global, tables: &[&Table]) -> Result<Items<View>, ViewFault>
     requires { length tables.now ≤ 256 }
-    ensures exact { Gives ViewFault.Memory result (views_of (map (λ t. table_view t.now) tables.now)) }
+    ensures exact { Gives ViewFault.Memory result
+        (views_of (map (λ t. table_view t.now) tables.now)) }
     ensures few { IfOk result (λ views. length views ≤ length tables.now) }
 {
     let mut views = Items::new(alloc);
@@ -31,7 +32,7 @@ pub(crate) fn views_of(alloc: Global, tables: &[&Table]) -> Result<Items<View>, 
     Ok(views)
 }
 
-/// The view of this number.
+// The view of this number.
 #[tactic(auto, unfolding(crate::specs::Views::view_of))]
 fn view_of(alloc: Global, number: u32, table: &Table) -> Result<View, ViewFault>
     ensures { Gives ViewFault.Memory result (view_of number (table_view table.now)) }
@@ -124,10 +125,18 @@ fn settings_of(alloc: Global, table: &Table, at: ConfigPlace) -> Result<Settings
     })
 }
 
-type StreamSettings = (Option<Shared<Name>>, Option<Shared<Text>>, Option<Aggregation>);
+type StreamSettings = (
+    Option<Shared<Name>>,
+    Option<Shared<Text>>,
+    Option<Aggregation>,
+);
 
 #[tactic(auto, unfolding(crate::specs::Views::stream_settings))]
-fn stream_settings(alloc: Global, table: &Table, at: ConfigPlace) -> Result<StreamSettings, ViewFault>
+fn stream_settings(
+    alloc: Global,
+    table: &Table,
+    at: ConfigPlace,
+) -> Result<StreamSettings, ViewFault>
     ensures { Gives ViewFault.Memory result (stream_settings at (table_view table.now)) }
 {
     let name = name_field(alloc, table, "stream_name", at)?;
@@ -152,74 +161,80 @@ fn list_settings(alloc: Global, table: &Table, at: ConfigPlace) -> Result<ListSe
     Ok((boundaries, keep, exclude))
 }
 
-/// A pattern, where the table has it.
+// A pattern, where the table has it.
 fn pattern_field(
     alloc: Global,
     table: &Table,
     name: &str,
     at: ConfigPlace,
 ) -> Result<Option<Pattern>, ViewFault>
-    ensures { Gives ViewFault.Memory result (optional_field (pattern_at at) name.now (table_view table.now)) }
+    ensures { Gives ViewFault.Memory result
+        (optional_field (pattern_at at) name.now (table_view table.now)) }
 {
     optional_field(alloc, table, name, at)
 }
 
-/// A kind, where the table has it.
+// A kind, where the table has it.
 fn kind_field(
     alloc: Global,
     table: &Table,
     name: &str,
     at: ConfigPlace,
 ) -> Result<Option<Kind>, ViewFault>
-    ensures { Gives ViewFault.Memory result (optional_field (kind_at at) name.now (table_view table.now)) }
+    ensures { Gives ViewFault.Memory result
+        (optional_field (kind_at at) name.now (table_view table.now)) }
 {
     optional_field(alloc, table, name, at)
 }
 
-/// A free text, where the table has it.
+// A free text, where the table has it.
 fn free_text_field(
     alloc: Global,
     table: &Table,
     name: &str,
     at: ConfigPlace,
 ) -> Result<Option<Text>, ViewFault>
-    ensures { Gives ViewFault.Memory result (optional_field (text_at at) name.now (table_view table.now)) }
+    ensures { Gives ViewFault.Memory result
+        (optional_field (text_at at) name.now (table_view table.now)) }
 {
     optional_field(alloc, table, name, at)
 }
 
-/// A free text that streams share, where the table has it.
+// A free text that streams share, where the table has it.
 fn description_field(
     alloc: Global,
     table: &Table,
     name: &str,
     at: ConfigPlace,
 ) -> Result<Option<Shared<Text>>, ViewFault>
-    ensures { Gives ViewFault.Memory result (optional_field (text_at at) name.now (table_view table.now)) }
+    ensures { Gives ViewFault.Memory result
+        (optional_field (text_at at) name.now (table_view table.now)) }
 {
     optional_field(alloc, table, name, at)
 }
 
-/// A stream name, where the table has it.
+// A stream name, where the table has it.
 fn name_field(
     alloc: Global,
     table: &Table,
     name: &str,
     at: ConfigPlace,
 ) -> Result<Option<Shared<Name>>, ViewFault>
-    ensures { Gives ViewFault.Memory result (optional_field (name_at at) name.now (table_view table.now)) }
+    ensures { Gives ViewFault.Memory result
+        (optional_field (name_at at) name.now (table_view table.now)) }
 {
     optional_field(alloc, table, name, at)
 }
 
-/// An aggregation, where the table has it.
+// An aggregation, where the table has it.
 fn aggregation_field(
     alloc: Global,
     table: &Table,
     name: &str,
     at: ConfigPlace,
 ) -> Result<Option<Aggregation>, ViewFault>
-    ensures { Gives ViewFault.Memory result (optional_field (aggregation_of at) name.now (table_view table.now)) }
+    ensures { Gives ViewFault.Memory result
+        (optional_field (aggregation_of at) name.now (table_view table.now)) }
 {
     optional_field(alloc, table, name, at)
 }

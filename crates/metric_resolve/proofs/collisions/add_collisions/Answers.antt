@@ -2,7 +2,7 @@
 use Rattle.std.proofs.Common.{◌≡◌, ℕ, ◌<◌, ◌++◌, [], Some, None, cond, length, take, sym, ap, ◌∙◌, arith, rules}
 use Rattle.std.proofs.lemmas.List.{append-nil}
 use Rattle.std.specs.List.{cons_option, filter_map, range_with_len}
-use Rattle.metric_resolve.specs.Collisions.{collision_at, collisions_of, first_of, is_same}
+use Rattle.metric_resolve.specs.Collisions.{collision_at, collisions_of, first_of}
 use Rattle.metric_resolve.specs.Firsts.{first_in}
 use Rattle.std.specs.Ordering.{eq_by_cmp}
 use Rattle.metric_resolve.specs.StreamKeys.{key_order}

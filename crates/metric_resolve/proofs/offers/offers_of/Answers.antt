@@ -1,5 +1,5 @@
 -- one instrument more
-use Rattle.std.proofs.Common.{◌≡◌, ℕ, ◌+◌, ◌++◌, List, [], ◌∷◌, length, Some, slice_get, sym, ap, subst, ◌∙◌, arith, length-append}
+use Rattle.std.proofs.Common.{◌≡◌, ℕ, ◌++◌, List, [], ◌∷◌, length, Some, slice_get, sym, ap, subst, ◌∙◌, arith, length-append}
 use Rattle.metric_views.specs.declared.config.View.{View}
 use Rattle.metric_resolve.specs.declared.offers.Offer.{Offer}
 use Rattle.metric_resolve.specs.Offers.{IsOffer, offer_of}

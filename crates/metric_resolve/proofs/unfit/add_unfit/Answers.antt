@@ -1,5 +1,5 @@
 -- one view more
-use Rattle.std.proofs.Common.{◌≡◌, ℕ, ◌++◌, length, List, Option, Some, sym, ap, ◌∙◌, arith}
+use Rattle.std.proofs.Common.{◌≡◌, ℕ, ◌++◌, length, Option, sym, ap, ◌∙◌, arith}
 use Rattle.std.specs.List.{filter_map, flat_map, range_with_len}
 use Rattle.metric_views.specs.declared.config.View.{View}
 use Rattle.metric_resolve.specs.Applying.{all_instruments}
