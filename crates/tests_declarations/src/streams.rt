@@ -3,12 +3,14 @@ use crate::encoding::read;
 use crate::words::{kind_word, temporality_word};
 use crate::{catalogue, config};
 use metric_base::Copied;
-use metric_catalogue::Catalogue;
+use metric_catalogue::{Catalogue, Meter};
 use metric_resolve::{
-    Streams, Warning, collisions_are_of_one_identity, resolve, streams_are_what_views_give,
+    Streams, Warning, collisions_are_of_one_identity, identity_order, resolve,
+    streams_are_what_views_give, unfit_views_sum_gauges,
 };
 use metric_views::{Config, Fill, Stream, StreamAggregation, fill};
 use std::alloc::Global;
+use std::cmp::Ordering;
 use std::test::Fail;
 
 const SHOP: &str = r#"
@@ -168,6 +170,7 @@ fn shown(alloc: Global, catalogue: &str, config: &str) -> Result<String, Fail> {
 fn every_part_of_the_streams_is_given(rt: HostRuntime) -> Result<(), Fail> {
     streams_are_what_views_give();
     collisions_are_of_one_identity();
+    unfit_views_sum_gauges();
     assert_eq!(rt; shown(rt.alloc(), SHOP, CONFIG)?.as_str(), SHOWN);
     assert_eq!(rt; shown(rt.alloc(), SHOP, "format = 1")?.as_str(), "");
     Ok(())
@@ -328,6 +331,42 @@ fn one_view_makes_one_stream_of_an_instrument(rt: HostRuntime) -> Result<(), Fai
     for (instrument, view, wanted) in FILLS {
         let filled = filled(rt.alloc(), &catalogue, &config, *instrument, *view)?;
         assert_eq!(rt; filled.as_str(), *wanted);
+    }
+    Ok(())
+}
+
+fn meter_of<'a>(catalogue: &'a Catalogue, stream: &Stream) -> Option<&'a Meter> {
+    let instrument = catalogue.instruments().get(stream.instrument as usize)?;
+    catalogue.meters().get(instrument.meter as usize)
+}
+
+// How two streams stand by their identities.
+fn order_of(catalogue: &Catalogue, streams: &[Stream], left: usize, right: usize) -> Option<Ordering> {
+    let left = streams.get(left)?;
+    let right = streams.get(right)?;
+    Some(
+        identity_order(
+            left,
+            meter_of(catalogue, left)?,
+            right,
+            meter_of(catalogue, right)?,
+        ),
+    )
+}
+
+#[test]
+fn identities_stand_by_reader_meter_and_name(rt: HostRuntime) -> Result<(), Fail> {
+    let catalogue = read(rt.alloc(), SHOP)?;
+    let streams = resolved(rt.alloc(), SHOP, CONFIG)?;
+    for (left, right, wanted) in [
+        (3, 4, Ordering::Equal),
+        (0, 3, Ordering::Less),
+        (3, 0, Ordering::Greater),
+        (4, 6, Ordering::Less),
+        (1, 2, Ordering::Greater),
+    ] {
+        let order = order_of(&catalogue, streams.list(), left, right);
+        assert!(rt; order == Some(wanted));
     }
     Ok(())
 }
