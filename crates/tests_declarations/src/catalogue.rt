@@ -456,3 +456,18 @@ fn faults_are_printed(rt: HostRuntime) -> Result<(), Fail> {
     }
     Ok(())
 }
+
+// The budget of the first recorder on the first instrument.
+fn first_budget(alloc: Global, text: &str) -> Result<u64, CatalogueFault> {
+    let catalogue = Catalogue::read(alloc, text)?;
+    Ok(catalogue.budget(0, 0))
+}
+
+// With each allocation refused in turn, as with none, this passes.
+#[test]
+fn a_refused_allocation_is_a_fault_of_memory(rt: HostRuntime) {
+    match first_budget(rt.alloc(), SHOP) {
+        Ok(amount) => assert_eq!(rt; amount, 7),
+        Err(fault) => assert!(rt; fault == CatalogueFault::Memory),
+    }
+}

@@ -11,6 +11,8 @@ mod commands;
 #[cfg(test)]
 mod cores;
 #[cfg(test)]
+mod facts;
+#[cfg(test)]
 mod points;
 #[cfg(test)]
 mod scripts;
