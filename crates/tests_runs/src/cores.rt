@@ -115,11 +115,16 @@ budget = [{ instrument = 0, amount = 5 }, { instrument = 1, amount = 5 }, { inst
 
 const MAIN: &str = "format = 1\nreader = [{ name = 'main' }]\n";
 
-// A catalogue, a script, and the replies.
-const RUNS: &[(&str, &str, &str)] = &[
+const DELTA: &str = "format = 1
+reader = [{ name = 'main', temporality = { counter = 'delta', gauge = 'delta' } }]
+";
+
+// A catalogue, a config, a script, and the replies.
+const RUNS: &[(&str, &str, &str, &str)] = &[
     // A cumulative reader sees all recordings.
     (
         ROUTES,
+        MAIN,
         "start 4
 record 0 0 5 \"route\"=\"/b\"
 record 0 0 2 \"route\"=\"/a\"
@@ -139,6 +144,7 @@ batch 0 0, 0 to 3, 4 to 10: stream 0 [1, 0, 0, 0, 0, 0, 0, 0] sum 9 [2, 0, 0, 0,
     // A closed instrument is still collected.
     (
         ROUTES,
+        MAIN,
         "start 0
 record 0 0 4 \"route\"=\"/a\"
 close 0
@@ -156,6 +162,7 @@ batch 0 0, 0 to 1, 0 to 1: stream 0 [1, 0, 0, 0, 0, 0, 0, 0] sum 4
     // A refused event changes nothing.
     (
         ROUTES,
+        MAIN,
         "start 0
 record 0 0 101
 record 0 0 101 \"route\"=\"/c\"
@@ -185,6 +192,7 @@ batch 0 0, 0 to 0, 0 to 3: stream 0
     // A sum past 2^63 - 1 is refused.
     (
         KINDS,
+        MAIN,
         "start 0
 record 0 0 9223372036854775807
 record 0 0 1
@@ -199,6 +207,7 @@ batch 0 0, 0 to 2, 0 to 0: stream 0 [0, 0, 0, 0, 0, 0, 0, 0] sum 922337203685477
     ),
     (
         KINDS,
+        MAIN,
         "start 0
 record 0 1 7
 record 0 2 7
@@ -215,12 +224,13 @@ batch 0 1, 0 to 2, 0 to 1: stream 1 [0, 0, 0, 0, 0, 0, 0, 0] last -2
 batch 0 2, 0 to 2, 0 to 2: stream 2 [0, 0, 0, 0, 0, 0, 0, 0] 2 [1, 1] sum 9 from 2 to 7
 ",
     ),
+    (KINDS, DELTA, "start 0\n", "not yet"),
 ];
 
 #[test]
 fn events_are_replied_to(rt: HostRuntime) -> Result<(), Fail> {
-    for (catalogue, script, wanted) in RUNS {
-        let told = told(rt.alloc(), catalogue, MAIN, script)?;
+    for (catalogue, config, script, wanted) in RUNS {
+        let told = told(rt.alloc(), catalogue, config, script)?;
         assert_eq!(rt; told.as_str(), *wanted);
     }
     Ok(())
