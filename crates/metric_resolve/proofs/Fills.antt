@@ -15,7 +15,11 @@ use Rattle.metric_views.specs.declared.stream.Stream.{Stream}
 use Rattle.metric_views.specs.declared.stream.StreamAggregation.{StreamAggregation}
 use Rattle.metric_views.specs.Streams.{fill_at, fill_by, fill_with, kept_or_dropped, settings_at, template_of, unless_unfit}
 use Rattle.metric_resolve.specs.Applying.{applies, applying, all_views, fits, fits_with, is_selected, or_default}
-use Rattle.metric_resolve.specs.Resolved.{is_fit, kept_of, stream_at, streams_by, streams_of_instrument}
+use Rattle.metric_resolve.specs.Resolved.{is_fit, kept_of, stream_at, streams_of_instrument}
+
+-- the streams of these views
+unfoldable pub streams_by : Contents → Config → ℕ → ℕ → List ℕ → List Stream
+streams_by contents config reader instrument views = filter_map (stream_at contents config reader instrument) (map (λ view. Some view) views)
 
 fit_of_fill : (unfit : Bool) (stream : StreamAggregation → Stream) (aggregation : Option StreamAggregation)
     → not unfit ≡ is_fit (unless_unfit unfit (kept_or_dropped stream aggregation))

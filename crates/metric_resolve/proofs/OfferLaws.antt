@@ -19,8 +19,8 @@ use Rattle.metric_views.specs.Streams.{fill_at, fill_by, no_settings, template_o
 use Rattle.metric_resolve.specs.declared.offers.Offer.{Offer}
 use Rattle.metric_resolve.specs.Applying.{all_views, applies, applying, is_selected, meter_at}
 use Rattle.metric_resolve.specs.Offers.{AreOffers, offer_of, streams_of_offer, view_template}
-use Rattle.metric_resolve.specs.Resolved.{is_fit, kept, kept_of, stream_at, streams_by, streams_of_instrument, streams_of_reader}
-use Rattle.metric_resolve.proofs.Fills.{applies-selected, applies-unselected, streams_of_instrument-none, streams_of_instrument-some}
+use Rattle.metric_resolve.specs.Resolved.{is_fit, kept, kept_of, stream_at, streams_of_instrument, streams_of_reader}
+use Rattle.metric_resolve.proofs.Fills.{applies-selected, applies-unselected, streams_by, streams_of_instrument-none, streams_of_instrument-some}
 
 -- a fact of each element with its number, with one element more
 pub each_more : {Y : Type 0} (P : ℕ → Y → Type 0) (ys : List Y) (y : Y) → ((k : ℕ) (z : Y) → slice_get ys k ≡ Some z → P k z) → P (length ys) y

@@ -32,10 +32,6 @@ streams_of_reader contents config reader = flat_map (streams_of_instrument conte
 unfoldable pub streams_of : Contents → Config → List Stream
 streams_of contents config = flat_map (streams_of_reader contents config) (all_readers config)
 
--- the streams of these views
-unfoldable pub streams_by : Contents → Config → ℕ → ℕ → List ℕ → List Stream
-streams_by contents config reader instrument views = filter_map (stream_at contents config reader instrument) (map (λ view. Some view) views)
-
 -- what a fill adds to a list of streams
 abbrev pub kept_of : Fill → List Stream
 kept_of fill = cons_option (kept fill) []

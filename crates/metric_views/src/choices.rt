@@ -30,7 +30,7 @@ pub enum Aggregation {
 }
 
 /// A choice for each kind of instrument.
-#[derive(Clone, Copy, Debug, PartialEq, Eq, Drop)]
+#[derive(Clone, Copy, Drop)]
 pub struct ByKind<T> {
     /// For counters.
     pub counter: T,

@@ -6,7 +6,7 @@ use metric_names::{Name, Unit};
 use std::alloc::{AllocError, Global};
 
 /// How the points of a stream are made of its recordings (Metrics SDK, aggregation).
-#[derive(Debug, Drop)]
+#[derive(Drop)]
 pub enum StreamAggregation {
     /// The sum.
     Sum,
