@@ -33,7 +33,8 @@ pub trait Aggregate: Drop {
         requires { fits self.old value ≡ true }
         ensures aggregation { aggregation self.new ≡ aggregation self.old }
         ensures some { is_empty self.new ≡ false }
-        ensures stands { (added : List ℤ) → stands self.old added → stands self.new (added ++ value ∷ []) };
+        ensures stands { (added : List ℤ) → stands self.old added
+            → stands self.new (added ++ value ∷ []) };
 
     /// Whether no value was added since the aggregator was made or reset.
     fn is_empty(&self) -> bool
@@ -42,7 +43,8 @@ pub trait Aggregate: Drop {
     /// The value of what was added, of which there is some. Fails only where memory is refused.
     fn read(&self, alloc: Global) -> Result<PointValue, AllocError>
         requires { is_empty self.now ≡ false }
-        ensures { IfOk result (λ value. (added : List ℤ) → stands self.now added → value ≡ value_of (aggregation self.now) added) };
+        ensures { IfOk result (λ value. (added : List ℤ) → stands self.now added
+            → value ≡ value_of (aggregation self.now) added) };
 
     /// Forgets all values.
     fn reset(&mut self)
@@ -57,8 +59,10 @@ pub trait Aggregate: Drop {
         ensures stands { IfOk result (λ other. stands other []) };
 
     // A value fits where the longer list stays in range.
-    ghost fits_in_range: { (a : Self) (added : List ℤ) (value : ℤ) → stands a added → fits a value ≡ in_range (aggregation a) (added ++ value ∷ []) };
+    ghost fits_in_range: { (a : Self) (added : List ℤ) (value : ℤ) → stands a added
+        → fits a value ≡ in_range (aggregation a) (added ++ value ∷ []) };
 
     // An aggregator is empty where its list is.
-    ghost is_empty_of_none: { (a : Self) (added : List ℤ) → stands a added → is_empty a ≡ (length added == 0) };
+    ghost is_empty_of_none: { (a : Self) (added : List ℤ) → stands a added
+        → is_empty a ≡ (length added == 0) };
 }

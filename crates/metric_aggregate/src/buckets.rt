@@ -28,9 +28,23 @@ impl Model for BucketAgg {
 
     ghost Value = { Histogram };
 
-    ghost view = { λ a. record { boundaries = a.boundaries; counts = a.counts.items; count = a.count; total = a.total; least = a.least; greatest = a.greatest } };
+    ghost view = { λ a. record {
+      boundaries = a.boundaries;
+      counts = a.counts.items;
+      count = a.count;
+      total = a.total;
+      least = a.least;
+      greatest = a.greatest;
+    } };
 
-    ghost invariant = { λ a. IsHistogram (record { boundaries = a.boundaries; counts = a.counts.items; count = a.count; total = a.total; least = a.least; greatest = a.greatest }) };
+    ghost invariant = { λ a. IsHistogram (record {
+      boundaries = a.boundaries;
+      counts = a.counts.items;
+      count = a.count;
+      total = a.total;
+      least = a.least;
+      greatest = a.greatest;
+    }) };
 }
 
 impl BucketAgg {
@@ -44,7 +58,8 @@ impl BucketAgg {
         boundaries: &Boundaries,
         keeps_sum: bool,
     ) -> Result<BucketAgg, AllocError>
-        ensures aggregation { IfOk result (λ a. histogram_aggregation a ≡ HistogramAggregation boundaries.now keeps_sum) }
+        ensures aggregation { IfOk result (λ a.
+            histogram_aggregation a ≡ HistogramAggregation boundaries.now keeps_sum) }
         ensures stands { IfOk result (λ a. StandsBuckets a []) }
     {
         Ok(BucketAgg {

@@ -19,7 +19,7 @@ use Rattle.metric_history.specs.declared.facts.Facts.{Facts}
 use Rattle.metric_history.specs.Facts.{RunFacts}
 use Rattle.metric_history.specs.Answers.{Told, recorded, collected, closing, batch}
 use Rattle.metric_history.specs.History.{History, answered, added_by, accepted, collects, mark_of, batch_time, previous_of, closes, is_closed, told_of}
-use Rattle.metric_history.specs.Legal.{recording, collection, close, LegalRecord, LegalCollect, LegalClose, Legal}
+use Rattle.metric_history.specs.Legal.{LegalRecord, LegalCollect, LegalClose, Legal}
 use Rattle.metric_core.specs.Cells.{CellValue, told_by}
 use Rattle.metric_core.specs.CoreStands.{CellStands}
 use Rattle.metric_core.specs.CellSteps.{entry_of, cell_collected, cell_closed, cell_after, LegalOn}

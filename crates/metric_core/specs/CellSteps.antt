@@ -19,9 +19,16 @@ abbrev pub cell_recorded : CellValue → Entry → Reply → CellValue
 cell_recorded c entry Accepted = record c { entries = c.entries ++ entry ∷ [] }
 cell_recorded c entry _ = c
 
+-- the state after a batch of a reader with this time
+abbrev pub marked : CellValue → ℕ → ℕ → CellValue
+marked c reader time = record c {
+  marks = slice_set c.marks reader (length c.entries);
+  times = slice_set c.times reader time;
+}
+
 -- the state after the reply to a collection by a reader
 abbrev pub cell_collected : CellValue → ℕ → Reply → CellValue
-cell_collected c reader (Collected b) = record c { marks = slice_set c.marks reader (length c.entries); times = slice_set c.times reader b.time }
+cell_collected c reader (Collected b) = marked c reader b.time
 cell_collected c reader _ = c
 
 -- the state after the reply to a close

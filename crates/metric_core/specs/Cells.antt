@@ -1,5 +1,5 @@
 -- The state of one instrument.
-use Rattle.std.specs.Prelude.{ℕ, ◌≤◌, Bool, false, List, [], length, replicate, slice_index, slice_index_or}
+use Rattle.std.specs.Prelude.{ℕ, Bool, false, List, [], length, replicate, slice_index, slice_index_or}
 use Rattle.metric_history.specs.declared.entry.Entry.{Entry}
 use Rattle.metric_history.specs.declared.facts.Facts.{Facts}
 use Rattle.metric_history.specs.Answers.{Told}
@@ -11,10 +11,6 @@ pub record CellValue : Type 0 where
   pub marks : List ℕ
   pub times : List ℕ
   pub closed : Bool
-
--- no mark is past the recordings
-pub record IsMarked (c : CellValue) : Type 0 where
-  pub low : (reader : ℕ) → slice_index c.marks reader ≤ length c.entries
 
 -- that of an instrument without recordings, for so many readers
 abbrev pub new_cell : ℕ → ℕ → CellValue

@@ -9,9 +9,12 @@ use Rattle.metric_history.specs.Ranges.{stays_in_range}
 use Rattle.metric_history.specs.Windows.{window}
 use Rattle.metric_core.specs.Cells.{CellValue}
 
--- whether the window of a reader stays in range for each of its streams
+-- whether the window of a reader stays in range for a stream, where it is the reader's
+abbrev pub stream_in_range : ℕ → List Entry → NumberedStream → Bool
+stream_in_range reader entries s = not (is_of_reader reader s) || stays_in_range s.stream entries
+
 abbrev pub reader_in_range : ℕ → List Entry → List NumberedStream → Bool
-reader_in_range reader entries streams = list_all (λ (s : NumberedStream). not (is_of_reader reader s) || stays_in_range s.stream entries) streams
+reader_in_range reader entries streams = list_all (stream_in_range reader entries) streams
 
 -- the window of a stream's reader
 abbrev pub stream_window : Facts → CellValue → NumberedStream → List Entry

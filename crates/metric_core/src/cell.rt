@@ -1,12 +1,11 @@
 //! The state of one instrument: its accepted recordings and each reader's last collection.
 ghost use Rattle.std.specs.Prelude.{◌≡◌, ◌≤◌, ◌<◌, false, true, [], ◌∷◌, ◌++◌, length, max, replicate, slice_index, slice_index_or, slice_set, IfOk, OnOk, OnErr};
-ghost use Rattle.metric_history.specs.Answers.{recorded, collected, closing, spent as spent_of, batch as batch_of};
+ghost use Rattle.metric_history.specs.Answers.{covered, recorded, collected, closing, spent as spent_of, batch as batch_of};
 ghost use Rattle.metric_core.specs.Cells.{new_cell, told_by};
-ghost use Rattle.metric_core.specs.CellSteps.{cell_recorded, cell_collected, cell_closed, entry_of};
+ghost use Rattle.metric_core.specs.CellSteps.{marked, cell_recorded, cell_collected, cell_closed, entry_of};
 ghost use Rattle.metric_history.specs.Legal.{LegalRecord, LegalCollect, LegalClose};
 ghost use Rattle.metric_core.specs.Ranges.{cell_in_range};
-ghost use Rattle.metric_history.specs.Facts.{is_delta};
-ghost use Rattle.metric_history.specs.Windows.{window as window_of, fits_stream as stays_in_range, fits_all};
+ghost use Rattle.metric_history.specs.Windows.{fits_stream as stays_in_range, fits_all};
 
 use crate::points::stream_points;
 use crate::sums::fits_stream;
@@ -27,13 +26,21 @@ pub struct Cell {
 }
 
 impl Model for Cell {
-    ghost use Rattle.metric_core.specs.Cells.{CellValue, IsMarked};
+    ghost use Rattle.std.specs.Prelude.{ℕ, ◌≤◌, length, slice_index};
+    ghost use Rattle.metric_core.specs.Cells.{CellValue};
 
     ghost Value = { CellValue };
 
-    ghost view = { λ c. record { start = c.start; entries = c.entries.items; marks = c.marks.items; times = c.times.items; closed = c.closed } };
+    ghost view = { λ c. record {
+      start = c.start;
+      entries = c.entries.items;
+      marks = c.marks.items;
+      times = c.times.items;
+      closed = c.closed;
+    } };
 
-    ghost invariant = { λ c. IsMarked (record { start = c.start; entries = c.entries.items; marks = c.marks.items; times = c.times.items; closed = c.closed }) };
+    ghost invariant = { λ c.
+        (reader : ℕ) → slice_index c.marks.items reader ≤ length c.entries.items };
 }
 
 impl Cell {
@@ -70,7 +77,7 @@ impl Cell {
 
     // The recordings that the reader's next collection covers.
     fn window(&self, facts: &Facts, reader: u32) -> &[Entry]
-        ensures { result.now ≡ window_of (is_delta facts.now reader) (slice_index self.now.marks reader) self.now.entries }
+        ensures { result.now ≡ covered facts.now (told_by self.now) reader }
     {
         let mark = self.mark(reader) as usize;
         if facts.is_delta(reader) {
@@ -92,14 +99,16 @@ impl Cell {
 
     // Whether the series of a stream into which a recording falls stays in range.
     fn fits_in(&self, facts: &Facts, stream: &Stream, entry: &Entry) -> bool
-        ensures { result ≡ stays_in_range stream.now (window_of (is_delta facts.now stream.now.reader) (slice_index self.now.marks stream.now.reader) self.now.entries) entry.now }
+        ensures { let window = covered facts.now (told_by self.now) stream.now.reader in
+            result ≡ stays_in_range stream.now window entry.now }
     {
         fits_stream(stream, self.window(facts, stream.reader), entry)
     }
 
     // Whether that of each stream does.
     fn fits(&self, facts: &Facts, entry: &Entry) -> bool
-        ensures { result ≡ fits_all facts.now (slice_index self.now.marks) self.now.entries entry.now }
+        ensures { let told = told_by self.now in
+            result ≡ fits_all facts.now told.mark told.accepted entry.now }
     {
         let streams = facts.streams.as_slice();
         for numbered in streams {
@@ -147,7 +156,7 @@ impl Cell {
 
     // Puts a recording last. Where memory is refused, nothing changes.
     fn push(&mut self, entry: Entry) -> Result<(), AllocError>
-        ensures ok { OnOk result (self.new ≡ record self.old { entries = self.old.entries ++ entry ∷ [] }) }
+        ensures ok { OnOk result (self.new ≡ cell_recorded self.old entry Reply.Accepted) }
         ensures err { OnErr result (self.new ≡ self.old) }
     {
         self.entries.push(entry)?;
@@ -162,8 +171,10 @@ impl Cell {
         recorder: u32,
         value: &i64,
     ) -> Reply
-        ensures legal { LegalRecord (recorded facts.now (told_by self.old) encoded recorder value.now) result }
-        ensures new { self.new ≡ cell_recorded self.old (entry_of recorder encoded value.now) result }
+        ensures legal { LegalRecord
+            (recorded facts.now (told_by self.old) encoded recorder value.now) result }
+        ensures new { let entry = entry_of recorder encoded value.now in
+            self.new ≡ cell_recorded self.old entry result }
     {
         match self.admit(facts, encoded, recorder, value) {
             Err(refusal) => Reply::Refused(refusal),
@@ -184,7 +195,8 @@ impl Cell {
         now: u64,
     ) -> Result<Batch, AllocError>
         requires { cell_in_range facts.now self.now ≡ true }
-        ensures { IfOk result (λ b. b ≡ batch_of facts.now self.now.start (told_by self.now) reader now) }
+        ensures { IfOk result (λ b.
+            b ≡ batch_of facts.now self.now.start (told_by self.now) reader now) }
     {
         let is_delta = facts.is_delta(reader);
         let mark = self.mark(reader);
@@ -204,7 +216,7 @@ impl Cell {
     // The reader has a batch of this time.
     #[tactic(auto, using(std::proofs::lemmas::List::set_past))]
     fn mark_batch(&mut self, reader: u32, time: u64)
-        ensures { self.new ≡ record self.old { marks = slice_set self.old.marks reader (length self.old.entries); times = slice_set self.old.times reader time } }
+        ensures { self.new ≡ marked self.old reader time }
     {
         let count = self.entries.len() as u64;
         put(self.marks.as_mut_slice(), reader, count);
@@ -214,7 +226,8 @@ impl Cell {
     /// Makes a collection by the reader. Each series of the instrument is in range.
     pub fn collect(&mut self, alloc: Global, facts: &Facts, reader: u32, now: u64) -> Reply
         requires { cell_in_range facts.now self.old ≡ true }
-        ensures legal { LegalCollect (collected facts.now self.old.start (told_by self.old) reader now) result }
+        ensures legal { LegalCollect
+            (collected facts.now self.old.start (told_by self.old) reader now) result }
         ensures new { self.new ≡ cell_collected self.old reader result }
     {
         if reader as usize >= facts.delta.len() {

@@ -26,7 +26,11 @@ impl Model for Plan {
 
     ghost Value = { PlanValue };
 
-    ghost view = { λ p. record { config = p.config; streams = p.streams; facts = record { contents = p.catalogue; instruments = p.facts } } };
+    ghost view = { λ p. record {
+      config = p.config;
+      streams = p.streams;
+      facts = record { contents = p.catalogue; instruments = p.facts };
+    } };
 }
 
 /// Why the first stage makes no plan.
@@ -54,7 +58,8 @@ impl Plan {
         ensures streams { IfOk result (λ plan. plan.streams ≡ default_streams_of catalogue config) }
         ensures facts { IfOk result (λ plan.
             plan.facts ≡ facts_of catalogue config (default_streams_of catalogue config)) }
-        ensures not_yet { IfErr result (λ refused. (refused.2 ≡ FirstFault.NotYet) ↔ (is_taken_of catalogue config ≡ false)) }
+        ensures not_yet { IfErr result (λ refused.
+            (refused.2 ≡ FirstFault.NotYet) ↔ (is_taken_of catalogue config ≡ false)) }
         ensures back { IfErr result (λ refused. (refused.0 ≡ catalogue) × (refused.1 ≡ config)) }
     {
         if !is_taken(&catalogue, &config) {
@@ -245,7 +250,8 @@ fn default_streams(
     catalogue: &Catalogue,
     config: &Config,
 ) -> Result<Items<Stream>, AllocError>
-    ensures streams { IfOk result (λ streams. streams ≡ default_streams_of catalogue.now config.now) }
+    ensures streams { IfOk result (λ streams.
+        streams ≡ default_streams_of catalogue.now config.now) }
     ensures few { IfOk result (λ streams. length streams ≤ 8192) }
 {
     let readers = config.readers().len();
@@ -276,7 +282,8 @@ fn add_reader(
     requires reader { reader < length config.now.readers }
     requires instruments { instruments ≡ length catalogue.now.instruments }
     requires few { instruments ≤ 512 }
-    ensures { OnOk result (streams.new ≡ streams.old ++ reader_streams catalogue.now config.now reader) }
+    ensures { OnOk result
+        (streams.new ≡ streams.old ++ reader_streams catalogue.now config.now reader) }
 {
     for number in 0..instruments {
         add_stream(alloc, streams, catalogue, config, reader, number as u32)?;
@@ -295,7 +302,8 @@ fn add_stream(
 ) -> Result<(), AllocError>
     requires reader { reader < length config.now.readers }
     requires number { number < length catalogue.now.instruments }
-    ensures { OnOk result (streams.new ≡ streams.old ++ default_stream catalogue.now config.now reader number) }
+    ensures { OnOk result
+        (streams.new ≡ streams.old ++ default_stream catalogue.now config.now reader number) }
 {
     match fill(alloc, catalogue, config, reader, number, None)? {
         Fill::Kept(stream) => {

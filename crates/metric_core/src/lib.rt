@@ -1,4 +1,5 @@
-//! Events against the instruments of a plan: recordings, collections and closes, one after the other.
+//! Events against the instruments of a plan: recordings, collections and closes, one after the
+//! other.
 #![tactic(auto)]
 
 mod cell;

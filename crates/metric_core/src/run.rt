@@ -58,7 +58,8 @@ fn longest(events: &[Event]) -> usize
     most
 }
 
-// Answers the events in order. There is room for the replies, and for the keys of each list of attributes.
+// Answers the events in order. There is room for the replies, and for the keys of each list of
+// attributes.
 fn run_on<'a>(
     alloc: Global,
     plan: &Plan,

@@ -15,7 +15,8 @@ use metric_views::{Stream, StreamAggregation};
 /// Whether a recording of the window belongs to a series, or, without one, to the overflow series.
 #[tactic(auto, using(metric_history::specs::SeriesLaws::known_place))]
 pub fn belongs(stream: &Stream, window: &[Entry], place: &Option<SetKey>, entry: &Entry) -> bool
-    requires { has (all_series stream.now.kept window.now) (series stream.now.kept entry.now) ≡ true }
+    requires { let kept = stream.now.kept in
+        has (all_series kept window.now) (series kept entry.now) ≡ true }
     ensures { result ≡ is_row stream.now window.now place.now entry.now }
 {
     let key = series_of(stream.kept.get().as_slice(), entry);

@@ -1,5 +1,5 @@
 -- Set keys that are put one after the other before the first that comes after them stand in ascending order.
-use Rattle.std.proofs.Common.{◌≡◌, Ordering, Less, Equal, Greater, ℕ, zero, suc, ◌+◌, ◌<◌, ◌≤◌, Bool, true, false, not, cond, List, [], ◌∷◌, length, refl, sym, subst, arith}
+use Rattle.std.proofs.Common.{◌≡◌, Ordering, Less, Equal, Greater, ℕ, zero, suc, ◌+◌, Bool, true, false, not, cond, List, [], ◌∷◌, refl, sym, subst, arith}
 use Rattle.std.specs.Prelude.{fold}
 use Rattle.std.specs.List.{prefix_len}
 use Rattle.std.specs.List.Sorted.{IsSorted}

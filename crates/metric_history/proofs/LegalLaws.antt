@@ -1,10 +1,6 @@
 -- Legal histories grow by legal replies.
-use Rattle.std.proofs.Common.{ℕ, List, [], ◌∷◌}
-use Rattle.metric_history.specs.declared.event.Event.{Event}
-use Rattle.metric_history.specs.declared.event.Reply.{Reply}
-use Rattle.metric_history.specs.Facts.{RunFacts}
-use Rattle.metric_history.specs.History.{History}
-use Rattle.metric_history.specs.Legal.{AllLegal, IsLegal, KeepsLegal, grown}
+use Rattle.std.proofs.Common.{[], ◌∷◌}
+use Rattle.metric_history.specs.Legal.{KeepsLegal}
 
 pub legal_grown : KeepsLegal
 legal_grown facts start h [] replies before all = before

@@ -2,3 +2,4 @@ mod Ascending
 pub mod CountedOnce
 pub mod FactsLaws
 pub mod LegalLaws
+pub mod FullSets

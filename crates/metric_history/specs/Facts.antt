@@ -1,8 +1,9 @@
 -- What the run of an instrument depends on.
-use Rattle.std.specs.Prelude.{ℕ, ℤ, ◌+◌, Bool, true, false, ◌&&◌, List, [], ◌∷◌, ◌++◌, length, map, filter, slice_index_or, nat_le, int_le, ◌==◌, if◌then◌else◌}
+use Rattle.std.specs.Prelude.{◌≡◌, ℕ, ℤ, Ok, ◌+◌, Bool, true, false, ◌&&◌, List, [], ◌∷◌, ◌++◌, length, map, slice_index_or, nat_le, int_le, ◌==◌, if◌then◌else◌}
 use Rattle.std.specs.List.{list_all}
 use Rattle.metric_aggregate.specs.Aggregation.{Aggregation, SumAggregation, LastValueAggregation, HistogramAggregation}
 use Rattle.metric_catalogue.specs.Budgets.{amount_of}
+use Rattle.metric_catalogue.specs.Encoding.{Given, set_of}
 use Rattle.metric_catalogue.specs.Kinds.{is_monotonic}
 use Rattle.metric_catalogue.specs.declared.contents.Contents.{Contents}
 use Rattle.metric_catalogue.specs.declared.contents.Instrument.{Instrument}
@@ -101,3 +102,8 @@ abbrev pub with_stream : ℕ → ℕ → Stream → List Facts → List Facts
 with_stream first number s [] = []
 with_stream first number s (own ∷ all) =
     record own { streams = own.streams ++ numbered first number s } ∷ with_stream (first + 1) number s all
+
+-- what attributes are encoded to is a full set
+abbrev pub EncodesFullSets : Type 0
+EncodesFullSets =
+    (keys : List Key) (attrs : List Given) (set : List ℕ) → set_of keys attrs ≡ Ok set → is_full_set (map key_facts keys) set ≡ true

@@ -92,7 +92,8 @@ fn key_facts_of(alloc: Global, keys: &[Key]) -> Result<Items<KeyFacts>, AllocErr
 
 // The budget of each recorder for the instrument of this number.
 fn budgets_of(alloc: Global, recorders: &[Recorder], number: u32) -> Result<Items<u64>, AllocError>
-    ensures { IfOk result (λ budgets. budgets ≡ map (λ recorder. amount_of recorder number) recorders.now) }
+    ensures { IfOk result (λ budgets.
+        budgets ≡ map (λ recorder. amount_of recorder number) recorders.now) }
 {
     let mut budgets = Items::new(alloc);
     for recorder in recorders {
@@ -196,7 +197,8 @@ pub fn all_facts(
 ) -> Result<Items<Facts>, AllocError>
     requires { length streams.now < 2 ^ 32 }
     ensures { IfOk result (λ all. let declared = catalogue.now in
-        all ≡ facts_from certified declared.recorders readers.now streams.now 0 declared.instruments) }
+        let recorders = declared.recorders in
+        all ≡ facts_from certified recorders readers.now streams.now 0 declared.instruments) }
 {
     let mut all = without_streams(
         alloc,

@@ -5,6 +5,7 @@ ghost use Rattle.std.specs.List.Sorted.{IsPermutation, IsSorted};
 ghost use Rattle.std.specs.Ordering.{nat_cmp};
 ghost use Rattle.metric_views.specs.declared.stream.Stream.{Stream};
 ghost use Rattle.metric_history.specs.declared.entry.Entry.{Entry};
+ghost use Rattle.metric_history.specs.Facts.{EncodesFullSets};
 ghost use Rattle.metric_history.specs.Legal.{KeepsLegal};
 ghost use Rattle.metric_history.specs.Points.{CountsOnce, ascending as in_order};
 ghost use Rattle.metric_history.specs.Series.{distinct, others};
@@ -18,7 +19,8 @@ pub fn ascending_sorts_keys()
 /// The distinct keys are the first key, and the distinct ones of the others.
 #[tactic(auto, using(crate::specs::SeriesLaws::distinct_laws))]
 pub fn distinct_drops_repetitions()
-    ensures { (key : List ℕ) (keys : List (List ℕ)) → distinct (key ∷ keys) ≡ key ∷ others key (distinct keys) }
+    ensures { (key : List ℕ) (keys : List (List ℕ))
+        → distinct (key ∷ keys) ≡ key ∷ others key (distinct keys) }
 {}
 
 /// Each recording of a window belongs to exactly one of a stream's points: it is counted once.
@@ -31,4 +33,11 @@ pub fn recordings_are_counted_once()
 #[tactic(auto, using(crate::proofs::LegalLaws::legal_grown))]
 pub fn runs_keep_histories_legal()
     ensures { KeepsLegal }
+{}
+
+/// The set key that attributes name is a full set of the instrument: for each declared key a declared value, or
+/// none where the key may be absent.
+#[tactic(auto, using(crate::proofs::FullSets::encoded_sets_are_full))]
+pub fn attributes_name_full_sets()
+    ensures { EncodesFullSets }
 {}

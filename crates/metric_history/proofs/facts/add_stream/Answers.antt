@@ -1,5 +1,5 @@
 -- the stream among those of its instrument
-use Rattle.std.proofs.Common.{◌++◌, ◌∷◌, [], List, get_or, slice_set, slice_index_or, ap, ◌∙◌, arith, refl}
+use Rattle.std.proofs.Common.{◌++◌, ◌∷◌, [], List, get_or, slice_set, ap, ◌∙◌, arith}
 use Rattle.metric_views.specs.declared.stream.Stream.{Stream}
 use Rattle.metric_history.specs.declared.facts.Facts.{Facts}
 use Rattle.metric_history.specs.declared.facts.NumberedStream.{NumberedStream}
