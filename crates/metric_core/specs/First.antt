@@ -1,5 +1,5 @@
 -- Which catalogues and configs the first stage takes, and the plan that it makes of them.
-use Rattle.std.specs.Prelude.{ℕ, ◌+◌, ◌*◌, ◌^◌, Bool, true, false, not, ◌&&◌, ◌==◌, List, [], ◌∷◌, map, fold, length, sum_by, nat_le, nat_lt, Option, Some, None, if◌then◌else◌}
+use Rattle.std.specs.Prelude.{ℕ, ◌+◌, ◌*◌, ◌^◌, Bool, true, not, ◌&&◌, ◌==◌, List, [], ◌∷◌, fold, length, sum_by, nat_le, nat_lt, Option, Some, None, if◌then◌else◌}
 use Rattle.std.specs.List.{range_with_len, list_all, flat_map}
 use Rattle.metric_catalogue.specs.Budgets.{amount_of}
 use Rattle.metric_catalogue.specs.declared.contents.Contents.{Contents}
