@@ -142,7 +142,14 @@ fn owned_attributes_are_encoded_alike(rt: HostRuntime) -> Result<(), Fail> {
     let shop = read(rt.alloc(), SHOP)?;
     for (instrument, attrs, wanted) in ENCODED {
         let attrs = owned(rt.alloc(), attrs)?;
-        expect_encoded(&rt, rt.alloc(), &shop, *instrument, attrs.as_slice(), *wanted)?;
+        expect_encoded(
+            &rt,
+            rt.alloc(),
+            &shop,
+            *instrument,
+            attrs.as_slice(),
+            *wanted,
+        )?;
     }
     Ok(())
 }

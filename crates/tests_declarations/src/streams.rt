@@ -341,17 +341,20 @@ fn meter_of<'a>(catalogue: &'a Catalogue, stream: &Stream) -> Option<&'a Meter> 
 }
 
 // How two streams stand by their identities.
-fn order_of(catalogue: &Catalogue, streams: &[Stream], left: usize, right: usize) -> Option<Ordering> {
+fn order_of(
+    catalogue: &Catalogue,
+    streams: &[Stream],
+    left: usize,
+    right: usize,
+) -> Option<Ordering> {
     let left = streams.get(left)?;
     let right = streams.get(right)?;
-    Some(
-        identity_order(
-            left,
-            meter_of(catalogue, left)?,
-            right,
-            meter_of(catalogue, right)?,
-        ),
-    )
+    Some(identity_order(
+        left,
+        meter_of(catalogue, left)?,
+        right,
+        meter_of(catalogue, right)?,
+    ))
 }
 
 #[test]

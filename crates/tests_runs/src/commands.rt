@@ -219,7 +219,11 @@ const DECLARED: &[(&str, &str, &str)] = &[
         "refused: catalogue 14 UnknownInstrument at recorder 0, 1",
     ),
     (HITS, "[a\n", "refused: config 1 NotToml, 1"),
-    (HITS, "format = 2\n", "refused: config 3 WrongKind at top, 1"),
+    (
+        HITS,
+        "format = 2\n",
+        "refused: config 3 WrongKind at top, 1",
+    ),
     (
         HITS,
         "format = 1\nreader = [{name = 'a'}, {name = 'a'}]\n",

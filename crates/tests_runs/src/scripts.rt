@@ -151,7 +151,11 @@ const OUTSIDE: &[&str] = &[
 fn lines_outside_the_grammar_are_refused(rt: HostRuntime) -> Result<(), Fail> {
     for line in OUTSIDE {
         let script = format!(in rt.alloc(); "start 0\n{line}\n")?;
-        assert_eq!(rt; told(rt.alloc(), &script)?.as_str(), "input line 5", "{line:?}");
+        assert_eq!(rt;
+            told(rt.alloc(), &script)?.as_str(),
+            "input line 5",
+            "{line:?}"
+        );
     }
     Ok(())
 }

@@ -136,7 +136,10 @@ const BATCHES: &[(u32, u32, &[(Option<SetKey>, Number)], &str)] = &[
         0,
         0,
         &[
-            (Some([0, 0, 1, 0, 0, 0, 0, 0]), Number::Buckets(&[1, 2], Some(8))),
+            (
+                Some([0, 0, 1, 0, 0, 0, 0, 0]),
+                Number::Buckets(&[1, 2], Some(8)),
+            ),
             (Some([1, 1, 0, 0, 0, 0, 0, 0]), Number::Buckets(&[3], None)),
         ],
         "collected 20 2
