@@ -1,0 +1,2 @@
+pub mod LongerWindow
+pub mod Adding

@@ -1,0 +1,2 @@
+pub mod SeriesKeys
+pub mod Tables

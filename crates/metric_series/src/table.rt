@@ -1,0 +1,113 @@
+//! A table of series whose values are aggregated alike.
+ghost use Rattle.std.specs.Prelude.{◌≡◌, ℕ, List, [], ◌∷◌, ◌++◌, None, OnOk, OnErr, IfOk};
+ghost use Rattle.std.specs.Map.{lookup};
+ghost use Rattle.std.specs.Str.{bytes_eq};
+ghost use Rattle.metric_history.specs.declared.entry.Entry.{Entry};
+ghost use Rattle.metric_history.specs.Rules.{StreamRule};
+ghost use Rattle.metric_history.specs.Windows.{fits_stream};
+ghost use Rattle.metric_series.specs.Tables.{Adds, HasFirst, StandsTable, entry_of, is_in_range};
+
+use crate::fault::SeriesFault;
+use crate::key::{SeriesKey, restrict};
+use crate::seeded::Seeded;
+use indexmap::IndexMap;
+use metric_aggregate::Aggregate;
+use metric_base::Few;
+use metric_catalogue::SetKey;
+use std::alloc::{AllocError, Global};
+use std::marker::Model;
+
+/// The series of a stream whose values are aggregated by `A`. A clause sees the flags of the kept keys, the
+/// cardinality limit, the aggregates of the held series in the order in which they came first, and the
+/// aggregate of the overflow series.
+#[derive(Drop)]
+pub struct TableOf<A: Aggregate> {
+    alloc: Global,
+    kept: Few<bool, 8>,
+    limit: u32,
+    series: IndexMap<SeriesKey, A, Seeded>,
+    overflow: A,
+}
+
+impl<A: Aggregate> Model for TableOf<A> {
+    ghost use Rattle.metric_series.specs.Tables.{Table, HasValues};
+
+    ghost Value = { Table A };
+
+    ghost view = { λ t. record { kept = t.kept; limit = t.limit; series = t.series.entries; overflow = t.overflow } };
+
+    ghost invariant = { λ t. HasValues A.Aggregate t.series.entries };
+}
+
+impl<A: Aggregate> TableOf<A> {
+    /// A table of no series, where the keys with these flags are kept and so many series are held. The
+    /// aggregator, which is empty, is that of the overflow series, and gives all others. Keys are hashed
+    /// with the seed.
+    pub fn new(kept: Few<bool, 8>, limit: u32, overflow: A, alloc: Global, seed: u64) -> TableOf<A>
+        ensures { result ≡ record { kept = kept; limit = limit; series = []; overflow = overflow } }
+    {
+        TableOf {
+            alloc,
+            kept,
+            limit,
+            series: IndexMap::with_hasher(alloc, Seeded::new(seed)),
+            overflow,
+        }
+    }
+
+    /// Adds a value to the series of a set.
+    pub fn add(&mut self, set: &SetKey, value: i64) -> Result<(), SeriesFault>
+        ensures in_range { (s : StreamRule) (window : List Entry) (recorder : ℕ) → StandsTable A.Aggregate self.old s window
+            → fits_stream s window (entry_of recorder set.now value) ≡ is_in_range result }
+        ensures stands { OnOk result ((s : StreamRule) (window : List Entry) (recorder : ℕ) → StandsTable A.Aggregate self.old s window
+            → StandsTable A.Aggregate self.new s (window ++ entry_of recorder set.now value ∷ [])) }
+        ensures err { OnErr result (self.new ≡ self.old) }
+    {
+        let key = SeriesKey::new(restrict(self.kept.as_slice(), set));
+        if let Some(aggregate) = self.series.get_mut(&key) {
+            return add_value(aggregate, value);
+        }
+        if self.series.len() >= self.limit as usize {
+            return add_value(&mut self.overflow, value);
+        }
+        let first = first_value(self.alloc, &self.overflow, value)?;
+        insert_last(&mut self.series, key, first)?;
+        Ok(())
+    }
+}
+
+// Adds a value, unless the aggregator would leave its range.
+fn add_value<A: Aggregate>(aggregate: &mut A, value: i64) -> Result<(), SeriesFault>
+    ensures in_range { A.fits aggregate.old value ≡ is_in_range result }
+    ensures adds { OnOk result (Adds A.Aggregate aggregate.old aggregate.new value) }
+    ensures err { OnErr result (aggregate.new ≡ aggregate.old) }
+{
+    if !aggregate.fits(value) {
+        return Err(SeriesFault::SumRange);
+    }
+    aggregate.add(value);
+    Ok(())
+}
+
+// An aggregator of the same aggregation with one value, which fits alone.
+fn first_value<A: Aggregate>(alloc: Global, like: &A, value: i64) -> Result<A, AllocError>
+    ensures { IfOk result (λ first. HasFirst A.Aggregate like.now first value) }
+{
+    let mut first = like.another(alloc)?;
+    first.add(value);
+    Ok(first)
+}
+
+// Puts a series last that is not there.
+fn insert_last<A: Aggregate>(
+    series: &mut IndexMap<SeriesKey, A, Seeded>,
+    key: SeriesKey,
+    aggregate: A,
+) -> Result<(), AllocError>
+    requires { lookup (bytes_eq key) series.old.entries ≡ None }
+    ensures ok { OnOk result (series.new.entries ≡ series.old.entries ++ (key, aggregate) ∷ []) }
+    ensures err { OnErr result (series.new.entries ≡ series.old.entries) }
+{
+    series.insert(key, aggregate)?;
+    Ok(())
+}
