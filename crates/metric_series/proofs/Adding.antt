@@ -54,6 +54,17 @@ module _ {A : Type 0} where
   lookup-others test (e ∷ es) key a other = ap (λ (o : Option A). cond (test e.0) (Some e.1) o) (lookup-others test es key a other)
 
 module _ {A : Type 0} (by : aggregate.Ghosts A) where
+  -- so it is where a series takes a value
+  pub HasValues-set_value : (es : List (List ℕ × A)) (key : List ℕ) (old new : A) → HasValues by es → lookup (bytes_eq key) es ≡ Some old
+      → (by.is_empty old ≡ false → by.is_empty new ≡ false) → HasValues by (set_value (bytes_eq key) es new)
+  HasValues-set_value es key old new all at some other b h =
+      let found = lookup-set_value nat_list_eq_equiv (bytes_eq key) (λ x y e. nat_list_eq_equiv.congr key x y e) other new es (ap is_some at) in
+      split (bytes_eq key other) (sym found ∙ h)
+    where
+      split : (c : Bool) → cond c (Some new) (lookup (bytes_eq other) es) ≡ Some b → by.is_empty b ≡ false
+      split true e = let same : new ≡ b = cc in subst (λ (x : A). by.is_empty x ≡ false) same (some (all key old at))
+      split false e = all other b e
+
   -- a series that comes last has a value where it was made with one
   pub HasValues-push : (es : List (List ℕ × A)) (key : List ℕ) (a : A) → HasValues by es → by.is_empty a ≡ false → HasValues by (es ++ (key, a) ∷ [])
   HasValues-push es key a all some other b h = split (bytes_eq other) es (all other b) h

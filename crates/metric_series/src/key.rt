@@ -8,7 +8,7 @@ use std::hash::{Hash, Hasher};
 use std::marker::Model;
 
 /// The set key of a series. It is hashed in one step, as one number.
-#[derive(Clone, Copy)]
+#[derive(Clone, Copy, PartialEq, Eq, PartialOrd, Ord)]
 pub struct SeriesKey {
     set: SetKey,
 }
@@ -48,26 +48,6 @@ impl SeriesKey {
         }
         number
     }
-}
-
-impl PartialEq for SeriesKey {
-    ghost use Rattle.std.specs.Str.{bytes_eq};
-    ghost use Rattle.std.specs.Cmp.{partial_equiv_from_equiv};
-    ghost use Rattle.std.specs.Cmp.Lexicographic.{nat_list_eq_equiv};
-
-    ghost eq = { bytes_eq };
-
-    ghost laws = { partial_equiv_from_equiv nat_list_eq_equiv };
-
-    fn eq(&self, other: &SeriesKey) -> bool {
-        self.set == other.set
-    }
-}
-
-impl Eq for SeriesKey {
-    ghost use Rattle.std.specs.Cmp.Lexicographic.{nat_list_eq_equiv};
-
-    ghost laws = { nat_list_eq_equiv };
 }
 
 impl Hash for SeriesKey {

@@ -1,9 +1,11 @@
 //! A table of series whose values are aggregated alike.
-ghost use Rattle.std.specs.Prelude.{◌≡◌, ℕ, List, [], ◌∷◌, ◌++◌, None, OnOk, OnErr, IfOk};
-ghost use Rattle.std.specs.Map.{lookup};
+ghost use Rattle.std.specs.Prelude.{◌≡◌, ℕ, true, false, List, [], ◌∷◌, ◌++◌, None, Some, OnOk, OnErr, IfOk};
+ghost use Rattle.std.specs.Map.{keys_of, lookup};
 ghost use Rattle.std.specs.Str.{bytes_eq};
 ghost use Rattle.metric_history.specs.declared.entry.Entry.{Entry};
+ghost use Rattle.metric_history.specs.Points.{ascending as in_order, point as point_of, points as points_of};
 ghost use Rattle.metric_history.specs.Rules.{StreamRule};
+ghost use Rattle.metric_history.specs.Series.{has};
 ghost use Rattle.metric_history.specs.Windows.{fits_stream};
 ghost use Rattle.metric_series.specs.Tables.{Adds, HasFirst, StandsTable, entry_of, is_in_range};
 
@@ -14,6 +16,7 @@ use indexmap::IndexMap;
 use metric_aggregate::Aggregate;
 use metric_base::Few;
 use metric_catalogue::SetKey;
+use metric_history::Point;
 use std::alloc::{AllocError, Global};
 use std::marker::Model;
 
@@ -76,10 +79,67 @@ impl<A: Aggregate> TableOf<A> {
     }
 }
 
+impl<A: Aggregate> TableOf<A> {
+    // The point of a held series.
+    fn point(&self, alloc: Global, key: &SeriesKey) -> Result<Point, AllocError>
+        requires { has (keys_of self.now.series) key.now ≡ true }
+        ensures { IfOk result (λ point. (s : StreamRule) (window : List Entry) → StandsTable A.Aggregate self.now s window
+            → point ≡ point_of s window (Some key.now)) }
+    {
+        let aggregate = self.series.get(key).unwrap();
+        let value = aggregate.read(alloc)?;
+        Ok(Point {
+            set: Some(key.set()),
+            value,
+        })
+    }
+
+    // The point of the overflow series, into which some value fell.
+    fn overflow_point(&self, alloc: Global) -> Result<Point, AllocError>
+        requires { A.is_empty self.now.overflow ≡ false }
+        ensures { IfOk result (λ point. (s : StreamRule) (window : List Entry) → StandsTable A.Aggregate self.now s window
+            → point ≡ point_of s window None) }
+    {
+        let value = self.overflow.read(alloc)?;
+        Ok(Point { set: None, value })
+    }
+
+    /// The points of the held series in ascending order of their set keys, then the overflow point where some
+    /// value fell into the overflow series (Metrics SDK, cardinality limits). Fails only where memory is refused.
+    pub fn points(&self, alloc: Global) -> Result<Vec<Point>, AllocError>
+        ensures { IfOk result (λ points. (s : StreamRule) (window : List Entry) → StandsTable A.Aggregate self.now s window
+            → points.items ≡ points_of s window) }
+    {
+        let keys = ascending(alloc, &self.series)?;
+        let mut points = Vec::with_capacity(alloc, keys.len() + 1)?;
+        for key in &keys {
+            points.push(self.point(alloc, key)?)?;
+        }
+        if self.overflow.is_empty() {
+            return Ok(points);
+        }
+        points.push(self.overflow_point(alloc)?)?;
+        Ok(points)
+    }
+}
+
+// The keys of series in ascending order.
+fn ascending<A: Aggregate>(
+    alloc: Global,
+    series: &IndexMap<SeriesKey, A, Seeded>,
+) -> Result<Vec<SeriesKey>, AllocError>
+    ensures { IfOk result (λ keys. keys.items ≡ in_order (keys_of series.now.entries)) }
+{
+    let mut keys: Vec<SeriesKey> = series.keys().copied().collect(alloc)?;
+    keys.sort()?;
+    Ok(keys)
+}
+
 // Adds a value, unless the aggregator would leave its range.
 fn add_value<A: Aggregate>(aggregate: &mut A, value: i64) -> Result<(), SeriesFault>
     ensures in_range { A.fits aggregate.old value ≡ is_in_range result }
     ensures adds { OnOk result (Adds A.Aggregate aggregate.old aggregate.new value) }
+    ensures some { A.is_empty aggregate.old ≡ false → A.is_empty aggregate.new ≡ false }
     ensures err { OnErr result (aggregate.new ≡ aggregate.old) }
 {
     if !aggregate.fits(value) {

@@ -7,7 +7,7 @@ use Rattle.std.proofs.lemmas.Map.Steps.{set_value_same}
 use Rattle.std.proofs.lemmas.Result.{err_from_is_err_and, on_err_weaker, on_ok_weaker}
 use Rattle.metric_history.specs.Series.{restricted}
 use Rattle.metric_series.specs.Tables.{Table, Adds, HasFirst, HasValues, StandsTable, entry_of}
-use Rattle.metric_series.proofs.Adding.{HasValues-push, held_fits, held_stands, new_fits, new_stands, rest_fits, rest_stands}
+use Rattle.metric_series.proofs.Adding.{HasValues-push, HasValues-set_value, held_fits, held_stands, new_fits, new_stands, rest_fits, rest_stands}
 use Rattle.metric_series.proofs.table.TableOf.add.Goals as goal
 
 pub returns-in-Some-clause-in_range : goal.returns-in-Some-clause-in_range
@@ -90,6 +90,11 @@ returns-in_err-insert_last-clause-in_range g c = λ s window recorder stands.
     omega (arith, c.if-len-self.false, c.len.ensures.len, ap (λ m. length m.entries) c.get_mut.follows.holds-at-none) in
     let p = err_from_is_err_and c.from_residual-in_err-insert_last.result c.from_residual-in_err-insert_last.ensures.1 in
     rw (p.1, p.2) (new_fits g.A.Aggregate _ s window (entry_of recorder c.args.set.now c.args.value) c.new-key.result own known none room in64)
+
+pub invariant_of-self : goal.invariant_of-self
+invariant_of-self g c =
+    rw (c.get_mut.follows.holds c.add_value.new.aggregate).0
+    (HasValues-set_value g.A.Aggregate c.self.inside.series.entries c.new-key.result c.in-Some.aggregate.now c.add_value.new.aggregate c.self.invariant (sym c.in-Some.ensures.value) c.add_value.ensures.some)
 
 pub invariant_of-self-2 : goal.invariant_of-self-2
 invariant_of-self-2 g c =
