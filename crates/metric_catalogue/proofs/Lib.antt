@@ -4,3 +4,4 @@ mod SoundInstruments
 mod SoundCatalogues
 pub mod Mapped
 mod OrderLaws
+mod Differing

@@ -1,25 +1,16 @@
 -- A test over the attributes is the same test over what they give.
 use Rattle.std.proofs.lemmas.List.{length-map, length-take-le, map-append, take_more}
 use Rattle.std.proofs.Math.Seq.{set-append_seam}
-use Rattle.std.proofs.Common.{◌≡◌, ℕ, suc, ◌+◌, ◌-◌, ◌<◌, ◌≤◌, ◌++◌, length, take, get_or, replicate, slice_set, append_assoc, subst, arith, Bool, true, false, cond, ◌||◌, List, [], ◌∷◌, map, fold, Option, Some, None, find, refl, sym, ap, ◌∙◌, nat_lt}
+use Rattle.std.proofs.Common.{◌≡◌, ℕ, suc, ◌+◌, ◌-◌, ◌<◌, ◌≤◌, ◌++◌, length, take, get_or, replicate, slice_set, append_assoc, subst, arith, Bool, true, false, cond, ◌||◌, List, [], ◌∷◌, map, Option, Some, find, refl, sym, ap, ◌∙◌}
 use Rattle.std.proofs.lemmas.List.Folds.{list_all-map}
-use Rattle.std.specs.List.{list_any, count_by}
+use Rattle.std.specs.List.{list_any}
 use Rattle.std.specs.Option.{option_map}
-use Rattle.metric_names.specs.declared.value.AttrValue.{AttrValue}
 use Rattle.metric_catalogue.specs.declared.contents.Key.{Key}
-use Rattle.metric_catalogue.specs.Encoding.{Given, entry_at, entry_of, given_number, has_repeated_key, is_of}
-use Rattle.metric_catalogue.specs.Places.{place}
+use Rattle.metric_catalogue.specs.Encoding.{Given, entry_at, entry_of, entry_with, is_of}
 
 pub list_any-map : {X Y : Type 0} (p : X → Bool) (h : Y → X) (ys : List Y) → list_any p (map h ys) ≡ list_any (λ y. p (h y)) ys
 list_any-map p h [] = refl
 list_any-map p h (y ∷ ys) = ap (λ b. p (h y) || b) (list_any-map p h ys)
-
-fold-map : {A X Y : Type 0} (f : A → X → A) (h : Y → X) (a : A) (ys : List Y) → fold f a (map h ys) ≡ fold (λ b y. f b (h y)) a ys
-fold-map f h a [] = refl
-fold-map f h a (y ∷ ys) = fold-map f h (f a (h y)) ys
-
-count_by-map : {X Y : Type 0} (p : X → Bool) (h : Y → X) (ys : List Y) → count_by p (map h ys) ≡ count_by (λ y. p (h y)) ys
-count_by-map p h ys = fold-map (λ a x. a + cond (p x) 1 0) h 0 ys
 
 find-map : {X Y : Type 0} (p : X → Bool) (h : Y → X) (ys : List Y) → find p (map h ys) ≡ option_map h (find (λ y. p (h y)) ys)
 find-map p h [] = refl
@@ -29,18 +20,12 @@ find-map p h (y ∷ ys) = by (p (h y)) (find-map p h ys)
     by true e = refl
     by false e = e
 
-pub repeated-map : {Y : Type 0} (h : Y → Given) (ys : List Y) → has_repeated_key (map h ys) ≡ list_any (λ y. nat_lt 1 (count_by (λ z. is_of (h y).0 (h z)) ys)) ys
-repeated-map h ys = list_any-map (λ g. nat_lt 1 (count_by (is_of g.0) (map h ys))) h ys ∙ (λ i. list_any (λ y. nat_lt 1 (count_by-map (is_of (h y).0) h ys i)) ys)
-
-pub entry-map : {Y : Type 0} (h : Y → Given) (ys : List Y) (key : Key) → entry_at (map h ys) key ≡ entry_of (given_number key (option_map h (find (λ y. is_of key.name (h y)) ys)))
-entry-map h ys key = ap (λ (o : Option Given). entry_of (given_number key o)) (find-map (is_of key.name) h ys)
+pub entry-map : {Y : Type 0} (h : Y → Given) (ys : List Y) (key : Key) → entry_at (map h ys) key ≡ entry_of key (option_map h (find (λ y. is_of key.name (h y)) ys))
+entry-map h ys key = ap (entry_of key) (find-map (is_of key.name) h ys)
 
 -- the entry of a key that an attribute gives a value
-pub entry-found : {Y : Type 0} (h : Y → Given) (ys : List Y) (key : Key) (y : Y) → find (λ z. is_of key.name (h z)) ys ≡ Some y → entry_at (map h ys) key ≡ entry_of (place key.values (h y).1)
-entry-found h ys key y e = entry-map h ys key ∙ ap (λ (o : Option _). entry_of (given_number key (option_map h o))) e
-
-pub entry-absent : {Y : Type 0} (h : Y → Given) (ys : List Y) (key : Key) → find (λ z. is_of key.name (h z)) ys ≡ None → entry_at (map h ys) key ≡ 0
-entry-absent h ys key e = entry-map h ys key ∙ ap (λ (o : Option _). entry_of (given_number key (option_map h o))) e
+pub entry-found : {Y : Type 0} (h : Y → Given) (ys : List Y) (key : Key) (y : Y) → find (λ z. is_of key.name (h z)) ys ≡ Some y → entry_at (map h ys) key ≡ entry_with key (h y).1
+entry-found h ys key y e = entry-map h ys key ∙ ap (λ (o : Option _). entry_of key (option_map h o)) e
 
 -- one more entry of a set key
 pub entry_more : (f : Key → ℕ) (keys : List Key) (p : ℕ) (key : Key) → p < length keys → length keys ≤ 8 → key ≡ get_or keys p key
@@ -55,4 +40,4 @@ entry_more f keys p key within few is =
     = subst (λ (n : ℕ). slice_set (map f (take p keys) ++ 0 ∷ replicate (8 - (p + 1)) 0) n (f key) ≡ map f (take p keys) ++ f key ∷ replicate (8 - (p + 1)) 0) len (set-append_seam (map f (take p keys)) 0 (replicate (8 - (p + 1)) 0) (f key)) in
     ap (λ (zeros : List ℕ). slice_set (map f (take p keys) ++ zeros) p (f key)) left ∙ seam ∙ sym (append_assoc (map f (take p keys)) (f key ∷ []) (replicate (8 - (p + 1)) 0)) ∙ ap (λ (front : List ℕ). front ++ replicate (8 - (p + 1)) 0) (sym mapped)
 
-pub ruleset maps = (list_any-map, list_all-map, repeated-map, entry-map)
+pub ruleset maps = (list_any-map, list_all-map, entry-map)

@@ -1,10 +1,11 @@
 -- Attributes in another order name the same set key.
-use Rattle.std.proofs.Common.{◌≡◌, ℕ, ◌+◌, ◌≤◌, Bool, true, false, cond, not, ◌&&◌, ◌||◌, List, [], ◌∷◌, ◌++◌, ◌-◌, length, map, replicate, find, Option, Some, None, Result, Ok, Err, refl, sym, ap, subst, ◌∙◌, arith, nat_lt, slice_get, true≢false}
+use Rattle.std.proofs.Common.{◌≡◌, ℕ, ◌+◌, ◌≤◌, Bool, true, false, cond, not, ◌&&◌, ◌||◌, List, [], ◌∷◌, ◌++◌, ◌-◌, length, map, replicate, find, Option, Some, None, is_some, unwrap_or, Result, Ok, refl, sym, ap, subst, ◌∙◌, arith, slice_get, true≢false}
 use Rattle.std.proofs.lemmas.Slice.Eq.{bytes_eq-Decides}
-use Rattle.std.proofs.lemmas.Bool.Decides.{nat_tests}
 use Rattle.std.proofs.lemmas.List.Sorted.{list_any-IsPermutation, sum_by-IsPermutation}
 use Rattle.std.proofs.lemmas.List.Sums.{sum_by-cons}
 use Rattle.std.specs.List.{list_any, list_all, count_by}
+use Rattle.std.specs.Option.{option_map}
+use Rattle.std.specs.Str.{bytes_eq}
 use Rattle.std.specs.List.Sorted.{IsPermutation}
 use Rattle.metric_base.specs.Steps.{◌>>=◌, require, require_some}
 use Rattle.metric_names.specs.declared.value.AttrValue.{AttrValue}
@@ -12,8 +13,9 @@ use Rattle.metric_catalogue.specs.declared.contents.Instrument.{Instrument}
 use Rattle.metric_catalogue.specs.declared.contents.Key.{Key}
 use Rattle.metric_catalogue.specs.declared.refusal.Refusal.{Refusal}
 use Rattle.metric_catalogue.specs.declared.refusal.Refusal.TheVariants.{UnknownInstrument, DuplicateKey, UnknownKey, UnknownValue, MissingKey}
-use Rattle.metric_catalogue.specs.Encoding.{Given, encode_of, entry_at, entry_of, given_number, has_repeated_key, is_allowed, is_complete, is_declared, is_of, set_key, set_of}
+use Rattle.metric_catalogue.specs.Encoding.{Given, encode_of, entry_at, entry_of, has_repeated_key, is_complete, is_declared, is_of, set_of}
 use Rattle.metric_catalogue.specs.Places.{place, same_value}
+use Rattle.metric_catalogue.proofs.Differing.{neither, repeated_same}
 use Rattle.metric_catalogue.specs.PlaceLaws.{same_value-Decides}
 
 -- how many of one more element
@@ -72,24 +74,6 @@ not_found_any p (x ∷ xs) e = by (p x) (λ f. not_found_any p xs f) e
     by true rest f = absurd cc
     by false rest f = rest f
 
--- what is found passes, and fails a test that none passes
-found_passes : {X : Type 0} (p : X → Bool) (xs : List X) (a : X) → find p xs ≡ Some a → p a ≡ true
-found_passes p [] a e = absurd cc
-found_passes p (x ∷ xs) a e = by (p x) refl (λ f. found_passes p xs a f) e
-  where
-    by : (b : Bool) → p x ≡ b → (find p xs ≡ Some a → p a ≡ true) → cond b (Some x) (find p xs) ≡ Some a → p a ≡ true
-    by true h rest f = let same : x ≡ a = cc in sym (ap p same) ∙ h
-    by false h rest f = rest f
-
-found_fails : {X : Type 0} (p q : X → Bool) (xs : List X) (a : X) → find p xs ≡ Some a → list_any q xs ≡ false → q a ≡ false
-found_fails p q [] a e none = absurd cc
-found_fails p q (x ∷ xs) a e none = by (p x) (q x) refl (λ f h. found_fails p q xs a f h) e none
-  where
-    by : (b c : Bool) → q x ≡ c → (find p xs ≡ Some a → list_any q xs ≡ false → q a ≡ false) → cond b (Some x) (find p xs) ≡ Some a → (c || list_any q xs) ≡ false → q a ≡ false
-    by b true h rest f n = absurd cc
-    by true false h rest f n = let same : x ≡ a = cc in sym (ap q same) ∙ h
-    by false false h rest f n = rest f n
-
 -- all pass exactly where none fails
 all_none : {X : Type 0} (p : X → Bool) (xs : List X) → list_all p xs ≡ not (list_any (λ x. not (p x)) xs)
 all_none p [] = refl
@@ -98,6 +82,28 @@ all_none p (x ∷ xs) = by (p x) (all_none p xs)
     by : (b : Bool) → list_all p xs ≡ not (list_any (λ y. not (p y)) xs) → (b && list_all p xs) ≡ not (not b || list_any (λ y. not (p y)) xs)
     by true e = e
     by false e = refl
+
+-- no test of a list that none passes counts an element
+none_counted : {X : Type 0} (p : X → Bool) (xs : List X) → list_any p xs ≡ false → count_by p xs ≡ 0
+none_counted p [] e = refl
+none_counted p (x ∷ xs) e =
+    let (none, later) = neither (p x) (list_any p xs) e in
+    count_by-no p x xs none ∙ ap (λ (n : ℕ). 0 + n) (none_counted p xs later) ∙ omega arith
+
+-- where no key stands twice, at most one attribute is of a key
+few_of : (attrs : List Given) (name : List ℕ) → has_repeated_key attrs ≡ false → count_by (is_of name) attrs ≤ 1
+few_of [] name e = omega arith
+few_of (given ∷ attrs) name e =
+    let (alone, later) = neither (list_any (is_of given.0) attrs) (has_repeated_key attrs) e in
+    by (bytes_eq given.0 name) refl alone (few_of attrs name later)
+  where
+    by : (here : Bool) → bytes_eq given.0 name ≡ here → list_any (is_of given.0) attrs ≡ false → count_by (is_of name) attrs ≤ 1 → count_by (is_of name) (given ∷ attrs) ≤ 1
+    by true h alone rest =
+        let named : given.0 ≡ name = (bytes_eq-Decides given.0 name).0 h in
+        let none : count_by (is_of name) attrs ≡ 0 = none_counted (is_of name) attrs (subst (λ (n : List ℕ). list_any (is_of n) attrs ≡ false) named alone) in
+        let one = count_by-yes (is_of name) given attrs h in
+        omega arith
+    by false h alone rest = let one = count_by-no (is_of name) given attrs h in omega arith
 
 abbrev steps : Bool → Bool → Bool → Bool → List ℕ → Result (List ℕ) Refusal
 steps repeated declared allowed complete set = do
@@ -114,25 +120,19 @@ module _ (xs ys : List Given) (perm : IsPermutation xs ys) where
   count_same : (p : Given → Bool) → count_by p xs ≡ count_by p ys
   count_same p = sym (sum_by-IsPermutation (λ x. cond (p x) 1 0) xs ys perm)
 
-  repeated_same : has_repeated_key xs ≡ has_repeated_key ys
-  repeated_same = list_any-IsPermutation (λ g. nat_lt 1 (count_by (is_of g.0) xs)) xs ys perm ∙ (λ i. list_any (λ g. nat_lt 1 (count_same (is_of g.0) i)) ys)
-
   complete_same : (keys : List Key) → list_all (is_complete xs) keys ≡ list_all (is_complete ys) keys
   complete_same keys = λ i. list_all (λ key. key.optional || list_any-IsPermutation (is_of key.name) xs ys perm i) keys
 
   -- where no key stands twice, a key is given the same value in both orders
-  number_same : has_repeated_key xs ≡ false → (key : Key) → given_number key (find (is_of key.name) xs) ≡ given_number key (find (is_of key.name) ys)
-  number_same distinct key = by (find (is_of key.name) xs) refl (find (is_of key.name) ys) refl
+  entry_same : has_repeated_key xs ≡ false → (key : Key) → entry_at xs key ≡ entry_at ys key
+  entry_same distinct key = by (find (is_of key.name) xs) refl (find (is_of key.name) ys) refl
     where
       any_same : list_any (is_of key.name) xs ≡ list_any (is_of key.name) ys
       any_same = list_any-IsPermutation (is_of key.name) xs ys perm
 
       value_same : (a b : Given) → find (is_of key.name) xs ≡ Some a → find (is_of key.name) ys ≡ Some b → a.1 ≡ b.1
       value_same a b e f =
-          let named : a.0 ≡ key.name = (bytes_eq-Decides a.0 key.name).0 (found_passes (is_of key.name) xs a e) in
-          let once = found_fails (is_of key.name) (λ g. nat_lt 1 (count_by (is_of g.0) xs)) xs a e distinct in
-          let few : count_by (is_of a.0) xs ≤ 1 = grind (arith, nat_tests) in
-          let few_xs : count_by (is_of key.name) xs ≤ 1 = subst (λ (name : List ℕ). count_by (is_of name) xs ≤ 1) named few in
+          let few_xs = few_of xs key.name distinct in
           let few_ys : count_by (is_of key.name) ys ≤ 1 = subst (λ (n : ℕ). n ≤ 1) (count_same (is_of key.name)) few_xs in
           let q : Given → Bool = λ g. same_value g.1 b.1 in
           let by_xs = any_found (is_of key.name) q xs a few_xs e in
@@ -140,19 +140,17 @@ module _ (xs ys : List Given) (perm : IsPermutation xs ys) where
           let both = list_any-IsPermutation (λ g. is_of key.name g && q g) xs ys perm in
           (same_value-Decides a.1 b.1).0 (sym by_xs ∙ both ∙ by_ys ∙ (same_value-Decides b.1 b.1).1 refl)
 
-      by : (o : Option Given) → find (is_of key.name) xs ≡ o → (r : Option Given) → find (is_of key.name) ys ≡ r → given_number key o ≡ given_number key r
+      by : (o : Option Given) → find (is_of key.name) xs ≡ o → (r : Option Given) → find (is_of key.name) ys ≡ r → entry_of key o ≡ entry_of key r
       by None e None f = refl
       by None e (Some b) f = let no = not_found_any (is_of key.name) xs e in let yes = found_any (is_of key.name) ys b f in absurd (true≢false (sym yes ∙ sym any_same ∙ no))
       by (Some a) e None f = let yes = found_any (is_of key.name) xs a e in let no = not_found_any (is_of key.name) ys f in absurd (true≢false (sym yes ∙ any_same ∙ no))
-      by (Some a) e (Some b) f = ap (place key.values) (value_same a b e f)
-
-  set_same : has_repeated_key xs ≡ false → (keys : List Key) → set_key keys xs ≡ set_key keys ys
-  set_same distinct keys = λ i. map (λ key. entry_of (number_same distinct key i)) keys ++ replicate (8 - length keys) 0
+      by (Some a) e (Some b) f = ap (λ (value : AttrValue). option_map (λ number. number + 1) (place key.values value)) (value_same a b e f)
 
   set_of_by : (b : Bool) → has_repeated_key xs ≡ b → (keys : List Key) → set_of keys xs ≡ set_of keys ys
   unfolding set_of
-  set_of_by true e keys = let also : has_repeated_key ys ≡ true = sym repeated_same ∙ e in rw (e, also) refl
-  set_of_by false e keys = λ i. steps (repeated_same i) (all_same (is_declared keys) i) (all_same (is_allowed keys) i) (complete_same keys i) (set_same e keys i)
+  set_of_by true e keys = let also : has_repeated_key ys ≡ true = sym (repeated_same xs ys perm) ∙ e in rw (e, also) refl
+  set_of_by false e keys = λ i. steps (repeated_same xs ys perm i) (all_same (is_declared keys) i) (list_all (λ key. is_some (entry_same e key i)) keys) (complete_same keys i)
+      (map (λ key. unwrap_or (entry_same e key i) 0) keys ++ replicate (8 - length keys) 0)
 
   encode_by : (o : Option Instrument) → (require_some o UnknownInstrument >>= λ instrument. set_of instrument.keys xs) ≡ (require_some o UnknownInstrument >>= λ instrument. set_of instrument.keys ys)
   encode_by None = refl

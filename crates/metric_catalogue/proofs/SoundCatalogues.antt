@@ -1,24 +1,21 @@
 -- What is read as a catalogue is sound.
-use Rattle.std.proofs.Common.{◌≡◌, ℕ, ℤ, pos, negsuc, ◌+◌, ◌-◌, ◌<◌, ◌≤◌, ◌^◌, Bool, true, false, not, cond, List, [], ◌∷◌, ◌++◌, length, Option, Some, None, Ok, refl, sym, ap, subst, ◌∙◌, arith, codes, nat_lt, slice_get}
+use Rattle.std.proofs.Common.{◌≡◌, ℕ, ℤ, pos, negsuc, ◌+◌, ◌-◌, ◌<◌, ◌^◌, Bool, true, false, not, cond, List, [], ◌∷◌, ◌++◌, length, Option, Some, None, Ok, refl, ap, subst, arith, codes, nat_lt}
 use Rattle.std.proofs.lemmas.Bool.Decides.{nat_tests}
 use Rattle.std.proofs.lemmas.List.{length-append}
 use Rattle.std.specs.List.{list_any}
 use Rattle.toml.specs.Data.{Members}
-use Rattle.toml.specs.Parse.{parse_document}
-use Rattle.metric_base.specs.Steps.{◌>>=◌, require, require_some, in_turn, each}
+use Rattle.metric_base.specs.Steps.{require_some, in_turn, each}
 use Rattle.metric_base.specs.StepLaws.{after_ok, require_ok, ok_is, in_turn_keeps}
 use Rattle.metric_table.specs.Fields.{field, integer_of, only, tables_field}
 use Rattle.metric_catalogue.specs.declared.contents.Budget.{Budget}
 use Rattle.metric_catalogue.specs.declared.contents.Contents.{Contents}
 use Rattle.metric_catalogue.specs.declared.contents.Instrument.{Instrument}
-use Rattle.metric_catalogue.specs.declared.contents.Meter.{Meter}
 use Rattle.metric_catalogue.specs.declared.contents.Recorder.{Recorder}
 use Rattle.metric_catalogue.specs.declared.meters.Metered.{Metered}
-use Rattle.metric_catalogue.specs.declared.fault.CatalogueFault.{CatalogueFault}
-use Rattle.metric_catalogue.specs.declared.fault.CatalogueFault.TheVariants.{BadRange, DuplicateBudget, DuplicateMeter, DuplicateRecorder, NotToml, UnknownInstrument}
-use Rattle.metric_catalogue.specs.declared.fault.Place.{Place}
-use Rattle.metric_catalogue.specs.declared.fault.Place.TheVariants as place
-use Rattle.metric_catalogue.specs.Catalogues.{catalogue_of, contents_of, nothing_metered, tables_of_top}
+use Rattle.metric_catalogue.specs.declared.fault.CatalogueFault.TheVariants.{BadRange, DuplicateBudget, DuplicateMeter, DuplicateRecorder, UnknownInstrument}
+use Rattle.metric_catalogue.specs.declared.fault.CataloguePlace.{CataloguePlace}
+use Rattle.metric_catalogue.specs.declared.fault.CataloguePlace.TheVariants as place
+use Rattle.metric_catalogue.specs.Catalogues.{contents_of, nothing_metered, tables_of_top}
 use Rattle.metric_catalogue.specs.EachLaws.{EachAt-empty, EachAt-push, each_made}
 use Rattle.metric_catalogue.specs.Faults.{faults_at}
 use Rattle.metric_catalogue.specs.Instruments.{instrument_of}
@@ -75,7 +72,7 @@ amount_made (pos m) n e = by (nat_lt m (2 ^ 63)) refl e
     by true h e = let same : m ≡ n = cc in grind (arith, nat_tests)
     by false h e = absurd cc
 
-budget_made : (at : Place) (count : ℕ) (before : List Budget) (table : Members) (budget : Budget) → budget_of at count before table ≡ Ok budget → IsSoundBudget count before budget
+budget_made : (at : CataloguePlace) (count : ℕ) (before : List Budget) (table : Members) (budget : Budget) → budget_of at count before table ≡ Ok budget → IsSoundBudget count before budget
 unfolding budget_of budgeted amount_field
 budget_made at count before table budget e0 =
     after_ok (only (faults_at at) (codes "instrument" ∷ codes "amount" ∷ []) table) _ budget e0 (λ _ _ e1.

@@ -1,23 +1,23 @@
 -- What is read as an instrument is sound.
-use Rattle.std.proofs.Common.{◌≡◌, ℕ, ℤ, pos, ◌≤ℤ◌, Bool, true, false, not, ◌&&◌, ◌||◌, List, [], length, Option, Some, None, Ok, refl, sym, ap, subst, ◌∙◌, arith, codes, int_le, IsTrue, IfSome}
+use Rattle.std.proofs.Common.{◌≡◌, ℕ, ℤ, pos, ◌≤ℤ◌, Bool, true, false, not, ◌&&◌, ◌||◌, List, [], length, Option, Some, None, Ok, refl, subst, arith, codes, int_le, IsTrue, IfSome}
 use Rattle.std.proofs.lemmas.Int.{ints}
 use Rattle.std.specs.List.{list_any}
 use Rattle.toml.specs.Data.{Data, Members, get_member}
-use Rattle.metric_base.specs.Steps.{◌>>=◌, require, each}
+use Rattle.metric_base.specs.Steps.{each}
 use Rattle.metric_base.specs.StepLaws.{after_ok, require_ok, ok_is}
 use Rattle.metric_table.specs.Fields.{field, integers_of, list_of, tables_field}
 use Rattle.metric_catalogue.specs.declared.contents.Instrument.{Instrument}
 use Rattle.metric_catalogue.specs.declared.contents.Kind.{Kind}
 use Rattle.metric_catalogue.specs.declared.fault.CatalogueFault.TheVariants.{BadBoundaries, BadRange, DuplicateInstrument}
-use Rattle.metric_catalogue.specs.declared.fault.Place.{Place}
-use Rattle.metric_catalogue.specs.declared.fault.Place.TheVariants as place
+use Rattle.metric_catalogue.specs.declared.fault.CataloguePlace.{CataloguePlace}
+use Rattle.metric_catalogue.specs.declared.fault.CataloguePlace.TheVariants as place
 use Rattle.metric_catalogue.specs.EachLaws.{EachAt-empty, each_made}
 use Rattle.metric_catalogue.specs.Faults.{faults_at, pair_faults_at}
 use Rattle.metric_catalogue.specs.Instruments.{advice_field, boundaries_of, boundaries_within, head_of, instrument_of, is_instrument, is_range, pair_of, range_field}
 use Rattle.metric_catalogue.specs.Keys.{key_of}
 use Rattle.metric_base.specs.Boundaries.{is_rising}
 use Rattle.metric_catalogue.specs.Kinds.{is_monotonic}
-use Rattle.metric_catalogue.specs.Sound.{EachAt, IsSoundInstrument, IsSoundKey}
+use Rattle.metric_catalogue.specs.Sound.{IsSoundInstrument, IsSoundKey}
 use Rattle.metric_catalogue.proofs.SoundKeys.{key_made, not_true}
 
 -- what a range is
@@ -29,7 +29,7 @@ range_is kind lo hi e = by (int_le lo hi) refl (is_monotonic kind) refl e
     by true p false q h = (grind (arith, ints), λ r. absurd cc)
     by false p m q h = absurd cc
 
-range_made : (at : Place) (kind : Kind) (table : Members) (range : ℤ × ℤ) → range_field at kind table ≡ Ok range → is_range kind range ≡ true
+range_made : (at : CataloguePlace) (kind : Kind) (table : Members) (range : ℤ × ℤ) → range_field at kind table ≡ Ok range → is_range kind range ≡ true
 unfolding range_field
 range_made at kind table range e0 =
     after_ok (field (faults_at at) (codes "range") table) _ range e0 (λ d _ e1.
@@ -38,20 +38,20 @@ range_made at kind table range e0 =
     let (fits, e4) = require_ok (is_range kind pair) (BadRange at) _ range e3 in
     subst (λ (r : ℤ × ℤ). is_range kind r ≡ true) (ok_is pair range (Ok pair) refl e4) fits)))
 
-boundaries_made : (at : Place) (d : Data) (boundaries : List ℤ) → boundaries_of at d ≡ Ok boundaries → is_rising boundaries ≡ true
+boundaries_made : (at : CataloguePlace) (d : Data) (boundaries : List ℤ) → boundaries_of at d ≡ Ok boundaries → is_rising boundaries ≡ true
 unfolding boundaries_of
 boundaries_made at d boundaries e0 =
     after_ok (integers_of (faults_at at) 128 d) _ boundaries e0 (λ read _ e1.
     let (rising, e2) = require_ok (is_rising read) (BadBoundaries at) _ boundaries e1 in
     subst (λ (bs : List ℤ). is_rising bs ≡ true) (ok_is read boundaries (Ok read) refl e2) rising)
 
-within_made : (at : Place) (d : Option Data) (advice : Option (List ℤ)) → boundaries_within at d ≡ Ok advice → IfSome advice (λ boundaries. IsTrue (is_rising boundaries))
+within_made : (at : CataloguePlace) (d : Option Data) (advice : Option (List ℤ)) → boundaries_within at d ≡ Ok advice → IfSome advice (λ boundaries. IsTrue (is_rising boundaries))
 within_made at None advice e = subst (λ (o : Option (List ℤ)). IfSome o (λ boundaries. IsTrue (is_rising boundaries))) (ok_is None advice (Ok None) refl e) tt
 within_made at (Some d) advice e0 =
     after_ok (boundaries_of at d) _ advice e0 (λ boundaries made e1.
     subst (λ (o : Option (List ℤ)). IfSome o (λ bs. IsTrue (is_rising bs))) (ok_is (Some boundaries) advice (Ok (Some boundaries)) refl e1) (boundaries_made at d boundaries made))
 
-advice_made : (at : Place) (table : Members) (advice : Option (List ℤ)) → advice_field at table ≡ Ok advice → IfSome advice (λ boundaries. IsTrue (is_rising boundaries))
+advice_made : (at : CataloguePlace) (table : Members) (advice : Option (List ℤ)) → advice_field at table ≡ Ok advice → IfSome advice (λ boundaries. IsTrue (is_rising boundaries))
 unfolding advice_field
 advice_made at table advice e = within_made at (get_member (codes "boundaries") table) advice e
 

@@ -1,5 +1,4 @@
 -- What attributes give.
-use Rattle.std.specs.Prelude.{List}
 use Rattle.metric_names.specs.Values.{value_of}
 use Rattle.metric_catalogue.specs.declared.attributes.Attr.{Attr}
 use Rattle.metric_catalogue.specs.declared.attributes.OwnedAttr.{OwnedAttr}

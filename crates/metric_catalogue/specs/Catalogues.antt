@@ -8,7 +8,7 @@ use Rattle.metric_catalogue.specs.declared.contents.Contents.{Contents}
 use Rattle.metric_catalogue.specs.declared.meters.Metered.{Metered}
 use Rattle.metric_catalogue.specs.declared.fault.CatalogueFault.{CatalogueFault}
 use Rattle.metric_catalogue.specs.declared.fault.CatalogueFault.TheVariants.{NotToml}
-use Rattle.metric_catalogue.specs.declared.fault.Place.TheVariants.{Top}
+use Rattle.metric_catalogue.specs.declared.fault.CataloguePlace.TheVariants.{Top}
 use Rattle.metric_catalogue.specs.Faults.{faults_at}
 use Rattle.metric_catalogue.specs.Meters.{with_meter}
 use Rattle.metric_catalogue.specs.Recorders.{recorder_of}

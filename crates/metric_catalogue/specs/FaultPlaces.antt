@@ -1,11 +1,11 @@
 -- How the place of a fault is printed.
 use Rattle.std.specs.Prelude.{ℕ, codes, List, ◌++◌}
 use Rattle.std.specs.Fmt.{decimal}
-use Rattle.metric_catalogue.specs.declared.fault.Place.{Place}
-use Rattle.metric_catalogue.specs.declared.fault.Place.TheVariants.{Top, Meter, Instrument, Recorder}
+use Rattle.metric_catalogue.specs.declared.fault.CataloguePlace.{CataloguePlace}
+use Rattle.metric_catalogue.specs.declared.fault.CataloguePlace.TheVariants.{Top, Meter, Instrument, Recorder}
 
 -- a meter, an instrument and a recorder with their number
-abbrev pub place_text : Place → List ℕ
+abbrev pub place_text : CataloguePlace → List ℕ
 place_text Top = codes "top"
 place_text (Meter number) = codes "meter " ++ decimal number
 place_text (Instrument number) = codes "instrument " ++ decimal number

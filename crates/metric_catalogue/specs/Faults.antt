@@ -2,11 +2,11 @@
 use Rattle.metric_table.specs.declared.faults.FieldFaults.{FieldFaults}
 use Rattle.metric_catalogue.specs.declared.fault.CatalogueFault.{CatalogueFault}
 use Rattle.metric_catalogue.specs.declared.fault.CatalogueFault.TheVariants.{MissingField, WrongKind, UnknownField, TooMany, Memory}
-use Rattle.metric_catalogue.specs.declared.fault.Place.{Place}
+use Rattle.metric_catalogue.specs.declared.fault.CataloguePlace.{CataloguePlace}
 
-abbrev pub faults_at : Place → FieldFaults CatalogueFault
+abbrev pub faults_at : CataloguePlace → FieldFaults CatalogueFault
 faults_at at = record { missing = MissingField at; wrong_kind = WrongKind at; unknown = UnknownField at; too_many = TooMany at; memory = Memory }
 
 -- where a list of another length than the format says is of another kind
-abbrev pub pair_faults_at : Place → FieldFaults CatalogueFault
+abbrev pub pair_faults_at : CataloguePlace → FieldFaults CatalogueFault
 pair_faults_at at = record { missing = MissingField at; wrong_kind = WrongKind at; unknown = UnknownField at; too_many = WrongKind at; memory = Memory }

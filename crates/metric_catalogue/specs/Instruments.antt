@@ -1,5 +1,5 @@
 -- The instruments of a meter.
-use Rattle.std.specs.Prelude.{ℕ, ℤ, pos, Bool, true, false, not, ◌&&◌, ◌||◌, ◌==◌, if◌then◌else◌, List, [], ◌∷◌, length, Option, Some, None, Result, Ok, Err, int_le, int_lt, unwrap_or, codes}
+use Rattle.std.specs.Prelude.{ℕ, ℤ, pos, Bool, not, ◌&&◌, ◌||◌, ◌==◌, List, [], ◌∷◌, length, Option, Some, None, Result, Ok, Err, int_le, unwrap_or, codes}
 use Rattle.std.specs.List.{list_any}
 use Rattle.std.specs.Str.{bytes_eq}
 use Rattle.toml.specs.Data.{Data, Members, get_member}
@@ -8,14 +8,12 @@ use Rattle.metric_names.specs.Names.{folded, name_of}
 use Rattle.metric_names.specs.Units.{unit_of}
 use Rattle.metric_table.specs.Fields.{only, field, text_field, optional_text, list_of, integer_of, integers_of, tables_field}
 use Rattle.metric_catalogue.specs.declared.contents.Instrument.{Instrument}
-use Rattle.metric_catalogue.specs.declared.contents.Key.{Key}
 use Rattle.metric_catalogue.specs.declared.contents.Kind.{Kind}
-use Rattle.metric_catalogue.specs.declared.contents.Kind.TheVariants.{Counter, UpDownCounter, Histogram, Gauge}
 use Rattle.metric_catalogue.specs.declared.instruments.Head.{Head}
 use Rattle.metric_catalogue.specs.declared.fault.CatalogueFault.{CatalogueFault}
 use Rattle.metric_catalogue.specs.declared.fault.CatalogueFault.TheVariants.{WrongKind, BadName, BadUnit, BadRange, BadBoundaries, DuplicateInstrument}
-use Rattle.metric_catalogue.specs.declared.fault.Place.{Place}
-use Rattle.metric_catalogue.specs.declared.fault.Place.TheVariants as place
+use Rattle.metric_catalogue.specs.declared.fault.CataloguePlace.{CataloguePlace}
+use Rattle.metric_catalogue.specs.declared.fault.CataloguePlace.TheVariants as place
 use Rattle.metric_catalogue.specs.Faults.{faults_at, pair_faults_at}
 use Rattle.metric_base.specs.Boundaries.{is_rising}
 use Rattle.metric_catalogue.specs.Kinds.{kind_named, is_monotonic}
@@ -23,30 +21,30 @@ use Rattle.metric_catalogue.specs.Texts.{free_text}
 use Rattle.metric_catalogue.specs.Keys.{key_of}
 
 -- an instrument has no other fields
-unfoldable pub only_instrument_fields : Place → Members → Result (Unit {0}) CatalogueFault
+unfoldable pub only_instrument_fields : CataloguePlace → Members → Result (Unit {0}) CatalogueFault
 only_instrument_fields at table = only (faults_at at) (codes "name" ∷ codes "kind" ∷ codes "unit" ∷ codes "description" ∷ codes "range" ∷ codes "boundaries" ∷ codes "key" ∷ []) table
 
 -- the name of an instrument, of a table with no other fields
-unfoldable pub instrument_name : Place → Members → Result (List ℕ) CatalogueFault
+unfoldable pub instrument_name : CataloguePlace → Members → Result (List ℕ) CatalogueFault
 instrument_name at table = do
   _ ← only_instrument_fields at table
   text ← text_field (faults_at at) (codes "name") table
   with_fault (λ _. BadName at) (name_of text)
 
 -- the kind of an instrument
-unfoldable pub kind_field : Place → Members → Result Kind CatalogueFault
+unfoldable pub kind_field : CataloguePlace → Members → Result Kind CatalogueFault
 kind_field at table = do
   text ← text_field (faults_at at) (codes "kind") table
   require_some (kind_named text) (WrongKind at)
 
 -- the unit of an instrument, empty where it is left out
-unfoldable pub unit_field : Place → Members → Result (List ℕ) CatalogueFault
+unfoldable pub unit_field : CataloguePlace → Members → Result (List ℕ) CatalogueFault
 unit_field at table = do
   text ← optional_text (faults_at at) (codes "unit") table
   with_fault (λ _. BadUnit at) (unit_of (unwrap_or text []))
 
 -- what names and describes an instrument
-unfoldable pub head_of : Place → Members → Result Head CatalogueFault
+unfoldable pub head_of : CataloguePlace → Members → Result Head CatalogueFault
 head_of at table = do
   name ← instrument_name at table
   kind ← kind_field at table
@@ -55,7 +53,7 @@ head_of at table = do
   Ok (record { name = name; kind = kind; unit = unit; description = description })
 
 -- two whole numbers
-abbrev pub pair_of : Place → List Data → Result (ℤ × ℤ) CatalogueFault
+abbrev pub pair_of : CataloguePlace → List Data → Result (ℤ × ℤ) CatalogueFault
 pair_of at (lo ∷ hi ∷ []) = do
   low ← integer_of (faults_at at) lo
   high ← integer_of (faults_at at) hi
@@ -67,7 +65,7 @@ abbrev pub is_range : Kind → ℤ × ℤ → Bool
 is_range kind range = int_le range.0 range.1 && (not (is_monotonic kind) || int_le (pos 0) range.0)
 
 -- the range of an instrument's values
-unfoldable pub range_field : Place → Kind → Members → Result (ℤ × ℤ) CatalogueFault
+unfoldable pub range_field : CataloguePlace → Kind → Members → Result (ℤ × ℤ) CatalogueFault
 range_field at kind table = do
   d ← field (faults_at at) (codes "range") table
   values ← list_of (pair_faults_at at) 2 d
@@ -76,21 +74,21 @@ range_field at kind table = do
   Ok range
 
 -- boundaries that rise
-unfoldable pub boundaries_of : Place → Data → Result (List ℤ) CatalogueFault
+unfoldable pub boundaries_of : CataloguePlace → Data → Result (List ℤ) CatalogueFault
 boundaries_of at d = do
   boundaries ← integers_of (faults_at at) 128 d
   _ ← require (is_rising boundaries) (BadBoundaries at)
   Ok boundaries
 
 -- boundaries, where there are any
-abbrev pub boundaries_within : Place → Option Data → Result (Option (List ℤ)) CatalogueFault
+abbrev pub boundaries_within : CataloguePlace → Option Data → Result (Option (List ℤ)) CatalogueFault
 boundaries_within at None = Ok None
 boundaries_within at (Some d) = do
   boundaries ← boundaries_of at d
   Ok (Some boundaries)
 
 -- the advised boundaries of an instrument
-unfoldable pub advice_field : Place → Members → Result (Option (List ℤ)) CatalogueFault
+unfoldable pub advice_field : CataloguePlace → Members → Result (Option (List ℤ)) CatalogueFault
 advice_field at table = boundaries_within at (get_member (codes "boundaries") table)
 
 -- the instrument is of this meter and has this name without ASCII case

@@ -3,27 +3,27 @@ use Rattle.std.specs.Prelude.{ℕ, Bool, false, not, List, [], ◌∷◌, length
 use Rattle.std.specs.List.{list_any}
 use Rattle.std.specs.Str.{bytes_eq}
 use Rattle.toml.specs.Data.{Data, string, integer, boolean, Members}
-use Rattle.metric_base.specs.Steps.{◌>>=◌, require, each}
+use Rattle.metric_base.specs.Steps.{◌>>=◌, require}
 use Rattle.metric_names.specs.declared.value.AttrValue.{AttrValue}
 use Rattle.metric_names.specs.declared.value.AttrValue.TheVariants.{Text, Whole, Flag}
 use Rattle.metric_table.specs.Fields.{only, field, list_of, short_text, flag_or, each_alone}
 use Rattle.metric_catalogue.specs.declared.contents.Key.{Key}
 use Rattle.metric_catalogue.specs.declared.fault.CatalogueFault.{CatalogueFault}
 use Rattle.metric_catalogue.specs.declared.fault.CatalogueFault.TheVariants.{MissingField, WrongKind, ReservedKey, DuplicateValue, DuplicateKey}
-use Rattle.metric_catalogue.specs.declared.fault.Place.{Place}
+use Rattle.metric_catalogue.specs.declared.fault.CataloguePlace.{CataloguePlace}
 use Rattle.metric_catalogue.specs.Faults.{faults_at}
 use Rattle.metric_catalogue.specs.Places.{has_repeat}
 use Rattle.metric_catalogue.specs.Texts.{label_field}
 
 -- the name of a key, which is not that of the overflow attribute
-unfoldable pub key_name : Place → Members → Result (List ℕ) CatalogueFault
+unfoldable pub key_name : CataloguePlace → Members → Result (List ℕ) CatalogueFault
 key_name at table = do
   name ← label_field at table
   _ ← require (not (bytes_eq name (codes "otel.metric.overflow"))) (ReservedKey at)
   Ok name
 
 -- an attribute value: a text that is not too long, a whole number or a flag
-abbrev pub value_at : Place → Data → Result AttrValue CatalogueFault
+abbrev pub value_at : CataloguePlace → Data → Result AttrValue CatalogueFault
 value_at at (string text) = do
   short ← short_text (faults_at at) text
   Ok (Text short)
@@ -32,7 +32,7 @@ value_at at (boolean flag) = Ok (Flag flag)
 value_at at _ = Err (WrongKind at)
 
 -- a list of values that is not empty
-unfoldable pub some_values : Place → Members → Result (List AttrValue) CatalogueFault
+unfoldable pub some_values : CataloguePlace → Members → Result (List AttrValue) CatalogueFault
 some_values at table = do
   d ← field (faults_at at) (codes "values") table
   ds ← list_of (faults_at at) 1000 d
@@ -40,7 +40,7 @@ some_values at table = do
   each_alone (value_at at) ds
 
 -- the values of a key, of which none stands twice
-unfoldable pub values_field : Place → Members → Result (List AttrValue) CatalogueFault
+unfoldable pub values_field : CataloguePlace → Members → Result (List AttrValue) CatalogueFault
 values_field at table = do
   values ← some_values at table
   _ ← require (not (has_repeat values)) (DuplicateValue at)
@@ -51,15 +51,15 @@ abbrev pub is_key : List ℕ → Key → Bool
 is_key name key = bytes_eq key.name name
 
 -- a key has no other fields
-unfoldable pub only_key_fields : Place → Members → Result (Unit {0}) CatalogueFault
+unfoldable pub only_key_fields : CataloguePlace → Members → Result (Unit {0}) CatalogueFault
 only_key_fields at table = only (faults_at at) (codes "name" ∷ codes "values" ∷ codes "optional" ∷ []) table
 
 -- whether a recording may leave the key out
-unfoldable pub optional_field : Place → Members → Result Bool CatalogueFault
+unfoldable pub optional_field : CataloguePlace → Members → Result Bool CatalogueFault
 optional_field at table = flag_or (faults_at at) (codes "optional") false table
 
 -- one more key of an instrument, after those before it
-unfoldable pub key_of : Place → List Key → Members → Result Key CatalogueFault
+unfoldable pub key_of : CataloguePlace → List Key → Members → Result Key CatalogueFault
 key_of at before table = do
   _ ← only_key_fields at table
   name ← key_name at table

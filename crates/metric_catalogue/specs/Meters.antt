@@ -1,27 +1,26 @@
 -- The meters of a catalogue, with the instruments of each.
-use Rattle.std.specs.Prelude.{ℕ, ◌-◌, Bool, not, ◌&&◌, List, [], ◌∷◌, ◌++◌, length, Result, Ok, codes}
+use Rattle.std.specs.Prelude.{◌-◌, Bool, not, ◌&&◌, [], ◌∷◌, ◌++◌, length, Result, Ok, codes}
 use Rattle.std.specs.List.{list_any}
 use Rattle.std.specs.Str.{bytes_eq}
 use Rattle.toml.specs.Data.{Members}
 use Rattle.metric_base.specs.Steps.{◌>>=◌, require, each}
 use Rattle.metric_table.specs.Fields.{only, tables_field}
-use Rattle.metric_catalogue.specs.declared.contents.Instrument.{Instrument}
 use Rattle.metric_catalogue.specs.declared.contents.Meter.{Meter}
 use Rattle.metric_catalogue.specs.declared.meters.Metered.{Metered}
 use Rattle.metric_catalogue.specs.declared.fault.CatalogueFault.{CatalogueFault}
 use Rattle.metric_catalogue.specs.declared.fault.CatalogueFault.TheVariants.{DuplicateMeter}
-use Rattle.metric_catalogue.specs.declared.fault.Place.{Place}
-use Rattle.metric_catalogue.specs.declared.fault.Place.TheVariants as place
+use Rattle.metric_catalogue.specs.declared.fault.CataloguePlace.{CataloguePlace}
+use Rattle.metric_catalogue.specs.declared.fault.CataloguePlace.TheVariants as place
 use Rattle.metric_catalogue.specs.Faults.{faults_at}
 use Rattle.metric_catalogue.specs.Instruments.{instrument_of}
 use Rattle.metric_catalogue.specs.Texts.{needed_text, free_text}
 
 -- a meter has no other fields
-unfoldable pub only_meter_fields : Place → Members → Result (Unit {0}) CatalogueFault
+unfoldable pub only_meter_fields : CataloguePlace → Members → Result (Unit {0}) CatalogueFault
 only_meter_fields at table = only (faults_at at) (codes "name" ∷ codes "version" ∷ codes "schema_url" ∷ codes "instrument" ∷ []) table
 
 -- a meter without its instruments
-unfoldable pub meter_of : Place → Members → Result Meter CatalogueFault
+unfoldable pub meter_of : CataloguePlace → Members → Result Meter CatalogueFault
 meter_of at table = do
   _ ← only_meter_fields at table
   name ← needed_text at (codes "name") table

@@ -9,8 +9,8 @@ use Rattle.metric_catalogue.specs.declared.contents.Budget.{Budget}
 use Rattle.metric_catalogue.specs.declared.contents.Recorder.{Recorder}
 use Rattle.metric_catalogue.specs.declared.fault.CatalogueFault.{CatalogueFault}
 use Rattle.metric_catalogue.specs.declared.fault.CatalogueFault.TheVariants.{BadRange, UnknownInstrument, DuplicateRecorder, DuplicateBudget}
-use Rattle.metric_catalogue.specs.declared.fault.Place.{Place}
-use Rattle.metric_catalogue.specs.declared.fault.Place.TheVariants as place
+use Rattle.metric_catalogue.specs.declared.fault.CataloguePlace.{CataloguePlace}
+use Rattle.metric_catalogue.specs.declared.fault.CataloguePlace.TheVariants as place
 use Rattle.metric_catalogue.specs.Faults.{faults_at}
 use Rattle.metric_catalogue.specs.Texts.{label_field}
 
@@ -20,7 +20,7 @@ number_below count (pos n) = if nat_lt n count then Some n else None
 number_below count (negsuc n) = None
 
 -- the instrument of a budget, which is one of the catalogue's
-unfoldable pub budgeted : Place → ℕ → Members → Result ℕ CatalogueFault
+unfoldable pub budgeted : CataloguePlace → ℕ → Members → Result ℕ CatalogueFault
 budgeted at count table = do
   d ← field (faults_at at) (codes "instrument") table
   number ← integer_of (faults_at at) d
@@ -32,7 +32,7 @@ amount_from (pos n) = if nat_lt n (2 ^ 63) then Some n else None
 amount_from (negsuc n) = None
 
 -- how many recordings a budget is for
-unfoldable pub amount_field : Place → Members → Result ℕ CatalogueFault
+unfoldable pub amount_field : CataloguePlace → Members → Result ℕ CatalogueFault
 amount_field at table = do
   d ← field (faults_at at) (codes "amount") table
   number ← integer_of (faults_at at) d
@@ -43,7 +43,7 @@ abbrev pub is_budget : ℕ → Budget → Bool
 is_budget instrument budget = budget.instrument == instrument
 
 -- one more budget of a recorder, after those before it
-unfoldable pub budget_of : Place → ℕ → List Budget → Members → Result Budget CatalogueFault
+unfoldable pub budget_of : CataloguePlace → ℕ → List Budget → Members → Result Budget CatalogueFault
 budget_of at count before table = do
   _ ← only (faults_at at) (codes "instrument" ∷ codes "amount" ∷ []) table
   instrument ← budgeted at count table

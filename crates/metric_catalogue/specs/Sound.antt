@@ -1,5 +1,5 @@
 -- What holds of every catalogue.
-use Rattle.std.specs.Prelude.{◌≡◌, ℕ, ℤ, pos, ◌<◌, ◌^◌, ◌≤◌, ◌≤ℤ◌, false, IsTrue, IfSome, List, length, take, Option, Some, slice_get}
+use Rattle.std.specs.Prelude.{◌≡◌, ℕ, pos, ◌<◌, ◌^◌, ◌≤◌, ◌≤ℤ◌, false, IsTrue, IfSome, List, length, take, Some, slice_get}
 use Rattle.std.specs.List.{list_any}
 use Rattle.std.specs.Str.{chars}
 use Rattle.metric_catalogue.specs.declared.contents.Budget.{Budget}

@@ -1,5 +1,5 @@
 //! Reading a catalogue from TOML.
-ghost use Rattle.std.specs.Prelude.{◌≡◌, ◌≤◌, length, map, find, IfOk};
+ghost use Rattle.std.specs.Prelude.{◌≡◌, ◌≤◌, length, map, find, IfOk, vec_capacity};
 ghost use Rattle.toml.specs.Parse.{parse_document};
 ghost use Rattle.toml.specs.View.{table_view};
 ghost use Rattle.metric_base.specs.Steps.{Gives, GivesBy, in_turn, require_some};
@@ -14,8 +14,8 @@ ghost use Rattle.metric_catalogue.specs.Catalogues.{catalogue_of, contents_of, f
 
 use crate::attributes::{Attr, OwnedAttr};
 use crate::contents::{Budget, Contents, Instrument, Meter, Recorder};
-use crate::encode::{SetKey, encode_of};
-use crate::fault::{CatalogueFault, Place};
+use crate::encode::{SetKey, encode_of, encode_with_room};
+use crate::fault::{CatalogueFault, CataloguePlace};
 use crate::meters::{Metered, add_meters};
 use crate::recorders::recorders_of;
 use crate::refusal::Refusal;
@@ -110,6 +110,22 @@ impl Catalogue {
     {
         encode_of(self.instruments(), instrument, attrs)
     }
+
+    /// What `encode_owned` answers, for lists of any length: a room that holds as many keys as there are
+    /// attributes takes the place of comparing each key with all others, where one is not declared. Takes
+    /// no memory, and what the room has held is lost.
+    pub fn encode_with_room<'a>(
+        &self,
+        instrument: u32,
+        attrs: &'a [OwnedAttr],
+        room: &mut Vec<&'a str>,
+    ) -> Result<SetKey, Refusal>
+        requires { length attrs.now ≤ vec_capacity room.old }
+        ensures exact { result ≡ encode_of self.now.instruments instrument (map given_by_owned attrs.now) }
+        ensures room { vec_capacity room.new ≡ vec_capacity room.old }
+    {
+        encode_with_room(self.instruments(), instrument, attrs, room)
+    }
 }
 
 impl Recorder {
@@ -188,7 +204,7 @@ fn tables_of_top<'a>(
     ensures recorders { IfOk result (λ tables. length tables.1 ≤ 64) }
 {
     format_of_top(table)?;
-    let faults = faults_at(Place::Top);
+    let faults = faults_at(CataloguePlace::Top);
     let meters = tables_field(alloc, table, "meter", 64, &faults)?;
     let recorders = tables_field(alloc, table, "recorder", 64, &faults)?;
     Ok((meters, recorders))
@@ -198,7 +214,7 @@ fn tables_of_top<'a>(
 fn format_of_top(table: &Table) -> Result<(), CatalogueFault>
     ensures { result ≡ format_of_top (table_view table.now) }
 {
-    let faults = faults_at(Place::Top);
+    let faults = faults_at(CataloguePlace::Top);
     only(table, &["format", "meter", "recorder"], &faults)?;
     format_field(table, &faults)
 }

@@ -1,6 +1,6 @@
 //! What a catalogue declares.
 use crate::values::Values;
-use metric_base::{Few, Text};
+use metric_base::{Boundaries, Few, Shared, Text};
 use metric_names::{Name, Unit};
 
 /// The kind of an instrument (Metrics API, instrument kinds).
@@ -27,25 +27,26 @@ pub struct Meter {
     pub schema_url: Text,
 }
 
-/// An instrument (Metrics API, Instrument).
+/// An instrument (Metrics API, Instrument). What streams take from it is shared, so that a copy takes no
+/// room.
 #[derive(Drop)]
 pub struct Instrument {
     /// The number of its meter.
     pub meter: u32,
     /// The name, of which its meter has one without ASCII case.
-    pub name: Name,
+    pub name: Shared<Name>,
     /// The kind.
     pub kind: Kind,
     /// The unit.
-    pub unit: Unit,
+    pub unit: Shared<Unit>,
     /// The description, at most 1,023 characters.
-    pub description: Text,
+    pub description: Shared<Text>,
     /// The least value that may be recorded.
     pub lo: i64,
     /// The greatest value that may be recorded.
     pub hi: i64,
-    /// The advised boundaries of a histogram, strictly rising (Metrics API, instrument advisory parameters).
-    pub advice: Option<Few<i64, 128>>,
+    /// The advised boundaries of a histogram (Metrics API, instrument advisory parameters).
+    pub advice: Option<Shared<Boundaries>>,
     /// The attribute keys that recordings may have, in declared order.
     pub keys: Few<Key, 8>,
 }

@@ -6,7 +6,7 @@ use thiserror::Error;
 /// The innermost meter, instrument or recorder whose table has a fault. Each is numbered from 0 in the
 /// order of the file, instruments through all meters.
 #[derive(Clone, Copy, Debug, PartialEq, Eq, Drop)]
-pub enum Place {
+pub enum CataloguePlace {
     /// The top table.
     Top,
     /// The meter of this number.
@@ -27,97 +27,97 @@ pub enum CatalogueFault {
     #[error("2 MissingField at {at}")]
     MissingField {
         /// Where.
-        at: Place,
+        at: CataloguePlace,
     },
     /// A field's value is of another kind than the format says.
     #[error("3 WrongKind at {at}")]
     WrongKind {
         /// Where.
-        at: Place,
+        at: CataloguePlace,
     },
     /// A table has a field that the format does not name.
     #[error("4 UnknownField at {at}")]
     UnknownField {
         /// Where.
-        at: Place,
+        at: CataloguePlace,
     },
     /// An instrument's name is no name, or a key's or recorder's name is empty.
     #[error("5 BadName at {at}")]
     BadName {
         /// Where.
-        at: Place,
+        at: CataloguePlace,
     },
     /// An instrument's unit is no unit.
     #[error("6 BadUnit at {at}")]
     BadUnit {
         /// Where.
-        at: Place,
+        at: CataloguePlace,
     },
     /// An earlier meter has the same name, version and schema URL.
     #[error("7 DuplicateMeter at {at}")]
     DuplicateMeter {
         /// Where.
-        at: Place,
+        at: CataloguePlace,
     },
     /// An earlier instrument of the meter has the same name without ASCII case.
     #[error("8 DuplicateInstrument at {at}")]
     DuplicateInstrument {
         /// Where.
-        at: Place,
+        at: CataloguePlace,
     },
     /// An earlier key of the instrument has the same name.
     #[error("9 DuplicateKey at {at}")]
     DuplicateKey {
         /// Where.
-        at: Place,
+        at: CataloguePlace,
     },
     /// A value stands twice in a key's list.
     #[error("10 DuplicateValue at {at}")]
     DuplicateValue {
         /// Where.
-        at: Place,
+        at: CataloguePlace,
     },
     /// A key has the name of the attribute that marks the overflow point.
     #[error("11 ReservedKey at {at}")]
     ReservedKey {
         /// Where.
-        at: Place,
+        at: CataloguePlace,
     },
     /// A range is empty, a counter's or histogram's range has negative values, or an amount is negative.
     #[error("12 BadRange at {at}")]
     BadRange {
         /// Where.
-        at: Place,
+        at: CataloguePlace,
     },
     /// Boundaries do not rise strictly.
     #[error("13 BadBoundaries at {at}")]
     BadBoundaries {
         /// Where.
-        at: Place,
+        at: CataloguePlace,
     },
     /// A budget is for an instrument that the catalogue does not have.
     #[error("14 UnknownInstrument at {at}")]
     UnknownInstrument {
         /// Where.
-        at: Place,
+        at: CataloguePlace,
     },
     /// An earlier recorder has the same name.
     #[error("15 DuplicateRecorder at {at}")]
     DuplicateRecorder {
         /// Where.
-        at: Place,
+        at: CataloguePlace,
     },
     /// An earlier budget of the recorder is for the same instrument.
     #[error("16 DuplicateBudget at {at}")]
     DuplicateBudget {
         /// Where.
-        at: Place,
+        at: CataloguePlace,
     },
     /// A list or a text is longer than its limit.
     #[error("17 TooMany at {at}")]
     TooMany {
         /// Where.
-        at: Place,
+        at: CataloguePlace,
     },
     /// Memory was refused.
     #[error("18 Memory")]
@@ -135,7 +135,7 @@ impl From<AllocError> for CatalogueFault {
     }
 }
 
-impl fmt::Display for Place {
+impl fmt::Display for CataloguePlace {
     ghost use Rattle.std.specs.Prelude.{Some};
     ghost use Rattle.metric_catalogue.specs.FaultPlaces.{place_text};
 
@@ -143,10 +143,10 @@ impl fmt::Display for Place {
 
     fn fmt<W: fmt::Write>(&self, f: &mut fmt::Formatter<W>) -> fmt::Result {
         match self {
-            Place::Top => f.write_str("top"),
-            Place::Meter(number) => write!(f, "meter {number}"),
-            Place::Instrument(number) => write!(f, "instrument {number}"),
-            Place::Recorder(number) => write!(f, "recorder {number}"),
+            CataloguePlace::Top => f.write_str("top"),
+            CataloguePlace::Meter(number) => write!(f, "meter {number}"),
+            CataloguePlace::Instrument(number) => write!(f, "instrument {number}"),
+            CataloguePlace::Recorder(number) => write!(f, "recorder {number}"),
         }
     }
 }

@@ -1,15 +1,16 @@
 //! The instruments of a meter.
-ghost use Rattle.std.specs.Prelude.{◌≡◌, ◌≤◌, ◌<◌, ◌+◌, [], length, map, IfOk};
+ghost use Rattle.std.specs.Prelude.{◌≡◌, ◌≤◌, ◌<◌, ◌+◌, [], codes, length, map};
 ghost use Rattle.std.specs.List.{list_any};
 ghost use Rattle.toml.specs.View.{table_view, view};
 ghost use Rattle.metric_base.specs.Steps.{Gives, Advances, each};
+ghost use Rattle.metric_catalogue.specs.Texts.{free_text};
 ghost use Rattle.metric_catalogue.specs.Instruments.{advice_field, boundaries_of, head_of, instrument_name, instrument_of, is_instrument, is_range, kind_field, only_instrument_fields, pair_of, range_field, unit_field};
 
 use crate::contents::{Instrument, Kind};
-use crate::fault::{CatalogueFault, Place};
+use crate::fault::{CatalogueFault, CataloguePlace};
 use crate::keys::keys_of;
 use crate::texts::{faults_at, free_text, pair_faults_at};
-use metric_base::{Few, Items, Text, is_rising};
+use metric_base::{Boundaries, Few, Items, Shared, Text, is_rising};
 use metric_names::{Name, NameFault, Unit, UnitFault};
 use metric_table::{
     integer_of, integers_of, list_of, member, only, optional_text, required, tables_field,
@@ -21,10 +22,10 @@ use toml::{Table, Value};
 /// What names and describes an instrument.
 #[derive(Drop)]
 pub(crate) struct Head {
-    name: Name,
+    name: Shared<Name>,
     kind: Kind,
-    unit: Unit,
-    description: Text,
+    unit: Shared<Unit>,
+    description: Shared<Text>,
 }
 
 /// Puts the instruments of a meter after those of the meters before it. Where there is a fault, some
@@ -57,12 +58,12 @@ fn instrument_of(
     requires { length before.now < 512 }
     ensures { Gives CatalogueFault.Memory result (instrument_of meter before.now (table_view table.now)) }
 {
-    let at = Place::Instrument(before.len() as u32);
+    let at = CataloguePlace::Instrument(before.len() as u32);
     let head = head_of(alloc, table, at)?;
     let (lo, hi) = range_field(table, head.kind, at)?;
     let advice = advice_field(alloc, table, at)?;
     let tables = tables_field(alloc, table, "key", 8, &faults_at(at))?;
-    if has_instrument(before, meter, &head.name) {
+    if has_instrument(before, meter, head.name.get()) {
         return Err(CatalogueFault::DuplicateInstrument { at });
     }
     let keys = Few::from_items(keys_of(alloc, tables.as_slice(), at)?);
@@ -96,17 +97,17 @@ fn has_instrument(instruments: &[Instrument], meter: u32, name: &Name) -> bool
 fn is_instrument(instrument: &Instrument, meter: u32, name: &Name) -> bool
     ensures { result ≡ is_instrument meter name.now instrument.now }
 {
-    instrument.meter == meter && instrument.name.same(name)
+    instrument.meter == meter && instrument.name.get().same(name)
 }
 
 #[tactic(auto, unfolding(crate::specs::Instruments::head_of))]
-fn head_of(alloc: Global, table: &Table, at: Place) -> Result<Head, CatalogueFault>
+fn head_of(alloc: Global, table: &Table, at: CataloguePlace) -> Result<Head, CatalogueFault>
     ensures { Gives CatalogueFault.Memory result (head_of at (table_view table.now)) }
 {
     let name = instrument_name(alloc, table, at)?;
     let kind = kind_field(table, at)?;
     let unit = unit_field(alloc, table, at)?;
-    let description = free_text(alloc, table, "description", at)?;
+    let description = description_field(alloc, table, at)?;
     Ok(Head {
         name,
         kind,
@@ -116,7 +117,7 @@ fn head_of(alloc: Global, table: &Table, at: Place) -> Result<Head, CatalogueFau
 }
 
 #[tactic(auto, unfolding(crate::specs::Instruments::only_instrument_fields))]
-fn only_instrument_fields(table: &Table, at: Place) -> Result<(), CatalogueFault>
+fn only_instrument_fields(table: &Table, at: CataloguePlace) -> Result<(), CatalogueFault>
     ensures { result ≡ only_instrument_fields at (table_view table.now) }
 {
     let names = [
@@ -132,20 +133,24 @@ fn only_instrument_fields(table: &Table, at: Place) -> Result<(), CatalogueFault
 }
 
 #[tactic(auto, unfolding(crate::specs::Instruments::instrument_name))]
-fn instrument_name(alloc: Global, table: &Table, at: Place) -> Result<Name, CatalogueFault>
+fn instrument_name(
+    alloc: Global,
+    table: &Table,
+    at: CataloguePlace,
+) -> Result<Shared<Name>, CatalogueFault>
     ensures { Gives CatalogueFault.Memory result (instrument_name at (table_view table.now)) }
 {
     only_instrument_fields(table, at)?;
     let text = text_field(table, "name", &faults_at(at))?;
     match Name::parse(alloc, text) {
-        Ok(name) => Ok(name),
+        Ok(name) => Ok(Shared::new(alloc, name)?),
         Err(NameFault::Memory) => Err(CatalogueFault::Memory),
         Err(_) => Err(CatalogueFault::BadName { at }),
     }
 }
 
 #[tactic(auto, unfolding(crate::specs::Instruments::kind_field))]
-fn kind_field(table: &Table, at: Place) -> Result<Kind, CatalogueFault>
+fn kind_field(table: &Table, at: CataloguePlace) -> Result<Kind, CatalogueFault>
     ensures { result ≡ kind_field at (table_view table.now) }
 {
     let text = text_field(table, "kind", &faults_at(at))?;
@@ -153,19 +158,35 @@ fn kind_field(table: &Table, at: Place) -> Result<Kind, CatalogueFault>
 }
 
 #[tactic(auto, unfolding(crate::specs::Instruments::unit_field))]
-fn unit_field(alloc: Global, table: &Table, at: Place) -> Result<Unit, CatalogueFault>
+fn unit_field(
+    alloc: Global,
+    table: &Table,
+    at: CataloguePlace,
+) -> Result<Shared<Unit>, CatalogueFault>
     ensures { Gives CatalogueFault.Memory result (unit_field at (table_view table.now)) }
 {
     let text = optional_text(table, "unit", &faults_at(at))?;
     match Unit::parse(alloc, text.unwrap_or("")) {
-        Ok(unit) => Ok(unit),
+        Ok(unit) => Ok(Shared::new(alloc, unit)?),
         Err(UnitFault::Memory) => Err(CatalogueFault::Memory),
         Err(_) => Err(CatalogueFault::BadUnit { at }),
     }
 }
 
+fn description_field(
+    alloc: Global,
+    table: &Table,
+    at: CataloguePlace,
+) -> Result<Shared<Text>, CatalogueFault>
+    ensures { Gives CatalogueFault.Memory result
+        (free_text at (codes "description") (table_view table.now)) }
+{
+    let description = free_text(alloc, table, "description", at)?;
+    Ok(Shared::new(alloc, description)?)
+}
+
 #[tactic(auto, unfolding(crate::specs::Instruments::range_field))]
-fn range_field(table: &Table, kind: Kind, at: Place) -> Result<(i64, i64), CatalogueFault>
+fn range_field(table: &Table, kind: Kind, at: CataloguePlace) -> Result<(i64, i64), CatalogueFault>
     ensures { result ≡ range_field at kind (table_view table.now) }
 {
     let value = required(table, "range", &faults_at(at))?;
@@ -177,7 +198,7 @@ fn range_field(table: &Table, kind: Kind, at: Place) -> Result<(i64, i64), Catal
     Ok((lo, hi))
 }
 
-fn pair_of(values: &[Value], at: Place) -> Result<(i64, i64), CatalogueFault>
+fn pair_of(values: &[Value], at: CataloguePlace) -> Result<(i64, i64), CatalogueFault>
     ensures { result ≡ pair_of at (map view values.now) }
 {
     let faults = faults_at(at);
@@ -201,8 +222,8 @@ fn is_range(kind: Kind, lo: i64, hi: i64) -> bool
 fn advice_field(
     alloc: Global,
     table: &Table,
-    at: Place,
-) -> Result<Option<Few<i64, 128>>, CatalogueFault>
+    at: CataloguePlace,
+) -> Result<Option<Shared<Boundaries>>, CatalogueFault>
     ensures { Gives CatalogueFault.Memory result (advice_field at (table_view table.now)) }
 {
     match member(table, "boundaries") {
@@ -215,12 +236,17 @@ fn advice_field(
 }
 
 #[tactic(auto, unfolding(crate::specs::Instruments::boundaries_of))]
-fn boundaries_of(alloc: Global, value: &Value, at: Place) -> Result<Few<i64, 128>, CatalogueFault>
+fn boundaries_of(
+    alloc: Global,
+    value: &Value,
+    at: CataloguePlace,
+) -> Result<Shared<Boundaries>, CatalogueFault>
     ensures { Gives CatalogueFault.Memory result (boundaries_of at (view value.now)) }
 {
     let boundaries = integers_of(alloc, value, 128, &faults_at(at))?;
     if !is_rising(boundaries.as_slice()) {
         return Err(CatalogueFault::BadBoundaries { at });
     }
-    Ok(Few::from_items(boundaries))
+    let boundaries = Boundaries::from_few(Few::from_items(boundaries));
+    Ok(Shared::new(alloc, boundaries)?)
 }

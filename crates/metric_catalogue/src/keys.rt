@@ -7,7 +7,7 @@ ghost use Rattle.metric_table.specs.Fields.{each_alone};
 ghost use Rattle.metric_catalogue.specs.Keys.{is_key, key_name, key_of, only_key_fields, optional_field, some_values, value_at, values_field};
 
 use crate::contents::Key;
-use crate::fault::{CatalogueFault, Place};
+use crate::fault::{CatalogueFault, CataloguePlace};
 use crate::texts::{faults_at, label_field};
 use crate::values::Values;
 use metric_base::{Items, Text};
@@ -20,7 +20,7 @@ use toml::{Table, Value};
 pub(crate) fn keys_of(
     alloc: Global,
     tables: &[&Table],
-    at: Place,
+    at: CataloguePlace,
 ) -> Result<Items<Key>, CatalogueFault>
     ensures exact { Gives CatalogueFault.Memory result (each (key_of at) [] (map (λ t. table_view t.now) tables.now)) }
     ensures few { IfOk result (λ keys. length keys ≤ length tables.now) }
@@ -34,7 +34,12 @@ pub(crate) fn keys_of(
 }
 
 #[tactic(auto, unfolding(crate::specs::Keys::key_of))]
-fn key_of(alloc: Global, table: &Table, at: Place, before: &[Key]) -> Result<Key, CatalogueFault>
+fn key_of(
+    alloc: Global,
+    table: &Table,
+    at: CataloguePlace,
+    before: &[Key],
+) -> Result<Key, CatalogueFault>
     ensures { Gives CatalogueFault.Memory result (key_of at before.now (table_view table.now)) }
 {
     only_key_fields(table, at)?;
@@ -58,14 +63,14 @@ fn has_key(keys: &[Key], name: &Text) -> bool
 }
 
 #[tactic(auto, unfolding(crate::specs::Keys::only_key_fields))]
-fn only_key_fields(table: &Table, at: Place) -> Result<(), CatalogueFault>
+fn only_key_fields(table: &Table, at: CataloguePlace) -> Result<(), CatalogueFault>
     ensures { result ≡ only_key_fields at (table_view table.now) }
 {
     only(table, &["name", "values", "optional"], &faults_at(at))
 }
 
 #[tactic(auto, unfolding(crate::specs::Keys::optional_field))]
-fn optional_field(table: &Table, at: Place) -> Result<bool, CatalogueFault>
+fn optional_field(table: &Table, at: CataloguePlace) -> Result<bool, CatalogueFault>
     ensures { result ≡ optional_field at (table_view table.now) }
 {
     flag_or(table, "optional", false, &faults_at(at))
@@ -73,7 +78,7 @@ fn optional_field(table: &Table, at: Place) -> Result<bool, CatalogueFault>
 
 /// The name of a key.
 #[tactic(auto, unfolding(crate::specs::Keys::key_name))]
-fn key_name(alloc: Global, table: &Table, at: Place) -> Result<Text, CatalogueFault>
+fn key_name(alloc: Global, table: &Table, at: CataloguePlace) -> Result<Text, CatalogueFault>
     ensures { Gives CatalogueFault.Memory result (key_name at (table_view table.now)) }
 {
     let name = label_field(alloc, table, at)?;
@@ -85,7 +90,7 @@ fn key_name(alloc: Global, table: &Table, at: Place) -> Result<Text, CatalogueFa
 
 /// The values of a key, of which none stands twice.
 #[tactic(auto, unfolding(crate::specs::Keys::values_field))]
-fn values_field(alloc: Global, table: &Table, at: Place) -> Result<Values, CatalogueFault>
+fn values_field(alloc: Global, table: &Table, at: CataloguePlace) -> Result<Values, CatalogueFault>
     ensures { Gives CatalogueFault.Memory result (values_field at (table_view table.now)) }
 {
     let values = some_values(alloc, table, at)?;
@@ -96,7 +101,11 @@ fn values_field(alloc: Global, table: &Table, at: Place) -> Result<Values, Catal
 }
 
 #[tactic(auto, unfolding(crate::specs::Keys::some_values))]
-fn some_values(alloc: Global, table: &Table, at: Place) -> Result<Items<AttrValue>, CatalogueFault>
+fn some_values(
+    alloc: Global,
+    table: &Table,
+    at: CataloguePlace,
+) -> Result<Items<AttrValue>, CatalogueFault>
     ensures exact { Gives CatalogueFault.Memory result (some_values at (table_view table.now)) }
     ensures few { IfOk result (λ values. length values ≤ 1000) }
 {
@@ -109,7 +118,11 @@ fn some_values(alloc: Global, table: &Table, at: Place) -> Result<Items<AttrValu
     values_at(alloc, values, at)
 }
 
-fn values_at(alloc: Global, values: &[Value], at: Place) -> Result<Items<AttrValue>, CatalogueFault>
+fn values_at(
+    alloc: Global,
+    values: &[Value],
+    at: CataloguePlace,
+) -> Result<Items<AttrValue>, CatalogueFault>
     ensures exact { Gives CatalogueFault.Memory result (each_alone (value_at at) (map view values.now)) }
     ensures few { IfOk result (λ read. length read ≤ length values.now) }
 {
@@ -122,7 +135,7 @@ fn values_at(alloc: Global, values: &[Value], at: Place) -> Result<Items<AttrVal
 }
 
 /// The attribute value that a value is.
-fn value_at(alloc: Global, value: &Value, at: Place) -> Result<AttrValue, CatalogueFault>
+fn value_at(alloc: Global, value: &Value, at: CataloguePlace) -> Result<AttrValue, CatalogueFault>
     ensures { Gives CatalogueFault.Memory result (value_at at (view value.now)) }
 {
     match value {

@@ -6,7 +6,7 @@ ghost use Rattle.metric_base.specs.Steps.{Gives, Advances, in_turn};
 ghost use Rattle.metric_catalogue.specs.Meters.{is_meter, meter_of, only_meter_fields, with_meter};
 
 use crate::contents::{Instrument, Meter};
-use crate::fault::{CatalogueFault, Place};
+use crate::fault::{CatalogueFault, CataloguePlace};
 use crate::instruments::add_instruments;
 use crate::texts::{faults_at, free_text, needed_text};
 use metric_base::Items;
@@ -49,7 +49,7 @@ fn add_meter(alloc: Global, metered: &mut Metered, table: &Table) -> Result<(), 
     ensures instruments { OnOk result (length metered.new.instruments ≤ 512) }
 {
     let number = metered.meters.len() as u32;
-    let at = Place::Meter(number);
+    let at = CataloguePlace::Meter(number);
     let meter = meter_of(alloc, table, at)?;
     let most = 512 - metered.instruments.len();
     let tables = tables_field(alloc, table, "instrument", most, &faults_at(at))?;
@@ -75,7 +75,7 @@ fn is_meter(other: &Meter, meter: &Meter) -> bool
 }
 
 #[tactic(auto, unfolding(crate::specs::Meters::only_meter_fields))]
-fn only_meter_fields(table: &Table, at: Place) -> Result<(), CatalogueFault>
+fn only_meter_fields(table: &Table, at: CataloguePlace) -> Result<(), CatalogueFault>
     ensures { result ≡ only_meter_fields at (table_view table.now) }
 {
     let names = ["name", "version", "schema_url", "instrument"];
@@ -83,7 +83,7 @@ fn only_meter_fields(table: &Table, at: Place) -> Result<(), CatalogueFault>
 }
 
 #[tactic(auto, unfolding(crate::specs::Meters::meter_of))]
-fn meter_of(alloc: Global, table: &Table, at: Place) -> Result<Meter, CatalogueFault>
+fn meter_of(alloc: Global, table: &Table, at: CataloguePlace) -> Result<Meter, CatalogueFault>
     ensures { Gives CatalogueFault.Memory result (meter_of at (table_view table.now)) }
 {
     only_meter_fields(table, at)?;

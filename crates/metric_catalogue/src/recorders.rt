@@ -6,7 +6,7 @@ ghost use Rattle.metric_base.specs.Steps.{Gives, each};
 ghost use Rattle.metric_catalogue.specs.Recorders.{amount_field, amount_from, budget_of, budgeted, is_budget, is_recorder, number_below, recorder_of};
 
 use crate::contents::{Budget, Recorder};
-use crate::fault::{CatalogueFault, Place};
+use crate::fault::{CatalogueFault, CataloguePlace};
 use crate::texts::{faults_at, label_field};
 use metric_base::{Few, Items, Text};
 use metric_table::{integer_of, only, required, tables_field};
@@ -41,7 +41,7 @@ fn recorder_of(
     requires { length before.now < 64 }
     ensures { Gives CatalogueFault.Memory result (recorder_of count before.now (table_view table.now)) }
 {
-    let at = Place::Recorder(before.len() as u32);
+    let at = CataloguePlace::Recorder(before.len() as u32);
     let faults = faults_at(at);
     only(table, &["name", "budget"], &faults)?;
     let name = label_field(alloc, table, at)?;
@@ -65,7 +65,7 @@ fn budgets_of(
     alloc: Global,
     tables: &[&Table],
     count: u32,
-    at: Place,
+    at: CataloguePlace,
 ) -> Result<Items<Budget>, CatalogueFault>
     ensures exact { Gives CatalogueFault.Memory result (each (budget_of at count) [] (map (λ t. table_view t.now) tables.now)) }
     ensures few { IfOk result (λ budgets. length budgets ≤ length tables.now) }
@@ -82,7 +82,7 @@ fn budgets_of(
 fn budget_of(
     table: &Table,
     count: u32,
-    at: Place,
+    at: CataloguePlace,
     before: &[Budget],
 ) -> Result<Budget, CatalogueFault>
     ensures { result ≡ budget_of at count before.now (table_view table.now) }
@@ -103,7 +103,7 @@ fn has_budget(budgets: &[Budget], instrument: u32) -> bool
 }
 
 #[tactic(auto, unfolding(crate::specs::Recorders::budgeted))]
-fn budgeted(table: &Table, count: u32, at: Place) -> Result<u32, CatalogueFault>
+fn budgeted(table: &Table, count: u32, at: CataloguePlace) -> Result<u32, CatalogueFault>
     ensures { result ≡ budgeted at count (table_view table.now) }
 {
     let faults = faults_at(at);
@@ -123,7 +123,7 @@ fn number_below(count: u32, number: i64) -> Option<u32>
 }
 
 #[tactic(auto, unfolding(crate::specs::Recorders::amount_field))]
-fn amount_field(table: &Table, at: Place) -> Result<u64, CatalogueFault>
+fn amount_field(table: &Table, at: CataloguePlace) -> Result<u64, CatalogueFault>
     ensures { result ≡ amount_field at (table_view table.now) }
 {
     let faults = faults_at(at);

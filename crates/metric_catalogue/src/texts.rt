@@ -5,14 +5,14 @@ ghost use Rattle.metric_base.specs.Steps.{Gives};
 ghost use Rattle.metric_catalogue.specs.Faults.{faults_at, pair_faults_at};
 ghost use Rattle.metric_catalogue.specs.Texts.{free_text, label_field, needed_text};
 
-use crate::fault::{CatalogueFault, Place};
+use crate::fault::{CatalogueFault, CataloguePlace};
 use metric_base::Text;
 use metric_table::{FieldFaults, optional_text, short_text, text_field};
 use std::alloc::Global;
 use toml::Table;
 
 /// What the fields of a table at this place answer for their faults.
-pub(crate) fn faults_at(at: Place) -> FieldFaults<CatalogueFault>
+pub(crate) fn faults_at(at: CataloguePlace) -> FieldFaults<CatalogueFault>
     ensures { result ≡ faults_at at }
 {
     FieldFaults {
@@ -25,7 +25,7 @@ pub(crate) fn faults_at(at: Place) -> FieldFaults<CatalogueFault>
 }
 
 /// The same where a list of another length is of another kind.
-pub(crate) fn pair_faults_at(at: Place) -> FieldFaults<CatalogueFault>
+pub(crate) fn pair_faults_at(at: CataloguePlace) -> FieldFaults<CatalogueFault>
     ensures { result ≡ pair_faults_at at }
 {
     FieldFaults {
@@ -43,7 +43,7 @@ pub(crate) fn needed_text(
     alloc: Global,
     table: &Table,
     name: &str,
-    at: Place,
+    at: CataloguePlace,
 ) -> Result<Text, CatalogueFault>
     ensures { Gives CatalogueFault.Memory result (needed_text at name.now (table_view table.now)) }
 {
@@ -59,7 +59,7 @@ pub(crate) fn free_text(
     alloc: Global,
     table: &Table,
     name: &str,
-    at: Place,
+    at: CataloguePlace,
 ) -> Result<Text, CatalogueFault>
     ensures { Gives CatalogueFault.Memory result (free_text at name.now (table_view table.now)) }
 {
@@ -71,7 +71,11 @@ pub(crate) fn free_text(
 
 /// The name of a key or a recorder.
 #[tactic(auto, unfolding(crate::specs::Texts::label_field))]
-pub(crate) fn label_field(alloc: Global, table: &Table, at: Place) -> Result<Text, CatalogueFault>
+pub(crate) fn label_field(
+    alloc: Global,
+    table: &Table,
+    at: CataloguePlace,
+) -> Result<Text, CatalogueFault>
     ensures { Gives CatalogueFault.Memory result (label_field at (table_view table.now)) }
 {
     let faults = faults_at(at);

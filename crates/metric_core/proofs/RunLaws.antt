@@ -10,7 +10,8 @@ use Rattle.metric_history.specs.declared.event.Event.{Event}
 use Rattle.metric_history.specs.declared.event.Reply.{Reply}
 use Rattle.metric_history.specs.declared.event.Reply.TheVariants.{Refused}
 use Rattle.metric_history.specs.Events.{instrument_of}
-use Rattle.metric_history.specs.Rules.{RunRules, InstrumentRules}
+use Rattle.metric_history.specs.declared.facts.Facts.{Facts}
+use Rattle.metric_history.specs.Facts.{RunFacts}
 use Rattle.metric_history.specs.History.{History, answered}
 use Rattle.metric_core.specs.Steps.{Steps}
 use Rattle.metric_history.specs.Legal.{Legal, AllLegal, grown}
@@ -31,64 +32,64 @@ slice_get-set_other xs k i x y other found =
     slice_get-get_or xs i y below ∙ ap Some (sym (get_or-set_other xs k i x y other) ∙ get_or_from_slice_get (slice_set xs k x) i y y found)
 
 -- an event of a known instrument
-pub known_steps : (rules : RunRules) (own : InstrumentRules) (since : ℕ) (cells : List CellValue) (c : CellValue) (event : Event) (reply : Reply)
-    → slice_get rules.instruments (instrument_of event) ≡ Some own → slice_get cells (instrument_of event) ≡ Some c
-    → LegalOn rules.contents own since c event reply
-    → Steps rules since cells event reply (slice_set cells (instrument_of event) (cell_after rules.contents c event reply))
-known_steps rules own since cells c event reply ruled found legal = record {
-  legal = λ h s. event_legal rules own since c h event reply ruled (s.each (instrument_of event) c own found ruled) legal;
-  stands = λ h s. record {
-    one_each = length-set cells (instrument_of event) (cell_after rules.contents c event reply) ∙ s.one_each;
-    each = λ i c' own' found' ruled'. ⊎_elim (λ same. here h s i c' own' found' ruled' same) (λ other. there h s i c' own' found' ruled' other) (cases_eq i (instrument_of event));
+pub known_steps : (facts : RunFacts) (own : Facts) (cells : List CellValue) (c : CellValue) (event : Event) (reply : Reply)
+    → slice_get facts.instruments (instrument_of event) ≡ Some own → slice_get cells (instrument_of event) ≡ Some c
+    → LegalOn facts.contents own c event reply
+    → Steps facts cells event reply (slice_set cells (instrument_of event) (cell_after facts.contents c event reply))
+known_steps facts own cells c event reply ruled found legal = record {
+  legal = λ since h s. event_legal facts own since c h event reply ruled (s.each (instrument_of event) c own found ruled) legal;
+  stands = λ since h s. record {
+    one_each = length-set cells (instrument_of event) (cell_after facts.contents c event reply) ∙ s.one_each;
+    each = λ i c' own' found' ruled'. ⊎_elim (λ same. here since h s i c' own' found' ruled' same) (λ other. there since h s i c' own' found' ruled' other) (cases_eq i (instrument_of event));
   };
   in_range = λ stays. record {
     each = λ i c' own' found' ruled'. ⊎_elim (λ same. stays_here stays i c' own' found' ruled' same)
-        (λ other. stays.each i c' own' (slice_get-set_other cells (instrument_of event) i (cell_after rules.contents c event reply) c' other found') ruled') (cases_eq i (instrument_of event));
+        (λ other. stays.each i c' own' (slice_get-set_other cells (instrument_of event) i (cell_after facts.contents c event reply) c' other found') ruled') (cases_eq i (instrument_of event));
   };
 }
   where
-    stays_here : CellsInRange rules.instruments cells → (i : ℕ) (c' : CellValue) (own' : InstrumentRules)
-        → slice_get (slice_set cells (instrument_of event) (cell_after rules.contents c event reply)) i ≡ Some c' → slice_get rules.instruments i ≡ Some own' → i ≡ instrument_of event
+    stays_here : CellsInRange facts.instruments cells → (i : ℕ) (c' : CellValue) (own' : Facts)
+        → slice_get (slice_set cells (instrument_of event) (cell_after facts.contents c event reply)) i ≡ Some c' → slice_get facts.instruments i ≡ Some own' → i ≡ instrument_of event
         → cell_in_range own' c' ≡ true
     stays_here stays i c' own' found' ruled' same =
-        let at_k : slice_get (slice_set cells (instrument_of event) (cell_after rules.contents c event reply)) (instrument_of event) ≡ Some (cell_after rules.contents c event reply) =
-        slice_get-set_same cells (instrument_of event) (cell_after rules.contents c event reply) (slice_get_within cells (instrument_of event) c found) in
-        let is_new : c' ≡ cell_after rules.contents c event reply = cc in
+        let at_k : slice_get (slice_set cells (instrument_of event) (cell_after facts.contents c event reply)) (instrument_of event) ≡ Some (cell_after facts.contents c event reply) =
+        slice_get-set_same cells (instrument_of event) (cell_after facts.contents c event reply) (slice_get_within cells (instrument_of event) c found) in
+        let is_new : c' ≡ cell_after facts.contents c event reply = cc in
         let is_own : own' ≡ own = cc in
-        ap (λ (o : InstrumentRules). cell_in_range o c') is_own
+        ap (λ (o : Facts). cell_in_range o c') is_own
         ∙ ap (cell_in_range own) is_new
-        ∙ event_in_range rules.contents own since c event reply legal (stays.each (instrument_of event) c own found ruled)
+        ∙ event_in_range facts.contents own c event reply legal (stays.each (instrument_of event) c own found ruled)
 
-    here : (h : History) → CellsStand rules since cells h → (i : ℕ) (c' : CellValue) (own' : InstrumentRules)
-        → slice_get (slice_set cells (instrument_of event) (cell_after rules.contents c event reply)) i ≡ Some c' → slice_get rules.instruments i ≡ Some own' → i ≡ instrument_of event
-        → CellStands rules own' since c' (answered event reply ∷ h) i
-    here h s i c' own' found' ruled' same =
-        let at_k : slice_get (slice_set cells (instrument_of event) (cell_after rules.contents c event reply)) (instrument_of event) ≡ Some (cell_after rules.contents c event reply) =
-        slice_get-set_same cells (instrument_of event) (cell_after rules.contents c event reply) (slice_get_within cells (instrument_of event) c found) in
-        let is_new : c' ≡ cell_after rules.contents c event reply = cc in
+    here : (since : ℕ) (h : History) → CellsStand facts since cells h → (i : ℕ) (c' : CellValue) (own' : Facts)
+        → slice_get (slice_set cells (instrument_of event) (cell_after facts.contents c event reply)) i ≡ Some c' → slice_get facts.instruments i ≡ Some own' → i ≡ instrument_of event
+        → CellStands facts own' since c' (answered event reply ∷ h) i
+    here since h s i c' own' found' ruled' same =
+        let at_k : slice_get (slice_set cells (instrument_of event) (cell_after facts.contents c event reply)) (instrument_of event) ≡ Some (cell_after facts.contents c event reply) =
+        slice_get-set_same cells (instrument_of event) (cell_after facts.contents c event reply) (slice_get_within cells (instrument_of event) c found) in
+        let is_new : c' ≡ cell_after facts.contents c event reply = cc in
         let is_own : own' ≡ own = cc in
-        let done : CellStands rules own since (cell_after rules.contents c event reply) (answered event reply ∷ h) (instrument_of event) =
-        event_stands rules own since c h event reply legal (s.each (instrument_of event) c own found ruled) in
-        subst (λ (n : ℕ). CellStands rules own' since c' (answered event reply ∷ h) n) (sym same)
-        (subst (λ (d : CellValue). CellStands rules own' since d (answered event reply ∷ h) (instrument_of event)) (sym is_new)
-        (subst (λ (o : InstrumentRules). CellStands rules o since (cell_after rules.contents c event reply) (answered event reply ∷ h) (instrument_of event)) (sym is_own) done))
+        let done : CellStands facts own since (cell_after facts.contents c event reply) (answered event reply ∷ h) (instrument_of event) =
+        event_stands facts own since c h event reply legal (s.each (instrument_of event) c own found ruled) in
+        subst (λ (n : ℕ). CellStands facts own' since c' (answered event reply ∷ h) n) (sym same)
+        (subst (λ (d : CellValue). CellStands facts own' since d (answered event reply ∷ h) (instrument_of event)) (sym is_new)
+        (subst (λ (o : Facts). CellStands facts o since (cell_after facts.contents c event reply) (answered event reply ∷ h) (instrument_of event)) (sym is_own) done))
 
-    there : (h : History) → CellsStand rules since cells h → (i : ℕ) (c' : CellValue) (own' : InstrumentRules)
-        → slice_get (slice_set cells (instrument_of event) (cell_after rules.contents c event reply)) i ≡ Some c' → slice_get rules.instruments i ≡ Some own' → (i ≡ instrument_of event → ⊥)
-        → CellStands rules own' since c' (answered event reply ∷ h) i
-    there h s i c' own' found' ruled' other =
-        quiet_stands rules own' since c' h i event reply (elsewhere_is_quiet rules i event reply (λ e. other (sym e)))
-        (s.each i c' own' (slice_get-set_other cells (instrument_of event) i (cell_after rules.contents c event reply) c' other found') ruled')
+    there : (since : ℕ) (h : History) → CellsStand facts since cells h → (i : ℕ) (c' : CellValue) (own' : Facts)
+        → slice_get (slice_set cells (instrument_of event) (cell_after facts.contents c event reply)) i ≡ Some c' → slice_get facts.instruments i ≡ Some own' → (i ≡ instrument_of event → ⊥)
+        → CellStands facts own' since c' (answered event reply ∷ h) i
+    there since h s i c' own' found' ruled' other =
+        quiet_stands facts own' since c' h i event reply (elsewhere_is_quiet facts i event reply (λ e. other (sym e)))
+        (s.each i c' own' (slice_get-set_other cells (instrument_of event) i (cell_after facts.contents c event reply) c' other found') ruled')
 
--- an event of an instrument that has no rules or no cell
-pub unknown_steps : (rules : RunRules) (since : ℕ) (cells : List CellValue) (event : Event)
-    → (slice_get rules.instruments (instrument_of event) ≡ None) ⊎ (slice_get cells (instrument_of event) ≡ None)
-    → Steps rules since cells event (Refused UnknownInstrument) cells
-unknown_steps rules since cells event none = record {
-  legal = λ h s. unknown_legal rules since h event (⊎_elim (λ unruled. unruled) (λ unheld. unruled h s unheld) none);
-  stands = λ h s. record {
+-- an event of an instrument that has no facts or no cell
+pub unknown_steps : (facts : RunFacts) (cells : List CellValue) (event : Event)
+    → (slice_get facts.instruments (instrument_of event) ≡ None) ⊎ (slice_get cells (instrument_of event) ≡ None)
+    → Steps facts cells event (Refused UnknownInstrument) cells
+unknown_steps facts cells event none = record {
+  legal = λ since h s. unknown_legal facts since h event (⊎_elim (λ unruled. unruled) (λ unheld. unruled since h s unheld) none);
+  stands = λ since h s. record {
     one_each = s.one_each;
-    each = λ i c own found ruled. quiet_stands rules own since c h i event (Refused UnknownInstrument) (refused_is_quiet rules i event UnknownInstrument) (s.each i c own found ruled);
+    each = λ i c own found ruled. quiet_stands facts own since c h i event (Refused UnknownInstrument) (refused_is_quiet facts i event UnknownInstrument) (s.each i c own found ruled);
   };
   in_range = λ stays. stays;
 }
@@ -98,18 +99,18 @@ unknown_steps rules since cells event none = record {
     past (x ∷ xs) zero e = absurd cc
     past (x ∷ xs) (suc k) e = omega (arith, past xs k e)
 
-    unruled : (h : History) → CellsStand rules since cells h → slice_get cells (instrument_of event) ≡ None → slice_get rules.instruments (instrument_of event) ≡ None
-    unruled h s unheld = slice_get_past rules.instruments (instrument_of event) (omega (arith, s.one_each, past cells (instrument_of event) unheld))
+    unruled : (since : ℕ) (h : History) → CellsStand facts since cells h → slice_get cells (instrument_of event) ≡ None → slice_get facts.instruments (instrument_of event) ≡ None
+    unruled since h s unheld = slice_get_past facts.instruments (instrument_of event) (omega (arith, s.one_each, past cells (instrument_of event) unheld))
 
 -- one event more
-pub AllLegal_push : (rules : RunRules) (since : ℕ) (events : List Event) (replies : List Reply) (h : History) (event : Event) (reply : Reply)
-    → length replies ≡ length events → AllLegal rules since h events replies → Legal rules since (grown h events replies) event reply
-    → AllLegal rules since h (events ++ event ∷ []) (replies ++ reply ∷ [])
-AllLegal_push rules since [] [] h event reply long all legal = (legal, tt)
-AllLegal_push rules since [] (r ∷ replies) h event reply long all legal = absurd all
-AllLegal_push rules since (e ∷ events) [] h event reply long all legal = absurd all
-AllLegal_push rules since (e ∷ events) (r ∷ replies) h event reply long all legal =
-    (all.0, AllLegal_push rules since events replies (answered e r ∷ h) event reply (omega arith) all.1 legal)
+pub AllLegal_push : (facts : RunFacts) (since : ℕ) (events : List Event) (replies : List Reply) (h : History) (event : Event) (reply : Reply)
+    → length replies ≡ length events → AllLegal facts since h events replies → Legal facts since (grown h events replies) event reply
+    → AllLegal facts since h (events ++ event ∷ []) (replies ++ reply ∷ [])
+AllLegal_push facts since [] [] h event reply long all legal = (legal, tt)
+AllLegal_push facts since [] (r ∷ replies) h event reply long all legal = absurd all
+AllLegal_push facts since (e ∷ events) [] h event reply long all legal = absurd all
+AllLegal_push facts since (e ∷ events) (r ∷ replies) h event reply long all legal =
+    (all.0, AllLegal_push facts since events replies (answered e r ∷ h) event reply (omega arith) all.1 legal)
 
 pub grown_push : (events : List Event) (replies : List Reply) (h : History) (event : Event) (reply : Reply)
     → length replies ≡ length events → grown h (events ++ event ∷ []) (replies ++ reply ∷ []) ≡ answered event reply ∷ grown h events replies
@@ -119,31 +120,31 @@ grown_push (e ∷ events) [] h event reply long = absurd (omega arith)
 grown_push (e ∷ events) (r ∷ replies) h event reply long = grown_push events replies (answered e r ∷ h) event reply (omega arith)
 
 -- The same by places.
-pub unknown_at : (rules : RunRules) (since : ℕ) (cells : List CellValue) (event : Event) (k : ℕ) → k ≡ instrument_of event
-    → (length rules.instruments ≤ k) ⊎ (length cells ≤ k) → Steps rules since cells event (Refused UnknownInstrument) cells
-unknown_at rules since cells event k at past =
-    unknown_steps rules since cells event
-    (subst (λ (n : ℕ). (slice_get rules.instruments n ≡ None) ⊎ (slice_get cells n ≡ None)) at
-    (⊎_elim (λ few. inl (slice_get_past rules.instruments k few)) (λ few. inr (slice_get_past cells k few)) past))
+pub unknown_at : (facts : RunFacts) (cells : List CellValue) (event : Event) (k : ℕ) → k ≡ instrument_of event
+    → (length facts.instruments ≤ k) ⊎ (length cells ≤ k) → Steps facts cells event (Refused UnknownInstrument) cells
+unknown_at facts cells event k at past =
+    unknown_steps facts cells event
+    (subst (λ (n : ℕ). (slice_get facts.instruments n ≡ None) ⊎ (slice_get cells n ≡ None)) at
+    (⊎_elim (λ few. inl (slice_get_past facts.instruments k few)) (λ few. inr (slice_get_past cells k few)) past))
 
-pub known_at : (rules : RunRules) (since : ℕ) (cells : List CellValue) (event : Event) (reply : Reply) (k : ℕ) (contents : Contents) (all : List InstrumentRules) (own : InstrumentRules) (c new : CellValue)
-    → k ≡ instrument_of event → contents ≡ rules.contents → all ≡ rules.instruments → k < length all → own ≡ get_or all k own → k < length cells → c ≡ get_or cells k c
-    → LegalOn contents own since (get_or cells k c) event reply → new ≡ cell_after contents (get_or cells k c) event reply
-    → Steps rules since cells event reply (slice_set cells k new)
-known_at rules since cells event reply k contents all own c new at declared ruled below is_own held is_cell legal is_new =
-    let rule_at : slice_get rules.instruments k ≡ Some own = subst (λ (rs : List InstrumentRules). slice_get rs k ≡ Some own) ruled (slice_get-get_or all k own below ∙ ap Some (sym is_own)) in
+pub known_at : (facts : RunFacts) (cells : List CellValue) (event : Event) (reply : Reply) (k : ℕ) (contents : Contents) (all : List Facts) (own : Facts) (c new : CellValue)
+    → k ≡ instrument_of event → contents ≡ facts.contents → all ≡ facts.instruments → k < length all → own ≡ get_or all k own → k < length cells → c ≡ get_or cells k c
+    → LegalOn contents own (get_or cells k c) event reply → new ≡ cell_after contents (get_or cells k c) event reply
+    → Steps facts cells event reply (slice_set cells k new)
+known_at facts cells event reply k contents all own c new at declared ruled below is_own held is_cell legal is_new =
+    let rule_at : slice_get facts.instruments k ≡ Some own = subst (λ (rs : List Facts). slice_get rs k ≡ Some own) ruled (slice_get-get_or all k own below ∙ ap Some (sym is_own)) in
     let cell_at : slice_get cells k ≡ Some (get_or cells k c) = slice_get-get_or cells k c held in
-    let legal' : LegalOn rules.contents own since (get_or cells k c) event reply = subst (λ (d : Contents). LegalOn d own since (get_or cells k c) event reply) declared legal in
-    let is_new' : new ≡ cell_after rules.contents (get_or cells k c) event reply = is_new ∙ ap (λ (d : Contents). cell_after d (get_or cells k c) event reply) declared in
-    let done : Steps rules since cells event reply (slice_set cells (instrument_of event) (cell_after rules.contents (get_or cells k c) event reply)) =
-    known_steps rules own since cells (get_or cells k c) event reply
-    (subst (λ (n : ℕ). slice_get rules.instruments n ≡ Some own) at rule_at) (subst (λ (n : ℕ). slice_get cells n ≡ Some (get_or cells k c)) at cell_at) legal' in
-    subst (λ (n : ℕ). Steps rules since cells event reply (slice_set cells n new)) (sym at)
-    (subst (λ (d : CellValue). Steps rules since cells event reply (slice_set cells (instrument_of event) d)) (sym is_new') done)
+    let legal' : LegalOn facts.contents own (get_or cells k c) event reply = subst (λ (d : Contents). LegalOn d own (get_or cells k c) event reply) declared legal in
+    let is_new' : new ≡ cell_after facts.contents (get_or cells k c) event reply = is_new ∙ ap (λ (d : Contents). cell_after d (get_or cells k c) event reply) declared in
+    let done : Steps facts cells event reply (slice_set cells (instrument_of event) (cell_after facts.contents (get_or cells k c) event reply)) =
+    known_steps facts own cells (get_or cells k c) event reply
+    (subst (λ (n : ℕ). slice_get facts.instruments n ≡ Some own) at rule_at) (subst (λ (n : ℕ). slice_get cells n ≡ Some (get_or cells k c)) at cell_at) legal' in
+    subst (λ (n : ℕ). Steps facts cells event reply (slice_set cells n new)) (sym at)
+    (subst (λ (d : CellValue). Steps facts cells event reply (slice_set cells (instrument_of event) d)) (sym is_new') done)
 
--- the cell at a place stays in range with the rules there
-pub cell_at_in_range : (rules all : List InstrumentRules) (cells : List CellValue) (k : ℕ) (own : InstrumentRules) (c : CellValue) → CellsInRange rules cells
-    → all ≡ rules → k < length all → own ≡ get_or all k own → k < length cells → cell_in_range own (get_or cells k c) ≡ true
-cell_at_in_range rules all cells k own c stays ruled below is_own held =
+-- the cell at a place stays in range with the facts there
+pub cell_at_in_range : (facts all : List Facts) (cells : List CellValue) (k : ℕ) (own : Facts) (c : CellValue) → CellsInRange facts cells
+    → all ≡ facts → k < length all → own ≡ get_or all k own → k < length cells → cell_in_range own (get_or cells k c) ≡ true
+cell_at_in_range facts all cells k own c stays ruled below is_own held =
     stays.each k (get_or cells k c) own (slice_get-get_or cells k c held)
-    (subst (λ (rs : List InstrumentRules). slice_get rs k ≡ Some own) ruled (slice_get-get_or all k own below ∙ ap Some (sym is_own)))
+    (subst (λ (rs : List Facts). slice_get rs k ≡ Some own) ruled (slice_get-get_or all k own below ∙ ap Some (sym is_own)))

@@ -1,5 +1,5 @@
 -- What an event does to the state of its instrument, and which replies it may get there.
-use Rattle.std.specs.Prelude.{ℕ, ℤ, true, List, [], ◌∷◌, ◌++◌, Result, length, slice_index, slice_index_or, slice_set}
+use Rattle.std.specs.Prelude.{ℕ, ℤ, true, List, [], ◌∷◌, ◌++◌, Result, length, slice_set}
 use Rattle.std.specs.Result.{result_unwrap_or}
 use Rattle.metric_catalogue.specs.declared.refusal.Refusal.{Refusal}
 use Rattle.metric_history.specs.Encoded.{encoded}
@@ -9,10 +9,10 @@ use Rattle.metric_history.specs.declared.event.Event.TheVariants.{Record, Collec
 use Rattle.metric_history.specs.declared.event.Reply.{Reply}
 use Rattle.metric_history.specs.declared.event.Reply.TheVariants.{Accepted, Collected, Done}
 use Rattle.metric_catalogue.specs.declared.contents.Contents.{Contents}
-use Rattle.metric_history.specs.Rules.{InstrumentRules}
+use Rattle.metric_history.specs.declared.facts.Facts.{Facts}
 use Rattle.metric_history.specs.Answers.{recorded, collected, closing}
 use Rattle.metric_history.specs.Legal.{LegalRecord, LegalCollect, LegalClose}
-use Rattle.metric_core.specs.Cells.{CellValue}
+use Rattle.metric_core.specs.Cells.{CellValue, told_by}
 
 -- the state after the reply to a recording
 abbrev pub cell_recorded : CellValue → Entry → Reply → CellValue
@@ -39,9 +39,9 @@ cell_after contents c (Collect reader instrument now) reply = cell_collected c r
 cell_after contents c (Close instrument) reply = cell_closed c reply
 
 -- a reply that an event of the instrument may get in the state
-abbrev pub LegalOn : Contents → InstrumentRules → ℕ → CellValue → Event → Reply → Type 0
-LegalOn contents own start c (Record recorder instrument attrs value) reply =
-    LegalRecord (recorded own (encoded contents instrument attrs) c.closed (slice_index c.marks) c.entries recorder value) reply
-LegalOn contents own start c (Collect reader instrument now) reply =
-    LegalCollect (collected own start c.entries instrument reader (slice_index c.marks reader) (slice_index_or c.times reader start) now) reply
-LegalOn contents own start c (Close instrument) reply = LegalClose (closing c.closed) reply
+abbrev pub LegalOn : Contents → Facts → CellValue → Event → Reply → Type 0
+LegalOn contents own c (Record recorder instrument attrs value) reply =
+    LegalRecord (recorded own (told_by c) (encoded contents instrument attrs) recorder value) reply
+LegalOn contents own c (Collect reader instrument now) reply =
+    LegalCollect (collected own c.start (told_by c) reader now) reply
+LegalOn contents own c (Close instrument) reply = LegalClose (closing (told_by c)) reply

@@ -8,24 +8,18 @@ use Rattle.metric_catalogue.specs.declared.contents.Key.{Key}
 use Rattle.metric_catalogue.specs.declared.contents.Recorder.{Recorder}
 use Rattle.metric_views.specs.Choices.{choice_for}
 use Rattle.metric_views.specs.Streams.{fill_at}
-use Rattle.metric_views.specs.declared.choices.Temporality.{Temporality}
-use Rattle.metric_views.specs.declared.choices.Temporality.TheVariants.{Delta, Cumulative}
 use Rattle.metric_views.specs.declared.config.Config.{Config}
 use Rattle.metric_views.specs.declared.config.Reader.{Reader}
 use Rattle.metric_views.specs.declared.stream.Fill.{Fill}
 use Rattle.metric_views.specs.declared.stream.Fill.TheVariants.{Kept}
 use Rattle.metric_views.specs.declared.stream.Stream.{Stream}
-use Rattle.metric_history.specs.Rules.{InstrumentRules, rules_of_streams}
-
-abbrev pub is_delta : Temporality → Bool
-is_delta Delta = true
-is_delta Cumulative = false
+use Rattle.metric_history.specs.Facts.{is_delta_temporality}
 
 -- whether a reader is cumulative for each kind
 abbrev pub is_cumulative : Reader → Bool
 is_cumulative reader =
     let choices = reader.temporality in
-    not (is_delta choices.counter) && (not (is_delta choices.up_down_counter) && (not (is_delta choices.histogram) && not (is_delta choices.gauge)))
+    not (is_delta_temporality choices.counter) && (not (is_delta_temporality choices.up_down_counter) && (not (is_delta_temporality choices.histogram) && not (is_delta_temporality choices.gauge)))
 
 -- whether there is no view, and one cumulative reader at most
 abbrev pub takes_config : Config → Bool
@@ -78,22 +72,3 @@ reader_streams contents config reader = flat_map (default_stream contents config
 -- those of all readers, by reader, then by instrument. A stream's number is its place here.
 abbrev pub default_streams : Contents → Config → List Stream
 default_streams contents config = flat_map (reader_streams contents config) (range_with_len 0 (length config.readers))
-
--- the rules of the instrument of this number
-abbrev pub instrument_rules : List Recorder → List Reader → List Stream → ℕ → Instrument → InstrumentRules
-instrument_rules recorders readers streams number instrument = record {
-  lo = instrument.lo;
-  hi = instrument.hi;
-  budgets = map (λ (recorder : Recorder). amount_of recorder number) recorders;
-  delta = map (λ (reader : Reader). is_delta (choice_for reader.temporality instrument.kind)) readers;
-  streams = rules_of_streams number 0 streams;
-}
-
--- those of each instrument, the first of which has this number
-abbrev pub rules_from : List Recorder → List Reader → List Stream → ℕ → List Instrument → List InstrumentRules
-rules_from recorders readers streams number [] = []
-rules_from recorders readers streams number (instrument ∷ instruments) =
-    instrument_rules recorders readers streams number instrument ∷ rules_from recorders readers streams (number + 1) instruments
-
-abbrev pub rules_of : Contents → Config → List InstrumentRules
-rules_of contents config = rules_from contents.recorders config.readers (default_streams contents config) 0 contents.instruments

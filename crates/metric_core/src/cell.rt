@@ -1,22 +1,25 @@
 //! The state of one instrument: its accepted recordings and each reader's last collection.
 ghost use Rattle.std.specs.Prelude.{◌≡◌, ◌≤◌, ◌<◌, false, true, [], ◌∷◌, ◌++◌, length, max, replicate, slice_index, slice_index_or, slice_set, IfOk, OnOk, OnErr};
 ghost use Rattle.metric_history.specs.Answers.{recorded, collected, closing, spent as spent_of, batch as batch_of};
+ghost use Rattle.metric_core.specs.Cells.{new_cell, told_by};
 ghost use Rattle.metric_core.specs.CellSteps.{cell_recorded, cell_collected, cell_closed, entry_of};
 ghost use Rattle.metric_history.specs.Legal.{LegalRecord, LegalCollect, LegalClose};
 ghost use Rattle.metric_core.specs.Ranges.{cell_in_range};
-ghost use Rattle.metric_history.specs.Windows.{is_delta, window as window_of, fits_stream as stays_in_range, fits_all};
+ghost use Rattle.metric_history.specs.Facts.{is_delta};
+ghost use Rattle.metric_history.specs.Windows.{window as window_of, fits_stream as stays_in_range, fits_all};
 
 use crate::points::stream_points;
-use crate::rules::{Rules, StreamRules};
 use crate::sums::fits_stream;
 use metric_catalogue::{Refusal, SetKey};
-use metric_history::{Batch, Entry, Reply};
+use metric_history::{Batch, Entry, Facts, Reply};
+use metric_views::Stream;
 use std::alloc::{AllocError, Global};
 use std::marker::Model;
 
 /// The state of one instrument. What it answers is read off its list of accepted recordings.
 #[derive(Drop)]
 pub struct Cell {
+    start: u64,
     entries: Vec<Entry>,
     marks: Vec<u64>,
     times: Vec<u64>,
@@ -28,17 +31,18 @@ impl Model for Cell {
 
     ghost Value = { CellValue };
 
-    ghost view = { λ c. record { entries = c.entries.items; marks = c.marks.items; times = c.times.items; closed = c.closed } };
+    ghost view = { λ c. record { start = c.start; entries = c.entries.items; marks = c.marks.items; times = c.times.items; closed = c.closed } };
 
-    ghost invariant = { λ c. IsMarked (record { entries = c.entries.items; marks = c.marks.items; times = c.times.items; closed = c.closed }) };
+    ghost invariant = { λ c. IsMarked (record { start = c.start; entries = c.entries.items; marks = c.marks.items; times = c.times.items; closed = c.closed }) };
 }
 
 impl Cell {
     /// An instrument without recordings, for so many readers, since a time in nanoseconds.
     pub fn new(alloc: Global, readers: usize, start: u64) -> Result<Cell, AllocError>
-        ensures { IfOk result (λ c. c ≡ record { entries = []; marks = replicate readers 0; times = replicate readers start; closed = false }) }
+        ensures { IfOk result (λ c. c ≡ new_cell start readers) }
     {
         Ok(Cell {
+            start,
             entries: Vec::new(alloc),
             marks: vec![in alloc; 0; readers]?,
             times: vec![in alloc; start; readers]?,
@@ -55,18 +59,21 @@ impl Cell {
     }
 
     // The time of the reader's last batch, or the start.
-    fn previous(&self, reader: u32, start: u64) -> u64
-        ensures { result ≡ slice_index_or self.now.times reader start }
+    fn previous(&self, reader: u32) -> u64
+        ensures { result ≡ slice_index_or self.now.times reader self.now.start }
     {
-        self.times.get(reader as usize).copied().unwrap_or(start)
+        self.times
+            .get(reader as usize)
+            .copied()
+            .unwrap_or(self.start)
     }
 
     // The recordings that the reader's next collection covers.
-    fn window(&self, rules: &Rules, reader: u32) -> &[Entry]
-        ensures { result.now ≡ window_of (is_delta rules.now reader) (slice_index self.now.marks reader) self.now.entries }
+    fn window(&self, facts: &Facts, reader: u32) -> &[Entry]
+        ensures { result.now ≡ window_of (is_delta facts.now reader) (slice_index self.now.marks reader) self.now.entries }
     {
         let mark = self.mark(reader) as usize;
-        if rules.is_delta(reader) {
+        if facts.is_delta(reader) {
             &self.entries[mark..]
         } else {
             &self.entries
@@ -84,19 +91,19 @@ impl Cell {
     }
 
     // Whether the series of a stream into which a recording falls stays in range.
-    fn fits_in(&self, rules: &Rules, stream: &StreamRules, entry: &Entry) -> bool
-        ensures { result ≡ stays_in_range stream.now (window_of (is_delta rules.now stream.now.reader) (slice_index self.now.marks stream.now.reader) self.now.entries) entry.now }
+    fn fits_in(&self, facts: &Facts, stream: &Stream, entry: &Entry) -> bool
+        ensures { result ≡ stays_in_range stream.now (window_of (is_delta facts.now stream.now.reader) (slice_index self.now.marks stream.now.reader) self.now.entries) entry.now }
     {
-        fits_stream(stream, self.window(rules, stream.reader()), entry)
+        fits_stream(stream, self.window(facts, stream.reader), entry)
     }
 
     // Whether that of each stream does.
-    fn fits(&self, rules: &Rules, entry: &Entry) -> bool
-        ensures { result ≡ fits_all rules.now (slice_index self.now.marks) self.now.entries entry.now }
+    fn fits(&self, facts: &Facts, entry: &Entry) -> bool
+        ensures { result ≡ fits_all facts.now (slice_index self.now.marks) self.now.entries entry.now }
     {
-        let streams = rules.streams();
-        for stream in streams {
-            if !self.fits_in(rules, stream, entry) {
+        let streams = facts.streams.as_slice();
+        for numbered in streams {
+            if !self.fits_in(facts, &numbered.stream, entry) {
                 return false;
             }
         }
@@ -106,19 +113,19 @@ impl Cell {
     // The entry of a recording, or why it is refused. Takes no memory.
     fn admit(
         &self,
-        rules: &Rules,
+        facts: &Facts,
         encoded: Result<SetKey, Refusal>,
         recorder: u32,
         value: &i64,
     ) -> Result<Entry, Refusal>
-        ensures answer { result ≡ recorded rules.now encoded self.now.closed (slice_index self.now.marks) self.now.entries recorder value.now }
+        ensures answer { result ≡ recorded facts.now (told_by self.now) encoded recorder value.now }
         ensures entry { IfOk result (λ entry. entry ≡ entry_of recorder encoded value.now) }
     {
-        let Some(budget) = rules.budgets().get(recorder as usize) else {
+        let Some(budget) = facts.budgets.as_slice().get(recorder as usize) else {
             return Err(Refusal::UnknownRecorder);
         };
         let set = encoded?;
-        if !rules.admits(value) {
+        if !facts.admits(value) {
             return Err(Refusal::ValueRange);
         }
         if self.closed {
@@ -132,7 +139,7 @@ impl Cell {
             set,
             value: *value,
         };
-        if !self.fits(rules, &entry) {
+        if !self.fits(facts, &entry) {
             return Err(Refusal::SumRange);
         }
         Ok(entry)
@@ -150,15 +157,15 @@ impl Cell {
     /// Makes a recording, whose attributes have this set key or are refused.
     pub fn record(
         &mut self,
-        rules: &Rules,
+        facts: &Facts,
         encoded: Result<SetKey, Refusal>,
         recorder: u32,
         value: &i64,
     ) -> Reply
-        ensures legal { LegalRecord (recorded rules.now encoded self.old.closed (slice_index self.old.marks) self.old.entries recorder value.now) result }
+        ensures legal { LegalRecord (recorded facts.now (told_by self.old) encoded recorder value.now) result }
         ensures new { self.new ≡ cell_recorded self.old (entry_of recorder encoded value.now) result }
     {
-        match self.admit(rules, encoded, recorder, value) {
+        match self.admit(facts, encoded, recorder, value) {
             Err(refusal) => Reply::Refused(refusal),
             Ok(entry) => match self.push(entry) {
                 Ok(()) => Reply::Accepted,
@@ -172,25 +179,23 @@ impl Cell {
     fn batch(
         &self,
         alloc: Global,
-        rules: &Rules,
-        start: u64,
-        instrument: u32,
+        facts: &Facts,
         reader: u32,
         now: u64,
     ) -> Result<Batch, AllocError>
-        requires { cell_in_range rules.now self.now ≡ true }
-        ensures { IfOk result (λ b. b ≡ batch_of rules.now start self.now.entries instrument reader (slice_index self.now.marks reader) (slice_index_or self.now.times reader start) now) }
+        requires { cell_in_range facts.now self.now ≡ true }
+        ensures { IfOk result (λ b. b ≡ batch_of facts.now self.now.start (told_by self.now) reader now) }
     {
-        let is_delta = rules.is_delta(reader);
+        let is_delta = facts.is_delta(reader);
         let mark = self.mark(reader);
-        let previous = self.previous(reader, start);
-        let streams = stream_points(alloc, rules.streams(), reader, self.window(rules, reader))?;
+        let previous = self.previous(reader);
+        let streams = stream_points(alloc, facts, reader, self.window(facts, reader))?;
         Ok(Batch {
             reader,
-            instrument,
+            instrument: facts.instrument,
             from: if is_delta { mark } else { 0 },
             mark: self.entries.len() as u64,
-            start: if is_delta { previous } else { start },
+            start: if is_delta { previous } else { self.start },
             time: now.max(previous),
             streams,
         })
@@ -207,23 +212,15 @@ impl Cell {
     }
 
     /// Makes a collection by the reader. Each series of the instrument is in range.
-    pub fn collect(
-        &mut self,
-        alloc: Global,
-        rules: &Rules,
-        start: u64,
-        instrument: u32,
-        reader: u32,
-        now: u64,
-    ) -> Reply
-        requires { cell_in_range rules.now self.old ≡ true }
-        ensures legal { LegalCollect (collected rules.now start self.old.entries instrument reader (slice_index self.old.marks reader) (slice_index_or self.old.times reader start) now) result }
+    pub fn collect(&mut self, alloc: Global, facts: &Facts, reader: u32, now: u64) -> Reply
+        requires { cell_in_range facts.now self.old ≡ true }
+        ensures legal { LegalCollect (collected facts.now self.old.start (told_by self.old) reader now) result }
         ensures new { self.new ≡ cell_collected self.old reader result }
     {
-        if reader as usize >= rules.readers() {
+        if reader as usize >= facts.delta.len() {
             return Reply::Refused(Refusal::UnknownReader);
         }
-        match self.batch(alloc, rules, start, instrument, reader, now) {
+        match self.batch(alloc, facts, reader, now) {
             Err(_) => Reply::Refused(Refusal::Memory),
             Ok(batch) => {
                 self.mark_batch(reader, batch.time);
@@ -234,7 +231,7 @@ impl Cell {
 
     /// Closes the instrument, unless it is closed.
     pub fn close(&mut self) -> Reply
-        ensures legal { LegalClose (closing self.old.closed) result }
+        ensures legal { LegalClose (closing (told_by self.old)) result }
         ensures new { self.new ≡ cell_closed self.old result }
     {
         if self.closed {

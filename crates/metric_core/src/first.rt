@@ -1,14 +1,13 @@
 //! The first stage of plans: no view, and one cumulative reader.
 ghost use Rattle.std.specs.Prelude.{◌≡◌, ◌↔◌, ◌≤◌, ◌<◌, ◌+◌, ◌*◌, ◌++◌, true, false, map, fold, length, nat_le, IfOk, IfErr, OnOk};
 ghost use Rattle.std.specs.List.{list_all};
-ghost use Rattle.metric_catalogue.specs.Budgets.{amount_of};
-ghost use Rattle.metric_views.specs.Choices.{choice_for};
-ghost use Rattle.metric_history.specs.Rules.{is_sound_stream, rule_of, rules_of_streams};
-ghost use Rattle.metric_core.specs.First.{choices as choices_of, default_stream, default_streams as default_streams_of, instrument_rules, is_cumulative as is_cumulative_of, is_delta as is_delta_of, is_taken as is_taken_of, is_within_limit as is_within_limit_of, reader_streams, rules_from, rules_of, takes_config as takes_config_of, takes_instrument as takes_instrument_of, takes_instruments as takes_instruments_of, total_budget as total_of};
+ghost use Rattle.metric_history.specs.Facts.{is_delta_temporality};
+ghost use Rattle.metric_core.specs.Plans.{facts_of};
+ghost use Rattle.metric_core.specs.First.{choices as choices_of, default_stream, default_streams as default_streams_of, is_cumulative as is_cumulative_of, is_taken as is_taken_of, is_within_limit as is_within_limit_of, reader_streams, takes_config as takes_config_of, takes_instrument as takes_instrument_of, takes_instruments as takes_instruments_of, total_budget as total_of};
 
-use crate::rules::{Rules, StreamRules};
 use metric_base::Items;
-use metric_catalogue::{Catalogue, Instrument, Key, Kind, Recorder};
+use metric_catalogue::{Catalogue, Instrument, Key, Recorder};
+use metric_history::{Facts, all_facts};
 use metric_views::{Config, Fill, Reader, Stream, Temporality, fill};
 use std::alloc::{AllocError, Global};
 use std::marker::Model;
@@ -19,7 +18,7 @@ pub struct Plan {
     catalogue: Catalogue,
     config: Config,
     streams: Items<Stream>,
-    rules: Items<Rules>,
+    facts: Items<Facts>,
 }
 
 impl Model for Plan {
@@ -27,7 +26,7 @@ impl Model for Plan {
 
     ghost Value = { PlanValue };
 
-    ghost view = { λ p. record { config = p.config; streams = p.streams; rules = record { contents = p.catalogue; instruments = p.rules } } };
+    ghost view = { λ p. record { config = p.config; streams = p.streams; facts = record { contents = p.catalogue; instruments = p.facts } } };
 }
 
 /// Why the first stage makes no plan.
@@ -51,9 +50,10 @@ impl Plan {
     ) -> Result<Plan, (Catalogue, Config, FirstFault)>
         ensures taken { IfOk result (λ plan. is_taken_of catalogue config ≡ true) }
         ensures config { IfOk result (λ plan. plan.config ≡ config) }
-        ensures contents { IfOk result (λ plan. plan.rules.contents ≡ catalogue) }
+        ensures contents { IfOk result (λ plan. plan.facts.contents ≡ catalogue) }
         ensures streams { IfOk result (λ plan. plan.streams ≡ default_streams_of catalogue config) }
-        ensures rules { IfOk result (λ plan. plan.rules.instruments ≡ rules_of catalogue config) }
+        ensures facts { IfOk result (λ plan.
+            plan.facts ≡ facts_of catalogue config (default_streams_of catalogue config)) }
         ensures not_yet { IfErr result (λ refused. (refused.2 ≡ FirstFault.NotYet) ↔ (is_taken_of catalogue config ≡ false)) }
         ensures back { IfErr result (λ refused. (refused.0 ≡ catalogue) × (refused.1 ≡ config)) }
     {
@@ -62,18 +62,18 @@ impl Plan {
         }
         match parts(alloc, &catalogue, &config) {
             Err(_) => Err((catalogue, config, FirstFault::Memory)),
-            Ok((streams, rules)) => Ok(Plan {
+            Ok((streams, facts)) => Ok(Plan {
                 catalogue,
                 config,
                 streams,
-                rules,
+                facts,
             }),
         }
     }
 
     /// The catalogue.
     pub fn catalogue(&self) -> &Catalogue
-        ensures { result.now ≡ self.now.rules.contents }
+        ensures { result.now ≡ self.now.facts.contents }
     {
         &self.catalogue
     }
@@ -92,11 +92,11 @@ impl Plan {
         self.streams.as_slice()
     }
 
-    /// The rules of each instrument.
-    pub(crate) fn rules(&self) -> &[Rules]
-        ensures { result.now ≡ self.now.rules.instruments }
+    /// What the run of each instrument depends on.
+    pub(crate) fn facts(&self) -> &[Facts]
+        ensures { result.now ≡ self.now.facts.instruments }
     {
-        self.rules.as_slice()
+        self.facts.as_slice()
     }
 }
 
@@ -107,7 +107,7 @@ fn is_taken(catalogue: &Catalogue, config: &Config) -> bool
     takes_config(config)
         && takes_instruments(
             catalogue.recorders(),
-            config.readers.as_slice(),
+            config.readers(),
             catalogue.instruments(),
         )
 }
@@ -116,9 +116,7 @@ fn is_taken(catalogue: &Catalogue, config: &Config) -> bool
 fn takes_config(config: &Config) -> bool
     ensures { result ≡ takes_config_of config.now }
 {
-    config.views.len() == 0
-        && config.readers.len() <= 1
-        && are_cumulative(config.readers.as_slice())
+    config.views().len() == 0 && config.readers().len() <= 1 && are_cumulative(config.readers())
 }
 
 fn are_cumulative(readers: &[Reader]) -> bool
@@ -139,7 +137,7 @@ fn is_cumulative(reader: &Reader) -> bool
 }
 
 fn is_delta(temporality: Temporality) -> bool
-    ensures { result ≡ is_delta_of temporality }
+    ensures { result ≡ is_delta_temporality temporality }
 {
     matches!(temporality, Temporality::Delta)
 }
@@ -219,24 +217,26 @@ fn takes_instruments(recorders: &[Recorder], readers: &[Reader], instruments: &[
     true
 }
 
-// The streams, and the rules of each instrument.
+// The streams, and the facts of each instrument.
 fn parts(
     alloc: Global,
     catalogue: &Catalogue,
     config: &Config,
-) -> Result<(Items<Stream>, Items<Rules>), AllocError>
+) -> Result<(Items<Stream>, Items<Facts>), AllocError>
     ensures streams { IfOk result (λ parts. parts.0 ≡ default_streams_of catalogue.now config.now) }
-    ensures rules { IfOk result (λ parts. parts.1 ≡ rules_of catalogue.now config.now) }
+    ensures facts { IfOk result (λ parts.
+        let streams = default_streams_of catalogue.now config.now in
+        parts.1 ≡ (facts_of catalogue.now config.now streams).instruments) }
 {
     let streams = default_streams(alloc, catalogue, config)?;
-    let rules = all_rules(
+    let facts = all_facts(
         alloc,
-        catalogue.recorders(),
-        config.readers.as_slice(),
+        false,
+        catalogue,
+        config.readers(),
         streams.as_slice(),
-        catalogue.instruments(),
     )?;
-    Ok((streams, rules))
+    Ok((streams, facts))
 }
 
 // The default streams of all readers.
@@ -247,9 +247,8 @@ fn default_streams(
 ) -> Result<Items<Stream>, AllocError>
     ensures streams { IfOk result (λ streams. streams ≡ default_streams_of catalogue.now config.now) }
     ensures few { IfOk result (λ streams. length streams ≤ 8192) }
-    ensures sound { IfOk result (λ streams. list_all is_sound_stream streams ≡ true) }
 {
-    let readers = config.readers.len();
+    let readers = config.readers().len();
     let instruments = catalogue.instruments().len();
     let mut streams = Items::new(alloc);
     for reader in 0..readers {
@@ -305,111 +304,4 @@ fn add_stream(
         }
         Fill::Unfit | Fill::Dropped => Ok(()),
     }
-}
-
-// The rules of each instrument.
-fn all_rules(
-    alloc: Global,
-    recorders: &[Recorder],
-    readers: &[Reader],
-    streams: &[Stream],
-    instruments: &[Instrument],
-) -> Result<Items<Rules>, AllocError>
-    requires instruments { length instruments.now ≤ 512 }
-    requires streams { length streams.now ≤ 8192 }
-    requires sound { list_all is_sound_stream streams.now ≡ true }
-    ensures { IfOk result (λ rules. rules ≡ rules_from recorders.now readers.now streams.now 0 instruments.now) }
-{
-    let mut all = Items::new(alloc);
-    for (number, instrument) in instruments.iter().enumerate() {
-        all.push(rules_for(
-            alloc,
-            recorders,
-            readers,
-            streams,
-            number as u32,
-            instrument,
-        )?)?;
-    }
-    Ok(all)
-}
-
-// The rules of the instrument of this number.
-fn rules_for(
-    alloc: Global,
-    recorders: &[Recorder],
-    readers: &[Reader],
-    streams: &[Stream],
-    number: u32,
-    instrument: &Instrument,
-) -> Result<Rules, AllocError>
-    requires streams { length streams.now ≤ 8192 }
-    requires sound { list_all is_sound_stream streams.now ≡ true }
-    ensures { IfOk result (λ rules. rules ≡ instrument_rules recorders.now readers.now streams.now number instrument.now) }
-{
-    let budgets = budgets_of(alloc, recorders, number)?;
-    let delta = delta_flags(alloc, readers, instrument.kind)?;
-    let streams = stream_rules(alloc, streams, number)?;
-    Ok(Rules::new(
-        instrument.lo,
-        instrument.hi,
-        budgets,
-        Items::from_vec(delta),
-        streams,
-    ))
-}
-
-// The budget of each recorder for the instrument of this number.
-fn budgets_of(alloc: Global, recorders: &[Recorder], number: u32) -> Result<Items<u64>, AllocError>
-    ensures { IfOk result (λ budgets. budgets ≡ map (λ recorder. amount_of recorder number) recorders.now) }
-{
-    let mut budgets = Items::new(alloc);
-    for recorder in recorders {
-        budgets.push(recorder.budget(number))?;
-    }
-    Ok(budgets)
-}
-
-// Whether each reader is delta for the kind.
-fn delta_flags(alloc: Global, readers: &[Reader], kind: Kind) -> Result<Vec<bool>, AllocError>
-    ensures { IfOk result (λ flags. flags.items ≡ map (λ reader. is_delta_of (choice_for reader.temporality kind)) readers.now) }
-{
-    readers
-        .iter()
-        .map(|reader| is_delta(reader.temporality.of(kind)))
-        .collect(alloc)
-}
-
-// The rules of the streams of the instrument of this number.
-fn stream_rules(
-    alloc: Global,
-    streams: &[Stream],
-    instrument: u32,
-) -> Result<Items<StreamRules>, AllocError>
-    requires streams { length streams.now ≤ 8192 }
-    requires sound { list_all is_sound_stream streams.now ≡ true }
-    ensures { IfOk result (λ rules. rules ≡ rules_of_streams instrument 0 streams.now) }
-{
-    let mut rules = Items::new(alloc);
-    for (number, stream) in streams.iter().enumerate() {
-        add_rule(alloc, &mut rules, instrument, number as u32, stream)?;
-    }
-    Ok(rules)
-}
-
-// Adds the rule of a stream, where it is of the instrument.
-fn add_rule(
-    alloc: Global,
-    rules: &mut Items<StreamRules>,
-    instrument: u32,
-    number: u32,
-    stream: &Stream,
-) -> Result<(), AllocError>
-    requires { is_sound_stream stream.now ≡ true }
-    ensures { OnOk result (rules.new ≡ rules.old ++ rule_of instrument number stream.now) }
-{
-    if stream.instrument == instrument {
-        rules.push(StreamRules::of(alloc, number, stream)?)?;
-    }
-    Ok(())
 }

@@ -4,7 +4,6 @@
 mod cell;
 pub mod first;
 mod points;
-mod rules;
 mod run;
 mod series;
 mod steps;

@@ -2,31 +2,31 @@
 ghost use Rattle.std.specs.Prelude.{◌≡◌, true, if◌then◌else◌, ◌*◌, ◌^◌, ◌-◌, pos, ◌+ℤ◌, neg_ℤ, ◌≤ℤ◌, length};
 ghost use Rattle.metric_aggregate.specs.Range.{fits_i64, sum_in_range};
 ghost use Rattle.metric_aggregate.specs.Value.{sum_of};
+ghost use Rattle.metric_history.specs.Facts.{stream_aggregation};
 ghost use Rattle.metric_history.specs.Series.{series, all_series, has, rows, place_found, belongs as is_row};
 ghost use Rattle.metric_history.specs.Points.{values};
 ghost use Rattle.metric_history.specs.Windows.{fits_stream as is_in_range};
 
-use crate::rules::StreamRules;
 use crate::series::{has_place, series_of};
 use metric_catalogue::SetKey;
 use metric_history::Entry;
-use metric_views::StreamAggregation;
+use metric_views::{Stream, StreamAggregation};
 
 /// Whether a recording of the window belongs to a series, or, without one, to the overflow series.
 #[tactic(auto, using(metric_history::specs::SeriesLaws::known_place))]
-pub fn belongs(
-    stream: &StreamRules,
-    window: &[Entry],
-    place: &Option<SetKey>,
-    entry: &Entry,
-) -> bool
+pub fn belongs(stream: &Stream, window: &[Entry], place: &Option<SetKey>, entry: &Entry) -> bool
     requires { has (all_series stream.now.kept window.now) (series stream.now.kept entry.now) ≡ true }
     ensures { result ≡ is_row stream.now window.now place.now entry.now }
 {
-    let key = series_of(stream.kept(), entry);
+    let key = series_of(stream.kept.get().as_slice(), entry);
     match place {
         Some(place) => key == *place,
-        None => !has_place(stream.kept(), stream.limit() as usize, window, &key),
+        None => !has_place(
+            stream.kept.get().as_slice(),
+            stream.limit as usize,
+            window,
+            &key,
+        ),
     }
 }
 
@@ -42,7 +42,7 @@ fn share(is_row: bool, entry: &Entry) -> i128
 
 /// The sum of the recordings of a series, or, without one, of the overflow series.
 #[tactic(auto, using(metric_history::specs::SeriesLaws::has_own_series))]
-pub fn sum_of_rows(stream: &StreamRules, window: &[Entry], place: &Option<SetKey>) -> i128
+pub fn sum_of_rows(stream: &Stream, window: &[Entry], place: &Option<SetKey>) -> i128
     ensures sum { result ≡ sum_of (values (rows stream.now window.now place.now)) }
     ensures low { neg_ℤ (pos (2 ^ 63 * length window.now)) ≤ℤ result }
     ensures high { result ≤ℤ pos (2 ^ 63 * length window.now) }
@@ -75,27 +75,32 @@ fn is_i64(sum: &i128) -> bool
 }
 
 // Whether a sum is in range, where the stream keeps it.
-fn takes_sum(stream: &StreamRules, sum: &i128) -> bool
-    ensures { result ≡ sum_in_range stream.now.aggregation sum.now }
+fn takes_sum(stream: &Stream, sum: &i128) -> bool
+    ensures { result ≡ sum_in_range (stream_aggregation stream.now) sum.now }
 {
-    match stream.aggregation() {
-        (StreamAggregation::LastValue, _) => true,
-        (StreamAggregation::Histogram(_), false) => true,
-        (StreamAggregation::Sum, _) | (StreamAggregation::Histogram(_), true) => is_i64(sum),
+    match &stream.aggregation {
+        StreamAggregation::LastValue => true,
+        StreamAggregation::Sum => is_i64(sum),
+        StreamAggregation::Histogram(_) => !stream.kind.is_monotonic() || is_i64(sum),
     }
 }
 
 // The series into which a recording falls that is the window's next.
-fn place_of(stream: &StreamRules, window: &[Entry], entry: &Entry) -> Option<SetKey>
+fn place_of(stream: &Stream, window: &[Entry], entry: &Entry) -> Option<SetKey>
     ensures { result ≡ place_found stream.now window.now entry.now }
 {
-    let key = series_of(stream.kept(), entry);
-    let is_held = has_place(stream.kept(), stream.limit() as usize, window, &key);
+    let key = series_of(stream.kept.get().as_slice(), entry);
+    let is_held = has_place(
+        stream.kept.get().as_slice(),
+        stream.limit as usize,
+        window,
+        &key,
+    );
     if is_held { Some(key) } else { None }
 }
 
 /// Whether the series into which a recording falls stays in range with it.
-pub fn fits_stream(stream: &StreamRules, window: &[Entry], entry: &Entry) -> bool
+pub fn fits_stream(stream: &Stream, window: &[Entry], entry: &Entry) -> bool
     ensures { result ≡ is_in_range stream.now window.now entry.now }
 {
     let place = place_of(stream, window, entry);

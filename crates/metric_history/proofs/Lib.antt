@@ -1,0 +1,3 @@
+pub mod CountedOnce
+pub mod FactsLaws
+pub mod LegalLaws

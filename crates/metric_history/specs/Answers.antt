@@ -1,51 +1,62 @@
--- What an event of a known instrument is answered, by its accepted recordings and each reader's last collection.
-use Rattle.std.specs.Prelude.{ℕ, ℤ, Bool, not, ◌&&◌, List, Result, Ok, count_by, filter, map, length, max, nat_lt, int_le, slice_index, ◌==◌, if◌then◌else◌}
+-- What an event of a known instrument is answered, by what was told of the instrument before.
+use Rattle.std.specs.Prelude.{ℕ, ℤ, Bool, not, List, Result, Ok, count_by, length, max, nat_lt, slice_index, ◌==◌, if◌then◌else◌}
 use Rattle.metric_base.specs.Steps.{◌>>=◌, require}
 use Rattle.metric_catalogue.specs.declared.refusal.Refusal.{Refusal}
 use Rattle.metric_catalogue.specs.declared.refusal.Refusal.TheVariants.{UnknownRecorder, UnknownReader, ValueRange, Closed, Budget, SumRange}
-use Rattle.metric_history.specs.declared.entry.Entry.{Entry}
 use Rattle.metric_history.specs.declared.batch.Batch.{Batch}
-use Rattle.metric_history.specs.Rules.{StreamRule, InstrumentRules}
-use Rattle.metric_history.specs.Points.{stream_points}
-use Rattle.metric_history.specs.Windows.{is_delta, window, fits_all}
+use Rattle.metric_history.specs.declared.entry.Entry.{Entry}
+use Rattle.metric_history.specs.declared.facts.Facts.{Facts}
+use Rattle.metric_history.specs.Facts.{is_delta, in_bounds}
+use Rattle.metric_history.specs.Points.{reported}
+use Rattle.metric_history.specs.Windows.{window, fits_all}
+
+-- what a history comes to for an instrument
+pub record Told : Type 0 where
+  -- the accepted recordings, oldest first
+  pub accepted : List Entry
+  -- how many of them each reader's last batch counted, 0 before one
+  pub mark : ℕ → ℕ
+  -- the greatest time of each reader's batches, or the start
+  pub previous : ℕ → ℕ
+  pub closed : Bool
 
 -- how many of the recordings a recorder made
 abbrev pub spent : List Entry → ℕ → ℕ
 spent accepted recorder = count_by (λ (entry : Entry). entry.recorder == recorder) accepted
 
-abbrev pub in_bounds : InstrumentRules → ℤ → Bool
-in_bounds rules value = int_le rules.lo value && int_le value rules.hi
-
 -- a recording's entry, or the first refusal
-abbrev pub recorded : InstrumentRules → Result (List ℕ) Refusal → Bool → (ℕ → ℕ) → List Entry → ℕ → ℤ → Result Entry Refusal
-recorded rules encoded closed mark accepted recorder value =
-    require (nat_lt recorder (length rules.budgets)) UnknownRecorder >>= λ _.
+abbrev pub recorded : Facts → Told → Result (List ℕ) Refusal → ℕ → ℤ → Result Entry Refusal
+recorded facts told encoded recorder value =
+    require (nat_lt recorder (length facts.budgets)) UnknownRecorder >>= λ _.
     encoded >>= λ set.
-    require (in_bounds rules value) ValueRange >>= λ _.
-    require (not closed) Closed >>= λ _.
-    require (nat_lt (spent accepted recorder) (slice_index rules.budgets recorder)) Budget >>= λ _.
-    require (fits_all rules mark accepted (record { recorder = recorder; set = set; value = value })) SumRange >>= λ _.
-    Ok (record { recorder = recorder; set = set; value = value })
+    require (in_bounds facts value) ValueRange >>= λ _.
+    require (not told.closed) Closed >>= λ _.
+    require (nat_lt (spent told.accepted recorder) (slice_index facts.budgets recorder)) Budget >>= λ _.
+    let entry : Entry = record { recorder = recorder; set = set; value = value } in
+    require (fits_all facts told.mark told.accepted entry) SumRange >>= λ _.
+    Ok entry
 
--- the batch of a reader whose last one had this mark and this time
-abbrev pub batch : InstrumentRules → ℕ → List Entry → ℕ → ℕ → ℕ → ℕ → ℕ → Batch
-batch rules start accepted instrument reader mark previous now =
-    record {
-      reader = reader;
-      instrument = instrument;
-      from = if is_delta rules reader then mark else 0;
-      mark = length accepted;
-      start = if is_delta rules reader then previous else start;
-      time = max now previous;
-      streams = map (stream_points (window (is_delta rules reader) mark accepted)) (filter (λ (s : StreamRule). s.reader == reader) rules.streams);
-    }
+-- the recordings that a reader's next batch covers
+abbrev pub covered : Facts → Told → ℕ → List Entry
+covered facts told reader = window (is_delta facts reader) (told.mark reader) told.accepted
+
+-- a reader's batch, for a start of the run and a time
+abbrev pub batch : Facts → ℕ → Told → ℕ → ℕ → Batch
+batch facts start told reader now = record {
+  reader = reader;
+  instrument = facts.instrument;
+  from = if is_delta facts reader then told.mark reader else 0;
+  mark = length told.accepted;
+  start = if is_delta facts reader then told.previous reader else start;
+  time = max now (told.previous reader);
+  streams = reported facts reader (covered facts told reader);
+}
 
 -- a reader's batch, or the refusal
-abbrev pub collected : InstrumentRules → ℕ → List Entry → ℕ → ℕ → ℕ → ℕ → ℕ → Result Batch Refusal
-collected rules start accepted instrument reader mark previous now =
-    require (nat_lt reader (length rules.delta)) UnknownReader >>= λ _.
-    Ok (batch rules start accepted instrument reader mark previous now)
+abbrev pub collected : Facts → ℕ → Told → ℕ → ℕ → Result Batch Refusal
+collected facts start told reader now =
+    require (nat_lt reader (length facts.delta)) UnknownReader >>= λ _. Ok (batch facts start told reader now)
 
 -- whether a close is done
-abbrev pub closing : Bool → Result (Unit {0}) Refusal
-closing closed = require (not closed) Closed
+abbrev pub closing : Told → Result (Unit {0}) Refusal
+closing told = require (not told.closed) Closed

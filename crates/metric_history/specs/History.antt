@@ -7,7 +7,8 @@ use Rattle.metric_history.specs.declared.event.Event.{Event}
 use Rattle.metric_history.specs.declared.event.Event.TheVariants.{Record, Collect, Close}
 use Rattle.metric_history.specs.declared.event.Reply.{Reply}
 use Rattle.metric_history.specs.declared.event.Reply.TheVariants.{Accepted, Collected, Done}
-use Rattle.metric_history.specs.Rules.{RunRules}
+use Rattle.metric_history.specs.Answers.{Told}
+use Rattle.metric_history.specs.Facts.{RunFacts}
 
 -- an event and its reply
 pub record Answered : Type 0 where
@@ -22,16 +23,16 @@ abbrev pub History : Type 0
 History = List Answered
 
 -- the entries that an event adds to an instrument
-abbrev pub added_by : RunRules → ℕ → Event → Reply → List Entry
-added_by rules i (Record recorder instrument attrs value) Accepted =
-    if instrument == i then record { recorder = recorder; set = result_unwrap_or (encoded rules.contents instrument attrs) []; value = value } ∷ [] else []
-added_by rules i (Record recorder instrument attrs value) _ = []
-added_by rules i _ _ = []
+abbrev pub added_by : RunFacts → ℕ → Event → Reply → List Entry
+added_by facts i (Record recorder instrument attrs value) Accepted =
+    if instrument == i then record { recorder = recorder; set = result_unwrap_or (encoded facts.contents instrument attrs) []; value = value } ∷ [] else []
+added_by facts i (Record recorder instrument attrs value) _ = []
+added_by facts i _ _ = []
 
 -- the accepted recordings of an instrument, oldest first
-abbrev pub accepted : RunRules → History → ℕ → List Entry
-accepted rules [] i = []
-accepted rules (a ∷ older) i = accepted rules older i ++ added_by rules i a.event a.reply
+abbrev pub accepted : RunFacts → History → ℕ → List Entry
+accepted facts [] i = []
+accepted facts (a ∷ older) i = accepted facts older i ++ added_by facts i a.event a.reply
 
 -- whether an event was a collection of the instrument by the reader that was answered with a batch
 abbrev pub collects : ℕ → ℕ → Event → Reply → Bool
@@ -39,9 +40,9 @@ collects i reader (Collect by instrument now) (Collected b) = (instrument == i) 
 collects i reader _ _ = false
 
 -- how many recordings of the instrument were accepted before the reader's last collection of it, 0 before one
-abbrev pub mark_of : RunRules → History → ℕ → ℕ → ℕ
-mark_of rules [] i reader = 0
-mark_of rules (a ∷ older) i reader = if collects i reader a.event a.reply then length (accepted rules older i) else mark_of rules older i reader
+abbrev pub mark_of : RunFacts → History → ℕ → ℕ → ℕ
+mark_of facts [] i reader = 0
+mark_of facts (a ∷ older) i reader = if collects i reader a.event a.reply then length (accepted facts older i) else mark_of facts older i reader
 
 abbrev pub batch_time : Reply → ℕ
 batch_time (Collected b) = b.time
@@ -61,3 +62,12 @@ closes i _ _ = false
 abbrev pub is_closed : History → ℕ → Bool
 is_closed [] i = false
 is_closed (a ∷ older) i = if closes i a.event a.reply then true else is_closed older i
+
+-- all of it
+abbrev pub told_of : RunFacts → ℕ → History → ℕ → Told
+told_of facts start h i = record {
+  accepted = accepted facts h i;
+  mark = mark_of facts h i;
+  previous = previous_of start h i;
+  closed = is_closed h i;
+}

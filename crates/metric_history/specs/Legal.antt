@@ -11,26 +11,27 @@ use Rattle.metric_history.specs.declared.event.Event.TheVariants.{Record, Collec
 use Rattle.metric_history.specs.declared.event.Reply.{Reply}
 use Rattle.metric_history.specs.declared.event.Reply.TheVariants.{Accepted, Collected, Done, Refused}
 use Rattle.metric_history.specs.declared.batch.Batch.{Batch}
-use Rattle.metric_history.specs.Rules.{RunRules}
+use Rattle.metric_history.specs.Facts.{RunFacts}
 use Rattle.metric_history.specs.Answers.{recorded, collected, closing}
-use Rattle.metric_history.specs.History.{History, accepted, mark_of, previous_of, is_closed}
+use Rattle.metric_history.specs.History.{History, told_of}
 
 -- the entry of a recording after a history, or the first refusal
-abbrev pub recording : RunRules → History → ℕ → ℕ → List OwnedAttr → ℤ → Result Entry Refusal
-recording rules h recorder instrument attrs value =
-    require_some (slice_get rules.instruments instrument) UnknownInstrument >>= λ own.
-    recorded own (encoded rules.contents instrument attrs) (is_closed h instrument) (mark_of rules h instrument) (accepted rules h instrument) recorder value
+abbrev pub recording : RunFacts → ℕ → History → ℕ → ℕ → List OwnedAttr → ℤ → Result Entry Refusal
+recording facts start h recorder instrument attrs value =
+    require_some (slice_get facts.instruments instrument) UnknownInstrument >>= λ own.
+    recorded own (told_of facts start h instrument) (encoded facts.contents instrument attrs) recorder value
 
 -- the batch of a collection after a history, or the first refusal
-abbrev pub collection : RunRules → ℕ → History → ℕ → ℕ → ℕ → Result Batch Refusal
-collection rules start h reader instrument now =
-    require_some (slice_get rules.instruments instrument) UnknownInstrument >>= λ own.
-    collected own start (accepted rules h instrument) instrument reader (mark_of rules h instrument reader) (previous_of start h instrument reader) now
+abbrev pub collection : RunFacts → ℕ → History → ℕ → ℕ → ℕ → Result Batch Refusal
+collection facts start h reader instrument now =
+    require_some (slice_get facts.instruments instrument) UnknownInstrument >>= λ own.
+    collected own start (told_of facts start h instrument) reader now
 
 -- a close after a history, or the first refusal
-abbrev pub close : RunRules → History → ℕ → Result (Unit {0}) Refusal
-close rules h instrument =
-    require_some (slice_get rules.instruments instrument) UnknownInstrument >>= λ own. closing (is_closed h instrument)
+abbrev pub close : RunFacts → ℕ → History → ℕ → Result (Unit {0}) Refusal
+close facts start h instrument =
+    require_some (slice_get facts.instruments instrument) UnknownInstrument >>= λ own.
+    closing (told_of facts start h instrument)
 
 -- Where nothing refuses a recording it is accepted, unless memory is refused; else the reply is the refusal.
 abbrev pub LegalRecord : Result Entry Refusal → Reply → Type 0
@@ -51,21 +52,32 @@ LegalClose (Err refusal) (Refused given) = given ≡ refusal
 LegalClose _ _ = ⊥
 
 -- a reply that the event may get after the history
-abbrev pub Legal : RunRules → ℕ → History → Event → Reply → Type 0
-Legal rules start h (Record recorder instrument attrs value) reply = LegalRecord (recording rules h recorder instrument attrs value) reply
-Legal rules start h (Collect reader instrument now) reply = LegalCollect (collection rules start h reader instrument now) reply
-Legal rules start h (Close instrument) reply = LegalClose (close rules h instrument) reply
+abbrev pub Legal : RunFacts → ℕ → History → Event → Reply → Type 0
+Legal facts start h (Record recorder instrument attrs value) reply = LegalRecord (recording facts start h recorder instrument attrs value) reply
+Legal facts start h (Collect reader instrument now) reply = LegalCollect (collection facts start h reader instrument now) reply
+Legal facts start h (Close instrument) reply = LegalClose (close facts start h instrument) reply
 
 -- one legal reply for each event, each judged after the events before it
-abbrev pub AllLegal : RunRules → ℕ → History → List Event → List Reply → Type 0
-AllLegal rules start h [] [] = Unit {0}
-AllLegal rules start h [] (reply ∷ replies) = ⊥
-AllLegal rules start h (event ∷ events) [] = ⊥
-AllLegal rules start h (event ∷ events) (reply ∷ replies) =
-    Legal rules start h event reply × AllLegal rules start (record { event = event; reply = reply } ∷ h) events replies
+abbrev pub AllLegal : RunFacts → ℕ → History → List Event → List Reply → Type 0
+AllLegal facts start h [] [] = Unit {0}
+AllLegal facts start h [] (reply ∷ replies) = ⊥
+AllLegal facts start h (event ∷ events) [] = ⊥
+AllLegal facts start h (event ∷ events) (reply ∷ replies) =
+    Legal facts start h event reply × AllLegal facts start (record { event = event; reply = reply } ∷ h) events replies
 
 -- the history after more events
 abbrev pub grown : History → List Event → List Reply → History
 grown h [] replies = h
 grown h (event ∷ events) [] = h
 grown h (event ∷ events) (reply ∷ replies) = grown (record { event = event; reply = reply } ∷ h) events replies
+
+-- a history of which each reply is legal after those before it
+abbrev pub IsLegal : RunFacts → ℕ → History → Type 0
+IsLegal facts start [] = Unit {0}
+IsLegal facts start (a ∷ older) = IsLegal facts start older × Legal facts start older a.event a.reply
+
+-- a run with legal replies keeps a history legal
+abbrev pub KeepsLegal : Type 0
+KeepsLegal =
+    (facts : RunFacts) (start : ℕ) (h : History) (events : List Event) (replies : List Reply) → IsLegal facts start h
+    → AllLegal facts start h events replies → IsLegal facts start (grown h events replies)

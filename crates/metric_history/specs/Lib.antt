@@ -1,5 +1,5 @@
 pub mod Events
-pub mod Rules
+pub mod Facts
 pub mod Encoded
 pub mod Series
 pub mod Points

@@ -3,7 +3,7 @@ use Rattle.std.specs.Prelude.{ℕ, Bool, not, ◌||◌, List, [], ◌∷◌, ◌
 use Rattle.std.specs.List.{list_any}
 use Rattle.std.specs.Str.{bytes_eq}
 use Rattle.metric_history.specs.declared.entry.Entry.{Entry}
-use Rattle.metric_history.specs.Rules.{StreamRule}
+use Rattle.metric_views.specs.declared.stream.Stream.{Stream}
 
 -- a set key with 0 in place of each key that is not kept
 abbrev pub restricted : List Bool → List ℕ → List ℕ
@@ -39,24 +39,24 @@ abbrev pub others : List ℕ → List (List ℕ) → List (List ℕ)
 others key keys = filter (λ (other : List ℕ). not (bytes_eq other key)) keys
 
 -- the held series: the first distinct ones, as many as the cardinality limit
-abbrev pub held : StreamRule → List Entry → List (List ℕ)
+abbrev pub held : Stream → List Entry → List (List ℕ)
 held s window = take s.limit (distinct (all_series s.kept window))
 
 -- whether a recording of the window belongs to a series, or to the overflow series, which is no set key
-abbrev pub belongs : StreamRule → List Entry → Option (List ℕ) → Entry → Bool
+abbrev pub belongs : Stream → List Entry → Option (List ℕ) → Entry → Bool
 belongs s window (Some key) entry = bytes_eq (series s.kept entry) key
 belongs s window None entry = not (has (held s window) (series s.kept entry))
 
 -- the recordings of one series, or of the overflow series
-abbrev pub rows : StreamRule → List Entry → Option (List ℕ) → List Entry
+abbrev pub rows : Stream → List Entry → Option (List ℕ) → List Entry
 rows s window place = filter (belongs s window place) window
 
 -- the series into which a recording of the window falls
-abbrev pub place_of : StreamRule → List Entry → Entry → Option (List ℕ)
+abbrev pub place_of : Stream → List Entry → Entry → Option (List ℕ)
 place_of s window entry = if has (held s window) (series s.kept entry) then Some (series s.kept entry) else None
 
 -- the series into which a recording falls that is the window's next
-abbrev pub place_found : StreamRule → List Entry → Entry → Option (List ℕ)
+abbrev pub place_found : Stream → List Entry → Entry → Option (List ℕ)
 place_found s window entry =
     let key = series s.kept entry in
     let keys = all_series s.kept window ++ key ∷ [] in

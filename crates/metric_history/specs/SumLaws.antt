@@ -11,7 +11,8 @@ use Rattle.metric_aggregate.specs.Range.{fits_i64, in_range, sum_in_range}
 use Rattle.metric_aggregate.specs.Value.{sum_of}
 use Rattle.metric_aggregate.specs.ValueLaws.{sum_of-push}
 use Rattle.metric_history.specs.declared.entry.Entry.{Entry}
-use Rattle.metric_history.specs.Rules.{StreamRule}
+use Rattle.metric_views.specs.declared.stream.Stream.{Stream}
+use Rattle.metric_history.specs.Facts.{stream_aggregation}
 use Rattle.metric_history.specs.Series.{series, all_series, has, distinct, held, belongs, rows, place_of, place_found}
 use Rattle.metric_history.specs.SeriesLaws.{key_is_same, held_same}
 use Rattle.metric_history.specs.Points.{values}
@@ -31,12 +32,12 @@ sum_more p window i d l =
     at true = sum_push (filter p (take i window)) (get_or window i d)
     at false = ap (λ (es : List Entry). sum_of (values es)) (append-nil (filter p (take i window))) ∙ omega (arith, ints)
 
-place_of_is : (s : StreamRule) (window : List Entry) (entry : Entry) → place_of s (window ++ entry ∷ []) entry ≡ place_found s window entry
+place_of_is : (s : Stream) (window : List Entry) (entry : Entry) → place_of s (window ++ entry ∷ []) entry ≡ place_found s window entry
 place_of_is s window entry =
     ap (λ (keys : List (List ℕ)). cond (has (take s.limit (distinct keys)) (series s.kept entry)) (Some (series s.kept entry)) None) (map_push (series s.kept) window entry)
 
 -- the rows of the place that a recording finds, with it
-pub rows_push : (s : StreamRule) (window : List Entry) (entry : Entry)
+pub rows_push : (s : Stream) (window : List Entry) (entry : Entry)
     → rows s (window ++ entry ∷ []) (place_found s window entry) ≡ rows s window (place_found s window entry) ++ entry ∷ []
 rows_push s window entry = at (has (take s.limit (distinct (all_series s.kept window ++ series s.kept entry ∷ []))) (series s.kept entry)) refl
   where
@@ -69,13 +70,13 @@ in_range_is (HistogramAggregation boundaries keeps_sum) values few =
     ap (λ (b : Bool). b && (not keeps_sum || fits_i64 (sum_of values))) counted
 
 -- a stream takes a recording where the sum with it is in range
-pub sum_fits : (s : StreamRule) (window : List Entry) (entry : Entry) → length window + 1 < 2 ^ 64
-    → fits_stream s window entry ≡ sum_in_range s.aggregation (sum_of (values (rows s window (place_found s window entry))) +ℤ entry.value)
+pub sum_fits : (s : Stream) (window : List Entry) (entry : Entry) → length window + 1 < 2 ^ 64
+    → fits_stream s window entry ≡ sum_in_range (stream_aggregation s) (sum_of (values (rows s window (place_found s window entry))) +ℤ entry.value)
 sum_fits s window entry few =
     let place = place_found s window entry in
     let short : length (values (rows s window (place_found s window entry) ++ entry ∷ [])) < 2 ^ 64 =
     omega (arith, few, length-map (rows s window (place_found s window entry) ++ entry ∷ []) (λ (e : Entry). e.value), length_push (rows s window (place_found s window entry)) entry, length-filter (belongs s window (place_found s window entry)) window, count_by-le-length (belongs s window (place_found s window entry)) window) in
-    ap (λ (place : Option (List ℕ)). in_range s.aggregation (values (rows s (window ++ entry ∷ []) place))) (place_of_is s window entry)
-    ∙ ap (λ (es : List Entry). in_range s.aggregation (values es)) (rows_push s window entry)
-    ∙ in_range_is s.aggregation (values (rows s window place ++ entry ∷ [])) short
-    ∙ ap (sum_in_range s.aggregation) (sum_push (rows s window (place_found s window entry)) entry)
+    ap (λ (place : Option (List ℕ)). in_range (stream_aggregation s) (values (rows s (window ++ entry ∷ []) place))) (place_of_is s window entry)
+    ∙ ap (λ (es : List Entry). in_range (stream_aggregation s) (values es)) (rows_push s window entry)
+    ∙ in_range_is (stream_aggregation s) (values (rows s window place ++ entry ∷ [])) short
+    ∙ ap (sum_in_range (stream_aggregation s)) (sum_push (rows s window (place_found s window entry)) entry)

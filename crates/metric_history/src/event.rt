@@ -49,7 +49,7 @@ pub enum Reply {
 }
 
 impl Event {
-    ghost use Rattle.metric_history.specs.Events.{instrument_of};
+    ghost use Rattle.metric_history.specs.Events.{attr_count, instrument_of};
 
     /// The number of the instrument.
     pub fn instrument(&self) -> u32
@@ -59,6 +59,16 @@ impl Event {
             Event::Record { instrument, .. } => *instrument,
             Event::Collect { instrument, .. } => *instrument,
             Event::Close { instrument } => *instrument,
+        }
+    }
+
+    /// How many attributes it has.
+    pub fn attr_count(&self) -> usize
+        ensures { result ≡ attr_count self.now }
+    {
+        match self {
+            Event::Record { attrs, .. } => attrs.len(),
+            Event::Collect { .. } | Event::Close { .. } => 0,
         }
     }
 }

@@ -3,7 +3,10 @@ ghost use Rattle.std.specs.Prelude.{◌≡◌, ℕ, List, ◌∷◌};
 ghost use Rattle.std.specs.Cmp.Lexicographic.{slice_cmp};
 ghost use Rattle.std.specs.List.Sorted.{IsPermutation, IsSorted};
 ghost use Rattle.std.specs.Ordering.{nat_cmp};
-ghost use Rattle.metric_history.specs.Points.{ascending as in_order};
+ghost use Rattle.metric_views.specs.declared.stream.Stream.{Stream};
+ghost use Rattle.metric_history.specs.declared.entry.Entry.{Entry};
+ghost use Rattle.metric_history.specs.Legal.{KeepsLegal};
+ghost use Rattle.metric_history.specs.Points.{CountsOnce, ascending as in_order};
 ghost use Rattle.metric_history.specs.Series.{distinct, others};
 
 /// The keys in ascending order are the keys, and none of them comes before the one that it follows.
@@ -16,4 +19,16 @@ pub fn ascending_sorts_keys()
 #[tactic(auto, using(crate::specs::SeriesLaws::distinct_laws))]
 pub fn distinct_drops_repetitions()
     ensures { (key : List ℕ) (keys : List (List ℕ)) → distinct (key ∷ keys) ≡ key ∷ others key (distinct keys) }
+{}
+
+/// Each recording of a window belongs to exactly one of a stream's points: it is counted once.
+#[tactic(auto, using(crate::proofs::CountedOnce::counted_once))]
+pub fn recordings_are_counted_once()
+    ensures { (s : Stream) (window : List Entry) → CountsOnce s window }
+{}
+
+/// What a run adds to a legal history makes a legal history.
+#[tactic(auto, using(crate::proofs::LegalLaws::legal_grown))]
+pub fn runs_keep_histories_legal()
+    ensures { KeepsLegal }
 {}

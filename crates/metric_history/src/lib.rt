@@ -6,8 +6,10 @@
 mod batch;
 mod entry;
 mod event;
+mod facts;
 pub mod laws;
 
 pub use batch::{Batch, Point, StreamPoints};
 pub use entry::Entry;
 pub use event::{Event, Reply};
+pub use facts::{Facts, KeyFacts, NumberedStream, all_facts};

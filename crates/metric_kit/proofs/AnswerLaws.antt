@@ -11,7 +11,7 @@ use Rattle.metric_history.specs.declared.event.Reply.{Reply}
 use Rattle.metric_history.specs.declared.event.Reply.TheVariants.{Accepted, Collected, Done, Refused}
 use Rattle.metric_history.specs.History.{History}
 use Rattle.metric_history.specs.Legal.{LegalRecord, LegalCollect, LegalClose, Legal, AllLegal}
-use Rattle.metric_history.specs.Rules.{RunRules}
+use Rattle.metric_history.specs.Facts.{RunFacts}
 use Rattle.metric_kit.specs.Replies.{is_want_of_memory}
 
 -- a refusal that is want of memory is excluded
@@ -66,29 +66,29 @@ one_close (Err refusal) (Refused g) Accepted a b = elim b [ ]
 one_close (Err refusal) (Refused g) (Collected _) a b = elim b [ ]
 one_close (Err refusal) (Refused g) Done a b = elim b [ ]
 
-one_reply : (rules : RunRules) (start : ℕ) (h : History) (e : Event) (r s : Reply)
-    → Legal rules start h e r → Legal rules start h e s → is_want_of_memory r ≡ false → is_want_of_memory s ≡ false → r ≡ s
-one_reply rules start h (Record recorder instrument attrs value) r s a b m n = one_record _ r s a b m n
-one_reply rules start h (Collect reader instrument now) r s a b m n = one_collect _ r s a b m n
-one_reply rules start h (Close instrument) r s a b m n = one_close _ r s a b
+one_reply : (facts : RunFacts) (start : ℕ) (h : History) (e : Event) (r s : Reply)
+    → Legal facts start h e r → Legal facts start h e s → is_want_of_memory r ≡ false → is_want_of_memory s ≡ false → r ≡ s
+one_reply facts start h (Record recorder instrument attrs value) r s a b m n = one_record _ r s a b m n
+one_reply facts start h (Collect reader instrument now) r s a b m n = one_collect _ r s a b m n
+one_reply facts start h (Close instrument) r s a b m n = one_close _ r s a b
 
 neither : (a b : Bool) → (a || b) ≡ false → (a ≡ false) × (b ≡ false)
 neither true b e = absurd cc
 neither false b e = (refl, e)
 
 -- so a run has one list of replies beside want of memory
-pub one_run : (rules : RunRules) (start : ℕ) (h : History) (es : List Event) (rs ss : List Reply)
-    → AllLegal rules start h es rs → AllLegal rules start h es ss
+pub one_run : (facts : RunFacts) (start : ℕ) (h : History) (es : List Event) (rs ss : List Reply)
+    → AllLegal facts start h es rs → AllLegal facts start h es ss
     → list_any is_want_of_memory rs ≡ false → list_any is_want_of_memory ss ≡ false → rs ≡ ss
-one_run rules start h [] [] [] a b m n = refl
-one_run rules start h (e ∷ es) (r ∷ rs) (s ∷ ss) a b m n =
+one_run facts start h [] [] [] a b m n = refl
+one_run facts start h (e ∷ es) (r ∷ rs) (s ∷ ss) a b m n =
     let p = neither (is_want_of_memory r) (list_any is_want_of_memory rs) m in
     let q = neither (is_want_of_memory s) (list_any is_want_of_memory ss) n in
-    let same : r ≡ s = one_reply rules start h e r s a.0 b.0 p.0 q.0 in
-    let others : rs ≡ ss = one_run rules start (record { event = e; reply = r } ∷ h) es rs ss a.1
+    let same : r ≡ s = one_reply facts start h e r s a.0 b.0 p.0 q.0 in
+    let others : rs ≡ ss = one_run facts start (record { event = e; reply = r } ∷ h) es rs ss a.1
     (rw same b.1) p.1 q.1 in
     ap (λ (x : Reply). x ∷ rs) same ∙ ap (λ (xs : List Reply). s ∷ xs) others
-one_run rules start h [] [] (s ∷ ss) a b m n = elim b [ ]
-one_run rules start h [] (r ∷ rs) ss a b m n = elim a [ ]
-one_run rules start h (e ∷ es) [] ss a b m n = elim a [ ]
-one_run rules start h (e ∷ es) (r ∷ rs) [] a b m n = elim b [ ]
+one_run facts start h [] [] (s ∷ ss) a b m n = elim b [ ]
+one_run facts start h [] (r ∷ rs) ss a b m n = elim a [ ]
+one_run facts start h (e ∷ es) [] ss a b m n = elim a [ ]
+one_run facts start h (e ∷ es) (r ∷ rs) [] a b m n = elim b [ ]

@@ -47,8 +47,8 @@ one_output parts starts events options input a b p q =
     let here : IsScript y.script.lines x.start x.events = subst (λ (s : ScriptLines). IsScript s.lines x.start x.events) script x.is_script in
     let start : x.start ≡ y.start = starts y.script.lines x.start y.start x.events y.events here y.is_script in
     let run : x.events ≡ y.events = events y.script.lines x.start y.start x.events y.events here y.is_script in
-    let on_plan : AllLegal q.plan.rules x.start [] x.events p.replies = subst (λ (v : PlanValue). AllLegal v.rules x.start [] x.events p.replies) plan x.run.legal in
-    let on_start : AllLegal q.plan.rules y.start [] x.events p.replies = subst (λ (s : ℕ). AllLegal q.plan.rules s [] x.events p.replies) start on_plan in
-    let on_events : AllLegal q.plan.rules y.start [] y.events p.replies = subst (λ (es : List Event). AllLegal q.plan.rules y.start [] es p.replies) run on_start in
-    let replies : p.replies ≡ q.replies = one_run q.plan.rules y.start [] y.events p.replies q.replies on_events y.run.legal x.run.remembered y.run.remembered in
+    let on_plan : AllLegal q.plan.facts x.start [] x.events p.replies = subst (λ (v : PlanValue). AllLegal v.facts x.start [] x.events p.replies) plan x.run.legal in
+    let on_start : AllLegal q.plan.facts y.start [] x.events p.replies = subst (λ (s : ℕ). AllLegal q.plan.facts s [] x.events p.replies) start on_plan in
+    let on_events : AllLegal q.plan.facts y.start [] y.events p.replies = subst (λ (es : List Event). AllLegal q.plan.facts y.start [] es p.replies) run on_start in
+    let replies : p.replies ≡ q.replies = one_run q.plan.facts y.start [] y.events p.replies q.replies on_events y.run.legal x.run.remembered y.run.remembered in
     p.written ∙ ap (λ (v : PlanValue). replies_text v p.replies) plan ∙ ap (λ (rs : List Reply). replies_text q.plan rs) replies ∙ sym q.written

@@ -4,8 +4,8 @@ use Rattle.metric_catalogue.specs.declared.contents.Contents.{Contents}
 use Rattle.metric_catalogue.specs.declared.fault.CatalogueFault.{CatalogueFault}
 use Rattle.metric_views.specs.declared.config.Config.{Config}
 use Rattle.metric_views.specs.declared.fault.ViewFault.{ViewFault}
-use Rattle.metric_core.specs.First.{default_streams, is_taken, rules_of}
-use Rattle.metric_core.specs.Plans.{PlanValue}
+use Rattle.metric_core.specs.First.{default_streams, is_taken}
+use Rattle.metric_core.specs.Plans.{PlanValue, facts_of}
 use Rattle.metric_kit.specs.declared.fault.KitFault.{KitFault}
 use Rattle.metric_kit.specs.declared.fault.KitFault.TheVariants.{Catalogue, Config as BadConfig, NotYet, Memory}
 
@@ -14,7 +14,7 @@ abbrev pub plan_of : Contents → Config → PlanValue
 plan_of contents config = record {
   config = config;
   streams = default_streams contents config;
-  rules = record { contents = contents; instruments = rules_of contents config };
+  facts = facts_of contents config (default_streams contents config);
 }
 
 -- a catalogue, or its first fault, unless memory was refused

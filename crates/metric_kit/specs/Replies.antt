@@ -19,7 +19,7 @@ refused_text refusal = codes "refused " ++ (refusal_text refusal ++ codes "\n")
 -- one reply under the plan
 abbrev pub reply_text : PlanValue → Reply → List ℕ
 reply_text plan Accepted = codes "accepted" ++ 10 ∷ []
-reply_text plan (Collected batch) = batch_text plan.rules.contents plan.config plan.streams batch
+reply_text plan (Collected batch) = batch_text plan.facts.contents plan.config plan.streams batch
 reply_text plan Done = codes "closed" ++ 10 ∷ []
 reply_text plan (Refused refusal) = refused_text refusal
 

@@ -9,5 +9,5 @@ use Rattle.metric_kit.specs.Replies.{is_want_of_memory}
 
 -- A legal reply to each event, and none of them want of memory.
 pub record IsRun (plan : PlanValue) (start : ℕ) (events : List Event) (replies : List Reply) : Type 0 where
-  pub legal : AllLegal plan.rules start [] events replies
+  pub legal : AllLegal plan.facts start [] events replies
   pub remembered : list_any is_want_of_memory replies ≡ false

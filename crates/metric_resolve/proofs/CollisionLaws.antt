@@ -6,11 +6,10 @@ use Rattle.std.specs.Prelude.{option_and_then, slice_get}
 use Rattle.std.proofs.lemmas.Option.{slice_get_within}
 use Rattle.metric_catalogue.specs.declared.contents.Contents.{Contents}
 use Rattle.metric_views.specs.declared.stream.Stream.{Stream}
-use Rattle.metric_resolve.specs.declared.identity.Identity.{Identity}
 use Rattle.metric_resolve.specs.declared.warning.Warning.TheVariants as warnings
-use Rattle.metric_resolve.specs.Collisions.{collision_at, collisions_of, first_of, identity_of, is_identity}
+use Rattle.metric_resolve.specs.Collisions.{Identity, collision_at, collisions_of, first_of, identity_of, is_identity}
 use Rattle.metric_resolve.specs.Laws.{Collide, identity_at}
-use Rattle.metric_resolve.proofs.Lists.{Contains-filter_map, Contains-range, given_by}
+use Rattle.metric_resolve.proofs.Lists.{Contains-filter_map, Contains-range, given_by, slice_get-take}
 use Rattle.metric_resolve.proofs.Same.{is_same-Decides}
 
 -- the first element that passes
@@ -49,12 +48,6 @@ first_back test i (x ∷ xs) (suc a) f =
     let fails : test x ≡ false = f.least 0 x (omega arith) refl in
     let is : i + 1 + a ≡ i + suc a = omega arith in
     rw fails (first_back test (i + 1) xs a (record { found = f.found; at = f.at; passes = f.passes; least = λ k y less at. f.least (suc k) y (omega arith) at }) ∙ ap (λ (n : ℕ). Some n) is)
-
-slice_get-take : {X : Type 0} (n : ℕ) (xs : List X) (k : ℕ) → k < n → slice_get (take n xs) k ≡ slice_get xs k
-slice_get-take zero xs k less = absurd (omega arith)
-slice_get-take (suc n) [] k less = refl
-slice_get-take (suc n) (x ∷ xs) zero less = refl
-slice_get-take (suc n) (x ∷ xs) (suc k) less = slice_get-take n xs k (omega arith)
 
 -- the test of an identity
 is_identity-same : (x : Identity) (o : Option Identity) → is_identity x o ≡ true → o ≡ Some x

@@ -7,3 +7,4 @@ pub mod Lists
 pub mod Ordered
 pub mod StreamLaws
 pub mod CollisionLaws
+mod StreamKeyLaws

@@ -1,5 +1,5 @@
 -- What joined lists contain.
-use Rattle.std.proofs.Common.{◌≡◌, ℕ, ◌<◌, List, [], ◌∷◌, get_or, Contains, Option, Some, None, refl, sym, ap, subst, ◌∙◌, arith, ◌⊎◌, inl, inr}
+use Rattle.std.proofs.Common.{◌≡◌, slice_get, ℕ, zero, suc, take, ◌<◌, List, [], ◌∷◌, get_or, Contains, Option, Some, None, refl, sym, ap, subst, ◌∙◌, arith, ◌⊎◌, inl, inr}
 use Rattle.std.specs.List.{cons_option, filter_map, flat_map, range_with_len}
 use Rattle.std.proofs.lemmas.List.Elements.{Contains-append_cases, Contains-append_left, Contains-append_right, Contains-get_or, Contains-push_cases, at_from_Contains}
 use Rattle.std.proofs.lemmas.List.FromFn.{get_or-range_with_len, length-range_with_len}
@@ -64,3 +64,10 @@ below_range n k in' =
     let is : get_or (range_with_len 0 n) at.0 0 ≡ at.0 = get_or-range_with_len 0 n at.0 0 within ∙ omega arith in
     let same : get_or (range_with_len 0 n) at.0 0 ≡ k = at.2 0 in
     omega arith
+
+-- an element of the first so many
+pub slice_get-take : {X : Type 0} (n : ℕ) (xs : List X) (k : ℕ) → k < n → slice_get (take n xs) k ≡ slice_get xs k
+slice_get-take zero xs k less = absurd (omega arith)
+slice_get-take (suc n) [] k less = refl
+slice_get-take (suc n) (x ∷ xs) zero less = refl
+slice_get-take (suc n) (x ∷ xs) (suc k) less = slice_get-take n xs k (omega arith)

@@ -10,12 +10,11 @@ use Rattle.metric_catalogue.specs.declared.contents.Contents.{Contents}
 use Rattle.metric_catalogue.specs.declared.contents.Meter.{Meter}
 use Rattle.metric_catalogue.specs.PlaceLaws.{or_else, position_from-push}
 use Rattle.metric_views.specs.declared.stream.Stream.{Stream}
-use Rattle.metric_resolve.specs.declared.identity.Identity.{Identity}
 use Rattle.metric_resolve.specs.declared.warning.Warning.TheVariants as warnings
 use Rattle.metric_resolve.specs.Applying.{meter_at}
-use Rattle.metric_resolve.specs.Collisions.{collision_at, first_of, identity_of, identity_with, is_identity, is_same}
+use Rattle.metric_resolve.specs.Collisions.{Identity, collision_at, first_of, identity_of, identity_with, is_identity, is_same}
 
-both : {P Q : Type 0} (a b : Bool) → Decides a P → Decides b Q → Decides (a && b) (P × Q)
+pub both : {P Q : Type 0} (a b : Bool) → Decides a P → Decides b Q → Decides (a && b) (P × Q)
 both true b p q = (λ e. (p.0 refl, q.0 e), λ h. q.1 h.1)
 both false b p q = (λ e. absurd cc, λ h. p.1 h.0)
 
@@ -31,13 +30,6 @@ is_same-Decides x y =
       λ e. let h = d.0 e in joined x y h.0 h.1.0 h.1.1.0 h.1.1.1.0 h.1.1.1.1,
       λ e. d.1 (ap (λ i. i.reader) e, (ap (λ i. i.meter) e, (ap (λ i. i.version) e, (ap (λ i. i.schema_url) e, ap (λ i. i.name) e)))),
     )
-
--- the identity that is made of a stream
-pub identity_made : (contents : Contents) (stream : Stream) (made : Identity) (meter : Meter) → meter_at contents stream.instrument ≡ Some meter → made.reader ≡ stream.reader
-    → made.meter ≡ meter.name → made.version ≡ meter.version → made.schema_url ≡ meter.schema_url → made.name ≡ folded stream.name → identity_of contents stream ≡ Some made
-unfolding identity_of
-identity_made contents stream made meter at reader name version schema_url folded =
-    rw at (ap (λ (i : Identity). Some i) (sym (joined made (identity_with stream meter) reader name version schema_url folded)))
 
 -- the first stream of an identity, with one stream more
 first_of-push : (contents : Contents) (streams : List Stream) (stream : Stream) (own q : Identity) → identity_of contents stream ≡ Some own

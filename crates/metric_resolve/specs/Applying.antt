@@ -8,7 +8,8 @@ use Rattle.metric_views.specs.declared.config.Config.{Config}
 use Rattle.metric_views.specs.declared.config.Reader.{Reader}
 use Rattle.metric_views.specs.declared.config.View.{View}
 use Rattle.metric_views.specs.Selection.{selects}
-use Rattle.metric_views.specs.Streams.{chosen_aggregation, is_unfit}
+use Rattle.metric_views.specs.Choices.{is_unfit}
+use Rattle.metric_views.specs.Streams.{chosen_aggregation}
 
 -- the numbers of the readers, the views and the instruments
 abbrev pub all_readers : Config → List ℕ

@@ -7,10 +7,17 @@ use Rattle.metric_names.specs.Names.{folded}
 use Rattle.metric_catalogue.specs.declared.contents.Contents.{Contents}
 use Rattle.metric_catalogue.specs.declared.contents.Meter.{Meter}
 use Rattle.metric_views.specs.declared.stream.Stream.{Stream}
-use Rattle.metric_resolve.specs.declared.identity.Identity.{Identity}
 use Rattle.metric_resolve.specs.declared.warning.Warning.{Warning}
 use Rattle.metric_resolve.specs.declared.warning.Warning.TheVariants as warnings
 use Rattle.metric_resolve.specs.Applying.{meter_at}
+
+-- What tells streams apart: the reader, the instrumentation scope and the name without ASCII case (Metrics data model, identity).
+pub record Identity : Type 0 where
+  pub reader : ℕ
+  pub meter : List ℕ
+  pub version : List ℕ
+  pub schema_url : List ℕ
+  pub name : List ℕ
 
 -- the identity of a stream of a meter
 abbrev pub identity_with : Stream → Meter → Identity

@@ -1,11 +1,9 @@
--- The first stream of each identity, as a map keeps it.
+-- The first stream of each key, as a map keeps it.
 use Rattle.std.specs.Prelude.{ℕ, Option}
-use Rattle.std.specs.HashMap.{get, HashMap}
-use Rattle.std.specs.declared.hash.FoldHasher.{FoldHasher}
-use Rattle.std.specs.declared.hash.BuildHasherDefault.{BuildHasherDefault}
-use Rattle.metric_resolve.specs.declared.identity.Identity.{Identity}
-use Rattle.metric_resolve.specs.Collisions.{is_same}
+use Rattle.std.specs.BTreeMap.{get, BTreeMap}
+use Rattle.metric_resolve.specs.declared.stream_key.StreamKey.{StreamKey}
+use Rattle.metric_resolve.specs.StreamKeys.{key_order}
 
--- the number that is kept for an identity
-abbrev pub first_in : HashMap Identity ℕ (BuildHasherDefault FoldHasher) → Identity → Option ℕ
-first_in firsts identity = get is_same firsts identity
+-- the number that is kept for a key
+abbrev pub first_in : BTreeMap StreamKey ℕ → StreamKey → Option ℕ
+first_in firsts key = get key_order firsts key

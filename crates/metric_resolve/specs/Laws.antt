@@ -5,9 +5,8 @@ use Rattle.metric_views.specs.declared.config.Config.{Config}
 use Rattle.metric_views.specs.declared.stream.Fill.TheVariants.{Kept}
 use Rattle.metric_views.specs.declared.stream.Stream.{Stream}
 use Rattle.metric_views.specs.Streams.{fill_at}
-use Rattle.metric_resolve.specs.declared.identity.Identity.{Identity}
 use Rattle.metric_resolve.specs.Applying.{views_for}
-use Rattle.metric_resolve.specs.Collisions.{identity_of}
+use Rattle.metric_resolve.specs.Collisions.{Identity, identity_of}
 
 -- The stream is what its own view, or the default, makes of its own instrument for its own reader, and the reader sees the
 -- instrument by that view, or by the default.

@@ -4,5 +4,6 @@ pub mod Resolved
 pub mod Unfit
 pub mod Collisions
 pub mod Warnings
+pub mod StreamKeys
 pub mod Firsts
 pub mod Laws

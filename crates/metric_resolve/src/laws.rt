@@ -3,9 +3,8 @@ ghost use Rattle.std.specs.Prelude.{◌≡◌, ◌↔◌, ℕ, List, AllPairs, C
 ghost use Rattle.metric_catalogue.specs.declared.contents.Contents.{Contents};
 ghost use Rattle.metric_views.specs.declared.config.Config.{Config};
 ghost use Rattle.metric_views.specs.declared.stream.Stream.{Stream};
-ghost use Rattle.metric_resolve.specs.declared.identity.Identity.{Identity};
 ghost use Rattle.metric_resolve.specs.declared.warning.Warning.TheVariants.{Collision};
-ghost use Rattle.metric_resolve.specs.Collisions.{collisions_of, is_same};
+ghost use Rattle.metric_resolve.specs.Collisions.{Identity, collisions_of, is_same};
 ghost use Rattle.metric_resolve.specs.Laws.{Collide, IsOwn, Precedes};
 ghost use Rattle.metric_resolve.specs.Resolved.{streams_of};
 

@@ -2,15 +2,14 @@
 #![tactic(auto)]
 
 mod collisions;
-mod identity;
 mod laws;
 mod resolved;
 mod selections;
+mod stream_key;
 mod stream_list;
 mod unfit;
 mod warning;
 
-pub use identity::Identity;
 pub use laws::{collisions_are_of_one_identity, streams_are_what_views_give};
 pub use resolved::{Streams, resolve};
 pub use warning::Warning;

@@ -1,9 +1,9 @@
 //! Which views select which instruments, found once for all readers.
-ghost use Rattle.std.specs.Prelude.{◌≡◌, ◌<◌, IfOk, map, length};
+ghost use Rattle.std.specs.Prelude.{◌≡◌, ◌<◌, IfOk, Some, map, length};
 ghost use Rattle.metric_views.specs.Selection.{selects};
+ghost use Rattle.metric_resolve.specs.Applying.{meter_at};
 ghost use Rattle.metric_resolve.specs.Flags.{AreSelections, flag_at, flag_of};
 
-use crate::identity::meter_of;
 use metric_base::Items;
 use metric_catalogue::{Catalogue, Instrument, Meter};
 use metric_views::{Config, View};
@@ -24,7 +24,7 @@ impl Selections {
     ) -> Result<Selections, AllocError>
         ensures { IfOk result (λ s. AreSelections catalogue.now config.now s.rows) }
     {
-        let views = config.views.as_slice();
+        let views = config.views();
         let mut rows = Items::new(alloc);
         for (number, instrument) in catalogue.instruments().iter().enumerate() {
             let meter = meter_of(catalogue, number as u32);
@@ -43,6 +43,15 @@ impl Selections {
             None => false,
         }
     }
+}
+
+// The meter of the instrument of a number.
+fn meter_of(catalogue: &Catalogue, instrument: u32) -> &Meter
+    requires { instrument < length catalogue.now.instruments }
+    ensures { meter_at catalogue.now instrument ≡ Some result.now }
+{
+    let number = catalogue.instruments()[instrument as usize].meter;
+    &catalogue.meters()[number as usize]
 }
 
 /// Whether each view selects the instrument of a meter.

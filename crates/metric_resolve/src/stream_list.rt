@@ -27,7 +27,7 @@ pub(crate) fn streams_of(alloc: Global, source: Source<'_>) -> Result<Items<Stre
     ensures known { IfOk result (All (λ stream. stream.instrument < length source.entry.catalogue.now.instruments)) }
 {
     let mut streams = Items::new(alloc);
-    for reader in 0..source.config.readers.len() as u32 {
+    for reader in 0..source.config.readers().len() as u32 {
         add_reader(alloc, source, reader, &mut streams)?;
     }
     Ok(streams)
@@ -97,7 +97,7 @@ fn add_views(
         ≡ list_any (applies source.entry.catalogue.now source.entry.config.now reader instrument) (all_views source.entry.config.now)) }
 {
     let mut applied = false;
-    for view in 0..source.config.views.len() as u32 {
+    for view in 0..source.config.views().len() as u32 {
         let applies = add_view(alloc, source, reader, instrument, view, streams)?;
         applied = applied || applies;
     }

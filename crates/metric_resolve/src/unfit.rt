@@ -20,7 +20,7 @@ pub(crate) fn add_unfit(
     requires { AreSelections catalogue.now config.now selections.now.rows }
     ensures { OnOk result (warnings.new ≡ warnings.old ++ unfit_of catalogue.now config.now) }
 {
-    for view in 0..config.views.len() as u32 {
+    for view in 0..config.views().len() as u32 {
         add_view(catalogue, config, selections, view, warnings)?;
     }
     Ok(())
@@ -59,7 +59,7 @@ fn is_unfit_pair(
     ensures { result ≡ is_unfit_pair catalogue.now config.now view instrument }
 {
     names_unfit(
-        &config.views.as_slice()[view as usize],
+        &config.views()[view as usize],
         &catalogue.instruments()[instrument as usize],
     ) && selections.has(instrument, view)
 }

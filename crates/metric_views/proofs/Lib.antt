@@ -1,0 +1,2 @@
+mod SoundReaders
+mod SoundSetups

@@ -1,5 +1,5 @@
 -- What readers and views choose, and how a config spells it.
-use Rattle.std.specs.Prelude.{ℕ, codes, List, Option, Some, None, if◌then◌else◌}
+use Rattle.std.specs.Prelude.{ℕ, codes, Bool, true, false, List, Option, Some, None, if◌then◌else◌}
 use Rattle.std.specs.Str.{bytes_eq}
 use Rattle.metric_catalogue.specs.declared.contents.Kind.{Kind}
 use Rattle.metric_catalogue.specs.declared.contents.Kind.TheVariants as kinds
@@ -15,6 +15,11 @@ choice_for choices kinds.Counter = choices.counter
 choice_for choices kinds.UpDownCounter = choices.up_down_counter
 choice_for choices kinds.Histogram = choices.histogram
 choice_for choices kinds.Gauge = choices.gauge
+
+-- Only a sum does not fit, and only a gauge.
+abbrev pub is_unfit : Kind → Aggregation → Bool
+is_unfit kinds.Gauge aggregations.Sum = true
+is_unfit _ _ = false
 
 -- the temporality that a text names
 abbrev pub temporality_named : List ℕ → Option Temporality

@@ -4,8 +4,8 @@ use Rattle.toml.specs.Data.{Members}
 use Rattle.toml.specs.Parse.{parse_document}
 use Rattle.metric_base.specs.Steps.{◌>>=◌, require_some}
 use Rattle.metric_table.specs.Fields.{format_field, only, tables_field}
-use Rattle.metric_views.specs.declared.config.Config.{Config}
-use Rattle.metric_views.specs.declared.fault.Place.TheVariants.{Top}
+use Rattle.metric_views.specs.declared.config.Setup.{Setup}
+use Rattle.metric_views.specs.declared.fault.ConfigPlace.TheVariants.{Top}
 use Rattle.metric_views.specs.declared.fault.ViewFault.{ViewFault}
 use Rattle.metric_views.specs.declared.fault.ViewFault.TheVariants.{NotToml}
 use Rattle.metric_views.specs.Faults.{faults_at}
@@ -25,16 +25,16 @@ tables_of_top table = do
   views ← tables_field (faults_at Top) 256 (codes "view") table
   Ok (readers, views)
 
--- the config of the top table
-unfoldable pub config_of_table : Members → Result Config ViewFault
-config_of_table table = do
+-- what the top table says
+unfoldable pub setup_of_table : Members → Result Setup ViewFault
+setup_of_table table = do
   tables ← tables_of_top table
   readers ← readers_of tables.0
   views ← views_of tables.1
   Ok (record { readers = readers; views = views })
 
 -- the config that a text is
-abbrev pub config_of : List ℕ → Result Config ViewFault
+abbrev pub config_of : List ℕ → Result Setup ViewFault
 config_of text = do
   table ← require_some (parse_document text) NotToml
-  config_of_table table
+  setup_of_table table

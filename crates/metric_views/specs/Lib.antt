@@ -4,6 +4,7 @@ pub mod Places
 pub mod Readers
 pub mod Views
 pub mod Configs
+pub mod Sound
 pub mod Selection
 pub mod SelectionLaws
 pub mod Streams

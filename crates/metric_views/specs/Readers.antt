@@ -13,35 +13,30 @@ use Rattle.metric_views.specs.declared.choices.Temporality.TheVariants.{Delta, C
 use Rattle.metric_views.specs.declared.choices.Aggregation.{Aggregation}
 use Rattle.metric_views.specs.declared.choices.Aggregation.TheVariants as aggregations
 use Rattle.metric_views.specs.declared.config.Reader.{Reader}
-use Rattle.metric_views.specs.declared.fault.Place.{Place}
-use Rattle.metric_views.specs.declared.fault.Place.TheVariants as places
+use Rattle.metric_views.specs.declared.fault.ConfigPlace.{ConfigPlace}
+use Rattle.metric_views.specs.declared.fault.ConfigPlace.TheVariants as places
 use Rattle.metric_views.specs.declared.fault.ViewFault.{ViewFault}
 use Rattle.metric_views.specs.declared.fault.ViewFault.TheVariants.{WrongKind, BadName, BadLimit, DuplicateReader}
-use Rattle.metric_views.specs.Choices.{aggregation_named, temporality_named}
+use Rattle.metric_views.specs.Choices.{aggregation_named, is_unfit, temporality_named}
 use Rattle.metric_views.specs.Faults.{faults_at}
 
 -- a temporality
-unfoldable pub temporality_of : Place → Data → Result Temporality ViewFault
+unfoldable pub temporality_of : ConfigPlace → Data → Result Temporality ViewFault
 temporality_of at d = do
   text ← text_of (faults_at at) d
   require_some (temporality_named text) (WrongKind at)
 
 -- an aggregation
-unfoldable pub aggregation_of : Place → Data → Result Aggregation ViewFault
+unfoldable pub aggregation_of : ConfigPlace → Data → Result Aggregation ViewFault
 aggregation_of at d = do
   text ← text_of (faults_at at) d
   require_some (aggregation_named text) (WrongKind at)
 
--- no reader sums gauges
-abbrev pub suits : Kind → Aggregation → Bool
-suits Gauge aggregations.Sum = Bool.false
-suits _ _ = Bool.true
-
--- a reader's aggregation for a kind
-unfoldable pub aggregation_for : Place → Kind → Data → Result Aggregation ViewFault
+-- a reader's aggregation for a kind, which it fits
+unfoldable pub aggregation_for : ConfigPlace → Kind → Data → Result Aggregation ViewFault
 aggregation_for at kind d = do
   aggregation ← aggregation_of at d
-  _ ← require (suits kind aggregation) (WrongKind at)
+  _ ← require (not (is_unfit kind aggregation)) (WrongKind at)
   Ok aggregation
 
 -- a cardinality limit is 1 to 1,000,000
@@ -49,7 +44,7 @@ abbrev pub is_limit : ℤ → Bool
 is_limit number = int_le (pos 1) number && int_le number (pos 1000000)
 
 -- a cardinality limit
-unfoldable pub limit_of : Place → Data → Result ℕ ViewFault
+unfoldable pub limit_of : ConfigPlace → Data → Result ℕ ViewFault
 limit_of at d = do
   number ← integer_of (faults_at at) d
   _ ← require (is_limit number) (BadLimit at)
@@ -68,7 +63,7 @@ abbrev pub kind_names : List (List ℕ)
 kind_names = codes "counter" ∷ codes "up_down_counter" ∷ codes "histogram" ∷ codes "gauge" ∷ []
 
 -- a table of choices, kind by kind
-unfoldable pub choices_of : {T : Type 0} → T → (Place → Kind → Data → Result T ViewFault) → Place → Members → Result (ByKind T) ViewFault
+unfoldable pub choices_of : {T : Type 0} → T → (ConfigPlace → Kind → Data → Result T ViewFault) → ConfigPlace → Members → Result (ByKind T) ViewFault
 choices_of usual chosen at table = do
   _ ← only (faults_at at) kind_names table
   counter ← choice_at usual (chosen at Counter) (codes "counter") table
@@ -81,14 +76,14 @@ choices_of usual chosen at table = do
 abbrev pub for_all : {T : Type 0} → T → ByKind T
 for_all usual = record { counter = usual; up_down_counter = usual; histogram = usual; gauge = usual }
 
-abbrev pub choices_within : {T : Type 0} → T → (Place → Kind → Data → Result T ViewFault) → Place → Option Data → Result (ByKind T) ViewFault
+abbrev pub choices_within : {T : Type 0} → T → (ConfigPlace → Kind → Data → Result T ViewFault) → ConfigPlace → Option Data → Result (ByKind T) ViewFault
 choices_within usual chosen at None = Ok (for_all usual)
 choices_within usual chosen at (Some d) = do
   table ← table_of (faults_at at) d
   choices_of usual chosen at table
 
 -- the choices of a reader's field
-unfoldable pub choices_field : {T : Type 0} → T → (Place → Kind → Data → Result T ViewFault) → Place → List ℕ → Members → Result (ByKind T) ViewFault
+unfoldable pub choices_field : {T : Type 0} → T → (ConfigPlace → Kind → Data → Result T ViewFault) → ConfigPlace → List ℕ → Members → Result (ByKind T) ViewFault
 choices_field usual chosen at name table = choices_within usual chosen at (get_member name table)
 
 -- a reader of this name stands before
@@ -96,7 +91,7 @@ abbrev pub has_reader : List Reader → List ℕ → Bool
 has_reader before name = list_any (λ reader. bytes_eq reader.name name) before
 
 -- the name of one more reader
-unfoldable pub reader_name : List Reader → Place → Members → Result (List ℕ) ViewFault
+unfoldable pub reader_name : List Reader → ConfigPlace → Members → Result (List ℕ) ViewFault
 reader_name before at table = do
   name ← text_field (faults_at at) (codes "name") table
   _ ← require (not (length name == 0)) (BadName at)
@@ -109,7 +104,7 @@ abbrev pub reader_fields : List (List ℕ)
 reader_fields = codes "name" ∷ codes "temporality" ∷ codes "aggregation" ∷ codes "limit" ∷ []
 
 -- what a reader chooses for the kinds
-unfoldable pub reader_choices : Place → Members → Result (ByKind Temporality × ByKind Aggregation × ByKind ℕ) ViewFault
+unfoldable pub reader_choices : ConfigPlace → Members → Result (ByKind Temporality × ByKind Aggregation × ByKind ℕ) ViewFault
 reader_choices at table = do
   temporality ← choices_field Cumulative (λ at _ d. temporality_of at d) at (codes "temporality") table
   aggregation ← choices_field aggregations.Default aggregation_for at (codes "aggregation") table

@@ -19,7 +19,7 @@ use Rattle.metric_views.specs.declared.stream.Fill.TheVariants.{Unfit, Dropped, 
 use Rattle.metric_views.specs.declared.stream.Stream.{Stream}
 use Rattle.metric_views.specs.declared.stream.StreamAggregation.{StreamAggregation}
 use Rattle.metric_views.specs.declared.stream.StreamAggregation.TheVariants.{Sum, LastValue, Histogram}
-use Rattle.metric_views.specs.Choices.{choice_for}
+use Rattle.metric_views.specs.Choices.{choice_for, is_unfit}
 
 -- what the default stream is given: nothing
 abbrev pub no_settings : Settings
@@ -28,11 +28,6 @@ no_settings = record { stream_name = None; description = None; aggregation = Non
 -- the view's aggregation, else the reader's for the kind
 abbrev pub chosen_aggregation : Reader → Kind → Settings → Aggregation
 chosen_aggregation reader kind settings = unwrap_or settings.aggregation (choice_for reader.aggregation kind)
-
--- Only a sum does not fit, and only a gauge.
-abbrev pub is_unfit : Kind → Aggregation → Bool
-is_unfit kinds.Gauge choices.Sum = true
-is_unfit _ _ = false
 
 -- the boundaries of a histogram where neither view nor instrument gives any
 abbrev pub usual_boundaries : List ℤ

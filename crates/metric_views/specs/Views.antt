@@ -12,44 +12,44 @@ use Rattle.metric_views.specs.declared.choices.Aggregation.{Aggregation}
 use Rattle.metric_views.specs.declared.config.Criteria.{Criteria}
 use Rattle.metric_views.specs.declared.config.Settings.{Settings}
 use Rattle.metric_views.specs.declared.config.View.{View}
-use Rattle.metric_views.specs.declared.fault.Place.{Place}
-use Rattle.metric_views.specs.declared.fault.Place.TheVariants as places
+use Rattle.metric_views.specs.declared.fault.ConfigPlace.{ConfigPlace}
+use Rattle.metric_views.specs.declared.fault.ConfigPlace.TheVariants as places
 use Rattle.metric_views.specs.declared.fault.ViewFault.{ViewFault}
 use Rattle.metric_views.specs.declared.fault.ViewFault.TheVariants.{WrongKind, BadPattern, BadName, BadBoundaries}
 use Rattle.metric_views.specs.Faults.{faults_at}
 use Rattle.metric_views.specs.Readers.{aggregation_of, limit_of}
 
 -- a pattern of instrument names
-unfoldable pub pattern_at : Place → Data → Result (List ℕ) ViewFault
+unfoldable pub pattern_at : ConfigPlace → Data → Result (List ℕ) ViewFault
 pattern_at at d = do
   text ← text_of (faults_at at) d
   with_fault (λ _. BadPattern at) (pattern_of text)
 
 -- the name of a stream
-unfoldable pub name_at : Place → Data → Result (List ℕ) ViewFault
+unfoldable pub name_at : ConfigPlace → Data → Result (List ℕ) ViewFault
 name_at at d = do
   text ← text_of (faults_at at) d
   with_fault (λ _. BadName at) (name_of text)
 
 -- a kind of instrument
-unfoldable pub kind_at : Place → Data → Result Kind ViewFault
+unfoldable pub kind_at : ConfigPlace → Data → Result Kind ViewFault
 kind_at at d = do
   text ← text_of (faults_at at) d
   require_some (kind_named text) (WrongKind at)
 
 -- strictly rising boundaries
-unfoldable pub boundaries_at : Place → Data → Result (List ℤ) ViewFault
+unfoldable pub boundaries_at : ConfigPlace → Data → Result (List ℤ) ViewFault
 boundaries_at at d = do
   boundaries ← integers_of (faults_at at) 128 d
   _ ← require (is_rising boundaries) (BadBoundaries at)
   Ok boundaries
 
 -- a free text
-unfoldable pub text_at : Place → Data → Result (List ℕ) ViewFault
+unfoldable pub text_at : ConfigPlace → Data → Result (List ℕ) ViewFault
 text_at at d = short_text_of (faults_at at) d
 
 -- a list of attribute keys
-unfoldable pub keys_at : Place → Data → Result (List (List ℕ)) ViewFault
+unfoldable pub keys_at : ConfigPlace → Data → Result (List (List ℕ)) ViewFault
 keys_at at d = texts_of (faults_at at) 64 d
 
 -- a value, where there is one
@@ -64,7 +64,7 @@ unfoldable pub optional_field : {T : Type 0} → (Data → Result T ViewFault) �
 optional_field read name table = value_within read (get_member name table)
 
 -- the criteria on the instrument
-unfoldable pub instrument_criteria : Place → Members → Result (Option (List ℕ) × Option Kind × Option (List ℕ)) ViewFault
+unfoldable pub instrument_criteria : ConfigPlace → Members → Result (Option (List ℕ) × Option Kind × Option (List ℕ)) ViewFault
 instrument_criteria at table = do
   name ← optional_field (pattern_at at) (codes "instrument_name") table
   kind ← optional_field (kind_at at) (codes "instrument_type") table
@@ -72,7 +72,7 @@ instrument_criteria at table = do
   Ok (name, kind, unit)
 
 -- the criteria on the meter
-unfoldable pub meter_criteria : Place → Members → Result (Option (List ℕ) × Option (List ℕ) × Option (List ℕ)) ViewFault
+unfoldable pub meter_criteria : ConfigPlace → Members → Result (Option (List ℕ) × Option (List ℕ) × Option (List ℕ)) ViewFault
 meter_criteria at table = do
   name ← optional_field (text_at at) (codes "meter_name") table
   version ← optional_field (text_at at) (codes "meter_version") table
@@ -80,7 +80,7 @@ meter_criteria at table = do
   Ok (name, version, schema_url)
 
 -- the criteria of a view
-unfoldable pub criteria_of : Place → Members → Result Criteria ViewFault
+unfoldable pub criteria_of : ConfigPlace → Members → Result Criteria ViewFault
 criteria_of at table = do
   instrument ← instrument_criteria at table
   meter ← meter_criteria at table
@@ -94,7 +94,7 @@ criteria_of at table = do
   })
 
 -- what a view says of the stream itself
-unfoldable pub stream_settings : Place → Members → Result (Option (List ℕ) × Option (List ℕ) × Option Aggregation) ViewFault
+unfoldable pub stream_settings : ConfigPlace → Members → Result (Option (List ℕ) × Option (List ℕ) × Option Aggregation) ViewFault
 stream_settings at table = do
   name ← optional_field (name_at at) (codes "stream_name") table
   description ← optional_field (text_at at) (codes "description") table
@@ -102,7 +102,7 @@ stream_settings at table = do
   Ok (name, description, aggregation)
 
 -- what a view says of boundaries and keys
-unfoldable pub list_settings : Place → Members → Result (Option (List ℤ) × Option (List (List ℕ)) × Option (List (List ℕ))) ViewFault
+unfoldable pub list_settings : ConfigPlace → Members → Result (Option (List ℤ) × Option (List (List ℕ)) × Option (List (List ℕ))) ViewFault
 list_settings at table = do
   boundaries ← optional_field (boundaries_at at) (codes "boundaries") table
   keep ← optional_field (keys_at at) (codes "keep") table
@@ -110,7 +110,7 @@ list_settings at table = do
   Ok (boundaries, keep, exclude)
 
 -- what a view gives its streams
-unfoldable pub settings_of : Place → Members → Result Settings ViewFault
+unfoldable pub settings_of : ConfigPlace → Members → Result Settings ViewFault
 settings_of at table = do
   stream ← stream_settings at table
   lists ← list_settings at table

@@ -3,15 +3,15 @@ ghost use Rattle.std.specs.Prelude.{◌≡◌, codes, Result};
 ghost use Rattle.toml.specs.Data.{Data};
 ghost use Rattle.toml.specs.View.{table_view, view};
 ghost use Rattle.metric_catalogue.specs.declared.contents.Kind.{Kind};
-ghost use Rattle.metric_views.specs.declared.fault.Place.{Place};
+ghost use Rattle.metric_views.specs.declared.fault.ConfigPlace.{ConfigPlace};
 ghost use Rattle.metric_views.specs.declared.fault.ViewFault.{ViewFault};
 ghost use Rattle.metric_table.specs.Fields.{only};
 ghost use Rattle.metric_views.specs.Faults.{faults_at};
 ghost use Rattle.metric_views.specs.Choices.{aggregation_named, temporality_named};
-ghost use Rattle.metric_views.specs.Readers.{aggregation_for, aggregation_of, choice_at, choices_field, choices_of, for_all, is_limit, kind_names, limit_of, suits, temporality_of};
+ghost use Rattle.metric_views.specs.Readers.{aggregation_for, aggregation_of, choice_at, choices_field, choices_of, for_all, is_limit, kind_names, limit_of, temporality_of};
 
-use crate::choices::{Aggregation, ByKind, Temporality};
-use crate::fault::{Place, ViewFault, faults_at};
+use crate::choices::{Aggregation, ByKind, Temporality, is_unfit};
+use crate::fault::{ConfigPlace, ViewFault, faults_at};
 use metric_catalogue::Kind;
 use metric_table::{integer_of, member, only, table_of, text_of};
 use toml::{Table, Value};
@@ -25,14 +25,14 @@ pub(crate) trait Choice: Copy + Drop {
     ghost usual: { Self };
 
     /// The choice that a value gives for a kind, or its first fault.
-    ghost chosen: { Place → Kind → Data → Result Self ViewFault };
+    ghost chosen: { ConfigPlace → Kind → Data → Result Self ViewFault };
 
     /// The choice where the config gives none.
     fn when_absent() -> Self
         ensures { result ≡ usual };
 
     /// The choice that a value gives for a kind.
-    fn read(value: &Value, kind: Kind, at: Place) -> Result<Self, ViewFault>
+    fn read(value: &Value, kind: Kind, at: ConfigPlace) -> Result<Self, ViewFault>
         ensures { result ≡ chosen at kind (view value.now) };
 }
 
@@ -41,7 +41,7 @@ pub(crate) trait Choice: Copy + Drop {
 pub(crate) fn choices_field<T: Choice>(
     table: &Table,
     name: &str,
-    at: Place,
+    at: ConfigPlace,
 ) -> Result<ByKind<T>, ViewFault>
     ensures { result ≡ choices_field T.usual T.chosen at name.now (table_view table.now) }
 {
@@ -66,7 +66,7 @@ fn for_all<T: Choice>(choice: T) -> ByKind<T>
 }
 
 #[tactic(auto, unfolding(crate::specs::Readers::choices_of))]
-fn choices_of<T: Choice>(table: &Table, at: Place) -> Result<ByKind<T>, ViewFault>
+fn choices_of<T: Choice>(table: &Table, at: ConfigPlace) -> Result<ByKind<T>, ViewFault>
     ensures { result ≡ choices_of T.usual T.chosen at (table_view table.now) }
 {
     only_kinds(table, at)?;
@@ -82,7 +82,7 @@ fn choices_of<T: Choice>(table: &Table, at: Place) -> Result<ByKind<T>, ViewFaul
     })
 }
 
-fn only_kinds(table: &Table, at: Place) -> Result<(), ViewFault>
+fn only_kinds(table: &Table, at: ConfigPlace) -> Result<(), ViewFault>
     ensures { result ≡ only (faults_at at) kind_names (table_view table.now) }
 {
     only(
@@ -93,7 +93,7 @@ fn only_kinds(table: &Table, at: Place) -> Result<(), ViewFault>
 }
 
 #[tactic(auto, unfolding(crate::specs::Readers::choice_at))]
-fn choice_at<T: Choice>(table: &Table, name: &str, kind: Kind, at: Place) -> Result<T, ViewFault>
+fn choice_at<T: Choice>(table: &Table, name: &str, kind: Kind, at: ConfigPlace) -> Result<T, ViewFault>
     ensures { result ≡ choice_at T.usual (T.chosen at kind) name.now (table_view table.now) }
 {
     match member(table, name) {
@@ -114,13 +114,13 @@ impl Choice for Temporality {
         Temporality::Cumulative
     }
 
-    fn read(value: &Value, _kind: Kind, at: Place) -> Result<Temporality, ViewFault> {
+    fn read(value: &Value, _kind: Kind, at: ConfigPlace) -> Result<Temporality, ViewFault> {
         temporality_of(value, at)
     }
 }
 
 #[tactic(auto, unfolding(crate::specs::Readers::temporality_of))]
-fn temporality_of(value: &Value, at: Place) -> Result<Temporality, ViewFault>
+fn temporality_of(value: &Value, at: ConfigPlace) -> Result<Temporality, ViewFault>
     ensures { result ≡ temporality_of at (view value.now) }
 {
     let text = text_of(value, &faults_at(at))?;
@@ -150,29 +150,19 @@ impl Choice for Aggregation {
     }
 
     #[tactic(auto, unfolding(crate::specs::Readers::aggregation_for))]
-    fn read(value: &Value, kind: Kind, at: Place) -> Result<Aggregation, ViewFault> {
+    fn read(value: &Value, kind: Kind, at: ConfigPlace) -> Result<Aggregation, ViewFault> {
         let aggregation = aggregation_of(value, at)?;
-        if suits(kind, aggregation) {
-            Ok(aggregation)
-        } else {
+        if is_unfit(kind, aggregation) {
             Err(ViewFault::WrongKind { at })
+        } else {
+            Ok(aggregation)
         }
-    }
-}
-
-/// Whether an aggregation can be a reader's for a kind: no reader sums gauges.
-fn suits(kind: Kind, aggregation: Aggregation) -> bool
-    ensures { result ≡ suits kind aggregation }
-{
-    match kind {
-        Kind::Gauge => !matches!(aggregation, Aggregation::Sum),
-        Kind::Counter | Kind::UpDownCounter | Kind::Histogram => true,
     }
 }
 
 /// The aggregation that a value names.
 #[tactic(auto, unfolding(crate::specs::Readers::aggregation_of))]
-pub(crate) fn aggregation_of(value: &Value, at: Place) -> Result<Aggregation, ViewFault>
+pub(crate) fn aggregation_of(value: &Value, at: ConfigPlace) -> Result<Aggregation, ViewFault>
     ensures { result ≡ aggregation_of at (view value.now) }
 {
     let text = text_of(value, &faults_at(at))?;
@@ -203,14 +193,14 @@ impl Choice for u32 {
         DEFAULT_LIMIT
     }
 
-    fn read(value: &Value, _kind: Kind, at: Place) -> Result<u32, ViewFault> {
+    fn read(value: &Value, _kind: Kind, at: ConfigPlace) -> Result<u32, ViewFault> {
         limit_of(value, at)
     }
 }
 
 /// The cardinality limit that a value is.
 #[tactic(auto, unfolding(crate::specs::Readers::limit_of))]
-pub(crate) fn limit_of(value: &Value, at: Place) -> Result<u32, ViewFault>
+pub(crate) fn limit_of(value: &Value, at: ConfigPlace) -> Result<u32, ViewFault>
     ensures { result ≡ limit_of at (view value.now) }
 {
     let number = integer_of(value, &faults_at(at))?;

@@ -1,6 +1,6 @@
 //! What readers and views choose.
 ghost use Rattle.std.specs.Prelude.{◌≡◌};
-ghost use Rattle.metric_views.specs.Choices.{choice_for};
+ghost use Rattle.metric_views.specs.Choices.{choice_for, is_unfit};
 
 use metric_catalogue::Kind;
 
@@ -54,4 +54,11 @@ impl<T: Copy> ByKind<T> {
             Kind::Gauge => self.gauge,
         }
     }
+}
+
+/// Whether an aggregation does not fit a kind: a sum of a gauge.
+pub fn is_unfit(kind: Kind, aggregation: Aggregation) -> bool
+    ensures { result ≡ is_unfit kind aggregation }
+{
+    matches!(kind, Kind::Gauge) && matches!(aggregation, Aggregation::Sum)
 }

@@ -1,9 +1,18 @@
 //! What a config says.
+ghost use Rattle.std.specs.Prelude.{◌≡◌, ◌≤◌, length};
+ghost use Rattle.metric_base.specs.Steps.{Gives};
+ghost use Rattle.metric_views.specs.Configs.{config_of};
+ghost use Rattle.metric_views.specs.Sound.{IsSoundSetup};
+
 use crate::choices::{Aggregation, ByKind, Temporality};
-use metric_base::{Few, Text};
+use crate::fault::ViewFault;
+use crate::reading::setup_of;
+use metric_base::{Boundaries, Few, Shared, Text};
 use metric_catalogue::Kind;
 use metric_glob::Pattern;
 use metric_names::Name;
+use std::alloc::Global;
+use std::marker::Model;
 
 /// A metric reader (Metrics SDK, MetricReader), with what it chooses for each kind of instrument.
 #[derive(Drop)]
@@ -26,7 +35,7 @@ pub struct Criteria {
     pub instrument_name: Option<Pattern>,
     /// The instrument's kind.
     pub instrument_type: Option<Kind>,
-    /// The instrument's unit.
+    /// The instrument's unit, at most 1,023 characters, as the other texts.
     pub instrument_unit: Option<Text>,
     /// The meter's name.
     pub meter_name: Option<Text>,
@@ -36,20 +45,21 @@ pub struct Criteria {
     pub meter_schema_url: Option<Text>,
 }
 
-/// What a view gives the streams that it makes (Metrics SDK, stream configuration).
+/// What a view gives the streams that it makes (Metrics SDK, stream configuration). What they hold of it is
+/// shared.
 #[derive(Drop)]
 pub struct Settings {
     /// The stream's name.
-    pub stream_name: Option<Name>,
-    /// The stream's description.
-    pub description: Option<Text>,
+    pub stream_name: Option<Shared<Name>>,
+    /// The stream's description, at most 1,023 characters.
+    pub description: Option<Shared<Text>>,
     /// The aggregation.
     pub aggregation: Option<Aggregation>,
-    /// The boundaries of a histogram, strictly rising.
-    pub boundaries: Option<Few<i64, 128>>,
-    /// The attribute keys that are kept.
+    /// The boundaries of a histogram.
+    pub boundaries: Option<Shared<Boundaries>>,
+    /// The attribute keys that are kept, each of at most 1,023 characters.
     pub keep: Option<Few<Text, 64>>,
-    /// The attribute keys that are left out.
+    /// The attribute keys that are left out, each of at most 1,023 characters.
     pub exclude: Option<Few<Text, 64>>,
     /// The cardinality limit, 1 to 1,000,000.
     pub limit: Option<u32>,
@@ -64,11 +74,58 @@ pub struct View {
     pub settings: Settings,
 }
 
-/// The readers and views of a service, each list in the order of the file.
+/// What a config says: its readers and views, each list in the order of the file.
 #[derive(Drop)]
-pub struct Config {
+pub struct Setup {
     /// The readers.
     pub readers: Few<Reader, 16>,
     /// The views.
     pub views: Few<View, 256>,
+}
+
+/// The metric readers and views of a service, which are numbered from 0 in the order of the file.
+#[derive(Drop)]
+pub struct Config {
+    setup: Setup,
+}
+
+impl Model for Config {
+    ghost use Rattle.metric_views.specs.declared.config.Setup.{Setup};
+    ghost use Rattle.metric_views.specs.Sound.{IsSoundSetup};
+
+    ghost Value = { Setup };
+
+    ghost view = { λ c. c.setup };
+
+    ghost invariant = { λ c. IsSoundSetup c.setup };
+}
+
+impl Config {
+    /// The config that a text is. What is no TOML is `NotToml`; the other faults are tried in the
+    /// order of the walk: the top table, each reader, each view; within a table unknown fields, then its
+    /// fields in order.
+    pub fn read(alloc: Global, text: &str) -> Result<Config, ViewFault>
+        ensures { Gives ViewFault.Memory result (config_of text.now) }
+    {
+        let setup = setup_of(alloc, text)?;
+        Ok(Config { setup })
+    }
+
+    /// The readers in the order of the file.
+    pub fn readers(&self) -> &[Reader]
+        ensures readers { result.now ≡ self.now.readers }
+        ensures few { length self.now.readers ≤ 16 }
+        ensures sound { IsSoundSetup self.now }
+    {
+        self.setup.readers.as_slice()
+    }
+
+    /// The views in the order of the file.
+    pub fn views(&self) -> &[View]
+        ensures views { result.now ≡ self.now.views }
+        ensures few { length self.now.views ≤ 256 }
+        ensures sound { IsSoundSetup self.now }
+    {
+        self.setup.views.as_slice()
+    }
 }

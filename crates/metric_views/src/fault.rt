@@ -9,7 +9,7 @@ use thiserror::Error;
 
 /// The reader or view whose table has a fault, each numbered from 0 in the order of the file.
 #[derive(Clone, Copy, Debug, PartialEq, Eq, Drop)]
-pub enum Place {
+pub enum ConfigPlace {
     /// The top table.
     Top,
     /// The reader of this number.
@@ -28,55 +28,55 @@ pub enum ViewFault {
     #[error("2 MissingField at {at}")]
     MissingField {
         /// Where.
-        at: Place,
+        at: ConfigPlace,
     },
     /// A field's value is of another kind than the format says, or a reader names a sum for gauges.
     #[error("3 WrongKind at {at}")]
     WrongKind {
         /// Where.
-        at: Place,
+        at: ConfigPlace,
     },
     /// A table has a field that the format does not name.
     #[error("4 UnknownField at {at}")]
     UnknownField {
         /// Where.
-        at: Place,
+        at: ConfigPlace,
     },
     /// A view's instrument name is no pattern.
     #[error("5 BadPattern at {at}")]
     BadPattern {
         /// Where.
-        at: Place,
+        at: ConfigPlace,
     },
     /// A reader's name is empty, or a view's stream name is no instrument name.
     #[error("6 BadName at {at}")]
     BadName {
         /// Where.
-        at: Place,
+        at: ConfigPlace,
     },
     /// Boundaries do not rise strictly.
     #[error("7 BadBoundaries at {at}")]
     BadBoundaries {
         /// Where.
-        at: Place,
+        at: ConfigPlace,
     },
     /// A cardinality limit is outside 1 to 1,000,000.
     #[error("8 BadLimit at {at}")]
     BadLimit {
         /// Where.
-        at: Place,
+        at: ConfigPlace,
     },
     /// An earlier reader has the same name.
     #[error("9 DuplicateReader at {at}")]
     DuplicateReader {
         /// Where.
-        at: Place,
+        at: ConfigPlace,
     },
     /// A list or a text is longer than its limit.
     #[error("10 TooMany at {at}")]
     TooMany {
         /// Where.
-        at: Place,
+        at: ConfigPlace,
     },
     /// Memory was refused.
     #[error("11 Memory")]
@@ -94,7 +94,7 @@ impl From<AllocError> for ViewFault {
     }
 }
 
-impl fmt::Display for Place {
+impl fmt::Display for ConfigPlace {
     ghost use Rattle.std.specs.Prelude.{Some};
     ghost use Rattle.metric_views.specs.Places.{place_text};
 
@@ -102,15 +102,15 @@ impl fmt::Display for Place {
 
     fn fmt<W: fmt::Write>(&self, f: &mut fmt::Formatter<W>) -> fmt::Result {
         match self {
-            Place::Top => f.write_str("top"),
-            Place::Reader(number) => write!(f, "reader {number}"),
-            Place::View(number) => write!(f, "view {number}"),
+            ConfigPlace::Top => f.write_str("top"),
+            ConfigPlace::Reader(number) => write!(f, "reader {number}"),
+            ConfigPlace::View(number) => write!(f, "view {number}"),
         }
     }
 }
 
 /// What each fault of a field is at a place.
-pub(crate) fn faults_at(at: Place) -> FieldFaults<ViewFault>
+pub(crate) fn faults_at(at: ConfigPlace) -> FieldFaults<ViewFault>
     ensures { result ≡ faults_at at }
 {
     FieldFaults {

@@ -1,12 +1,12 @@
 //! Which stream a view, or the default, makes of an instrument for a reader.
 ghost use Rattle.std.specs.Prelude.{◌≡◌, ◌<◌, IfOk, Some, length, map, unwrap_or};
 ghost use Rattle.std.specs.Option.{ForSome};
-ghost use Rattle.metric_views.specs.Streams.{advised, aggregation_with, boundaries_for, chosen_aggregation, default_aggregation, fill_at, fill_of, is_excluded, is_kept, is_listed, is_unfit, is_wanted, names_histogram, no_settings, stream_with, usual_boundaries};
+ghost use Rattle.metric_views.specs.Streams.{advised, aggregation_with, boundaries_for, chosen_aggregation, default_aggregation, fill_at, fill_of, is_excluded, is_kept, is_listed, is_wanted, names_histogram, no_settings, stream_with, usual_boundaries};
 
-use crate::choices::Aggregation;
+use crate::choices::{Aggregation, is_unfit};
 use crate::config::{Config, Reader, Settings};
 use crate::stream::{Fill, Stream, StreamAggregation};
-use metric_base::{Copied, Few, Items, Text};
+use metric_base::{Boundaries, Copied, Few, Items, Shared, Text};
 use metric_catalogue::{Catalogue, Instrument, Key, Kind};
 use std::alloc::{AllocError, Global};
 
@@ -46,14 +46,14 @@ pub fn fill(
 {
     let nothing = no_settings();
     let settings = match view {
-        Some(number) => &config.views.as_slice()[number as usize].settings,
+        Some(number) => &config.views()[number as usize].settings,
         None => &nothing,
     };
     fill_of(
         alloc,
         Combination {
             reader_number: reader,
-            reader: &config.readers.as_slice()[reader as usize],
+            reader: &config.readers()[reader as usize],
             number: instrument,
             instrument: &catalogue.instruments()[instrument as usize],
             view,
@@ -144,13 +144,6 @@ fn chosen_aggregation(reader: &Reader, kind: Kind, settings: &Settings) -> Aggre
     settings.aggregation.unwrap_or(reader.aggregation.of(kind))
 }
 
-/// The aggregation does not fit the kind: a sum of a gauge.
-fn is_unfit(kind: Kind, aggregation: Aggregation) -> bool
-    ensures { result ≡ is_unfit kind aggregation }
-{
-    matches!(kind, Kind::Gauge) && matches!(aggregation, Aggregation::Sum)
-}
-
 /// A stream's aggregation, or none where the recordings are dropped.
 fn aggregation_with(
     alloc: Global,
@@ -193,7 +186,7 @@ fn boundaries_for(
     alloc: Global,
     instrument: &Instrument,
     settings: &Settings,
-) -> Result<Few<i64, 128>, AllocError>
+) -> Result<Shared<Boundaries>, AllocError>
     ensures { IfOk result (λ b. b ≡ boundaries_for instrument.now settings.now) }
 {
     match &settings.boundaries {
@@ -210,8 +203,8 @@ fn boundaries_for(
 fn advised(
     alloc: Global,
     ignored: bool,
-    advice: &Option<Few<i64, 128>>,
-) -> Result<Few<i64, 128>, AllocError>
+    advice: &Option<Shared<Boundaries>>,
+) -> Result<Shared<Boundaries>, AllocError>
     ensures { IfOk result (λ b. b ≡ advised ignored advice.now) }
 {
     match advice {
@@ -222,14 +215,14 @@ fn advised(
 
 /// The boundaries where neither view nor instrument gives any (Metrics SDK, explicit bucket histogram
 /// aggregation).
-fn usual_boundaries(alloc: Global) -> Result<Few<i64, 128>, AllocError>
+fn usual_boundaries(alloc: Global) -> Result<Shared<Boundaries>, AllocError>
     ensures { IfOk result (λ b. b ≡ usual_boundaries) }
 {
     let boundaries = [
         0, 5, 10, 25, 50, 75, 100, 250, 500, 750, 1000, 2500, 5000, 7500, 10000,
     ];
-    let boundaries = Vec::from_slice(alloc, &boundaries)?;
-    Ok(Few::from_items(Items::from_vec(boundaries)))
+    let boundaries = Items::from_vec(Vec::from_slice(alloc, &boundaries)?);
+    Shared::new(alloc, Boundaries::from_few(Few::from_items(boundaries)))
 }
 
 /// Whether a view itself names the histogram.
@@ -244,11 +237,11 @@ fn kept_keys(
     alloc: Global,
     settings: &Settings,
     keys: &Few<Key, 8>,
-) -> Result<Few<bool, 8>, AllocError>
+) -> Result<Shared<Few<bool, 8>>, AllocError>
     ensures { IfOk result (λ k. k ≡ map (is_kept settings.now.keep settings.now.exclude) keys.now) }
 {
     let kept = kept_flags(alloc, settings, keys.as_slice())?;
-    Ok(Few::from_items(Items::from_vec(kept)))
+    Shared::new(alloc, Few::from_items(Items::from_vec(kept)))
 }
 
 fn kept_flags(alloc: Global, settings: &Settings, keys: &[Key]) -> Result<Vec<bool>, AllocError>

@@ -13,8 +13,8 @@ mod selection;
 mod stream;
 mod views;
 
-pub use choices::{Aggregation, ByKind, Temporality};
-pub use config::{Config, Criteria, Reader, Settings, View};
-pub use fault::{Place, ViewFault};
+pub use choices::{Aggregation, ByKind, Temporality, is_unfit};
+pub use config::{Config, Criteria, Reader, Settings, Setup, View};
+pub use fault::{ConfigPlace, ViewFault};
 pub use filling::fill;
 pub use stream::{Fill, Stream, StreamAggregation};

@@ -5,14 +5,14 @@ ghost use Rattle.toml.specs.View.{table_view, view};
 ghost use Rattle.metric_base.specs.Steps.{Gives, with_fault};
 ghost use Rattle.metric_names.specs.Names.{name_of};
 ghost use Rattle.metric_glob.specs.Patterns.{pattern_of};
-ghost use Rattle.metric_views.specs.declared.fault.Place.{Place};
+ghost use Rattle.metric_views.specs.declared.fault.ConfigPlace.{ConfigPlace};
 ghost use Rattle.metric_views.specs.declared.fault.ViewFault.{ViewFault};
 ghost use Rattle.metric_views.specs.Views.{optional_field};
 
 use crate::by_kind::{aggregation_of, limit_of};
 use crate::choices::Aggregation;
-use crate::fault::{Place, ViewFault, faults_at};
-use metric_base::{Few, Text, is_rising};
+use crate::fault::{ConfigPlace, ViewFault, faults_at};
+use metric_base::{Boundaries, Few, Shared, Text, is_rising};
 use metric_catalogue::Kind;
 use metric_glob::{Pattern, PatternFault};
 use metric_names::{Name, NameFault};
@@ -23,10 +23,10 @@ use toml::{Table, Value};
 /// What a field of a view can be.
 pub(crate) trait FieldValue: Drop {
     /// What a value is read as, or its first fault.
-    ghost read_as: { Place → Data → Result Self ViewFault };
+    ghost read_as: { ConfigPlace → Data → Result Self ViewFault };
 
     /// What a value is read as.
-    fn read(alloc: Global, value: &Value, at: Place) -> Result<Self, ViewFault>
+    fn read(alloc: Global, value: &Value, at: ConfigPlace) -> Result<Self, ViewFault>
     where
         Self: Sized,
         ensures { Gives ViewFault.Memory result (read_as at (view value.now)) };
@@ -38,7 +38,7 @@ pub(crate) fn optional_field<T: FieldValue>(
     alloc: Global,
     table: &Table,
     name: &str,
-    at: Place,
+    at: ConfigPlace,
 ) -> Result<Option<T>, ViewFault>
     ensures { Gives ViewFault.Memory result (optional_field (T.read_as at) name.now (table_view table.now)) }
 {
@@ -57,7 +57,7 @@ impl FieldValue for Text {
     ghost read_as = { text_at };
 
     #[tactic(auto, unfolding(crate::specs::Views::text_at, metric_table::specs::Fields::short_text_of))]
-    fn read(alloc: Global, value: &Value, at: Place) -> Result<Text, ViewFault> {
+    fn read(alloc: Global, value: &Value, at: ConfigPlace) -> Result<Text, ViewFault> {
         let faults = faults_at(at);
         let text = text_of(value, &faults)?;
         let text = short_text(text, &faults)?;
@@ -72,13 +72,13 @@ impl FieldValue for Pattern {
     ghost read_as = { pattern_at };
 
     #[tactic(auto, unfolding(crate::specs::Views::pattern_at))]
-    fn read(alloc: Global, value: &Value, at: Place) -> Result<Pattern, ViewFault> {
+    fn read(alloc: Global, value: &Value, at: ConfigPlace) -> Result<Pattern, ViewFault> {
         let text = text_of(value, &faults_at(at))?;
         pattern(alloc, text, at)
     }
 }
 
-fn pattern(alloc: Global, text: &str, at: Place) -> Result<Pattern, ViewFault>
+fn pattern(alloc: Global, text: &str, at: ConfigPlace) -> Result<Pattern, ViewFault>
     ensures { Gives ViewFault.Memory result (with_fault (λ _. ViewFault.BadPattern at) (pattern_of text.now)) }
 {
     match Pattern::parse(alloc, text) {
@@ -94,13 +94,13 @@ impl FieldValue for Name {
     ghost read_as = { name_at };
 
     #[tactic(auto, unfolding(crate::specs::Views::name_at))]
-    fn read(alloc: Global, value: &Value, at: Place) -> Result<Name, ViewFault> {
+    fn read(alloc: Global, value: &Value, at: ConfigPlace) -> Result<Name, ViewFault> {
         let text = text_of(value, &faults_at(at))?;
         name(alloc, text, at)
     }
 }
 
-fn name(alloc: Global, text: &str, at: Place) -> Result<Name, ViewFault>
+fn name(alloc: Global, text: &str, at: ConfigPlace) -> Result<Name, ViewFault>
     ensures { Gives ViewFault.Memory result (with_fault (λ _. ViewFault.BadName at) (name_of text.now)) }
 {
     match Name::parse(alloc, text) {
@@ -116,7 +116,7 @@ impl FieldValue for Kind {
     ghost read_as = { kind_at };
 
     #[tactic(auto, unfolding(crate::specs::Views::kind_at))]
-    fn read(_alloc: Global, value: &Value, at: Place) -> Result<Kind, ViewFault> {
+    fn read(_alloc: Global, value: &Value, at: ConfigPlace) -> Result<Kind, ViewFault> {
         let text = text_of(value, &faults_at(at))?;
         Kind::named(text).ok_or(ViewFault::WrongKind { at })
     }
@@ -127,7 +127,7 @@ impl FieldValue for Aggregation {
 
     ghost read_as = { aggregation_of };
 
-    fn read(_alloc: Global, value: &Value, at: Place) -> Result<Aggregation, ViewFault> {
+    fn read(_alloc: Global, value: &Value, at: ConfigPlace) -> Result<Aggregation, ViewFault> {
         aggregation_of(value, at)
     }
 }
@@ -137,21 +137,21 @@ impl FieldValue for u32 {
 
     ghost read_as = { limit_of };
 
-    fn read(_alloc: Global, value: &Value, at: Place) -> Result<u32, ViewFault> {
+    fn read(_alloc: Global, value: &Value, at: ConfigPlace) -> Result<u32, ViewFault> {
         limit_of(value, at)
     }
 }
 
-impl FieldValue for Few<i64, 128> {
+impl FieldValue for Boundaries {
     ghost use Rattle.metric_views.specs.Views.{boundaries_at};
 
     ghost read_as = { boundaries_at };
 
     #[tactic(auto, unfolding(crate::specs::Views::boundaries_at))]
-    fn read(alloc: Global, value: &Value, at: Place) -> Result<Few<i64, 128>, ViewFault> {
+    fn read(alloc: Global, value: &Value, at: ConfigPlace) -> Result<Boundaries, ViewFault> {
         let boundaries = integers_of(alloc, value, 128, &faults_at(at))?;
         if is_rising(boundaries.as_slice()) {
-            Ok(Few::from_items(boundaries))
+            Ok(Boundaries::from_few(Few::from_items(boundaries)))
         } else {
             Err(ViewFault::BadBoundaries { at })
         }
@@ -164,8 +164,18 @@ impl FieldValue for Few<Text, 64> {
     ghost read_as = { keys_at };
 
     #[tactic(auto, unfolding(crate::specs::Views::keys_at))]
-    fn read(alloc: Global, value: &Value, at: Place) -> Result<Few<Text, 64>, ViewFault> {
+    fn read(alloc: Global, value: &Value, at: ConfigPlace) -> Result<Few<Text, 64>, ViewFault> {
         let keys = texts_of(alloc, value, 64, &faults_at(at))?;
         Ok(Few::from_items(keys))
+    }
+}
+
+impl<T: FieldValue> FieldValue for Shared<T> {
+    ghost read_as = { T.read_as };
+
+    fn read(alloc: Global, value: &Value, at: ConfigPlace) -> Result<Shared<T>, ViewFault> {
+        let value = T::read(alloc, value, at)?;
+        let shared = Shared::new(alloc, value)?;
+        Ok(shared)
     }
 }

@@ -10,7 +10,7 @@ ghost use Rattle.metric_views.specs.Readers.{has_reader, reader_choices, reader_
 use crate::by_kind::choices_field;
 use crate::choices::{Aggregation, ByKind, Temporality};
 use crate::config::Reader;
-use crate::fault::{Place, ViewFault, faults_at};
+use crate::fault::{ConfigPlace, ViewFault, faults_at};
 use metric_base::{Items, Text};
 use metric_table::{only, short_text, text_field};
 use std::alloc::Global;
@@ -37,7 +37,7 @@ fn reader_of(alloc: Global, before: &[Reader], table: &Table) -> Result<Reader, 
     requires { length before.now < 16 }
     ensures { Gives ViewFault.Memory result (reader_of before.now (table_view table.now)) }
 {
-    let at = Place::Reader(before.len() as u32);
+    let at = ConfigPlace::Reader(before.len() as u32);
     only_reader(table, at)?;
     let name = reader_name(before, table, at)?;
     let (temporality, aggregation, limit) = reader_choices(table, at)?;
@@ -54,7 +54,7 @@ type Choices = (ByKind<Temporality>, ByKind<Aggregation>, ByKind<u32>);
 
 /// What a reader chooses for the kinds.
 #[tactic(auto, unfolding(crate::specs::Readers::reader_choices))]
-fn reader_choices(table: &Table, at: Place) -> Result<Choices, ViewFault>
+fn reader_choices(table: &Table, at: ConfigPlace) -> Result<Choices, ViewFault>
     ensures { result ≡ reader_choices at (table_view table.now) }
 {
     let temporality = choices_field(table, "temporality", at)?;
@@ -63,7 +63,7 @@ fn reader_choices(table: &Table, at: Place) -> Result<Choices, ViewFault>
     Ok((temporality, aggregation, limit))
 }
 
-fn only_reader(table: &Table, at: Place) -> Result<(), ViewFault>
+fn only_reader(table: &Table, at: ConfigPlace) -> Result<(), ViewFault>
     ensures { result ≡ only (faults_at at) reader_fields (table_view table.now) }
 {
     only(
@@ -75,7 +75,7 @@ fn only_reader(table: &Table, at: Place) -> Result<(), ViewFault>
 
 /// The name of one more reader.
 #[tactic(auto, unfolding(crate::specs::Readers::reader_name))]
-fn reader_name<'a>(before: &[Reader], table: &'a Table, at: Place) -> Result<&'a str, ViewFault>
+fn reader_name<'a>(before: &[Reader], table: &'a Table, at: ConfigPlace) -> Result<&'a str, ViewFault>
     ensures { MatchResult result (λ s. reader_name before.now at (table_view table.now) ≡ Ok s.now)
         (λ e. reader_name before.now at (table_view table.now) ≡ Err e) }
 {

@@ -33,9 +33,9 @@ fn selects(criteria: &Criteria, meter: &Meter, instrument: &Instrument) -> bool
 fn selects_instrument(criteria: &Criteria, instrument: &Instrument) -> bool
     ensures { result ≡ selects_instrument criteria.now instrument.now }
 {
-    is_named(&criteria.instrument_name, &instrument.name)
+    is_named(&criteria.instrument_name, instrument.name.get())
         && is_of_kind(&criteria.instrument_type, instrument.kind)
-        && is_text(&criteria.instrument_unit, instrument.unit.as_str())
+        && is_text(&criteria.instrument_unit, instrument.unit.get().as_str())
 }
 
 #[tactic(auto, unfolding(crate::specs::Selection::selects_meter))]

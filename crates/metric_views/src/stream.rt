@@ -1,6 +1,6 @@
 //! The stream that a reader exports of an instrument.
 use crate::choices::Temporality;
-use metric_base::{Copied, Few, Items, Text};
+use metric_base::{Boundaries, Copied, Few, Shared, Text};
 use metric_catalogue::Kind;
 use metric_names::{Name, Unit};
 use std::alloc::{AllocError, Global};
@@ -12,12 +12,12 @@ pub enum StreamAggregation {
     Sum,
     /// The last value.
     LastValue,
-    /// How many values fall between these strictly rising boundaries.
-    Histogram(Few<i64, 128>),
+    /// How many values fall between these boundaries.
+    Histogram(Shared<Boundaries>),
 }
 
 /// A stream: what one reader exports of one instrument, as one view or the default configures it
-/// (Metrics SDK, stream configuration).
+/// (Metrics SDK, stream configuration). What streams have in common is shared, so that a copy takes no room.
 #[derive(Drop)]
 pub struct Stream {
     /// The number of the reader.
@@ -27,17 +27,17 @@ pub struct Stream {
     /// The number of the view, or none for the default stream.
     pub view: Option<u32>,
     /// The name.
-    pub name: Name,
+    pub name: Shared<Name>,
     /// The description.
-    pub description: Text,
+    pub description: Shared<Text>,
     /// The unit.
-    pub unit: Unit,
+    pub unit: Shared<Unit>,
     /// The kind of the instrument.
     pub kind: Kind,
     /// How points are made.
     pub aggregation: StreamAggregation,
     /// Whether each declared key is kept, in declared order.
-    pub kept: Few<bool, 8>,
+    pub kept: Shared<Few<bool, 8>>,
     /// How many series it holds beside the overflow point.
     pub limit: u32,
     /// What a collection reports.
@@ -74,7 +74,7 @@ impl Copied for Stream {
         let description = self.description.copy(alloc)?;
         let unit = self.unit.copy(alloc)?;
         let aggregation = self.aggregation.copy(alloc)?;
-        let kept = Vec::from_slice(alloc, self.kept.as_slice())?;
+        let kept = self.kept.copy(alloc)?;
         Ok(Stream {
             reader: self.reader,
             instrument: self.instrument,
@@ -84,7 +84,7 @@ impl Copied for Stream {
             unit,
             kind: self.kind,
             aggregation,
-            kept: Few::from_items(Items::from_vec(kept)),
+            kept,
             limit: self.limit,
             temporality: self.temporality,
         })

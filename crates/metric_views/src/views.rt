@@ -9,9 +9,9 @@ ghost use Rattle.metric_views.specs.Views.{criteria_of, instrument_criteria, kin
 
 use crate::choices::Aggregation;
 use crate::config::{Criteria, Settings, View};
-use crate::fault::{Place, ViewFault, faults_at};
+use crate::fault::{ConfigPlace, ViewFault, faults_at};
 use crate::optional::optional_field;
-use metric_base::{Few, Items, Text};
+use metric_base::{Boundaries, Few, Items, Shared, Text};
 use metric_catalogue::Kind;
 use metric_glob::Pattern;
 use metric_names::Name;
@@ -38,14 +38,14 @@ pub(crate) fn views_of(alloc: Global, tables: &[&Table]) -> Result<Items<View>, 
 fn view_of(alloc: Global, number: u32, table: &Table) -> Result<View, ViewFault>
     ensures { Gives ViewFault.Memory result (view_of number (table_view table.now)) }
 {
-    let at = Place::View(number);
+    let at = ConfigPlace::View(number);
     only_view(table, at)?;
     let criteria = criteria_of(alloc, table, at)?;
     let settings = settings_of(alloc, table, at)?;
     Ok(View { criteria, settings })
 }
 
-fn only_view(table: &Table, at: Place) -> Result<(), ViewFault>
+fn only_view(table: &Table, at: ConfigPlace) -> Result<(), ViewFault>
     ensures { result ≡ only (faults_at at) view_fields (table_view table.now) }
 {
     only(
@@ -70,7 +70,7 @@ fn only_view(table: &Table, at: Place) -> Result<(), ViewFault>
 }
 
 #[tactic(auto, unfolding(crate::specs::Views::criteria_of))]
-fn criteria_of(alloc: Global, table: &Table, at: Place) -> Result<Criteria, ViewFault>
+fn criteria_of(alloc: Global, table: &Table, at: ConfigPlace) -> Result<Criteria, ViewFault>
     ensures { Gives ViewFault.Memory result (criteria_of at (table_view table.now)) }
 {
     let (instrument_name, instrument_type, instrument_unit) = instrument_criteria(
@@ -93,7 +93,7 @@ type InstrumentCriteria = (Option<Pattern>, Option<Kind>, Option<Text>);
 fn instrument_criteria(
     alloc: Global,
     table: &Table,
-    at: Place,
+    at: ConfigPlace,
 ) -> Result<InstrumentCriteria, ViewFault>
     ensures { Gives ViewFault.Memory result (instrument_criteria at (table_view table.now)) }
 {
@@ -106,7 +106,7 @@ fn instrument_criteria(
 type MeterCriteria = (Option<Text>, Option<Text>, Option<Text>);
 
 #[tactic(auto, unfolding(crate::specs::Views::meter_criteria))]
-fn meter_criteria(alloc: Global, table: &Table, at: Place) -> Result<MeterCriteria, ViewFault>
+fn meter_criteria(alloc: Global, table: &Table, at: ConfigPlace) -> Result<MeterCriteria, ViewFault>
     ensures { Gives ViewFault.Memory result (meter_criteria at (table_view table.now)) }
 {
     let name = free_text_field(alloc, table, "meter_name", at)?;
@@ -116,7 +116,7 @@ fn meter_criteria(alloc: Global, table: &Table, at: Place) -> Result<MeterCriter
 }
 
 #[tactic(auto, unfolding(crate::specs::Views::settings_of))]
-fn settings_of(alloc: Global, table: &Table, at: Place) -> Result<Settings, ViewFault>
+fn settings_of(alloc: Global, table: &Table, at: ConfigPlace) -> Result<Settings, ViewFault>
     ensures { Gives ViewFault.Memory result (settings_of at (table_view table.now)) }
 {
     let (stream_name, description, aggregation) = stream_settings(alloc, table, at)?;
@@ -133,26 +133,26 @@ fn settings_of(alloc: Global, table: &Table, at: Place) -> Result<Settings, View
     })
 }
 
-type StreamSettings = (Option<Name>, Option<Text>, Option<Aggregation>);
+type StreamSettings = (Option<Shared<Name>>, Option<Shared<Text>>, Option<Aggregation>);
 
 #[tactic(auto, unfolding(crate::specs::Views::stream_settings))]
-fn stream_settings(alloc: Global, table: &Table, at: Place) -> Result<StreamSettings, ViewFault>
+fn stream_settings(alloc: Global, table: &Table, at: ConfigPlace) -> Result<StreamSettings, ViewFault>
     ensures { Gives ViewFault.Memory result (stream_settings at (table_view table.now)) }
 {
     let name = name_field(alloc, table, "stream_name", at)?;
-    let description = free_text_field(alloc, table, "description", at)?;
+    let description = description_field(alloc, table, "description", at)?;
     let aggregation = aggregation_field(alloc, table, "aggregation", at)?;
     Ok((name, description, aggregation))
 }
 
 type ListSettings = (
-    Option<Few<i64, 128>>,
+    Option<Shared<Boundaries>>,
     Option<Few<Text, 64>>,
     Option<Few<Text, 64>>,
 );
 
 #[tactic(auto, unfolding(crate::specs::Views::list_settings))]
-fn list_settings(alloc: Global, table: &Table, at: Place) -> Result<ListSettings, ViewFault>
+fn list_settings(alloc: Global, table: &Table, at: ConfigPlace) -> Result<ListSettings, ViewFault>
     ensures { Gives ViewFault.Memory result (list_settings at (table_view table.now)) }
 {
     let boundaries = optional_field(alloc, table, "boundaries", at)?;
@@ -166,7 +166,7 @@ fn pattern_field(
     alloc: Global,
     table: &Table,
     name: &str,
-    at: Place,
+    at: ConfigPlace,
 ) -> Result<Option<Pattern>, ViewFault>
     ensures { Gives ViewFault.Memory result (optional_field (pattern_at at) name.now (table_view table.now)) }
 {
@@ -178,7 +178,7 @@ fn kind_field(
     alloc: Global,
     table: &Table,
     name: &str,
-    at: Place,
+    at: ConfigPlace,
 ) -> Result<Option<Kind>, ViewFault>
     ensures { Gives ViewFault.Memory result (optional_field (kind_at at) name.now (table_view table.now)) }
 {
@@ -190,8 +190,20 @@ fn free_text_field(
     alloc: Global,
     table: &Table,
     name: &str,
-    at: Place,
+    at: ConfigPlace,
 ) -> Result<Option<Text>, ViewFault>
+    ensures { Gives ViewFault.Memory result (optional_field (text_at at) name.now (table_view table.now)) }
+{
+    optional_field(alloc, table, name, at)
+}
+
+/// A free text that streams share, where the table has it.
+fn description_field(
+    alloc: Global,
+    table: &Table,
+    name: &str,
+    at: ConfigPlace,
+) -> Result<Option<Shared<Text>>, ViewFault>
     ensures { Gives ViewFault.Memory result (optional_field (text_at at) name.now (table_view table.now)) }
 {
     optional_field(alloc, table, name, at)
@@ -202,8 +214,8 @@ fn name_field(
     alloc: Global,
     table: &Table,
     name: &str,
-    at: Place,
-) -> Result<Option<Name>, ViewFault>
+    at: ConfigPlace,
+) -> Result<Option<Shared<Name>>, ViewFault>
     ensures { Gives ViewFault.Memory result (optional_field (name_at at) name.now (table_view table.now)) }
 {
     optional_field(alloc, table, name, at)
@@ -214,7 +226,7 @@ fn aggregation_field(
     alloc: Global,
     table: &Table,
     name: &str,
-    at: Place,
+    at: ConfigPlace,
 ) -> Result<Option<Aggregation>, ViewFault>
     ensures { Gives ViewFault.Memory result (optional_field (aggregation_of at) name.now (table_view table.now)) }
 {

@@ -11,8 +11,7 @@ use Rattle.metric_core.proofs.run.run_on.Goals as goal
 
 pub loop-event-preserved : goal.loop-event-preserved
 loop-event-preserved c =
-    let rules = c.args.plan.now.rules in
-    let since = c.args.start in
+    let facts = c.args.plan.now.facts in
     let event = c.event-item.result in
     let reply = c.step-reply.result in
     let front : List Event = take c.loop-event.event-index c.args.events.now in
@@ -23,20 +22,21 @@ loop-event-preserved c =
     let long : length done ≡ length front = omega (arith, c.loop-event.invariant.count, length-take-le c.loop-event.event-index c.args.events.now (omega arith)) in
     record {
       count = omega (arith, ap length pushed, length_push done reply);
-      in_range = c.step-reply.ensures.in_range c.loop-event.invariant.in_range;
-      room = omega (arith, c.push_reserved.ensures.capacity, c.loop-event.invariant.room);
-      legal = λ h s.
-          subst (λ (es : List Event). AllLegal rules since h es c.push_reserved.new.self.items) (sym more)
-          (subst (λ (rs : List Reply). AllLegal rules since h (front ++ event ∷ []) rs) (sym pushed)
-          (AllLegal_push rules since front done h event reply long (c.loop-event.invariant.legal h s) (c.step-reply.ensures.legal (grown h front done) (c.loop-event.invariant.stands h s))));
-      stands = λ h s.
-          subst (λ (es : List Event). CellsStand rules since c.step-reply.new.cells (grown h es c.push_reserved.new.self.items)) (sym more)
-          (subst (λ (rs : List Reply). CellsStand rules since c.step-reply.new.cells (grown h (front ++ event ∷ []) rs)) (sym pushed)
-          (subst (λ (g : History). CellsStand rules since c.step-reply.new.cells g) (sym (grown_push front done h event reply long))
-          (c.step-reply.ensures.stands (grown h front done) (c.loop-event.invariant.stands h s))));
+      in_range = c.step-reply.ensures.steps.in_range c.loop-event.invariant.in_range;
+      replies = omega (arith, c.push_reserved.ensures.capacity, c.loop-event.invariant.replies);
+      room = c.step-reply.ensures.room ∙ c.loop-event.invariant.room;
+      legal = λ since h s.
+          subst (λ (es : List Event). AllLegal facts since h es c.push_reserved.new.self.items) (sym more)
+          (subst (λ (rs : List Reply). AllLegal facts since h (front ++ event ∷ []) rs) (sym pushed)
+          (AllLegal_push facts since front done h event reply long (c.loop-event.invariant.legal since h s) (c.step-reply.ensures.steps.legal since (grown h front done) (c.loop-event.invariant.stands since h s))));
+      stands = λ since h s.
+          subst (λ (es : List Event). CellsStand facts since c.step-reply.new.cells (grown h es c.push_reserved.new.self.items)) (sym more)
+          (subst (λ (rs : List Reply). CellsStand facts since c.step-reply.new.cells (grown h (front ++ event ∷ []) rs)) (sym pushed)
+          (subst (λ (g : History). CellsStand facts since c.step-reply.new.cells g) (sym (grown_push front done h event reply long))
+          (c.step-reply.ensures.steps.stands since (grown h front done) (c.loop-event.invariant.stands since h s))));
     }
 
 pub returns-clause-stands : goal.returns-clause-stands
-returns-clause-stands c = λ h s.
+returns-clause-stands c = λ since h s.
     let whole : take c.loop-event.event-index c.args.events.now ≡ c.args.events.now = take_all c.loop-event.event-index c.args.events.now (omega arith) in
-    subst (λ (es : List Event). CellsStand c.args.plan.now.rules c.args.start c.loop-event.cells (grown h es c.loop-event.replies.items)) whole (c.loop-event.invariant.stands h s)
+    subst (λ (es : List Event). CellsStand c.args.plan.now.facts since c.loop-event.cells (grown h es c.loop-event.replies.items)) whole (c.loop-event.invariant.stands since h s)

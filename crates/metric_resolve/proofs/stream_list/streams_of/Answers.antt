@@ -17,7 +17,7 @@ unfolding streams_of
 whole c =
     let config = c.args.source.config.now in
     let each = streams_of_reader c.args.source.catalogue.now config in
-    let all : c.loop-reader.reader ≡ length config.readers = omega (arith, c.len-reader-end.ensures.length) in
+    let all : c.loop-reader.reader ≡ length config.readers = omega (arith, ap length c.readers.ensures.readers) in
     c.loop-reader.invariant ∙ ap (λ (n : ℕ). flat_map each (range_with_len 0 n)) all
 
 pub returns : goal.returns
@@ -26,6 +26,6 @@ returns c =
     let config = c.args.source.config.now in
     record {
       exact = whole c;
-      few = subst (λ (s : List Stream). length s ≤ 2097152) (sym (whole c)) (length-streams_of contents config c.requires.few_views c.requires.few_instruments c.len-reader-end.ensures.few);
+      few = subst (λ (s : List Stream). length s ≤ 2097152) (sym (whole c)) (length-streams_of contents config c.requires.few_views c.requires.few_instruments c.readers.ensures.few);
       known = subst (λ (s : List Stream). All (λ stream. stream.instrument < length contents.instruments) s) (sym (whole c)) (known_streams contents config);
     }

@@ -15,5 +15,5 @@ unfolding unfit_of
 returns c =
     let config = c.args.config.now in
     let each = unfit_of_view c.args.catalogue.now config in
-    let all : c.loop-view.view ≡ length config.views = omega (arith, c.len-view-end.ensures.length) in
+    let all : c.loop-view.view ≡ length config.views = omega (arith, ap length c.views.ensures.views) in
     c.loop-view.invariant ∙ ap (λ (n : ℕ). c.args.warnings.now ++ flat_map each (range_with_len 0 n)) all

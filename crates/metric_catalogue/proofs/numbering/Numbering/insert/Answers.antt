@@ -1,5 +1,5 @@
 -- a text is written into the numbering
-use Rattle.std.proofs.Common.{◌≡◌, refl, string_bytes, ◌∙◌}
+use Rattle.std.proofs.Common.{refl, ◌∙◌}
 use Rattle.metric_catalogue.proofs.Numbered.{text_written}
 use Rattle.metric_catalogue.proofs.numbering.Numbering.insert.Goals as goal
 

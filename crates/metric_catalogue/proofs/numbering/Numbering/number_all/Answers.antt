@@ -1,5 +1,5 @@
 -- one more value has its place
-use Rattle.std.proofs.Common.{◌≡◌, ◌∙◌, sym, refl, arith, take, None}
+use Rattle.std.proofs.Common.{◌≡◌, ◌∙◌, sym, arith, take, None}
 use Rattle.metric_catalogue.specs.Places.{place}
 use Rattle.metric_catalogue.proofs.Numbered.{none_from_test, numbers_more, repeats_more}
 use Rattle.metric_catalogue.proofs.numbering.Numbering.number_all.Goals as goal

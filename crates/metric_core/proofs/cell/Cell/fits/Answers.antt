@@ -3,8 +3,9 @@ use Rattle.std.proofs.Common.{◌≡◌, ℕ, ◌+◌, ◌<◌, Bool, true, fals
 use Rattle.std.specs.Prelude.{slice_index}
 use Rattle.std.specs.List.{list_all}
 use Rattle.std.proofs.lemmas.List.Folds.{list_all_at, list_all_more}
-use Rattle.metric_history.specs.Rules.{StreamRule}
-use Rattle.metric_history.specs.Windows.{is_delta, window, fits_stream}
+use Rattle.metric_history.specs.declared.facts.NumberedStream.{NumberedStream}
+use Rattle.metric_history.specs.Facts.{is_delta}
+use Rattle.metric_history.specs.Windows.{window, fits_stream}
 use Rattle.metric_core.proofs.cell.Cell.fits.Goals as goal
 
 stops : {X : Type 0} (p : X → Bool) (xs all : List X) (i : ℕ) (x : X) → xs ≡ all → i < length xs → x ≡ get_or xs i x → p x ≡ false → false ≡ list_all p all
@@ -17,11 +18,11 @@ goes_on p xs i x below item before passes =
 pub returns-then-not-fits_in : goal.returns-then-not-fits_in
 returns-then-not-fits_in c =
     let s = c.args.self.now in
-    let p = λ (stream : StreamRule). fits_stream stream (window (is_delta c.args.rules.now stream.reader) (slice_index s.marks stream.reader) s.entries) c.args.entry.now in
-    stops p c.streams-streams.result.now c.args.rules.now.streams c.loop-stream.stream-index c.stream-item.result c.streams-streams.ensures c.loop-stream-test.true c.stream-item.is (sym c.if-not-fits_in.ensures)
+    let p = λ (stream : NumberedStream). fits_stream stream.stream (window (is_delta c.args.facts.now stream.stream.reader) (slice_index s.marks stream.stream.reader) s.entries) c.args.entry.now in
+    stops p c.as_slice-streams.result.now c.args.facts.now.streams c.loop-numbered.numbered-index c.numbered-item.result c.as_slice-streams.ensures c.loop-numbered-test.true c.numbered-item.is (sym c.if-not-fits_in.ensures)
 
-pub loop-stream-preserved : goal.loop-stream-preserved
-loop-stream-preserved c =
+pub loop-numbered-preserved : goal.loop-numbered-preserved
+loop-numbered-preserved c =
     let s = c.args.self.now in
-    let p = λ (stream : StreamRule). fits_stream stream (window (is_delta c.args.rules.now stream.reader) (slice_index s.marks stream.reader) s.entries) c.args.entry.now in
-    goes_on p c.streams-streams.result.now c.loop-stream.stream-index c.stream-item.result c.loop-stream-test.true c.stream-item.is c.loop-stream.invariant (sym c.if-not-fits_in.ensures)
+    let p = λ (stream : NumberedStream). fits_stream stream.stream (window (is_delta c.args.facts.now stream.stream.reader) (slice_index s.marks stream.stream.reader) s.entries) c.args.entry.now in
+    goes_on p c.as_slice-streams.result.now c.loop-numbered.numbered-index c.numbered-item.result c.loop-numbered-test.true c.numbered-item.is c.loop-numbered.invariant (sym c.if-not-fits_in.ensures)

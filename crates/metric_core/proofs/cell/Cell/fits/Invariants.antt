@@ -2,10 +2,11 @@
 use Rattle.std.proofs.Common.{◌≡◌, true, take}
 use Rattle.std.specs.Prelude.{slice_index}
 use Rattle.std.specs.List.{list_all}
-use Rattle.metric_history.specs.Rules.{StreamRule}
-use Rattle.metric_history.specs.Windows.{is_delta, window, fits_stream}
+use Rattle.metric_history.specs.declared.facts.NumberedStream.{NumberedStream}
+use Rattle.metric_history.specs.Facts.{is_delta}
+use Rattle.metric_history.specs.Windows.{window, fits_stream}
 use Rattle.metric_core.proofs.cell.Cell.fits.Given as goal
 
-abbrev pub invariant-loop-stream : goal.invariant-loop-stream
-invariant-loop-stream l =
-    list_all (λ (s : StreamRule). fits_stream s (window (is_delta l.rules s.reader) (slice_index l.self.marks s.reader) l.self.entries) l.entry) (take l.stream-index l.streams) ≡ true
+abbrev pub invariant-loop-numbered : goal.invariant-loop-numbered
+invariant-loop-numbered l =
+    list_all (λ (s : NumberedStream). fits_stream s.stream (window (is_delta l.facts s.stream.reader) (slice_index l.self.marks s.stream.reader) l.self.entries) l.entry) (take l.numbered-index l.streams) ≡ true
