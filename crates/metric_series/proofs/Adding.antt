@@ -1,5 +1,5 @@
 -- A table with one value more stands for one recording more.
-use Rattle.std.proofs.Common.{◌≡◌, ℕ, ◌+◌, ◌-◌, ◌^◌, ◌<◌, ◌≤◌, ℤ, pos, negsuc, ◌+ℤ◌, ◌<ℤ◌, ◌≤ℤ◌, Bool, true, false, ◌||◌, cond, List, [], ◌∷◌, ◌++◌, Option, Some, None, length, map, refl, sym, ap, subst, ◌∙◌, arith, w64, SFits}
+use Rattle.std.proofs.Common.{◌≡◌, ℕ, zero, suc, ◌+◌, ◌-◌, ◌^◌, ◌<◌, ◌≤◌, ℤ, pos, negsuc, ◌+ℤ◌, ◌<ℤ◌, ◌≤ℤ◌, Bool, true, false, ◌||◌, cond, List, [], ◌∷◌, ◌++◌, Option, Some, None, length, map, take, refl, sym, ap, subst, ◌∙◌, arith, w64, SFits}
 use Rattle.std.specs.Prelude.{is_some}
 use Rattle.std.specs.Cmp.Lexicographic.{nat_list_eq_equiv}
 use Rattle.std.specs.List.{list_any}
@@ -15,9 +15,10 @@ use Rattle.metric_aggregate.specs.declared.aggregate.Aggregate as aggregate
 use Rattle.metric_aggregate.specs.Aggregation.{Aggregation}
 use Rattle.metric_aggregate.specs.Bounds.{in_range-within}
 use Rattle.metric_aggregate.specs.Range.{in_range}
+use Rattle.metric_history.specs.Facts.{stream_aggregation}
 use Rattle.metric_history.specs.declared.entry.Entry.{Entry}
 use Rattle.metric_history.specs.Points.{values}
-use Rattle.metric_history.specs.Rules.{StreamRule}
+use Rattle.metric_views.specs.declared.stream.Stream.{Stream}
 use Rattle.metric_history.specs.Series.{has, held, rows, series, place_found}
 use Rattle.metric_history.specs.SeriesLaws.{same_key, key_is_same}
 use Rattle.metric_history.specs.Windows.{fits_stream}
@@ -82,7 +83,7 @@ module _ {A : Type 0} (by : aggregate.Ghosts A) where
           at true before h rest = before h
           at false before h rest = rest before h
 
-  rows_added : (s : StreamRule) (window : List Entry) (entry : Entry) (place : Option (List ℕ)) (old new : A) → place_found s window entry ≡ place
+  rows_added : (s : Stream) (window : List Entry) (entry : Entry) (place : Option (List ℕ)) (old new : A) → place_found s window entry ≡ place
       → Adds by old new entry.value → HasRows by old s window place → HasRows by new s (window ++ entry ∷ []) place
   rows_added s window entry place old new found adds had =
       let longer : values (rows s window place) ++ entry.value ∷ [] ≡ values (rows s (window ++ entry ∷ []) place) =
@@ -94,21 +95,36 @@ module _ {A : Type 0} (by : aggregate.Ghosts A) where
         stands = subst (λ (vs : List ℤ). by.stands new vs) longer (adds.stands (values (rows s window place)) had.stands);
       }
 
-  rows_same : (s : StreamRule) (window : List Entry) (entry : Entry) (place : Option (List ℕ)) (a : A) → rows s (window ++ entry ∷ []) place ≡ rows s window place
+  rows_same : (s : Stream) (window : List Entry) (entry : Entry) (place : Option (List ℕ)) (a : A) → rows s (window ++ entry ∷ []) place ≡ rows s window place
       → HasRows by a s window place → HasRows by a s (window ++ entry ∷ []) place
   rows_same s window entry place a same had =
       record { aggregation = had.aggregation; stands = subst (λ (es : List Entry). by.stands a (values es)) (sym same) had.stands }
 
-  fits_found : (s : StreamRule) (window : List Entry) (entry : Entry) (place : Option (List ℕ)) (a : A)
+  fits_found : (s : Stream) (window : List Entry) (entry : Entry) (place : Option (List ℕ)) (a : A)
       → ((added : List ℤ) (value : ℤ) → by.stands a added → by.fits a value ≡ in_range (by.aggregation a) (added ++ value ∷ [])) → place_found s window entry ≡ place
       → HasRows by a s window place → fits_stream s window entry ≡ by.fits a entry.value
   fits_found s window entry place a law found had =
       fits_where_found s window entry
-      ∙ ap (λ (p : Option (List ℕ)). in_range s.aggregation (values (rows s window p) ++ entry.value ∷ [])) found
+      ∙ ap (λ (p : Option (List ℕ)). in_range (stream_aggregation s) (values (rows s window p) ++ entry.value ∷ [])) found
       ∙ ap (λ (kind : Aggregation). in_range kind (values (rows s window place) ++ entry.value ∷ [])) (sym had.aggregation)
       ∙ sym (law (values (rows s window place)) entry.value had.stands)
 
-  module _ (t : Table A) (s : StreamRule) (window : List Entry) (entry : Entry) (key : List ℕ) (own : key ≡ series s.kept entry) (known : StandsTable by t s window) where
+  -- a table of no series stands for no recordings
+  pub stands_for_none : (t : Table A) (s : Stream) → t.series ≡ [] → t.kept ≡ s.kept → t.limit ≡ s.limit → by.aggregation t.overflow ≡ stream_aggregation s → by.stands t.overflow []
+      → StandsTable by t s []
+  stands_for_none t s empty kept limit aggregation stands = record {
+    kept = kept;
+    limit = limit;
+    held = ap keys_of empty ∙ sym (none_taken s.limit);
+    each = λ key a at. let never : None ≡ Some a = sym (ap (lookup (bytes_eq key)) empty) ∙ at in absurd cc;
+    rest = record { aggregation = aggregation; stands = stands };
+  }
+    where
+      none_taken : (n : ℕ) → take {A = List ℕ} n [] ≡ []
+      none_taken zero = refl
+      none_taken (suc n) = refl
+
+  module _ (t : Table A) (s : Stream) (window : List Entry) (entry : Entry) (key : List ℕ) (own : key ≡ series s.kept entry) (known : StandsTable by t s window) where
     held_at : (b : Bool) → is_some (lookup (bytes_eq key) t.series) ≡ b → has (held s window) (series s.kept entry) ≡ b
     held_at b e = ap (has (held s window)) (sym own) ∙ ap (λ (keys : List (List ℕ)). has keys key) (sym known.held) ∙ sym (lookup-held key t.series) ∙ e
 
@@ -184,9 +200,9 @@ module _ {A : Type 0} (by : aggregate.Ghosts A) where
         pub new_fits : SFits w64 entry.value → fits_stream s window entry ≡ true
         new_fits fits =
             fits_where_found s window entry
-            ∙ ap (λ (p : Option (List ℕ)). in_range s.aggregation (values (rows s window p) ++ entry.value ∷ [])) found_new
-            ∙ ap (λ (es : List Entry). in_range s.aggregation (values es ++ entry.value ∷ [])) no_rows
-            ∙ one_in_range s.aggregation entry.value fits
+            ∙ ap (λ (p : Option (List ℕ)). in_range (stream_aggregation s) (values (rows s window p) ++ entry.value ∷ [])) found_new
+            ∙ ap (λ (es : List Entry). in_range (stream_aggregation s) (values es ++ entry.value ∷ [])) no_rows
+            ∙ one_in_range (stream_aggregation s) entry.value fits
 
         pub new_stands : (first : A) (entries : List (List ℕ × A)) → HasFirst by t.overflow first entry.value → entries ≡ t.series ++ (key, first) ∷ []
             → StandsTable by (record t { series = entries }) s (window ++ entry ∷ [])

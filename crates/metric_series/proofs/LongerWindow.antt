@@ -9,16 +9,17 @@ use Rattle.std.proofs.lemmas.Bool.Decides.{nat_tests}
 use Rattle.std.proofs.lemmas.List.{append-nil, get_or_push, length_push, length-take, map_push, take_all}
 use Rattle.std.proofs.lemmas.List.Elements.{filter-append}
 use Rattle.metric_aggregate.specs.Range.{in_range}
+use Rattle.metric_history.specs.Facts.{stream_aggregation}
 use Rattle.metric_history.specs.declared.entry.Entry.{Entry}
 use Rattle.metric_history.specs.Points.{values}
 use Rattle.metric_history.specs.PointLaws.{held_more}
-use Rattle.metric_history.specs.Rules.{StreamRule}
+use Rattle.metric_views.specs.declared.stream.Stream.{Stream}
 use Rattle.metric_history.specs.Series.{series, all_series, has, found_with, found_within, distinct, held, belongs, rows, place_of, place_found}
 use Rattle.metric_history.specs.SeriesLaws.{distinct_push, has-distinct, has_all_series, key_is_same}
 use Rattle.metric_history.specs.SumLaws.{rows_push}
 use Rattle.metric_history.specs.Windows.{fits_stream}
 
-held_push : (s : StreamRule) (window : List Entry) (entry : Entry) → held s (window ++ entry ∷ []) ≡ found_within s.limit (held s window) (series s.kept entry)
+held_push : (s : Stream) (window : List Entry) (entry : Entry) → held s (window ++ entry ∷ []) ≡ found_within s.limit (held s window) (series s.kept entry)
 held_push s window entry =
     sym (ap (held s) (take_all (length window + 1) (window ++ entry ∷ []) (omega (arith, length_push window entry))))
     ∙ held_more s.kept s.limit (window ++ entry ∷ []) (length window) entry (omega (arith, length_push window entry))
@@ -26,7 +27,7 @@ held_push s window entry =
     ∙ ap (λ (e : Entry). found_within s.limit (held s window) (series s.kept e)) (get_or_push window entry entry (length window) refl)
 
 -- a recording of a held series changes none of them
-pub held-known : (s : StreamRule) (window : List Entry) (entry : Entry) → has (held s window) (series s.kept entry) ≡ true → held s (window ++ entry ∷ []) ≡ held s window
+pub held-known : (s : Stream) (window : List Entry) (entry : Entry) → has (held s window) (series s.kept entry) ≡ true → held s (window ++ entry ∷ []) ≡ held s window
 held-known s window entry known =
     held_push s window entry
     ∙ ap (λ (b : Bool). cond (nat_le s.limit (length (held s window)) || b) (held s window) (held s window ++ series s.kept entry ∷ [])) known
@@ -37,14 +38,14 @@ held-known s window entry known =
     either false = refl
 
 -- nor does one where no place is left
-pub held-full : (s : StreamRule) (window : List Entry) (entry : Entry) → s.limit ≤ length (held s window) → held s (window ++ entry ∷ []) ≡ held s window
+pub held-full : (s : Stream) (window : List Entry) (entry : Entry) → s.limit ≤ length (held s window) → held s (window ++ entry ∷ []) ≡ held s window
 held-full s window entry full =
     let none_left : nat_le s.limit (length (held s window)) ≡ true = grind (arith, nat_tests) in
     held_push s window entry
     ∙ ap (λ (b : Bool). cond (b || has (held s window) (series s.kept entry)) (held s window) (held s window ++ series s.kept entry ∷ [])) none_left
 
 -- the series of any other recording comes last
-pub held-new : (s : StreamRule) (window : List Entry) (entry : Entry) → length (held s window) < s.limit → has (held s window) (series s.kept entry) ≡ false
+pub held-new : (s : Stream) (window : List Entry) (entry : Entry) → length (held s window) < s.limit → has (held s window) (series s.kept entry) ≡ false
     → held s (window ++ entry ∷ []) ≡ held s window ++ series s.kept entry ∷ []
 held-new s window entry room new =
     let some_left : nat_le s.limit (length (held s window)) ≡ false = grind (arith, nat_tests) in
@@ -53,28 +54,28 @@ held-new s window entry room new =
     ∙ ap (λ (b : Bool). cond b (held s window) (held s window ++ series s.kept entry ∷ [])) new
 
 -- the place that the recording finds
-pub place_found_is : (s : StreamRule) (window : List Entry) (entry : Entry) (b : Bool) → has (held s (window ++ entry ∷ [])) (series s.kept entry) ≡ b
+pub place_found_is : (s : Stream) (window : List Entry) (entry : Entry) (b : Bool) → has (held s (window ++ entry ∷ [])) (series s.kept entry) ≡ b
     → place_found s window entry ≡ cond b (Some (series s.kept entry)) None
 place_found_is s window entry b e =
     ap (λ (keys : List (List ℕ)). cond (has (take s.limit (distinct keys)) (series s.kept entry)) (Some (series s.kept entry)) None) (sym (map_push (series s.kept) window entry))
     ∙ ap (λ (t : Bool). cond t (Some (series s.kept entry)) None) e
 
 -- it fits where the recordings of that place are in range with it
-pub fits_where_found : (s : StreamRule) (window : List Entry) (entry : Entry)
-    → fits_stream s window entry ≡ in_range s.aggregation (values (rows s window (place_found s window entry)) ++ entry.value ∷ [])
+pub fits_where_found : (s : Stream) (window : List Entry) (entry : Entry)
+    → fits_stream s window entry ≡ in_range (stream_aggregation s) (values (rows s window (place_found s window entry)) ++ entry.value ∷ [])
 fits_where_found s window entry =
-    ap (λ (keys : List (List ℕ)). in_range s.aggregation (values (rows s (window ++ entry ∷ []) (cond (has (take s.limit (distinct keys)) (series s.kept entry)) (Some (series s.kept entry)) None))))
+    ap (λ (keys : List (List ℕ)). in_range (stream_aggregation s) (values (rows s (window ++ entry ∷ []) (cond (has (take s.limit (distinct keys)) (series s.kept entry)) (Some (series s.kept entry)) None))))
     (map_push (series s.kept) window entry)
-    ∙ ap (λ (es : List Entry). in_range s.aggregation (values es)) (rows_push s window entry)
-    ∙ ap (in_range s.aggregation) (map_push (λ (e : Entry). e.value) (rows s window (place_found s window entry)) entry)
+    ∙ ap (λ (es : List Entry). in_range (stream_aggregation s) (values es)) (rows_push s window entry)
+    ∙ ap (in_range (stream_aggregation s)) (map_push (λ (e : Entry). e.value) (rows s window (place_found s window entry)) entry)
 
-pub values_where_found : (s : StreamRule) (window : List Entry) (entry : Entry)
+pub values_where_found : (s : Stream) (window : List Entry) (entry : Entry)
     → values (rows s window (place_found s window entry)) ++ entry.value ∷ [] ≡ values (rows s (window ++ entry ∷ []) (place_found s window entry))
 values_where_found s window entry =
     sym (ap values (rows_push s window entry) ∙ map_push (λ (e : Entry). e.value) (rows s window (place_found s window entry)) entry)
 
 -- another series has the recordings that it had
-pub rows-other : (s : StreamRule) (window : List Entry) (entry : Entry) (key : List ℕ) → bytes_eq (series s.kept entry) key ≡ false
+pub rows-other : (s : Stream) (window : List Entry) (entry : Entry) (key : List ℕ) → bytes_eq (series s.kept entry) key ≡ false
     → rows s (window ++ entry ∷ []) (Some key) ≡ rows s window (Some key)
 rows-other s window entry key other =
     filter-append (λ (e : Entry). bytes_eq (series s.kept e) key) window (entry ∷ [])
@@ -82,7 +83,7 @@ rows-other s window entry key other =
     ∙ append-nil (filter (λ (e : Entry). bytes_eq (series s.kept e) key) window)
 
 -- and so has the overflow series, where the recording is of a held series
-pub rest-known : (s : StreamRule) (window : List Entry) (entry : Entry) → has (held s window) (series s.kept entry) ≡ true
+pub rest-known : (s : Stream) (window : List Entry) (entry : Entry) → has (held s window) (series s.kept entry) ≡ true
     → rows s (window ++ entry ∷ []) None ≡ rows s window None
 rest-known s window entry known =
     ap (λ (keys : List (List ℕ)). filter (λ (e : Entry). not (has keys (series s.kept e))) (window ++ entry ∷ [])) (held-known s window entry known)
@@ -103,12 +104,12 @@ none_left kept found (e ∷ entries) all =
     ∙ none_left kept found entries (λ key known. all key (or_later (bytes_eq (series kept e) key) (has (all_series kept entries) key) known))
 
 -- few distinct series are all held
-rest-few : (s : StreamRule) (window : List Entry) → length (distinct (all_series s.kept window)) ≤ s.limit → rows s window None ≡ []
+rest-few : (s : Stream) (window : List Entry) → length (distinct (all_series s.kept window)) ≤ s.limit → rows s window None ≡ []
 rest-few s window few =
     none_left s.kept (held s window) window
     (λ key known. ap (λ (keys : List (List ℕ)). has keys key) (take_all s.limit (distinct (all_series s.kept window)) few) ∙ has-distinct (all_series s.kept window) key ∙ known)
 
-few_where_room : (s : StreamRule) (window : List Entry) → length (held s window) < s.limit → length (distinct (all_series s.kept window)) < s.limit
+few_where_room : (s : Stream) (window : List Entry) → length (held s window) < s.limit → length (distinct (all_series s.kept window)) < s.limit
 few_where_room s window room = omega (arith, room, length-take s.limit (distinct (all_series s.kept window)))
 
 few_more : (keys : List (List ℕ)) (key : List ℕ) → length (distinct (keys ++ key ∷ [])) ≤ length (distinct keys) + 1
@@ -119,11 +120,11 @@ few_more keys key = rw (distinct_push keys key) (at (has (distinct keys) key))
     at false = omega (arith, length_push (distinct keys) key)
 
 -- where a place is left nothing overflows
-pub rest-room : (s : StreamRule) (window : List Entry) → length (held s window) < s.limit → rows s window None ≡ []
+pub rest-room : (s : Stream) (window : List Entry) → length (held s window) < s.limit → rows s window None ≡ []
 rest-room s window room = rest-few s window (omega (arith, few_where_room s window room))
 
 -- nor does one recording more
-pub rest-new : (s : StreamRule) (window : List Entry) (entry : Entry) → length (held s window) < s.limit → rows s (window ++ entry ∷ []) None ≡ []
+pub rest-new : (s : Stream) (window : List Entry) (entry : Entry) → length (held s window) < s.limit → rows s (window ++ entry ∷ []) None ≡ []
 rest-new s window entry room =
     let few : length (distinct (all_series s.kept window ++ series s.kept entry ∷ [])) ≤ s.limit =
     omega (arith, few_where_room s window room, few_more (all_series s.kept window) (series s.kept entry)) in
@@ -138,7 +139,7 @@ filter_none p (e ∷ entries) none = at (p e) none (filter_none p entries)
     at false h rest = rest h
 
 -- a series that is not held, though a place is left, has no recording
-pub rows-new : (s : StreamRule) (window : List Entry) (key : List ℕ) → length (held s window) < s.limit → has (held s window) key ≡ false → rows s window (Some key) ≡ []
+pub rows-new : (s : Stream) (window : List Entry) (key : List ℕ) → length (held s window) < s.limit → has (held s window) key ≡ false → rows s window (Some key) ≡ []
 rows-new s window key room new =
     let keys : List (List ℕ) = all_series s.kept window in
     let all : held s window ≡ distinct (all_series s.kept window) = take_all s.limit (distinct (all_series s.kept window)) (omega (arith, few_where_room s window room)) in

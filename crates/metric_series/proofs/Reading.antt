@@ -12,7 +12,7 @@ use Rattle.metric_aggregate.specs.Value.{value_of}
 use Rattle.metric_history.specs.declared.batch.Point.{Point}
 use Rattle.metric_history.specs.declared.entry.Entry.{Entry}
 use Rattle.metric_history.specs.Points.{values, ascending, point, points, overflow}
-use Rattle.metric_history.specs.Rules.{StreamRule}
+use Rattle.metric_views.specs.declared.stream.Stream.{Stream}
 use Rattle.metric_history.specs.Series.{belongs, rows}
 use Rattle.metric_series.specs.Tables.{Table, HasRows, StandsTable}
 
@@ -28,7 +28,7 @@ not_twice : (a b : Bool) → a ≡ not b → b ≡ not a
 not_twice a true e = sym (ap not e)
 not_twice a false e = sym (ap not e)
 
-module _ {A : Type 0} (by : aggregate.Ghosts A) (s : StreamRule) (window : List Entry) (a : A) where
+module _ {A : Type 0} (by : aggregate.Ghosts A) (s : Stream) (window : List Entry) (a : A) where
   -- what an aggregate reads is the point of the recordings that it has
   pub point_is : (place : Option (List ℕ)) (value : PointValue) → HasRows by a s window place → ((added : List ℤ) → by.stands a added → value ≡ value_of (by.aggregation a) added)
       → record { set = place; value = value } ≡ point s window place
@@ -51,7 +51,7 @@ module _ {A : Type 0} (by : aggregate.Ghosts A) (s : StreamRule) (window : List 
       flip true = refl
       flip false = refl
 
-module _ {A : Type 0} (by : aggregate.Ghosts A) (t : Table A) (s : StreamRule) (window : List Entry) (known : StandsTable by t s window) where
+module _ {A : Type 0} (by : aggregate.Ghosts A) (t : Table A) (s : Stream) (window : List Entry) (known : StandsTable by t s window) where
   -- the points of the series in ascending order, and the overflow point where there is one
   pub points_are : (sorted : List (List ℕ)) (found : List Point) → sorted ≡ ascending (keys_of t.series) → found ≡ map (λ key. point s window (Some key)) sorted
       → ((added : List ℤ) → by.stands t.overflow added → by.is_empty t.overflow ≡ (length added == 0))

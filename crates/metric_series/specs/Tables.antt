@@ -1,14 +1,13 @@
 -- What a table of series keeps, and for which recordings it stands.
-use Rattle.std.specs.Prelude.{◌≡◌, ℕ, ℤ, Bool, true, false, List, [], ◌∷◌, ◌++◌, Option, Some, None, Result, Ok, Err}
+use Rattle.std.specs.Prelude.{◌≡◌, ℕ, ℤ, Bool, false, List, [], ◌∷◌, ◌++◌, Option, Some, None}
 use Rattle.std.specs.Map.{keys_of, lookup}
 use Rattle.std.specs.Str.{bytes_eq}
 use Rattle.metric_aggregate.specs.declared.aggregate.Aggregate as aggregate
+use Rattle.metric_history.specs.Facts.{stream_aggregation}
 use Rattle.metric_history.specs.declared.entry.Entry.{Entry}
 use Rattle.metric_history.specs.Points.{values}
-use Rattle.metric_history.specs.Rules.{StreamRule}
+use Rattle.metric_views.specs.declared.stream.Stream.{Stream}
 use Rattle.metric_history.specs.Series.{held, rows}
-use Rattle.metric_series.specs.declared.fault.SeriesFault.{SeriesFault}
-use Rattle.metric_series.specs.declared.fault.SeriesFault.TheVariants.{SumRange, Memory}
 
 -- a table whose values are aggregated by `A`
 pub record Table (A : Type 0) : Type 0 where
@@ -20,16 +19,6 @@ pub record Table (A : Type 0) : Type 0 where
   pub series : List (List ℕ × A)
   -- the aggregate of all other recordings
   pub overflow : A
-
--- a recording by some recorder
-abbrev pub entry_of : ℕ → List ℕ → ℤ → Entry
-entry_of recorder set value = record { recorder = recorder; set = set; value = value }
-
--- whether an answer lets a value in, as far as ranges go
-abbrev pub is_in_range : Result (Unit {0}) SeriesFault → Bool
-is_in_range (Ok done) = true
-is_in_range (Err SumRange) = false
-is_in_range (Err Memory) = true
 
 module _ {A : Type 0} (by : aggregate.Ghosts A) where
   -- each held series has a value
@@ -49,12 +38,12 @@ module _ {A : Type 0} (by : aggregate.Ghosts A) where
     pub stands : by.stands first (value ∷ [])
 
   -- an aggregate has the values of a series of the window, or of its overflow series
-  pub record HasRows (a : A) (s : StreamRule) (window : List Entry) (place : Option (List ℕ)) : Type 0 where
-    pub aggregation : by.aggregation a ≡ s.aggregation
+  pub record HasRows (a : A) (s : Stream) (window : List Entry) (place : Option (List ℕ)) : Type 0 where
+    pub aggregation : by.aggregation a ≡ stream_aggregation s
     pub stands : by.stands a (values (rows s window place))
 
   -- a table keeps the numbers of the recordings of the window in a stream
-  pub record StandsTable (t : Table A) (s : StreamRule) (window : List Entry) : Type 0 where
+  pub record StandsTable (t : Table A) (s : Stream) (window : List Entry) : Type 0 where
     pub kept : t.kept ≡ s.kept
     pub limit : t.limit ≡ s.limit
     pub held : keys_of t.series ≡ held s window

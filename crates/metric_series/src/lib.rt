@@ -8,7 +8,9 @@
 mod fault;
 mod key;
 mod seeded;
+mod series_table;
 mod table;
 
 pub use fault::SeriesFault;
+pub use series_table::SeriesTable;
 pub use table::TableOf;

@@ -2,19 +2,19 @@
 ghost use Rattle.std.specs.Prelude.{◌≡◌, ℕ, true, false, List, [], ◌∷◌, ◌++◌, None, Some, OnOk, OnErr, IfOk};
 ghost use Rattle.std.specs.Map.{keys_of, lookup};
 ghost use Rattle.std.specs.Str.{bytes_eq};
-ghost use Rattle.metric_history.specs.declared.entry.Entry.{Entry};
-ghost use Rattle.metric_history.specs.Points.{ascending as in_order, point as point_of, points as points_of};
-ghost use Rattle.metric_history.specs.Rules.{StreamRule};
+ghost use Rattle.metric_history.specs.Facts.{stream_aggregation};
+ghost use Rattle.metric_history.specs.Points.{ascending as in_order};
+ghost use Rattle.metric_views.specs.declared.stream.Stream.{Stream};
 ghost use Rattle.metric_history.specs.Series.{has};
-ghost use Rattle.metric_history.specs.Windows.{fits_stream};
-ghost use Rattle.metric_series.specs.Tables.{Adds, HasFirst, StandsTable, entry_of, is_in_range};
+ghost use Rattle.metric_series.specs.Calls.{JudgesRange, ReportsPoint, ReportsPoints, TakesRecording, is_in_range};
+ghost use Rattle.metric_series.specs.Tables.{Adds, HasFirst, StandsTable};
 
 use crate::fault::SeriesFault;
 use crate::key::{SeriesKey, restrict};
 use crate::seeded::Seeded;
 use indexmap::IndexMap;
 use metric_aggregate::Aggregate;
-use metric_base::Few;
+use metric_base::{Few, Shared};
 use metric_catalogue::SetKey;
 use metric_history::Point;
 use std::alloc::{AllocError, Global};
@@ -26,7 +26,7 @@ use std::marker::Model;
 #[derive(Drop)]
 pub struct TableOf<A: Aggregate> {
     alloc: Global,
-    kept: Few<bool, 8>,
+    kept: Shared<Few<bool, 8>>,
     limit: u32,
     series: IndexMap<SeriesKey, A, Seeded>,
     overflow: A,
@@ -44,10 +44,18 @@ impl<A: Aggregate> Model for TableOf<A> {
 
 impl<A: Aggregate> TableOf<A> {
     /// A table of no series, where the keys with these flags are kept and so many series are held. The
-    /// aggregator, which is empty, is that of the overflow series, and gives all others. Keys are hashed
-    /// with the seed.
-    pub fn new(kept: Few<bool, 8>, limit: u32, overflow: A, alloc: Global, seed: u64) -> TableOf<A>
-        ensures { result ≡ record { kept = kept; limit = limit; series = []; overflow = overflow } }
+    /// empty aggregator is that of the overflow series, and makes those of all others. Keys are hashed with the
+    /// seed.
+    pub(crate) fn new(
+        alloc: Global,
+        seed: u64,
+        kept: Shared<Few<bool, 8>>,
+        limit: u32,
+        overflow: A,
+    ) -> TableOf<A>
+        ensures { (s : Stream) → kept ≡ s.kept → limit ≡ s.limit
+            → A.aggregation overflow ≡ stream_aggregation s → A.stands overflow []
+            → StandsTable A.Aggregate result s [] }
     {
         TableOf {
             alloc,
@@ -60,13 +68,12 @@ impl<A: Aggregate> TableOf<A> {
 
     /// Adds a value to the series of a set.
     pub fn add(&mut self, set: &SetKey, value: i64) -> Result<(), SeriesFault>
-        ensures in_range { (s : StreamRule) (window : List Entry) (recorder : ℕ) → StandsTable A.Aggregate self.old s window
-            → fits_stream s window (entry_of recorder set.now value) ≡ is_in_range result }
-        ensures stands { OnOk result ((s : StreamRule) (window : List Entry) (recorder : ℕ) → StandsTable A.Aggregate self.old s window
-            → StandsTable A.Aggregate self.new s (window ++ entry_of recorder set.now value ∷ [])) }
+        ensures in_range { JudgesRange (StandsTable A.Aggregate self.old) set.now value result }
+        ensures stands { OnOk result
+            (TakesRecording (StandsTable A.Aggregate self.old) (StandsTable A.Aggregate self.new) set.now value) }
         ensures err { OnErr result (self.new ≡ self.old) }
     {
-        let key = SeriesKey::new(restrict(self.kept.as_slice(), set));
+        let key = SeriesKey::new(restrict(self.kept.get().as_slice(), set));
         if let Some(aggregate) = self.series.get_mut(&key) {
             return add_value(aggregate, value);
         }
@@ -83,8 +90,7 @@ impl<A: Aggregate> TableOf<A> {
     // The point of a held series.
     fn point(&self, alloc: Global, key: &SeriesKey) -> Result<Point, AllocError>
         requires { has (keys_of self.now.series) key.now ≡ true }
-        ensures { IfOk result (λ point. (s : StreamRule) (window : List Entry) → StandsTable A.Aggregate self.now s window
-            → point ≡ point_of s window (Some key.now)) }
+        ensures { IfOk result (ReportsPoint (StandsTable A.Aggregate self.now) (Some key.now)) }
     {
         let aggregate = self.series.get(key).unwrap();
         let value = aggregate.read(alloc)?;
@@ -97,8 +103,7 @@ impl<A: Aggregate> TableOf<A> {
     // The point of the overflow series, into which some value fell.
     fn overflow_point(&self, alloc: Global) -> Result<Point, AllocError>
         requires { A.is_empty self.now.overflow ≡ false }
-        ensures { IfOk result (λ point. (s : StreamRule) (window : List Entry) → StandsTable A.Aggregate self.now s window
-            → point ≡ point_of s window None) }
+        ensures { IfOk result (ReportsPoint (StandsTable A.Aggregate self.now) None) }
     {
         let value = self.overflow.read(alloc)?;
         Ok(Point { set: None, value })
@@ -107,8 +112,7 @@ impl<A: Aggregate> TableOf<A> {
     /// The points of the held series in ascending order of their set keys, then the overflow point where some
     /// value fell into the overflow series (Metrics SDK, cardinality limits). Fails only where memory is refused.
     pub fn points(&self, alloc: Global) -> Result<Vec<Point>, AllocError>
-        ensures { IfOk result (λ points. (s : StreamRule) (window : List Entry) → StandsTable A.Aggregate self.now s window
-            → points.items ≡ points_of s window) }
+        ensures { IfOk result (λ points. ReportsPoints (StandsTable A.Aggregate self.now) points.items) }
     {
         let keys = ascending(alloc, &self.series)?;
         let mut points = Vec::with_capacity(alloc, keys.len() + 1)?;

@@ -6,14 +6,15 @@ use Rattle.std.proofs.lemmas.Int.{to_z-of_z}
 use Rattle.std.proofs.lemmas.Map.Steps.{set_value_same}
 use Rattle.std.proofs.lemmas.Result.{err_from_is_err_and, on_err_weaker, on_ok_weaker}
 use Rattle.metric_history.specs.Series.{restricted}
-use Rattle.metric_series.specs.Tables.{Table, Adds, HasFirst, HasValues, StandsTable, entry_of}
+use Rattle.metric_series.specs.Calls.{entry_of}
+use Rattle.metric_series.specs.Tables.{Table, Adds, HasFirst, HasValues, StandsTable}
 use Rattle.metric_series.proofs.Adding.{HasValues-push, HasValues-set_value, held_fits, held_stands, new_fits, new_stands, rest_fits, rest_stands}
 use Rattle.metric_series.proofs.table.TableOf.add.Goals as goal
 
 pub returns-in-Some-clause-in_range : goal.returns-in-Some-clause-in_range
 returns-in-Some-clause-in_range g c = λ s window recorder stands.
     let known = subst (λ t. StandsTable g.A.Aggregate t s window) (sym c.self.view_is) stands in
-    let own : c.new-key.result ≡ restricted s.kept c.args.set.now = c.new-key.ensures ∙ c.restrict.ensures ∙ ap (λ (kept : List _). restricted kept c.args.set.now) (c.as_slice.ensures.items ∙ known.kept) in
+    let own : c.new-key.result ≡ restricted s.kept c.args.set.now = c.new-key.ensures ∙ c.restrict.ensures ∙ ap (λ (kept : List _). restricted kept c.args.set.now) (c.as_slice.ensures.items ∙ c.get.ensures ∙ known.kept) in
     let in64 : SFits w64 c.args.value = search rules in
     let back : to_z w64 (of_z w64 c.args.value) ≡ c.args.value = to_z-of_z w64 c.args.value in64 in
     held_fits g.A.Aggregate _ s window (entry_of recorder c.args.set.now c.args.value) c.new-key.result own known c.in-Some.aggregate.now (sym c.in-Some.ensures.value) (g.met.A.Aggregate.fits_in_range c.in-Some.aggregate.now)
@@ -27,7 +28,7 @@ returns-in-Some-clause-stands g c =
     on_ok_weaker c.add_value.result
     (λ adds s window recorder stands.
     let known = subst (λ t. StandsTable g.A.Aggregate t s window) (sym c.self.view_is) stands in
-    let own : c.new-key.result ≡ restricted s.kept c.args.set.now = c.new-key.ensures ∙ c.restrict.ensures ∙ ap (λ (kept : List _). restricted kept c.args.set.now) (c.as_slice.ensures.items ∙ known.kept) in
+    let own : c.new-key.result ≡ restricted s.kept c.args.set.now = c.new-key.ensures ∙ c.restrict.ensures ∙ ap (λ (kept : List _). restricted kept c.args.set.now) (c.as_slice.ensures.items ∙ c.get.ensures ∙ known.kept) in
     held_stands g.A.Aggregate _ s window (entry_of recorder c.args.set.now c.args.value) c.new-key.result own known c.in-Some.aggregate.now (sym c.in-Some.ensures.value) c.add_value.new.aggregate _
     (subst (λ v. Adds g.A.Aggregate c.in-Some.aggregate.now c.add_value.new.aggregate v) back adds) (c.get_mut.follows.holds c.add_value.new.aggregate).0)
     c.add_value.ensures.adds
@@ -43,7 +44,7 @@ returns-in-Some-clause-err g c =
 pub returns-then-len-self-clause-in_range : goal.returns-then-len-self-clause-in_range
 returns-then-len-self-clause-in_range g c = λ s window recorder stands.
     let known = subst (λ t. StandsTable g.A.Aggregate t s window) (sym c.self.view_is) stands in
-    let own : c.new-key.result ≡ restricted s.kept c.args.set.now = c.new-key.ensures ∙ c.restrict.ensures ∙ ap (λ (kept : List _). restricted kept c.args.set.now) (c.as_slice.ensures.items ∙ known.kept) in
+    let own : c.new-key.result ≡ restricted s.kept c.args.set.now = c.new-key.ensures ∙ c.restrict.ensures ∙ ap (λ (kept : List _). restricted kept c.args.set.now) (c.as_slice.ensures.items ∙ c.get.ensures ∙ known.kept) in
     let in64 : SFits w64 c.args.value = search rules in
     let back : to_z w64 (of_z w64 c.args.value) ≡ c.args.value = to_z-of_z w64 c.args.value in64 in
     let none : lookup (bytes_eq c.new-key.result) c.self.inside.series.entries ≡ None = sym c.in_default.ensures.value in
@@ -64,7 +65,7 @@ returns-then-len-self-clause-stands g c =
     on_ok_weaker c.add_value-then-len-self.result
     (λ adds s window recorder stands.
     let known = subst (λ t. StandsTable g.A.Aggregate t s window) (sym c.self.view_is) stands in
-    let own : c.new-key.result ≡ restricted s.kept c.args.set.now = c.new-key.ensures ∙ c.restrict.ensures ∙ ap (λ (kept : List _). restricted kept c.args.set.now) (c.as_slice.ensures.items ∙ known.kept) in
+    let own : c.new-key.result ≡ restricted s.kept c.args.set.now = c.new-key.ensures ∙ c.restrict.ensures ∙ ap (λ (kept : List _). restricted kept c.args.set.now) (c.as_slice.ensures.items ∙ c.get.ensures ∙ known.kept) in
     rest_stands g.A.Aggregate _ s window (entry_of recorder c.args.set.now c.args.value) c.new-key.result own known none full c.add_value-then-len-self.new.aggregate _
     (subst (λ v. Adds g.A.Aggregate c.self.inside.overflow c.add_value-then-len-self.new.aggregate v) back adds) same)
     c.add_value-then-len-self.ensures.adds
@@ -72,7 +73,7 @@ returns-then-len-self-clause-stands g c =
 pub returns-in_err-first-clause-in_range : goal.returns-in_err-first-clause-in_range
 returns-in_err-first-clause-in_range g c = λ s window recorder stands.
     let known = subst (λ t. StandsTable g.A.Aggregate t s window) (sym c.self.view_is) stands in
-    let own : c.new-key.result ≡ restricted s.kept c.args.set.now = c.new-key.ensures ∙ c.restrict.ensures ∙ ap (λ (kept : List _). restricted kept c.args.set.now) (c.as_slice.ensures.items ∙ known.kept) in
+    let own : c.new-key.result ≡ restricted s.kept c.args.set.now = c.new-key.ensures ∙ c.restrict.ensures ∙ ap (λ (kept : List _). restricted kept c.args.set.now) (c.as_slice.ensures.items ∙ c.get.ensures ∙ known.kept) in
     let in64 : SFits w64 c.args.value = search rules in
     let none : lookup (bytes_eq c.new-key.result) c.self.inside.series.entries ≡ None = sym c.in_default.ensures.value in
     let room : length c.self.inside.series.entries < c.self.inside.limit =
@@ -83,7 +84,7 @@ returns-in_err-first-clause-in_range g c = λ s window recorder stands.
 pub returns-in_err-insert_last-clause-in_range : goal.returns-in_err-insert_last-clause-in_range
 returns-in_err-insert_last-clause-in_range g c = λ s window recorder stands.
     let known = subst (λ t. StandsTable g.A.Aggregate t s window) (sym c.self.view_is) stands in
-    let own : c.new-key.result ≡ restricted s.kept c.args.set.now = c.new-key.ensures ∙ c.restrict.ensures ∙ ap (λ (kept : List _). restricted kept c.args.set.now) (c.as_slice.ensures.items ∙ known.kept) in
+    let own : c.new-key.result ≡ restricted s.kept c.args.set.now = c.new-key.ensures ∙ c.restrict.ensures ∙ ap (λ (kept : List _). restricted kept c.args.set.now) (c.as_slice.ensures.items ∙ c.get.ensures ∙ known.kept) in
     let in64 : SFits w64 c.args.value = search rules in
     let none : lookup (bytes_eq c.new-key.result) c.self.inside.series.entries ≡ None = sym c.in_default.ensures.value in
     let room : length c.self.inside.series.entries < c.self.inside.limit =
@@ -104,7 +105,7 @@ invariant_of-self-2 g c =
 pub returns-clause-in_range : goal.returns-clause-in_range
 returns-clause-in_range g c = λ s window recorder stands.
     let known = subst (λ t. StandsTable g.A.Aggregate t s window) (sym c.self.view_is) stands in
-    let own : c.new-key.result ≡ restricted s.kept c.args.set.now = c.new-key.ensures ∙ c.restrict.ensures ∙ ap (λ (kept : List _). restricted kept c.args.set.now) (c.as_slice.ensures.items ∙ known.kept) in
+    let own : c.new-key.result ≡ restricted s.kept c.args.set.now = c.new-key.ensures ∙ c.restrict.ensures ∙ ap (λ (kept : List _). restricted kept c.args.set.now) (c.as_slice.ensures.items ∙ c.get.ensures ∙ known.kept) in
     let in64 : SFits w64 c.args.value = search rules in
     let none : lookup (bytes_eq c.new-key.result) c.self.inside.series.entries ≡ None = sym c.in_default.ensures.value in
     let room : length c.self.inside.series.entries < c.self.inside.limit =
@@ -114,7 +115,7 @@ returns-clause-in_range g c = λ s window recorder stands.
 pub returns-clause-stands : goal.returns-clause-stands
 returns-clause-stands g c = λ s window recorder stands.
     let known = subst (λ t. StandsTable g.A.Aggregate t s window) (sym c.self.view_is) stands in
-    let own : c.new-key.result ≡ restricted s.kept c.args.set.now = c.new-key.ensures ∙ c.restrict.ensures ∙ ap (λ (kept : List _). restricted kept c.args.set.now) (c.as_slice.ensures.items ∙ known.kept) in
+    let own : c.new-key.result ≡ restricted s.kept c.args.set.now = c.new-key.ensures ∙ c.restrict.ensures ∙ ap (λ (kept : List _). restricted kept c.args.set.now) (c.as_slice.ensures.items ∙ c.get.ensures ∙ known.kept) in
     let in64 : SFits w64 c.args.value = search rules in
     let back : to_z w64 (of_z w64 c.args.value) ≡ c.args.value = to_z-of_z w64 c.args.value in64 in
     let none : lookup (bytes_eq c.new-key.result) c.self.inside.series.entries ≡ None = sym c.in_default.ensures.value in
