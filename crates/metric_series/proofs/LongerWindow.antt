@@ -1,5 +1,5 @@
 -- How the held series of a window, and the recordings of each series, change with one recording more.
-use Rattle.std.proofs.Common.{◌≡◌, ℕ, ◌+◌, ◌<◌, ◌≤◌, ℤ, Bool, true, false, not, ◌||◌, cond, List, [], ◌∷◌, ◌++◌, Option, Some, None, length, take, get_or, map, refl, sym, ap, ◌∙◌, arith}
+use Rattle.std.proofs.Common.{◌≡◌, ℕ, ◌+◌, ◌<◌, ◌≤◌, Bool, true, false, not, ◌||◌, cond, List, [], ◌∷◌, ◌++◌, Some, None, length, take, get_or, refl, sym, ap, ◌∙◌, arith}
 use Rattle.std.specs.Prelude.{filter, nat_le}
 use Rattle.std.specs.List.{list_any}
 use Rattle.std.specs.Str.{bytes_eq}
@@ -14,7 +14,7 @@ use Rattle.metric_history.specs.declared.entry.Entry.{Entry}
 use Rattle.metric_history.specs.Points.{values}
 use Rattle.metric_history.specs.PointLaws.{held_more}
 use Rattle.metric_views.specs.declared.stream.Stream.{Stream}
-use Rattle.metric_history.specs.Series.{series, all_series, has, found_with, found_within, distinct, held, belongs, rows, place_of, place_found}
+use Rattle.metric_history.specs.Series.{series, all_series, has, found_within, distinct, held, belongs, rows, place_found}
 use Rattle.metric_history.specs.SeriesLaws.{distinct_push, has-distinct, has_all_series, key_is_same}
 use Rattle.metric_history.specs.SumLaws.{rows_push}
 use Rattle.metric_history.specs.Windows.{fits_stream}

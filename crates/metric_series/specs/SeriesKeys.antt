@@ -1,5 +1,5 @@
 -- What a series key is hashed as.
-use Rattle.std.specs.Prelude.{◌≡◌, ℕ, ◌+◌, ◌*◌, ◌%◌, ◌^◌, Bool, true, List, fold, bit_or, IsTrue}
+use Rattle.std.specs.Prelude.{◌≡◌, ℕ, ◌*◌, ◌%◌, ◌^◌, List, fold, bit_or, IsTrue}
 use Rattle.std.proofs.Common.{ap}
 use Rattle.std.specs.Hash as fed
 use Rattle.std.specs.Str.{bytes_eq}

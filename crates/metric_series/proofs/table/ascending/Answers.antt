@@ -1,5 +1,5 @@
 -- distinct keys that were sorted
-use Rattle.std.proofs.Common.{◌≡◌, sym, ap, ◌∙◌, subst, List, rules}
+use Rattle.std.proofs.Common.{◌≡◌, sym, ap, ◌∙◌, subst, rules}
 use Rattle.std.specs.List.{IsDistinct}
 use Rattle.std.specs.Map.{keys_of}
 use Rattle.std.specs.Str.{bytes_eq}

@@ -1,5 +1,5 @@
 -- one value alone is in range
-use Rattle.std.proofs.Common.{◌≡◌, ℤ, ◌∷◌, [], ap, ◌∙◌, rules, w64, SFits}
+use Rattle.std.proofs.Common.{[], ◌∙◌, rules, w64, SFits}
 use Rattle.std.proofs.lemmas.Int.{to_z-of_z}
 use Rattle.metric_series.proofs.Adding.{one_in_range}
 use Rattle.metric_series.proofs.table.first_value.Goals as goal

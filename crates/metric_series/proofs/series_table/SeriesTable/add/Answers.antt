@@ -1,5 +1,5 @@
 -- what the table of the stream's aggregation answers
-use Rattle.std.proofs.Common.{◌≡◌, ℤ, List, OnOk, sym, subst, rules, w64, SFits, to_z, of_z}
+use Rattle.std.proofs.Common.{subst, rules, w64, SFits}
 use Rattle.std.proofs.lemmas.Int.{to_z-of_z}
 use Rattle.std.proofs.lemmas.Result.{on_ok_weaker}
 use Rattle.metric_series.specs.Calls.{JudgesRange, TakesRecording}

@@ -1,5 +1,5 @@
 -- a value of a held series, of a series that is the next, or of the overflow series
-use Rattle.std.proofs.Common.{◌≡◌, ◌≤◌, ◌<◌, ℕ, ℤ, List, [], ◌∷◌, ◌++◌, None, Some, OnOk, length, sym, ap, subst, ◌∙◌, arith, rules, w64, SFits, to_z, of_z}
+use Rattle.std.proofs.Common.{◌≡◌, ◌≤◌, ◌<◌, List, [], ◌∷◌, ◌++◌, None, Some, length, sym, ap, subst, ◌∙◌, arith, rules, w64, SFits, to_z, of_z}
 use Rattle.std.specs.Map.{lookup}
 use Rattle.std.specs.Str.{bytes_eq}
 use Rattle.std.proofs.lemmas.Int.{to_z-of_z}
@@ -7,7 +7,7 @@ use Rattle.std.proofs.lemmas.Map.Steps.{set_value_same}
 use Rattle.std.proofs.lemmas.Result.{err_from_is_err_and, on_err_weaker, on_ok_weaker}
 use Rattle.metric_history.specs.Series.{restricted}
 use Rattle.metric_series.specs.Calls.{entry_of}
-use Rattle.metric_series.specs.Tables.{Table, Adds, HasFirst, HasValues, StandsTable}
+use Rattle.metric_series.specs.Tables.{Adds, HasFirst, StandsTable}
 use Rattle.metric_series.proofs.Adding.{HasValues-push, HasValues-set_value, held_fits, held_stands, new_fits, new_stands, rest_fits, rest_stands}
 use Rattle.metric_series.proofs.table.TableOf.add.Goals as goal
 

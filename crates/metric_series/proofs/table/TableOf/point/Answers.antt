@@ -1,5 +1,5 @@
 -- the series is there, and has the recordings of its set key
-use Rattle.std.proofs.Common.{◌≡◌, Some, true, List, ℕ, Option, None, Bor, refl, ap, subst, sym, ◌∙◌}
+use Rattle.std.proofs.Common.{◌≡◌, Some, List, ℕ, Option, None, Bor, refl, ap, subst, sym, ◌∙◌}
 use Rattle.std.specs.Map.{keys_of, lookup}
 use Rattle.std.specs.Option.{option_copied}
 use Rattle.std.specs.Prelude.{is_some}

@@ -1,5 +1,5 @@
 -- each key is one of the table's; the points of all keys, then the overflow point
-use Rattle.std.proofs.Common.{◌≡◌, Bool, List, [], ◌∷◌, ◌++◌, cond, Some, None, map, take, length, ap, subst, sym, ◌∙◌, arith}
+use Rattle.std.proofs.Common.{◌≡◌, Bool, [], ◌∷◌, ◌++◌, cond, Some, None, map, ap, subst, sym, ◌∙◌, arith}
 use Rattle.std.specs.Map.{keys_of}
 use Rattle.std.proofs.lemmas.List.{append-nil, take_all}
 use Rattle.metric_history.specs.declared.batch.Point.{Point}
