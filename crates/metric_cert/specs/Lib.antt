@@ -6,4 +6,5 @@ pub mod Orders
 pub mod Reading
 pub mod Reasons
 pub mod Streams
+pub mod Valid
 pub mod Writing
