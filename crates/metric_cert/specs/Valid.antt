@@ -1,7 +1,7 @@
 -- When a certificate shows that a catalogue and a config are safe. It is said of the certificate alone, apart from how one
 -- is made or checked.
-use Rattle.std.specs.Prelude.{◌≡◌, ◌≢◌, ℕ, ℤ, pos, ◌+◌, ◌<◌, ◌≤◌, ◌^◌, ◌<ℤ◌, IsTrue, All, AllPairs, Contains, IfSome, IsSomeAnd, ◌==◌, if◌then◌else◌, List, [], ◌∷◌, length, map, filter, Option, Some, None, option_and_then, unwrap_or, slice_get, FitsSigned, ⊤}
-use Rattle.std.specs.List.{AllZip, flat_map, range_with_len}
+use Rattle.std.specs.Prelude.{◌≡◌, ℕ, pos, ◌≤◌, IsTrue, All, AllPairs, Contains, IfSome, IsSomeAnd, List, [], ◌∷◌, map, Option, Some, option_and_then, unwrap_or, slice_get}
+use Rattle.std.specs.List.{AllZip, flat_map}
 use Rattle.std.specs.Cmp.Lexicographic.{slice_cmp}
 use Rattle.std.specs.Ordering.{nat_cmp, on, then_cmp}
 use Rattle.std.specs.declared.cmp.Ordering.{Ordering}
@@ -21,7 +21,6 @@ use Rattle.metric_bounds.specs.Amounts.{amount_with, high_with, low_with, total_
 use Rattle.metric_bounds.specs.Safe.{IsSafeInstrument}
 use Rattle.metric_bounds.specs.Sets.{sets_of}
 use Rattle.metric_bounds.specs.Sums.{is_summed}
-use Rattle.metric_glob.specs.declared.reason.Reason.{Reason}
 use Rattle.metric_glob.specs.declared.reason.Reason.TheVariants.{Takes, Rows}
 use Rattle.metric_cert.specs.declared.bound.InstrumentBound.{InstrumentBound}
 use Rattle.metric_cert.specs.declared.certificate.Certificate.{Certificate}
