@@ -1,5 +1,6 @@
 //! Whole inputs replayed and shown: what is written, or the line and the exit status of the fault.
 use metric_catalogue::{CatalogueFault, CataloguePlace};
+use metric_check::CheckFault;
 use metric_commands::{KitFault, ReplayOptions, one_output, replay, show_run};
 use metric_io::{CutSink, CutSource};
 use metric_views::{ConfigPlace, ViewFault};
@@ -135,6 +136,54 @@ stream reader=\"main\" meter=\"m\" version=\"\" schema=\"\" name=\"g\" unit=\"\"
 point {} start=0 time=1 value=-1
 ";
 
+const BUDGETED: &str = "format = 1
+[[meter]]
+name = \"m\"
+instrument = [{ name = \"hits\", kind = \"counter\", range = [0, 100] }]
+[[recorder]]
+name = \"r\"
+budget = [{ instrument = 0, amount = 2 }]
+";
+
+const READERS: &str = "format = 1
+[[reader]]
+name = \"C\"
+[[reader]]
+name = \"D\"
+temporality = { counter = \"delta\" }
+";
+
+const READERS_RUN: &str = "start 0
+record 0 0 5
+collect 1 0 10
+record 0 0 7
+record 0 0 1
+close 0
+record 0 0 1
+collect 0 0 20
+collect 1 0 30
+collect 1 0 25
+close 0
+";
+
+const READERS_OUTPUT: &str = "accepted
+collected 10 1
+stream reader=\"D\" meter=\"m\" version=\"\" schema=\"\" name=\"hits\" unit=\"\" description=\"\" kind=sum monotonic=yes temporality=delta
+point {} start=0 time=10 value=5
+accepted
+refused 9 Budget
+closed
+refused 8 Closed
+collected 20 1
+stream reader=\"C\" meter=\"m\" version=\"\" schema=\"\" name=\"hits\" unit=\"\" description=\"\" kind=sum monotonic=yes temporality=cumulative
+point {} start=0 time=20 value=12
+collected 30 1
+stream reader=\"D\" meter=\"m\" version=\"\" schema=\"\" name=\"hits\" unit=\"\" description=\"\" kind=sum monotonic=yes temporality=delta
+point {} start=10 time=30 value=7
+collected 30 0
+refused 8 Closed
+";
+
 const SHOWN: &str = "format = 1
 [[meter]]
 name = \"m\"
@@ -171,6 +220,13 @@ warning Collision streams=0,1
 const DONE: &[(Command, &str, &str, &str, &str)] = &[
     (Command::Trial, HITS, MAIN, RUN, OUTPUT),
     (Command::Trial, KINDS, MAIN, KINDS_RUN, KINDS_OUTPUT),
+    (
+        Command::Trial,
+        BUDGETED,
+        READERS,
+        READERS_RUN,
+        READERS_OUTPUT,
+    ),
     (Command::Trial, HITS, MAIN, "start 0\n", ""),
     (
         Command::Trial,
@@ -247,7 +303,23 @@ fn a_faulty_declaration_is_told(rt: HostRuntime) -> Result<(), Fail> {
     Ok(())
 }
 
-// Faults of the input's lines, and what is not served yet.
+// Budgets of more than 2^64 - 1 recordings for one instrument.
+const MANY: &str = "format = 1
+[[meter]]
+name = \"m\"
+instrument = [{ name = \"c\", kind = \"counter\", range = [0, 1] }]
+[[recorder]]
+name = \"a\"
+budget = [{ instrument = 0, amount = 9223372036854775807 }]
+[[recorder]]
+name = \"b\"
+budget = [{ instrument = 0, amount = 9223372036854775807 }]
+[[recorder]]
+name = \"c\"
+budget = [{ instrument = 0, amount = 2 }]
+";
+
+// Faults of the input's lines and of its plan, and what is not served yet.
 const REFUSED: &[(Command, &str, &str, &str, &str)] = &[
     (
         Command::Trial,
@@ -293,10 +365,10 @@ const REFUSED: &[(Command, &str, &str, &str, &str)] = &[
     ),
     (
         Command::Trial,
-        HITS,
-        "format = 1\nreader = [{name = 'a', temporality = {gauge = 'delta'}}]\n",
-        RUN,
-        "refused: not yet, 1",
+        MANY,
+        MAIN,
+        "rec\n",
+        "refused: check 12 CountRange, 1",
     ),
 ];
 
@@ -367,6 +439,11 @@ const PRINTED: &[(KitFault, &str, u8)] = &[
             at: ConfigPlace::View(2),
         }),
         "refused: config 5 BadPattern at view 2",
+        1,
+    ),
+    (
+        KitFault::Check(CheckFault::CountRange),
+        "refused: check 12 CountRange",
         1,
     ),
     (KitFault::NotYet, "refused: not yet", 1),

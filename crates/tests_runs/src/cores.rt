@@ -1,8 +1,9 @@
 //! Runs of events on a core, and the replies that they get.
-use crate::{points, scripts};
+use crate::points;
+use crate::scripts;
 use metric_catalogue::Catalogue;
+use metric_check::{CheckFault, Plan};
 use metric_core::Core;
-use metric_core::first::{FirstFault, Plan};
 use metric_history::{Batch, Reply};
 use metric_views::Config;
 use std::alloc::Global;
@@ -34,10 +35,7 @@ fn write_batch(out: &mut String, alloc: Global, batch: &Batch) -> Result<(), Fai
     let mark = batch.mark;
     let start = batch.start;
     let time = batch.time;
-    write!(
-        out,
-        "batch {reader} {instrument}, {from} to {mark}, {start} to {time}:"
-    )?;
+    write!(out, "batch {reader} {instrument}, {from} to {mark}, {start} to {time}:")?;
     write_points(out, alloc, batch)?;
     Ok(writeln!(out)?)
 }
@@ -54,13 +52,13 @@ fn write_replies(out: &mut String, alloc: Global, replies: &[Reply]) -> Result<(
     Ok(())
 }
 
-// A core over the plan of a catalogue and a config, or that there is no such plan yet.
+// A core over the plan of a catalogue and a config, or why there is none.
 fn core_of(
     alloc: Global,
     catalogue: &str,
     config: &str,
     start: u64,
-) -> Result<Result<Core, FirstFault>, Fail> {
+) -> Result<Result<Core, CheckFault>, Fail> {
     let catalogue = Catalogue::read(alloc, catalogue)?;
     let config = Config::read(alloc, config)?;
     match Plan::trial(alloc, catalogue, config) {
@@ -77,8 +75,7 @@ fn told(alloc: Global, catalogue: &str, config: &str, script: &str) -> Result<St
     let read = scripts::read(alloc, script)??;
     let mut core = match core_of(alloc, catalogue, config, read.start)? {
         Ok(core) => core,
-        Err(FirstFault::NotYet) => return Ok(String::from_str(alloc, "not yet")?),
-        Err(FirstFault::Memory) => return Ok(String::from_str(alloc, "memory")?),
+        Err(fault) => return Ok(fault.to_string(alloc)?),
     };
     let mut out = String::new(alloc);
     let replies = core.run(alloc, read.events.as_slice())?;
@@ -113,6 +110,22 @@ instrument = [
 [[recorder]]
 name = 'r'
 budget = [{ instrument = 0, amount = 5 }, { instrument = 1, amount = 5 }, { instrument = 2, amount = 5 }]
+";
+
+// Budgets of more than 2^64 - 1 recordings in all.
+const MANY: &str = "format = 1
+[[meter]]
+name = 'm'
+instrument = [{ name = 'c', kind = 'gauge', range = [0, 1] }]
+[[recorder]]
+name = 'a'
+budget = [{ instrument = 0, amount = 9223372036854775807 }]
+[[recorder]]
+name = 'b'
+budget = [{ instrument = 0, amount = 9223372036854775807 }]
+[[recorder]]
+name = 'c'
+budget = [{ instrument = 0, amount = 2 }]
 ";
 
 const MAIN: &str = "format = 1\nreader = [{ name = 'main' }]\n";
@@ -226,7 +239,25 @@ batch 0 1, 0 to 2, 0 to 1: stream 1 [0, 0, 0, 0, 0, 0, 0, 0] last -2
 batch 0 2, 0 to 2, 0 to 2: stream 2 [0, 0, 0, 0, 0, 0, 0, 0] 2 [1, 1] sum 9 from 2 to 7
 ",
     ),
-    (KINDS, DELTA, "start 0\n", "not yet"),
+    // A delta reader sees what is new since its last collection.
+    (
+        ROUTES,
+        DELTA,
+        "start 4
+record 0 0 5 \"route\"=\"/b\"
+collect 0 0 10
+record 0 0 2 \"route\"=\"/a\"
+collect 0 0 20
+collect 0 0 30
+",
+        "accepted
+batch 0 0, 0 to 1, 4 to 10: stream 0 [2, 0, 0, 0, 0, 0, 0, 0] sum 5
+accepted
+batch 0 0, 1 to 2, 10 to 20: stream 0 [1, 0, 0, 0, 0, 0, 0, 0] sum 2
+batch 0 0, 2 to 2, 20 to 30: stream 0
+",
+    ),
+    (MANY, MAIN, "start 0\n", "12 CountRange"),
 ];
 
 #[test]

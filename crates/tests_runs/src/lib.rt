@@ -17,4 +17,6 @@ mod points;
 #[cfg(test)]
 mod scripts;
 #[cfg(test)]
+mod series;
+#[cfg(test)]
 mod written;
