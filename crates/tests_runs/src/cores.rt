@@ -1,6 +1,5 @@
 //! Runs of events on a core, and the replies that they get.
-use crate::points;
-use crate::scripts;
+use crate::{points, scripts};
 use metric_catalogue::Catalogue;
 use metric_check::{CheckFault, Plan};
 use metric_core::Core;
@@ -35,7 +34,10 @@ fn write_batch(out: &mut String, alloc: Global, batch: &Batch) -> Result<(), Fai
     let mark = batch.mark;
     let start = batch.start;
     let time = batch.time;
-    write!(out, "batch {reader} {instrument}, {from} to {mark}, {start} to {time}:")?;
+    write!(
+        out,
+        "batch {reader} {instrument}, {from} to {mark}, {start} to {time}:"
+    )?;
     write_points(out, alloc, batch)?;
     Ok(writeln!(out)?)
 }

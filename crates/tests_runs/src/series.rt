@@ -20,8 +20,9 @@ key = [{ name = "route", values = ["/a", "/b", "/c"] }]
 // The default stream of the counter, for a reader with this limit.
 fn stream(alloc: Global, limit: u32) -> Result<Stream, Fail> {
     let catalogue = Catalogue::read(alloc, CATALOGUE)?;
-    let text =
-        format!(in alloc; "format = 1\n[[reader]]\nname = \"main\"\nlimit = {{ counter = {limit} }}\n")?;
+    let text = format!(in alloc;
+        "format = 1\n[[reader]]\nname = \"main\"\nlimit = {{ counter = {limit} }}\n"
+    )?;
     let config = Config::read(alloc, &text)?;
     if catalogue.instruments().is_empty() || config.readers().is_empty() {
         return Err("nothing declared".into());
@@ -55,8 +56,16 @@ fn told(alloc: Global, limit: u32, adds: &[(u16, i64)]) -> Result<String, Fail> 
 const TABLES: &[(u32, &[(u16, i64)], &str)] = &[
     (2000, &[], ""),
     (2000, &[(2, 5), (1, 1), (2, 2)], "1: sum 1; 2: sum 7; "),
-    (2, &[(1, 1), (2, 2), (3, 3), (1, 4)], "1: sum 5; 2: sum 2; overflow: sum 3; "),
-    (1, &[(2, i64::MAX), (2, 1), (1, 1)], "refused, 2: sum 9223372036854775807; overflow: sum 1; "),
+    (
+        2,
+        &[(1, 1), (2, 2), (3, 3), (1, 4)],
+        "1: sum 5; 2: sum 2; overflow: sum 3; ",
+    ),
+    (
+        1,
+        &[(2, i64::MAX), (2, 1), (1, 1)],
+        "refused, 2: sum 9223372036854775807; overflow: sum 1; ",
+    ),
 ];
 
 #[test]
