@@ -4,7 +4,6 @@ pub mod BucketAgg
 pub mod LastAgg
 pub mod PointValue
 pub mod Range
-pub mod RisingLaws
 pub mod SumAgg
 pub mod Value
 pub mod ValueLaws

@@ -4,16 +4,13 @@ use Rattle.std.specs.Prelude.{◌==◌, slice_set, slice_index}
 use Rattle.std.specs.Int.{int_min, int_max}
 use Rattle.std.proofs.lemmas.Bool.{cases_eq, eq-eqb, ne_eqb}
 use Rattle.std.proofs.lemmas.Int.{ints, clamps}
-use Rattle.std.proofs.lemmas.List.{get_or_push, length_push, get_or-set_same, get_or-set_other, length-set}
+use Rattle.std.proofs.lemmas.List.{get_or-set_same, get_or-set_other, length-set}
 use Rattle.std.proofs.lemmas.List.FromFn.{fill_by_all, length-map-range_with_len, get_or-map-range_with_len}
 use Rattle.std.proofs.lemmas.List.Sums.{fold_push, sum_by_push, count_by-le-length}
 use Rattle.metric_aggregate.specs.Value.{sum_of, last_of, least_or, greatest_or, bucket_of, bucket_count, bucket_counts}
 
 pub sum_of-push : (xs : List ℤ) (v : ℤ) → sum_of (xs ++ v ∷ []) ≡ sum_of xs +ℤ v
 sum_of-push xs v = fold_push ◌+ℤ◌ (pos 0) xs v
-
-pub last_of-push : (xs : List ℤ) (v : ℤ) → last_of (xs ++ v ∷ []) ≡ v
-last_of-push xs v = get_or_push xs v (pos 0) (length (xs ++ v ∷ []) - 1) (omega (arith, length_push xs v))
 
 int_min_assoc : (a b c : ℤ) → int_min a (int_min b c) ≡ int_min (int_min a b) c
 int_min_assoc a b c = omega (arith, ints, clamps)

@@ -49,10 +49,8 @@ impl KitFault {
         ensures { result ≡ status_of self.now }
     {
         match self {
-            KitFault::Catalogue(_)
-            | KitFault::Config(_)
-            | KitFault::Check(_)
-            | KitFault::NotYet => 1,
+            KitFault::Catalogue(_) | KitFault::Config(_) | KitFault::Check(_) | KitFault::NotYet =>
+                1,
             KitFault::Read | KitFault::Input { .. } => 3,
             KitFault::Memory => 4,
             KitFault::Write => 5,

@@ -1,4 +1,3 @@
-mod Ascending
 pub mod CountedOnce
 pub mod FactsLaws
 pub mod LegalLaws

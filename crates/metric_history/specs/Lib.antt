@@ -11,3 +11,4 @@ pub mod Legal
 pub mod SeriesLaws
 pub mod SumLaws
 pub mod PointLaws
+pub mod AscendingLaws

@@ -2,7 +2,7 @@ use Rattle.std.proofs.Common.{◌≡◌, ℕ, ◌+◌, ◌-◌, ◌^◌, pos, �
 use Rattle.std.specs.Prelude.{int_lt}
 use Rattle.std.proofs.lemmas.Int.{to_z-of_z}
 use Rattle.std.proofs.lemmas.Nat.{pow_pos}
-use Rattle.metric_aggregate.specs.RisingLaws.{rising_partitioned, IsParted, parted_first, parted_half, parted_count, power_half}
+use Rattle.metric_aggregate.proofs.RisingLaws.{rising_partitioned, IsParted, parted_first, parted_half, parted_count, power_half}
 use Rattle.metric_aggregate.specs.Value.{bucket_of}
 use Rattle.metric_aggregate.proofs.search.count_less.Goals as goal
 use Rattle.metric_aggregate.proofs.search.count_less.Goals.{then-less, else-less}

@@ -1,6 +1,6 @@
 use Rattle.std.proofs.Common.{◌+◌, ◌-◌, ◌^◌, ◌<◌}
 use Rattle.std.specs.Prelude.{int_lt}
-use Rattle.metric_aggregate.specs.RisingLaws.{IsParted}
+use Rattle.metric_aggregate.proofs.RisingLaws.{IsParted}
 use Rattle.metric_aggregate.proofs.search.count_less.Given as goal
 
 abbrev pub invariant-loop-level : goal.invariant-loop-level

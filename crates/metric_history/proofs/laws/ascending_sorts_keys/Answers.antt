@@ -1,6 +1,6 @@
 -- the keys, and their order
 use Rattle.metric_history.specs.PointLaws.{ascending-IsPermutation}
-use Rattle.metric_history.proofs.Ascending.{ascending-IsSorted}
+use Rattle.metric_history.specs.AscendingLaws.{ascending-IsSorted}
 use Rattle.metric_history.proofs.laws.ascending_sorts_keys.Goals as goal
 
 pub returns : goal.returns

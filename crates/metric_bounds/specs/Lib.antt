@@ -1,0 +1,4 @@
+pub mod Amounts
+pub mod Safe
+pub mod Sets
+pub mod Sums

@@ -1,0 +1,101 @@
+-- What is written is read as itself.
+use Rattle.std.proofs.Common.{ℤ, pos, true, nat_lt, ◌≡◌, ℕ, ◌+◌, ◌≤◌, ◌<◌, ◌^◌, List, [], ◌∷◌, ◌++◌, map, Result, Ok, Err, String, Global, Ordering, Less, Equal, Greater, string_bytes, refl, ap, arith, lit≤}
+use Rattle.std.specs.Prelude.{FitsSigned}
+use Rattle.std.specs.Int.{w128}
+use Rattle.std.specs.BTreeMap.{insert_entry}
+use Rattle.std.specs.Fmt.{decimal, signed_decimal}
+use Rattle.std.specs.Ordering.{match_ordering}
+use Rattle.std.specs.String.{string_cmp}
+use Rattle.toml.specs.Data.{Data, member, integer, string, array, depth, items_depth}
+use Rattle.toml.specs.View.{items_of, items_view, members_view, view}
+use Rattle.toml.specs.declared.value.Value.{Value}
+use Rattle.toml.proofs.Views.{Entry}
+use Rattle.std.proofs.lemmas.Bool.Decides.{nat_tests}
+use mathlib.Core.List.{map-append}
+use Rattle.metric_base.specs.Steps.{◌>>=◌, in_turn, with_next}
+use Rattle.metric_table.specs.Fields.{each_alone, integer_of, text_of, values_of as items_values}
+use Rattle.metric_text.specs.ReadingLaws.{number_of-text}
+use Rattle.metric_cert.specs.declared.fault.CertFault.{CertFault}
+use Rattle.metric_cert.proofs.Spelled.{wide_of-text}
+use Rattle.metric_cert.specs.Reading.{decimal_of, list_of, signed_decimal_of, values_of, whole_of}
+use Rattle.metric_cert.specs.Writing.{with_member}
+
+pub decimal_of-decimal : (n : ℕ) → n < 2 ^ 64 → decimal_of (string (decimal n)) ≡ Ok n
+unfolding decimal_of text_of
+decimal_of-decimal n fits = rw (number_of-text (2 ^ 64) n fits (lit≤ tt)) refl
+
+pub signed_decimal_of-signed : (z : ℤ) → FitsSigned w128 z → signed_decimal_of (string (signed_decimal z)) ≡ Ok z
+unfolding signed_decimal_of text_of
+signed_decimal_of-signed z fits = rw (wide_of-text z fits) refl
+
+pub whole_of-pos : (limit n : ℕ) → n < limit → whole_of limit (integer (pos n)) ≡ Ok n
+unfolding whole_of integer_of
+whole_of-pos limit n below = let test : nat_lt n limit ≡ true = grind (arith, nat_tests) in rw test refl
+
+pub ruleset number_laws = (decimal_of-decimal, signed_decimal_of-signed, whole_of-pos)
+
+-- the values of an array are the values of its data
+pub items_values-items_of : (values : List Data) → items_values (items_of values) ≡ values
+items_values-items_of [] = refl
+items_values-items_of (v ∷ values) = ap (λ (vs : List Data). v ∷ vs) (items_values-items_of values)
+
+pub ruleset value_laws = (items_values-items_of)
+
+pub list_of-array : {X : Type 0} (step : Data → Result X CertFault) (d : Data) (values : List Value) (xs : List X) → d ≡ array (items_view values)
+    → each_alone step (map view values) ≡ Ok xs → list_of step d ≡ Ok xs
+unfolding list_of values_of
+list_of-array step d values xs is read = rw (is, items_values-items_of (map view values)) read
+
+pub list_depth : (d : Data) (values : List Value) (levels : ℕ) → d ≡ array (items_view values) → items_depth (items_view values) ≤ levels → depth d ≤ levels + 1
+list_depth d values levels is shallow = rw is (omega arith)
+
+pub ruleset list_laws = (list_of-array, list_depth)
+
+-- one value more
+past : {X F : Type 0} (r : Result X F) (step : Data → Result X F) (values : List Data) (d : Data) (before read : List X) (x : X)
+    → ((more : List X) → in_turn (with_next (λ _ e. step e)) more values ≡ Ok read → in_turn (with_next (λ _ e. step e)) more (values ++ d ∷ []) ≡ Ok (read ++ x ∷ []))
+    → ((r >>= λ y. Ok (before ++ y ∷ [])) >>= λ more. in_turn (with_next (λ _ e. step e)) more values) ≡ Ok read
+    → ((r >>= λ y. Ok (before ++ y ∷ [])) >>= λ more. in_turn (with_next (λ _ e. step e)) more (values ++ d ∷ [])) ≡ Ok (read ++ x ∷ [])
+past (Ok y) step values d before read x ih done = ih (before ++ y ∷ []) done
+past (Err f) step values d before read x ih done = absurd cc
+
+in_turn-push : {X F : Type 0} (step : Data → Result X F) (values : List Data) (d : Data) (before read : List X) (x : X)
+    → step d ≡ Ok x → in_turn (with_next (λ _ e. step e)) before values ≡ Ok read
+    → in_turn (with_next (λ _ e. step e)) before (values ++ d ∷ []) ≡ Ok (read ++ x ∷ [])
+in_turn-push step [] d before read x one done = let same : before ≡ read = cc in rw (one, same) refl
+in_turn-push step (v ∷ values) d before read x one done =
+    past (step v) step values d before read x (λ more. in_turn-push step values d more read x one) done
+
+pub each_alone-push : {X : Type 0} (step : Data → Result X CertFault) (values longer : List Value) (v : Value) (read more : List X) (x : X)
+    → longer ≡ values ++ v ∷ [] → more ≡ read ++ x ∷ []
+    → each_alone step (map view values) ≡ Ok read → step (view v) ≡ Ok x → each_alone step (map view longer) ≡ Ok more
+each_alone-push step values longer v read more x grown also done one =
+    rw (grown, also, map-append) (in_turn-push step (map view values) (view v) [] read x one done)
+
+items_depth-last : (values : List Value) (v : Value) (levels : ℕ) → items_depth (items_view values) ≤ levels → depth (view v) ≤ levels
+    → items_depth (items_view (values ++ v ∷ [])) ≤ levels
+items_depth-last [] v levels old new = omega arith
+items_depth-last (x ∷ values) v levels old new =
+    let rest : items_depth (items_view values) ≤ levels = omega arith in
+    let more = items_depth-last values v levels rest new in
+    omega arith
+
+pub items_depth-push : (values longer : List Value) (v : Value) (levels : ℕ) → longer ≡ values ++ v ∷ [] → items_depth (items_view values) ≤ levels
+    → depth (view v) ≤ levels → items_depth (items_view longer) ≤ levels
+items_depth-push values longer v levels grown old new = rw grown (items_depth-last values v levels old new)
+
+-- a map of a table with one more entry
+with_entry : (o : Ordering) (k : String Global) (v : Value) (e : Entry) (es : List Entry)
+    → members_view (insert_entry string_cmp es k v) ≡ with_member (string_bytes k) (view v) (members_view es)
+    → members_view (match_ordering o ((k, v) ∷ e ∷ es) ((e.0, v) ∷ es) (e ∷ insert_entry string_cmp es k v))
+    ≡ match_ordering o (member (string_bytes k) (view v) (members_view (e ∷ es))) (member (string_bytes e.0) (view v) (members_view es)) (member (string_bytes e.0) (view e.1) (with_member (string_bytes k) (view v) (members_view es)))
+with_entry Less k v e es ih = refl
+with_entry Equal k v e es ih = refl
+with_entry Greater k v e es ih = ap (member (string_bytes e.0) (view e.1)) ih
+
+pub members_view-insert : (k : String Global) (v : Value) (es : List Entry)
+    → members_view (insert_entry string_cmp es k v) ≡ with_member (string_bytes k) (view v) (members_view es)
+members_view-insert k v [] = refl
+members_view-insert k v (e ∷ es) = with_entry (string_cmp k e.0) k v e es (members_view-insert k v es)
+
+pub ruleset entry_laws = (members_view-insert)

@@ -1,0 +1,10 @@
+pub mod Bounds
+pub mod Certificates
+pub mod Decimals
+pub mod Names
+pub mod Orders
+pub mod Reading
+pub mod Reasons
+pub mod Streams
+pub mod Valid
+pub mod Writing

@@ -1,0 +1,111 @@
+//! A certificate as a whole.
+ghost use Rattle.std.specs.Prelude.{◌≡◌, ◌≤◌, ◌==◌, Ok, Err, IfOk, string_bytes, if◌then◌else◌};
+ghost use Rattle.toml.specs.Data.{members_depth};
+ghost use Rattle.toml.specs.View.{table_view};
+ghost use Rattle.metric_base.specs.Steps.{Gives};
+ghost use Rattle.metric_table.specs.Fields.{only};
+ghost use Rattle.metric_cert.specs.Certificates.{certificate_fields, certificate_of, certificate_from, format_of};
+ghost use Rattle.metric_cert.specs.Reading.{shape_faults};
+
+use crate::bound::InstrumentBound;
+use crate::fault::{CertFault, shape_faults};
+use crate::order::ReaderOrder;
+use crate::reason::SelectionReason;
+use crate::stream::StreamSets;
+use crate::tables::{empty_table, needed, put};
+use metric_base::Items;
+use metric_table::only;
+use std::alloc::{AllocError, Global};
+use toml::Table;
+
+/// What shows that a catalogue and a config are safe. It says nothing by itself: a checker has to
+/// verify it.
+#[derive(Drop)]
+pub struct Certificate {
+    /// For each view and each instrument, why the view selects it or not.
+    pub reasons: Items<SelectionReason>,
+    /// The streams, each with how many series it can have.
+    pub streams: Items<StreamSets>,
+    /// The bounds of each instrument.
+    pub bounds: Items<InstrumentBound>,
+    /// For each reader, in which order the identities of its streams rise.
+    pub orders: Items<ReaderOrder>,
+}
+
+impl Certificate {
+    /// The certificate that a text is. What is no TOML is `NotToml`, and what is another table than that
+    /// of a certificate is `Shape`.
+    pub fn read(alloc: Global, text: &str) -> Result<Certificate, CertFault>
+        ensures { Gives CertFault.Memory result (certificate_from text.now) }
+    {
+        match toml::table_from_str(alloc, text) {
+            Ok(table) => certificate_of(alloc, &table),
+            Err(error) if error.is_memory() => Err(CertFault::Memory),
+            Err(_) => Err(CertFault::NotToml),
+        }
+    }
+
+    /// The certificate as a text, which is read as this certificate. Fails only where memory is refused.
+    pub fn write(&self, alloc: Global) -> Result<String, AllocError>
+        ensures { IfOk result (λ text. certificate_from (string_bytes text) ≡ Ok self.now) }
+    {
+        let table = self.table(alloc)?;
+        match toml::table_to_string(alloc, &table) {
+            Ok(text) => Ok(text),
+            Err(_) => Err(AllocError),
+        }
+    }
+
+    fn table(&self, alloc: Global) -> Result<Table, AllocError>
+        ensures reads { IfOk result (λ t. certificate_of (table_view t) ≡ Ok self.now) }
+        ensures shallow { IfOk result (λ t. members_depth (table_view t) ≤ 80) }
+    {
+        let mut table = empty_table(alloc);
+        put(alloc, &mut table, "format", &1u32)?;
+        put(alloc, &mut table, "reason", &self.reasons)?;
+        put(alloc, &mut table, "stream", &self.streams)?;
+        put(alloc, &mut table, "bound", &self.bounds)?;
+        put(alloc, &mut table, "order", &self.orders)?;
+        Ok(table)
+    }
+}
+
+#[tactic(auto, unfolding(crate::specs::Certificates::certificate_of))]
+fn certificate_of(alloc: Global, table: &Table) -> Result<Certificate, CertFault>
+    ensures { Gives CertFault.Memory result (certificate_of (table_view table.now)) }
+{
+    only_certificate(table)?;
+    format_of(alloc, table)?;
+    let reasons = needed(alloc, table, "reason")?;
+    let streams = needed(alloc, table, "stream")?;
+    let bounds = needed(alloc, table, "bound")?;
+    let orders = needed(alloc, table, "order")?;
+    Ok(Certificate {
+        reasons,
+        streams,
+        bounds,
+        orders,
+    })
+}
+
+fn only_certificate(table: &Table) -> Result<(), CertFault>
+    ensures { result ≡ only shape_faults certificate_fields (table_view table.now) }
+{
+    only(
+        table,
+        &["format", "reason", "stream", "bound", "order"],
+        &shape_faults(),
+    )
+}
+
+#[tactic(auto, unfolding(crate::specs::Certificates::format_of))]
+fn format_of(alloc: Global, table: &Table) -> Result<(), CertFault>
+    ensures { Gives CertFault.Memory result (format_of (table_view table.now)) }
+{
+    let format: u32 = needed(alloc, table, "format")?;
+    if format == 1 {
+        Ok(())
+    } else {
+        Err(CertFault::Shape)
+    }
+}

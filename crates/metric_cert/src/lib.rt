@@ -1,0 +1,21 @@
+//! Certificates: what shows that a catalogue and a config can overflow neither a limit nor a number.
+#![tactic(auto)]
+
+mod bound;
+mod certificate;
+mod decimals;
+mod entry;
+mod fault;
+mod lists;
+mod numbers;
+mod order;
+mod reason;
+mod stream;
+mod tables;
+
+pub use bound::InstrumentBound;
+pub use certificate::Certificate;
+pub use fault::CertFault;
+pub use order::ReaderOrder;
+pub use reason::{Criterion, Evidence, SelectionReason};
+pub use stream::{By, StreamSets};

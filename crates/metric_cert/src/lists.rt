@@ -1,0 +1,74 @@
+//! The lists of a certificate.
+ghost use Rattle.std.specs.Prelude.{◌≡◌, ◌≤◌, Ok, Err, MatchResult, IfOk, map};
+ghost use Rattle.toml.specs.Data.{array, items_depth};
+ghost use Rattle.toml.specs.View.{items_view, view};
+ghost use Rattle.metric_base.specs.Steps.{Gives};
+ghost use Rattle.metric_table.specs.Fields.{each_alone};
+ghost use Rattle.metric_cert.specs.Reading.{values_of};
+
+use crate::entry::Entry;
+use crate::fault::CertFault;
+use metric_base::Items;
+use std::alloc::{AllocError, Global};
+use toml::Value;
+
+impl<T: Entry + Drop> Entry for Items<T> {
+    ghost use Rattle.std.specs.Prelude.{◌+◌};
+    ghost use Rattle.metric_cert.specs.Reading.{list_of};
+
+    ghost step = { list_of T.step };
+
+    ghost levels = { T.levels + 1 };
+
+    #[tactic(auto, unfolding(crate::specs::Reading::list_of))]
+    fn read(alloc: Global, value: &Value) -> Result<Items<T>, CertFault> {
+        let values = values_of(value)?;
+        read_all(alloc, values)
+    }
+
+    #[tactic(auto, using(crate::proofs::Written::list_laws))]
+    fn write(&self, alloc: Global) -> Result<Value, AllocError> {
+        let values = write_all(alloc, self.as_slice())?;
+        Ok(listed(values))
+    }
+}
+
+#[tactic(auto, unfolding(crate::specs::Reading::values_of), using(crate::proofs::Written::value_laws))]
+fn values_of(value: &Value) -> Result<&[Value], CertFault>
+    ensures { MatchResult result (λ vs. values_of (view value.now) ≡ Ok (map view vs.now))
+        (λ e. values_of (view value.now) ≡ Err e) }
+{
+    match value.as_array() {
+        Some(values) => Ok(values.as_slice()),
+        None => Err(CertFault::Shape),
+    }
+}
+
+fn listed(values: Vec<Value>) -> Value
+    ensures { view result ≡ array (items_view values.items) }
+{
+    Value::Array(values)
+}
+
+fn read_all<T: Entry + Drop>(alloc: Global, values: &[Value]) -> Result<Items<T>, CertFault>
+    ensures { Gives CertFault.Memory result (each_alone T.step (map view values.now)) }
+{
+    let mut entries = Items::new(alloc);
+    for value in values {
+        let entry = T::read(alloc, value)?;
+        entries.push(entry)?;
+    }
+    Ok(entries)
+}
+
+fn write_all<T: Entry>(alloc: Global, entries: &[T]) -> Result<Vec<Value>, AllocError>
+    ensures reads { IfOk result (λ vs. each_alone T.step (map view vs.items) ≡ Ok entries.now) }
+    ensures shallow { IfOk result (λ vs. items_depth (items_view vs.items) ≤ T.levels) }
+{
+    let mut values = Vec::new(alloc);
+    for entry in entries {
+        let value = entry.write(alloc)?;
+        values.push(value)?;
+    }
+    Ok(values)
+}

@@ -1,0 +1,107 @@
+//! The numbers of a certificate: short ones are numbers of TOML, long ones decimal texts.
+ghost use Rattle.std.specs.Prelude.{◌≡◌, pos, string_bytes};
+ghost use Rattle.toml.specs.Data.{integer, string};
+ghost use Rattle.toml.specs.View.{view};
+
+use crate::decimals::i128_of;
+use crate::entry::Entry;
+use crate::fault::{CertFault, shape_faults};
+use metric_table::{integer_of, text_of};
+use metric_text::u64_of;
+use std::alloc::{AllocError, Global};
+use toml::Value;
+
+impl Entry for u16 {
+    ghost use Rattle.std.specs.Prelude.{◌^◌};
+    ghost use Rattle.metric_cert.specs.Reading.{whole_of};
+
+    ghost step = { whole_of (2 ^ 16) };
+
+    ghost levels = { 0 };
+
+    #[tactic(auto, unfolding(crate::specs::Reading::whole_of))]
+    fn read(_alloc: Global, value: &Value) -> Result<u16, CertFault> {
+        let number = integer_of(value, &shape_faults())?;
+        u16::try_from(number).map_err(|_| CertFault::Shape)
+    }
+
+    #[tactic(auto, using(crate::proofs::Written::number_laws))]
+    fn write(&self, _alloc: Global) -> Result<Value, AllocError> {
+        Ok(whole(u32::from(*self)))
+    }
+}
+
+impl Entry for u32 {
+    ghost use Rattle.std.specs.Prelude.{◌^◌};
+    ghost use Rattle.metric_cert.specs.Reading.{whole_of};
+
+    ghost step = { whole_of (2 ^ 32) };
+
+    ghost levels = { 0 };
+
+    #[tactic(auto, unfolding(crate::specs::Reading::whole_of))]
+    fn read(_alloc: Global, value: &Value) -> Result<u32, CertFault> {
+        let number = integer_of(value, &shape_faults())?;
+        u32::try_from(number).map_err(|_| CertFault::Shape)
+    }
+
+    #[tactic(auto, using(crate::proofs::Written::number_laws))]
+    fn write(&self, _alloc: Global) -> Result<Value, AllocError> {
+        Ok(whole(*self))
+    }
+}
+
+impl Entry for u64 {
+    ghost use Rattle.metric_cert.specs.Reading.{decimal_of};
+
+    ghost step = { decimal_of };
+
+    ghost levels = { 0 };
+
+    #[tactic(auto, unfolding(crate::specs::Reading::decimal_of))]
+    fn read(_alloc: Global, value: &Value) -> Result<u64, CertFault> {
+        let text = text_of(value, &shape_faults())?;
+        u64_of(text.as_bytes()).ok_or(CertFault::Shape)
+    }
+
+    #[tactic(auto, using(crate::proofs::Written::number_laws))]
+    fn write(&self, alloc: Global) -> Result<Value, AllocError> {
+        let number = *self;
+        let text = format!(in alloc; "{number}")?;
+        Ok(worded(text))
+    }
+}
+
+impl Entry for i128 {
+    ghost use Rattle.metric_cert.specs.Reading.{signed_decimal_of};
+
+    ghost step = { signed_decimal_of };
+
+    ghost levels = { 0 };
+
+    #[tactic(auto, unfolding(crate::specs::Reading::signed_decimal_of))]
+    fn read(alloc: Global, value: &Value) -> Result<i128, CertFault> {
+        let text = text_of(value, &shape_faults())?;
+        let number = i128_of(alloc, text)?;
+        number.ok_or(CertFault::Shape)
+    }
+
+    #[tactic(auto, using(crate::proofs::Written::number_laws))]
+    fn write(&self, alloc: Global) -> Result<Value, AllocError> {
+        let number = *self;
+        let text = format!(in alloc; "{number}")?;
+        Ok(worded(text))
+    }
+}
+
+fn whole(number: u32) -> Value
+    ensures { view result ≡ integer (pos number) }
+{
+    Value::Integer(i64::from(number))
+}
+
+fn worded(text: String) -> Value
+    ensures { view result ≡ string (string_bytes text) }
+{
+    Value::String(text)
+}

@@ -1,0 +1,128 @@
+//! How many series a stream can have.
+ghost use Rattle.std.specs.Prelude.{◌≡◌};
+ghost use Rattle.toml.specs.View.{table_view};
+ghost use Rattle.metric_table.specs.Fields.{only};
+ghost use Rattle.metric_cert.specs.Names.{by_name, by_named};
+ghost use Rattle.metric_cert.specs.Reading.{shape_faults};
+ghost use Rattle.metric_cert.specs.Streams.{stream_fields};
+
+use crate::entry::Entry;
+use crate::fault::{CertFault, shape_faults};
+use crate::tables::{empty_table, needed, optional, put, put_given, tabled};
+use metric_table::{only, table_of, text_of};
+use std::alloc::{AllocError, Global};
+use toml::{Table, Value};
+
+/// What bounds how many series a stream can have.
+#[derive(Clone, Copy, Debug, PartialEq, Eq, Drop)]
+pub enum By {
+    /// How many distinct sets of the kept keys there are.
+    Product,
+    /// How often the instrument may be recorded.
+    Budget,
+}
+
+impl By {
+    /// What has this name in files.
+    pub fn named(text: &str) -> Option<By>
+        ensures { result ≡ by_named text.now }
+    {
+        if text == "product" {
+            Some(By::Product)
+        } else if text == "budget" {
+            Some(By::Budget)
+        } else {
+            None
+        }
+    }
+
+    /// The name in files.
+    pub fn name(&self) -> &'static str
+        ensures { result.now ≡ by_name self.now }
+    {
+        match self {
+            By::Product => "product",
+            By::Budget => "budget",
+        }
+    }
+}
+
+/// A stream, with how many series it can have.
+#[derive(Clone, Copy, Debug, Drop)]
+pub struct StreamSets {
+    /// The number of the reader.
+    pub reader: u32,
+    /// The number of the instrument.
+    pub instrument: u32,
+    /// The number of the view, or none for the default stream.
+    pub view: Option<u32>,
+    /// What bounds the number of series.
+    pub by: By,
+    /// The number of series.
+    pub sets: u32,
+}
+
+impl Entry for By {
+    ghost use Rattle.metric_cert.specs.Names.{by_of};
+
+    ghost step = { by_of };
+
+    ghost levels = { 0 };
+
+    #[tactic(auto, unfolding(crate::specs::Names::by_of))]
+    fn read(_alloc: Global, value: &Value) -> Result<By, CertFault> {
+        let text = text_of(value, &shape_faults())?;
+        By::named(text).ok_or(CertFault::Shape)
+    }
+
+    fn write(&self, alloc: Global) -> Result<Value, AllocError> {
+        let value = Value::string(alloc, self.name())?;
+        Ok(value)
+    }
+}
+
+impl Entry for StreamSets {
+    ghost use Rattle.metric_cert.specs.Streams.{stream_of};
+
+    ghost step = { stream_of };
+
+    ghost levels = { 1 };
+
+    #[tactic(auto, unfolding(crate::specs::Streams::stream_of))]
+    fn read(alloc: Global, value: &Value) -> Result<StreamSets, CertFault> {
+        let table = table_of(value, &shape_faults())?;
+        only_stream(table)?;
+        let reader = needed(alloc, table, "reader")?;
+        let instrument = needed(alloc, table, "instrument")?;
+        let view = optional(alloc, table, "view")?;
+        let by = needed(alloc, table, "by")?;
+        let sets = needed(alloc, table, "sets")?;
+        Ok(StreamSets {
+            reader,
+            instrument,
+            view,
+            by,
+            sets,
+        })
+    }
+
+    fn write(&self, alloc: Global) -> Result<Value, AllocError> {
+        let mut table = empty_table(alloc);
+        put(alloc, &mut table, "reader", &self.reader)?;
+        put(alloc, &mut table, "instrument", &self.instrument)?;
+        put_given(alloc, &mut table, "view", &self.view)?;
+        put(alloc, &mut table, "by", &self.by)?;
+        put(alloc, &mut table, "sets", &self.sets)?;
+        Ok(tabled(table))
+    }
+}
+
+fn only_stream(table: &Table) -> Result<(), CertFault>
+    ensures { result ≡ only shape_faults stream_fields (table_view table.now) }
+{
+    only(
+        table,
+        &["reader", "instrument", "view", "by", "sets"],
+        &shape_faults(),
+    )
+}

@@ -1,0 +1,90 @@
+//! The fields of a table, read and written.
+ghost use Rattle.std.specs.Prelude.{◌≡◌, OnOk};
+ghost use Rattle.toml.specs.Data.{no_members, table as table_data};
+ghost use Rattle.toml.specs.View.{table_view, view};
+ghost use Rattle.metric_base.specs.Steps.{Gives};
+ghost use Rattle.metric_cert.specs.Reading.{needed, optional};
+ghost use Rattle.metric_cert.specs.Writing.{Puts, PutsGiven, with_member};
+
+use crate::entry::Entry;
+use crate::fault::{CertFault, shape_faults};
+use metric_table::{member, required};
+use std::alloc::{AllocError, Global};
+use toml::{Table, Value};
+
+/// What a needed field stands for.
+#[tactic(auto, unfolding(crate::specs::Reading::needed))]
+pub(crate) fn needed<T: Entry>(alloc: Global, table: &Table, name: &str) -> Result<T, CertFault>
+    ensures { Gives CertFault.Memory result (needed T.step name.now (table_view table.now)) }
+{
+    let value = required(table, name, &shape_faults())?;
+    T::read(alloc, value)
+}
+
+/// What a field stands for, where the table has it.
+#[tactic(auto, unfolding(crate::specs::Reading::optional))]
+pub(crate) fn optional<T: Entry>(
+    alloc: Global,
+    table: &Table,
+    name: &str,
+) -> Result<Option<T>, CertFault>
+    ensures { Gives CertFault.Memory result (optional T.step name.now (table_view table.now)) }
+{
+    match member(table, name) {
+        Some(value) => {
+            let entry = T::read(alloc, value)?;
+            Ok(Some(entry))
+        }
+        None => Ok(None),
+    }
+}
+
+/// A table with no field.
+pub(crate) fn empty_table(alloc: Global) -> Table
+    ensures { table_view result ≡ no_members }
+{
+    Table::new(alloc)
+}
+
+/// The value that is a table.
+pub(crate) fn tabled(table: Table) -> Value
+    ensures { view result ≡ table_data (table_view table) }
+{
+    Value::Table(table)
+}
+
+/// Puts a field that the table does not have.
+pub(crate) fn put<T: Entry>(
+    alloc: Global,
+    table: &mut Table,
+    name: &str,
+    entry: &T,
+) -> Result<(), AllocError>
+    ensures { OnOk result (Puts T.step T.levels name.now entry.now (table_view table.old) (table_view table.new)) }
+{
+    let value = entry.write(alloc)?;
+    insert(alloc, table, name, value)
+}
+
+/// Puts a field that may be left out.
+pub(crate) fn put_given<T: Entry>(
+    alloc: Global,
+    table: &mut Table,
+    name: &str,
+    entry: &Option<T>,
+) -> Result<(), AllocError>
+    ensures { OnOk result (PutsGiven T.step T.levels name.now entry.now (table_view table.old) (table_view table.new)) }
+{
+    match entry {
+        Some(entry) => put(alloc, table, name, entry),
+        None => Ok(()),
+    }
+}
+
+fn insert(alloc: Global, table: &mut Table, name: &str, value: Value) -> Result<(), AllocError>
+    ensures { OnOk result (table_view table.new ≡ with_member name.now (view value) (table_view table.old)) }
+{
+    let key = String::from_str(alloc, name)?;
+    table.insert(key, value)?;
+    Ok(())
+}

@@ -1,0 +1,4 @@
+pub mod LongerWindow
+pub mod Adding
+pub mod Sorting
+pub mod Reading

@@ -1,0 +1,4 @@
+pub mod SeriesKeys
+pub mod Calls
+pub mod Tables
+pub mod SeriesTables

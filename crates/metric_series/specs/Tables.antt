@@ -1,0 +1,51 @@
+-- What a table of series keeps, and for which recordings it stands.
+use Rattle.std.specs.Prelude.{◌≡◌, ℕ, ℤ, Bool, false, List, [], ◌∷◌, ◌++◌, Option, Some, None}
+use Rattle.std.specs.Map.{keys_of, lookup}
+use Rattle.std.specs.Str.{bytes_eq}
+use Rattle.metric_aggregate.specs.declared.aggregate.Aggregate as aggregate
+use Rattle.metric_history.specs.Facts.{stream_aggregation}
+use Rattle.metric_history.specs.declared.entry.Entry.{Entry}
+use Rattle.metric_history.specs.Points.{values}
+use Rattle.metric_views.specs.declared.stream.Stream.{Stream}
+use Rattle.metric_history.specs.Series.{held, rows}
+
+-- a table whose values are aggregated by `A`
+pub record Table (A : Type 0) : Type 0 where
+  -- whether each declared key is kept
+  pub kept : List Bool
+  -- the cardinality limit
+  pub limit : ℕ
+  -- the aggregate of each held series, in the order in which the series came first
+  pub series : List (List ℕ × A)
+  -- the aggregate of all other recordings
+  pub overflow : A
+
+module _ {A : Type 0} (by : aggregate.Ghosts A) where
+  -- each held series has a value
+  abbrev pub HasValues : List (List ℕ × A) → Type 0
+  HasValues series = (key : List ℕ) (a : A) → lookup (bytes_eq key) series ≡ Some a → by.is_empty a ≡ false
+
+  -- an aggregate takes a value
+  pub record Adds (old new : A) (value : ℤ) : Type 0 where
+    pub aggregation : by.aggregation new ≡ by.aggregation old
+    pub some : by.is_empty new ≡ false
+    pub stands : (added : List ℤ) → by.stands old added → by.stands new (added ++ value ∷ [])
+
+  -- an aggregate of the same aggregation has one value alone
+  pub record HasFirst (like first : A) (value : ℤ) : Type 0 where
+    pub aggregation : by.aggregation first ≡ by.aggregation like
+    pub some : by.is_empty first ≡ false
+    pub stands : by.stands first (value ∷ [])
+
+  -- an aggregate has the values of a series of the window, or of its overflow series
+  pub record HasRows (a : A) (s : Stream) (window : List Entry) (place : Option (List ℕ)) : Type 0 where
+    pub aggregation : by.aggregation a ≡ stream_aggregation s
+    pub stands : by.stands a (values (rows s window place))
+
+  -- a table keeps the numbers of the recordings of the window in a stream
+  pub record StandsTable (t : Table A) (s : Stream) (window : List Entry) : Type 0 where
+    pub kept : t.kept ≡ s.kept
+    pub limit : t.limit ≡ s.limit
+    pub held : keys_of t.series ≡ held s window
+    pub each : (key : List ℕ) (a : A) → lookup (bytes_eq key) t.series ≡ Some a → HasRows a s window (Some key)
+    pub rest : HasRows t.overflow s window None

@@ -1,0 +1,22 @@
+//! Why a table does not take a value.
+use std::alloc::AllocError;
+
+/// Why a table does not take a value. The table is then as it was.
+#[derive(Clone, Copy, Debug, PartialEq, Eq)]
+pub enum SeriesFault {
+    /// The sum or the count of the series into which the value falls would leave its range.
+    SumRange,
+    /// Memory was refused.
+    Memory,
+}
+
+impl From<AllocError> for SeriesFault {
+    ghost use Rattle.std.specs.Prelude.{◌≡◌};
+    ghost use Rattle.metric_series.specs.declared.fault.SeriesFault.TheVariants.{Memory};
+
+    ghost from_gives = { λ _ fault. fault ≡ Memory };
+
+    fn from(_refused: AllocError) -> SeriesFault {
+        SeriesFault::Memory
+    }
+}

@@ -1,0 +1,16 @@
+//! The series of a stream, each with its running value.
+//!
+//! A table stands for every list of recordings from which its numbers come. What it reports is what
+//! `metric_history` defines of such a list: the first distinct series up to the cardinality limit, and one
+//! overflow point for all other recordings.
+#![tactic(auto)]
+
+mod fault;
+mod key;
+mod seeded;
+mod series_table;
+mod table;
+
+pub use fault::SeriesFault;
+pub use series_table::SeriesTable;
+pub use table::TableOf;

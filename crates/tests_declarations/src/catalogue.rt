@@ -1,0 +1,473 @@
+//! A catalogue in which every field is given, lists at their limits, and faults with their places.
+use crate::encoding::read;
+use crate::words::kind_word;
+use metric_catalogue::{Catalogue, CatalogueFault, CataloguePlace, Instrument, Key, Recorder};
+use metric_names::AttrValue;
+use std::alloc::Global;
+use std::test::Fail;
+
+const SHOP: &str = r#"
+format = 1
+[[meter]]
+name = "shop"
+version = "2.1"
+schema_url = "https://shop/1"
+[[meter.instrument]]
+name = "Hits"
+kind = "counter"
+unit = "{hit}"
+description = "pages asked for"
+range = [0, 900]
+[[meter.instrument.key]]
+name = "route"
+values = ["/a", "", "/b"]
+[[meter.instrument.key]]
+name = "code"
+values = [200, -1, true, "200"]
+optional = true
+[[meter.instrument.key]]
+name = "zone"
+values = [false]
+[[meter.instrument]]
+name = "wait"
+kind = "histogram"
+unit = "ms"
+description = "until the answer"
+range = [0, 5000]
+boundaries = [10, 20, 500]
+[[meter.instrument.key]]
+name = "route"
+values = ["/a"]
+optional = false
+[[meter]]
+name = "shop"
+version = "2.2"
+schema_url = "https://shop/2"
+[[meter.instrument]]
+name = "hits"
+kind = "up_down_counter"
+unit = "1"
+description = "kept"
+range = [-5, 5]
+boundaries = []
+[[meter]]
+name = "store"
+[[meter.instrument]]
+name = "level"
+kind = "gauge"
+range = [-9, 9]
+[[recorder]]
+name = "till"
+budget = [{ instrument = 0, amount = 7 }, { instrument = 3, amount = 0 }]
+[[recorder]]
+name = "desk"
+budget = [{ instrument = 2, amount = 9223372036854775807 }]
+[[recorder]]
+name = "gate"
+[[recorder]]
+name = "Gate"
+budget = [{ instrument = 1, amount = 1 }, { instrument = 0, amount = 2 }, { instrument = 2, amount = 3 }]
+[[recorder]]
+name = "é"
+budget = []
+"#;
+
+const SHOWN: &str = "\
+meter shop|2.1|https://shop/1
+meter shop|2.2|https://shop/2
+meter store||
+0 Hits counter|{hit}|pages asked for| 0..900 -
+ route needed '/a' '' '/b'
+ code optional 200 -1 true '200'
+ zone needed false
+0 wait histogram|ms|until the answer| 0..5000 [10, 20, 500]
+ route needed '/a'
+1 hits up_down_counter|1|kept| -5..5 []
+2 level gauge||| -9..9 -
+till 0:7 3:0
+desk 2:9223372036854775807
+gate
+Gate 1:1 0:2 2:3
+é
+";
+
+fn write_value(out: &mut String, value: &AttrValue) -> Result<(), Fail> {
+    match value {
+        AttrValue::Text(text) => {
+            let text = text.as_str();
+            Ok(write!(out, " '{text}'")?)
+        }
+        AttrValue::Whole(number) => Ok(write!(out, " {number}")?),
+        AttrValue::Flag(flag) => Ok(write!(out, " {flag}")?),
+    }
+}
+
+fn write_key(out: &mut String, key: &Key) -> Result<(), Fail> {
+    let name = key.name.as_str();
+    let need = if key.optional { "optional" } else { "needed" };
+    write!(out, " {name} {need}")?;
+    for value in key.values.as_slice() {
+        write_value(out, value)?;
+    }
+    out.push('\n')?;
+    Ok(())
+}
+
+fn write_instrument(out: &mut String, instrument: &Instrument) -> Result<(), Fail> {
+    let meter = instrument.meter;
+    let name = instrument.name.get().as_str();
+    let kind = kind_word(instrument.kind);
+    let unit = instrument.unit.get().as_str();
+    let description = instrument.description.get().as_str();
+    write!(out, "{meter} {name} {kind}|{unit}|{description}|")?;
+    let lo = instrument.lo;
+    let hi = instrument.hi;
+    match &instrument.advice {
+        Some(advice) => {
+            let advice = advice.get().as_slice();
+            writeln!(out, " {lo}..{hi} {advice:?}")?;
+        }
+        None => writeln!(out, " {lo}..{hi} -")?,
+    }
+    Ok(())
+}
+
+fn write_recorder(out: &mut String, recorder: &Recorder) -> Result<(), Fail> {
+    out.push_str(recorder.name.as_str())?;
+    for budget in recorder.budgets.as_slice() {
+        let instrument = budget.instrument;
+        let amount = budget.amount;
+        write!(out, " {instrument}:{amount}")?;
+    }
+    out.push('\n')?;
+    Ok(())
+}
+
+fn write_meters(out: &mut String, catalogue: &Catalogue) -> Result<(), Fail> {
+    for meter in catalogue.meters() {
+        let name = meter.name.as_str();
+        let version = meter.version.as_str();
+        let schema_url = meter.schema_url.as_str();
+        writeln!(out, "meter {name}|{version}|{schema_url}")?;
+    }
+    Ok(())
+}
+
+fn write_keys(out: &mut String, instrument: &Instrument) -> Result<(), Fail> {
+    for key in instrument.keys.as_slice() {
+        write_key(out, key)?;
+    }
+    Ok(())
+}
+
+fn write_instruments(out: &mut String, catalogue: &Catalogue) -> Result<(), Fail> {
+    for instrument in catalogue.instruments() {
+        write_instrument(out, instrument)?;
+        write_keys(out, instrument)?;
+    }
+    Ok(())
+}
+
+// All that a catalogue declares, or its fault as it is printed.
+fn told(alloc: Global, text: &str) -> Result<String, Fail> {
+    let catalogue = match Catalogue::read(alloc, text) {
+        Ok(catalogue) => catalogue,
+        Err(fault) => return Ok(format!(in alloc; "{fault}")?),
+    };
+    let mut out = String::new(alloc);
+    write_meters(&mut out, &catalogue)?;
+    write_instruments(&mut out, &catalogue)?;
+    for recorder in catalogue.recorders() {
+        write_recorder(&mut out, recorder)?;
+    }
+    Ok(out)
+}
+
+#[test]
+fn every_field_is_read(rt: HostRuntime) -> Result<(), Fail> {
+    assert_eq!(rt; told(rt.alloc(), SHOP)?.as_str(), SHOWN);
+    assert_eq!(rt; told(rt.alloc(), "format = 1")?.as_str(), "");
+    Ok(())
+}
+
+#[test]
+fn budgets_are_of_recorder_and_instrument(rt: HostRuntime) -> Result<(), Fail> {
+    let catalogue = read(rt.alloc(), SHOP)?;
+    for (recorder, instrument, amount) in [(0, 0, 7), (3, 0, 2), (3, 2, 3), (2, 0, 0), (9, 0, 0)] {
+        assert_eq!(rt; catalogue.budget(recorder, instrument), amount);
+    }
+    Ok(())
+}
+
+// The name of a thing and its number, as a field of a table.
+fn write_name(out: &mut String, table: &str, number: usize) -> Result<(), Fail> {
+    Ok(write!(out, "[[{table}]]\nname = 'n{number}'\n")?)
+}
+
+// So many integers in a list, rising from 0.
+fn write_integers(out: &mut String, field: &str, count: usize) -> Result<(), Fail> {
+    write!(out, "{field} = [")?;
+    for number in 0..count {
+        write!(out, "{number},")?;
+    }
+    Ok(writeln!(out, "]")?)
+}
+
+fn write_many_instruments(out: &mut String, count: usize) -> Result<(), Fail> {
+    for number in 0..count {
+        write_name(out, "meter.instrument", number)?;
+        writeln!(out, "kind = 'gauge'\nrange = [0, 9]")?;
+    }
+    Ok(())
+}
+
+fn write_many_keys(out: &mut String, keys: usize, values: usize) -> Result<(), Fail> {
+    for number in 0..keys {
+        write_name(out, "meter.instrument.key", number)?;
+        write_integers(out, "values", values)?;
+    }
+    Ok(())
+}
+
+fn write_many(out: &mut String, table: &str, count: usize) -> Result<(), Fail> {
+    for number in 0..count {
+        write_name(out, table, number)?;
+    }
+    Ok(())
+}
+
+fn write_many_budgets(out: &mut String, count: usize) -> Result<(), Fail> {
+    for instrument in 0..count {
+        writeln!(
+            out,
+            "[[recorder.budget]]\ninstrument = {instrument}\namount = 1"
+        )?;
+    }
+    Ok(())
+}
+
+// How many there are of a thing; all others of a catalogue at its limits are fixed.
+#[derive(Clone, Copy)]
+struct Counts {
+    meters: usize,
+    instruments: usize,
+    keys: usize,
+    values: usize,
+    boundaries: usize,
+    recorders: usize,
+    budgets: usize,
+}
+
+const LIMITS: Counts = Counts {
+    meters: 64,
+    instruments: 512,
+    keys: 8,
+    values: 1000,
+    boundaries: 128,
+    recorders: 64,
+    budgets: 512,
+};
+
+/// A catalogue that is at each limit.
+pub(crate) fn at_limits(alloc: Global) -> Result<String, Fail> {
+    with_counts(alloc, LIMITS)
+}
+
+// A catalogue whose last meter has all instruments, the last of them the keys, and whose last recorder has the budgets.
+fn with_counts(alloc: Global, counts: Counts) -> Result<String, Fail> {
+    let mut out = String::from_str(alloc, "format = 1\n")?;
+    write_many(&mut out, "meter", counts.meters)?;
+    write_many_instruments(&mut out, counts.instruments)?;
+    write_integers(&mut out, "boundaries", counts.boundaries)?;
+    write_many_keys(&mut out, counts.keys, counts.values)?;
+    write_many(&mut out, "recorder", counts.recorders)?;
+    write_many_budgets(&mut out, counts.budgets)?;
+    Ok(out)
+}
+
+// A catalogue that is at each limit but for one count, and its fault.
+const COUNTS: &[(Counts, &str)] = &[
+    (
+        Counts {
+            meters: 65,
+            ..LIMITS
+        },
+        "17 TooMany at top",
+    ),
+    (
+        Counts {
+            instruments: 513,
+            ..LIMITS
+        },
+        "17 TooMany at meter 63",
+    ),
+    (Counts { keys: 9, ..LIMITS }, "17 TooMany at instrument 511"),
+    (
+        Counts {
+            values: 1001,
+            ..LIMITS
+        },
+        "17 TooMany at instrument 511",
+    ),
+    (
+        Counts {
+            boundaries: 129,
+            ..LIMITS
+        },
+        "17 TooMany at instrument 511",
+    ),
+    (
+        Counts {
+            recorders: 65,
+            ..LIMITS
+        },
+        "17 TooMany at top",
+    ),
+    (
+        Counts {
+            budgets: 513,
+            ..LIMITS
+        },
+        "17 TooMany at recorder 63",
+    ),
+];
+
+#[test]
+fn lists_are_taken_up_to_their_limits(rt: HostRuntime) -> Result<(), Fail> {
+    let text = at_limits(rt.alloc())?;
+    let catalogue = read(rt.alloc(), &text)?;
+    assert_eq!(rt; catalogue.meters().len(), 64);
+    assert_eq!(rt; catalogue.instruments().len(), 512);
+    assert_eq!(rt; catalogue.recorders().len(), 64);
+    assert_eq!(rt; catalogue.budget(63, 511), 1);
+    Ok(())
+}
+
+#[test]
+fn one_more_than_a_limit_is_refused(rt: HostRuntime) -> Result<(), Fail> {
+    for (counts, wanted) in COUNTS {
+        let text = with_counts(rt.alloc(), *counts)?;
+        assert_eq!(rt; told(rt.alloc(), &text)?.as_str(), *wanted);
+    }
+    Ok(())
+}
+
+// Texts with their first faults; some have a later one too.
+const FAULTS: &[(&str, &str)] = &[
+    ("[a", "1 NotToml"),
+    ("format = 2\nmeter = 5", "3 WrongKind at top"),
+    (
+        "format = 1\nrecorder = [{}]\nmeter = [{name = 'm'}, {}]",
+        "2 MissingField at meter 1",
+    ),
+    (
+        "format = 1\nmeter = [{name = 'm', colour = 1}]",
+        "4 UnknownField at meter 0",
+    ),
+    (
+        "format = 1\nmeter = [{name = 'm'}, {name = 'm'}]",
+        "7 DuplicateMeter at meter 1",
+    ),
+    (
+        "format = 1\nmeter = [{name = 'm', instrument = [{name = '9', colour = 1}]}]",
+        "4 UnknownField at instrument 0",
+    ),
+    (
+        "format = 1\nmeter = [{name = 'm', instrument = [{name = '9', kind = 'counter'}]}]",
+        "5 BadName at instrument 0",
+    ),
+    (
+        "format = 1\nmeter = [{name = 'm', instrument = [{name = 'c', kind = 'counter', unit = 'µ', range = [5, 1]}]}]",
+        "6 BadUnit at instrument 0",
+    ),
+    (
+        "format = 1\nmeter = [{name = 'm', instrument = [{name = 'c', kind = 'counter', range = [-1, 5]}]}]",
+        "12 BadRange at instrument 0",
+    ),
+    (
+        "format = 1\nmeter = [{name = 'm', instrument = [{name = 'Hits', kind = 'gauge', range = [0, 1]}, {name = 'hits', kind = 'gauge', range = [0, 1]}]}]",
+        "8 DuplicateInstrument at instrument 1",
+    ),
+    (
+        "format = 1\nmeter = [{name = 'm', instrument = [{name = 'c', kind = 'counter', range = [0, 9], boundaries = [1, 1]}]}]",
+        "13 BadBoundaries at instrument 0",
+    ),
+    (
+        "format = 1\nmeter = [{name = 'm', instrument = [{name = 'c', kind = 'counter', range = [0, 9], key = [{}, {}, {}, {}, {}, {}, {}, {}, {}]}]}]",
+        "17 TooMany at instrument 0",
+    ),
+    (
+        "format = 1\nmeter = [{name = 'm', instrument = [{name = 'c', kind = 'counter', range = [0, 9], key = [{name = 'otel.metric.overflow'}]}]}]",
+        "11 ReservedKey at instrument 0",
+    ),
+    (
+        "format = 1\nmeter = [{name = 'm', instrument = [{name = 'c', kind = 'counter', range = [0, 9], key = [{name = 'k', values = []}]}]}]",
+        "2 MissingField at instrument 0",
+    ),
+    (
+        "format = 1\nmeter = [{name = 'm', instrument = [{name = 'c', kind = 'counter', range = [0, 9], key = [{name = 'k', values = [1, '1', 1]}]}]}]",
+        "10 DuplicateValue at instrument 0",
+    ),
+    (
+        "format = 1\nmeter = [{name = 'm', instrument = [{name = 'c', kind = 'counter', range = [0, 9], key = [{name = 'k', values = [1]}, {name = 'k', values = [1]}]}]}]",
+        "9 DuplicateKey at instrument 0",
+    ),
+    (
+        "format = 1\nrecorder = [{name = 'r'}, {name = 'r'}]",
+        "15 DuplicateRecorder at recorder 1",
+    ),
+    (
+        "format = 1\nrecorder = [{name = 'r', budget = [{instrument = 0, amount = -1}]}]",
+        "14 UnknownInstrument at recorder 0",
+    ),
+    (
+        "format = 1\nmeter = [{name = 'm', instrument = [{name = 'c', kind = 'counter', range = [0, 9], boundaries = [1]}]}]\nrecorder = [{name = 'r', budget = [{instrument = 0, amount = -1}]}]",
+        "12 BadRange at recorder 0",
+    ),
+    (
+        "format = 1\nmeter = [{name = 'm', instrument = [{name = 'c', kind = 'counter', range = [0, 9], boundaries = []}]}]\nrecorder = [{name = 'r', budget = [{instrument = 0, amount = 1}, {instrument = 0, amount = 1}]}]",
+        "16 DuplicateBudget at recorder 0",
+    ),
+];
+
+#[test]
+fn the_first_fault_has_its_place(rt: HostRuntime) -> Result<(), Fail> {
+    for (text, wanted) in FAULTS {
+        assert_eq!(rt; told(rt.alloc(), text)?.as_str(), *wanted, "of {text}");
+    }
+    Ok(())
+}
+
+// Each kind of place once; the numbers and names of the others are in `FAULTS`.
+const PRINTED: &[(CatalogueFault, &str)] = &[
+    (
+        CatalogueFault::TooMany {
+            at: CataloguePlace::Meter(63),
+        },
+        "17 TooMany at meter 63",
+    ),
+    (CatalogueFault::Memory, "18 Memory"),
+];
+
+#[test]
+fn faults_are_printed(rt: HostRuntime) -> Result<(), Fail> {
+    for (fault, printed) in PRINTED {
+        assert_eq!(rt; fault.to_string(rt.alloc())?.as_str(), *printed);
+    }
+    Ok(())
+}
+
+// The budget of the first recorder on the first instrument.
+fn first_budget(alloc: Global, text: &str) -> Result<u64, CatalogueFault> {
+    let catalogue = Catalogue::read(alloc, text)?;
+    Ok(catalogue.budget(0, 0))
+}
+
+// With each allocation refused in turn, as with none, this passes.
+#[test]
+fn a_refused_allocation_is_a_fault_of_memory(rt: HostRuntime) {
+    match first_budget(rt.alloc(), SHOP) {
+        Ok(amount) => assert_eq!(rt; amount, 7),
+        Err(fault) => assert!(rt; fault == CatalogueFault::Memory),
+    }
+}

@@ -1,0 +1,420 @@
+//! A config in which every field is given, lists at their limits, and faults with their places.
+use crate::words::{aggregation_word, kind_word, temporality_word};
+use metric_base::{Few, Text};
+use metric_catalogue::Kind;
+use metric_views::{Config, ConfigPlace, Criteria, Reader, Settings, View, ViewFault};
+use std::alloc::Global;
+use std::test::Fail;
+
+const FULL: &str = r#"
+format = 1
+[[reader]]
+name = "main"
+[reader.temporality]
+counter = "delta"
+up_down_counter = "cumulative"
+histogram = "delta"
+gauge = "cumulative"
+[reader.aggregation]
+counter = "sum"
+up_down_counter = "explicit_bucket_histogram"
+histogram = "drop"
+gauge = "last_value"
+[reader.limit]
+counter = 1
+up_down_counter = 20
+histogram = 300
+gauge = 1000000
+[[reader]]
+name = "é"
+temporality.gauge = "delta"
+aggregation.counter = "last_value"
+limit.histogram = 7
+[[reader]]
+name = "Main"
+[[view]]
+instrument_name = "h?ts*"
+instrument_type = "counter"
+instrument_unit = "By"
+meter_name = "shop"
+meter_version = "2"
+meter_schema_url = "https://shop/1"
+stream_name = "calls"
+description = "what was asked"
+aggregation = "explicit_bucket_histogram"
+boundaries = [-5, 0, 10]
+keep = ["route", "", "code"]
+exclude = ["user"]
+limit = 12
+[[view]]
+instrument_type = "up_down_counter"
+meter_version = ""
+description = ""
+aggregation = "default"
+boundaries = []
+keep = []
+[[view]]
+instrument_type = "histogram"
+aggregation = "drop"
+exclude = ["a", "b"]
+limit = 1000000
+[[view]]
+instrument_type = "gauge"
+aggregation = "last_value"
+limit = 1
+[[view]]
+aggregation = "sum"
+[[view]]
+"#;
+
+const SHOWN: &str = "\
+main delta cumulative delta cumulative / sum histogram drop last / 1 20 300 1000000
+é cumulative cumulative cumulative delta / last default default default / 2000 2000 7 2000
+Main cumulative cumulative cumulative cumulative / default default default default / 2000 2000 2000 2000
+of h?ts* counter|By|shop|2|https://shop/1|
+ calls|what was asked| histogram [-5, 0, 10] keep 'route' '' 'code' exclude 'user' 12
+of - up_down_counter|-|-||-|
+ -|| default [] keep exclude - -
+of - histogram|-|-|-|-|
+ -|-| drop - keep - exclude 'a' 'b' 1000000
+of - gauge|-|-|-|-|
+ -|-| last - keep - exclude - 1
+of - -|-|-|-|-|
+ -|-| sum - keep - exclude - -
+of - -|-|-|-|-|
+ -|-| - - keep - exclude - -
+";
+
+const KINDS: [Kind; 4] = [
+    Kind::Counter,
+    Kind::UpDownCounter,
+    Kind::Histogram,
+    Kind::Gauge,
+];
+
+fn write_reader(out: &mut String, reader: &Reader) -> Result<(), Fail> {
+    out.push_str(reader.name.as_str())?;
+    for kind in KINDS {
+        let temporality = temporality_word(reader.temporality.of(kind));
+        write!(out, " {temporality}")?;
+    }
+    out.push_str(" /")?;
+    for kind in KINDS {
+        let aggregation = aggregation_word(reader.aggregation.of(kind));
+        write!(out, " {aggregation}")?;
+    }
+    out.push_str(" /")?;
+    for kind in KINDS {
+        let limit = reader.limit.of(kind);
+        write!(out, " {limit}")?;
+    }
+    Ok(writeln!(out)?)
+}
+
+// A text that a view may give.
+fn word_of(text: &Option<Text>) -> &str {
+    match text {
+        Some(text) => text.as_str(),
+        None => "-",
+    }
+}
+
+fn write_criteria(out: &mut String, criteria: &Criteria) -> Result<(), Fail> {
+    let name = match &criteria.instrument_name {
+        Some(pattern) => pattern.as_str(),
+        None => "-",
+    };
+    let kind = match criteria.instrument_type {
+        Some(kind) => kind_word(kind),
+        None => "-",
+    };
+    write!(out, "of {name} {kind}")?;
+    for text in [
+        &criteria.instrument_unit,
+        &criteria.meter_name,
+        &criteria.meter_version,
+        &criteria.meter_schema_url,
+    ] {
+        let word = word_of(text);
+        write!(out, "|{word}")?;
+    }
+    Ok(writeln!(out, "|")?)
+}
+
+fn write_keys(out: &mut String, keys: &Option<Few<Text, 64>>) -> Result<(), Fail> {
+    let Some(keys) = keys else {
+        return Ok(write!(out, " -")?);
+    };
+    for key in keys.as_slice() {
+        let key = key.as_str();
+        write!(out, " '{key}'")?;
+    }
+    Ok(())
+}
+
+fn write_names(out: &mut String, settings: &Settings) -> Result<(), Fail> {
+    let name = match &settings.stream_name {
+        Some(name) => name.get().as_str(),
+        None => "-",
+    };
+    let description = match &settings.description {
+        Some(description) => description.get().as_str(),
+        None => "-",
+    };
+    Ok(write!(out, " {name}|{description}|")?)
+}
+
+fn write_aggregation(out: &mut String, settings: &Settings) -> Result<(), Fail> {
+    let aggregation = match settings.aggregation {
+        Some(aggregation) => aggregation_word(aggregation),
+        None => "-",
+    };
+    write!(out, " {aggregation}")?;
+    match &settings.boundaries {
+        Some(boundaries) => {
+            let boundaries = boundaries.get().as_slice();
+            Ok(write!(out, " {boundaries:?}")?)
+        }
+        None => Ok(write!(out, " -")?),
+    }
+}
+
+fn write_settings(out: &mut String, settings: &Settings) -> Result<(), Fail> {
+    write_names(out, settings)?;
+    write_aggregation(out, settings)?;
+    out.push_str(" keep")?;
+    write_keys(out, &settings.keep)?;
+    out.push_str(" exclude")?;
+    write_keys(out, &settings.exclude)?;
+    match settings.limit {
+        Some(limit) => Ok(writeln!(out, " {limit}")?),
+        None => Ok(writeln!(out, " -")?),
+    }
+}
+
+fn write_views(out: &mut String, views: &[View]) -> Result<(), Fail> {
+    for view in views {
+        write_criteria(out, &view.criteria)?;
+        write_settings(out, &view.settings)?;
+    }
+    Ok(())
+}
+
+// All that a config says, or its fault as it is printed.
+fn told(alloc: Global, text: &str) -> Result<String, Fail> {
+    let config = match Config::read(alloc, text) {
+        Ok(config) => config,
+        Err(fault) => return Ok(format!(in alloc; "{fault}")?),
+    };
+    let mut out = String::new(alloc);
+    for reader in config.readers() {
+        write_reader(&mut out, reader)?;
+    }
+    write_views(&mut out, config.views())?;
+    Ok(out)
+}
+
+#[test]
+fn every_field_is_read(rt: HostRuntime) -> Result<(), Fail> {
+    assert_eq!(rt; told(rt.alloc(), FULL)?.as_str(), SHOWN);
+    assert_eq!(rt; told(rt.alloc(), "format = 1")?.as_str(), "");
+    Ok(())
+}
+
+fn write_many_readers(out: &mut String, count: usize) -> Result<(), Fail> {
+    for number in 0..count {
+        writeln!(out, "[[reader]]\nname = 'n{number}'")?;
+    }
+    Ok(())
+}
+
+fn write_many_views(out: &mut String, count: usize) -> Result<(), Fail> {
+    for _ in 0..count {
+        writeln!(out, "[[view]]")?;
+    }
+    Ok(())
+}
+
+fn write_texts(out: &mut String, field: &str, count: usize) -> Result<(), Fail> {
+    write!(out, "{field} = [")?;
+    for number in 0..count {
+        write!(out, "'k{number}',")?;
+    }
+    Ok(writeln!(out, "]")?)
+}
+
+fn write_boundaries(out: &mut String, count: usize) -> Result<(), Fail> {
+    write!(out, "boundaries = [")?;
+    for number in 0..count {
+        write!(out, "{number},")?;
+    }
+    Ok(writeln!(out, "]")?)
+}
+
+// How many there are of a thing.
+#[derive(Clone, Copy)]
+struct Counts {
+    readers: usize,
+    views: usize,
+    boundaries: usize,
+    keep: usize,
+    exclude: usize,
+}
+
+const LIMITS: Counts = Counts {
+    readers: 16,
+    views: 256,
+    boundaries: 128,
+    keep: 64,
+    exclude: 64,
+};
+
+// A config whose last view has the lists.
+fn with_counts(alloc: Global, counts: Counts) -> Result<String, Fail> {
+    let mut out = String::from_str(alloc, "format = 1\n")?;
+    write_many_readers(&mut out, counts.readers)?;
+    write_many_views(&mut out, counts.views)?;
+    write_boundaries(&mut out, counts.boundaries)?;
+    write_texts(&mut out, "keep", counts.keep)?;
+    write_texts(&mut out, "exclude", counts.exclude)?;
+    Ok(out)
+}
+
+/// A config of sixteen readers without views.
+pub(crate) fn of_readers(alloc: Global) -> Result<String, Fail> {
+    let mut out = String::from_str(alloc, "format = 1\n")?;
+    write_many_readers(&mut out, 16)?;
+    Ok(out)
+}
+
+// A config that is at each limit but for one count, and its fault.
+const COUNTS: &[(Counts, &str)] = &[
+    (
+        Counts {
+            readers: 17,
+            ..LIMITS
+        },
+        "10 TooMany at top",
+    ),
+    (
+        Counts {
+            views: 257,
+            ..LIMITS
+        },
+        "10 TooMany at top",
+    ),
+    (
+        Counts {
+            boundaries: 129,
+            ..LIMITS
+        },
+        "10 TooMany at view 255",
+    ),
+    (Counts { keep: 65, ..LIMITS }, "10 TooMany at view 255"),
+    (
+        Counts {
+            exclude: 65,
+            ..LIMITS
+        },
+        "10 TooMany at view 255",
+    ),
+];
+
+#[test]
+fn lists_are_taken_up_to_their_limits(rt: HostRuntime) -> Result<(), Fail> {
+    let text = with_counts(rt.alloc(), LIMITS)?;
+    let config = Config::read(rt.alloc(), &text)?;
+    assert_eq!(rt; config.readers().len(), 16);
+    assert_eq!(rt; config.views().len(), 256);
+    Ok(())
+}
+
+#[test]
+fn one_more_than_a_limit_is_refused(rt: HostRuntime) -> Result<(), Fail> {
+    for (counts, wanted) in COUNTS {
+        let text = with_counts(rt.alloc(), *counts)?;
+        assert_eq!(rt; told(rt.alloc(), &text)?.as_str(), *wanted);
+    }
+    Ok(())
+}
+
+// Texts with their first faults; some have a later one too.
+const FAULTS: &[(&str, &str)] = &[
+    ("format", "1 NotToml"),
+    ("format = 2", "3 WrongKind at top"),
+    (
+        "format = 1\ncolour = 1\nreader = 5",
+        "4 UnknownField at top",
+    ),
+    (
+        "format = 1\nreader = [{}, {}, {}, {}, {}, {}, {}, {}, {}, {}, {}, {}, {}, {}, {}, {}, {}]",
+        "10 TooMany at top",
+    ),
+    (
+        "format = 1\nview = [{limit = 0}]\nreader = [{}]",
+        "2 MissingField at reader 0",
+    ),
+    (
+        "format = 1\nreader = [{name = ''}]",
+        "6 BadName at reader 0",
+    ),
+    (
+        "format = 1\nreader = [{name = 'a'}, {name = 'a', limit = 5}]",
+        "9 DuplicateReader at reader 1",
+    ),
+    (
+        "format = 1\nreader = [{name = 'a', temporality = {gauge = 'late'}, aggregation = {colour = 1}}]",
+        "3 WrongKind at reader 0",
+    ),
+    (
+        "format = 1\nreader = [{name = 'a', aggregation = {gauge = 'sum'}}]",
+        "3 WrongKind at reader 0",
+    ),
+    (
+        "format = 1\nreader = [{name = 'a', limit = {gauge = 1000001}}]",
+        "8 BadLimit at reader 0",
+    ),
+    (
+        "format = 1\nview = [{}, {instrument_name = ''}]",
+        "5 BadPattern at view 1",
+    ),
+    (
+        "format = 1\nview = [{stream_name = '9', limit = 0}]",
+        "6 BadName at view 0",
+    ),
+    (
+        "format = 1\nview = [{boundaries = [5, 5]}]",
+        "7 BadBoundaries at view 0",
+    ),
+    ("format = 1\nview = [{limit = 0}]", "8 BadLimit at view 0"),
+    (
+        "format = 1\nview = [{limit = 0, colour = 1}]",
+        "4 UnknownField at view 0",
+    ),
+];
+
+#[test]
+fn the_first_fault_has_its_place(rt: HostRuntime) -> Result<(), Fail> {
+    for (text, wanted) in FAULTS {
+        assert_eq!(rt; told(rt.alloc(), text)?.as_str(), *wanted, "of {text}");
+    }
+    Ok(())
+}
+
+const PRINTED: &[(ViewFault, &str)] = &[
+    (
+        ViewFault::BadName {
+            at: ConfigPlace::View(255),
+        },
+        "6 BadName at view 255",
+    ),
+    (ViewFault::Memory, "11 Memory"),
+];
+
+#[test]
+fn faults_are_printed(rt: HostRuntime) -> Result<(), Fail> {
+    for (fault, printed) in PRINTED {
+        assert_eq!(rt; fault.to_string(rt.alloc())?.as_str(), *printed);
+    }
+    Ok(())
+}

@@ -1,0 +1,249 @@
+//! The set keys and refusals of attributes.
+use metric_base::{Items, Text};
+use metric_catalogue::{
+    Attr, Catalogue, Key, Kind, OwnedAttr, Refusal, SetKey, encode_ignores_order,
+};
+use metric_names::{AttrValue, ValueRef};
+use std::alloc::Global;
+use std::process::Abort;
+use std::test::Fail;
+
+const SHOP: &str = r#"
+format = 1
+[[meter]]
+name = "shop"
+[[meter.instrument]]
+name = "hits"
+kind = "counter"
+range = [0, 9]
+[[meter.instrument.key]]
+name = "route"
+values = ["/a", "/b"]
+[[meter.instrument.key]]
+name = "code"
+values = [200, 404, "200"]
+optional = true
+[[meter.instrument.key]]
+name = "paid"
+values = [true]
+optional = true
+"#;
+
+/// Promises nothing of the catalogue, so that no test is proved by the parts of its text.
+pub(crate) fn read(alloc: Global, text: &str) -> Result<Catalogue, Fail> {
+    Ok(Catalogue::read(alloc, text)?)
+}
+
+const A: Attr<'static> = Attr {
+    key: "route",
+    value: ValueRef::Text("/a"),
+};
+
+const B: Attr<'static> = Attr {
+    key: "route",
+    value: ValueRef::Text("/b"),
+};
+
+const OTHER: Attr<'static> = Attr {
+    key: "route",
+    value: ValueRef::Text("/c"),
+};
+
+const FOUND: Attr<'static> = Attr {
+    key: "code",
+    value: ValueRef::Whole(200),
+};
+
+const FOUND_TEXT: Attr<'static> = Attr {
+    key: "code",
+    value: ValueRef::Text("200"),
+};
+
+const PAID: Attr<'static> = Attr {
+    key: "paid",
+    value: ValueRef::Flag(true),
+};
+
+const ZONE: Attr<'static> = Attr {
+    key: "zone",
+    value: ValueRef::Flag(true),
+};
+
+// An instrument and attributes, and the set key or the first refusal.
+const ENCODED: &[(u32, &[Attr<'static>], Result<SetKey, Refusal>)] = &[
+    (0, &[A], Ok([1, 0, 0, 0, 0, 0, 0, 0])),
+    (0, &[B, PAID], Ok([2, 0, 1, 0, 0, 0, 0, 0])),
+    (0, &[PAID, FOUND, A], Ok([1, 1, 1, 0, 0, 0, 0, 0])),
+    (0, &[FOUND_TEXT, B], Ok([2, 3, 0, 0, 0, 0, 0, 0])),
+    (1, &[ZONE, ZONE], Err(Refusal::UnknownInstrument)),
+    (0, &[OTHER, ZONE, ZONE], Err(Refusal::DuplicateKey)),
+    (0, &[A, B], Err(Refusal::DuplicateKey)),
+    (0, &[OTHER, ZONE], Err(Refusal::UnknownKey)),
+    (0, &[OTHER], Err(Refusal::UnknownValue)),
+    (0, &[FOUND, PAID], Err(Refusal::MissingKey)),
+    (0, &[], Err(Refusal::MissingKey)),
+];
+
+fn owned_value(alloc: Global, value: ValueRef<'_>) -> Result<AttrValue, Fail> {
+    match value {
+        ValueRef::Text(text) => Ok(AttrValue::Text(Text::new(alloc, text)?)),
+        ValueRef::Whole(number) => Ok(AttrValue::Whole(number)),
+        ValueRef::Flag(flag) => Ok(AttrValue::Flag(flag)),
+    }
+}
+
+fn owned(alloc: Global, attrs: &[Attr<'_>]) -> Result<Items<OwnedAttr>, Fail> {
+    let mut owned = Items::new(alloc);
+    for attr in attrs {
+        owned.push(OwnedAttr {
+            key: Text::new(alloc, attr.key)?,
+            value: owned_value(alloc, attr.value)?,
+        })?;
+    }
+    Ok(owned)
+}
+
+fn encoded_with_room(
+    alloc: Global,
+    shop: &Catalogue,
+    instrument: u32,
+    attrs: &[OwnedAttr],
+) -> Result<Result<SetKey, Refusal>, Fail> {
+    let mut room = Vec::with_capacity(alloc, attrs.len())?;
+    Ok(shop.encode_with_room(instrument, attrs, &mut room))
+}
+
+#[test]
+fn attributes_name_a_set_key_or_are_refused(rt: HostRuntime) -> Result<(), Fail> {
+    let shop = read(rt.alloc(), SHOP)?;
+    encode_ignores_order();
+    for (instrument, attrs, wanted) in ENCODED {
+        assert!(rt; shop.encode(*instrument, attrs) == *wanted);
+    }
+    Ok(())
+}
+
+// Both ways to encode owned attributes answer this.
+fn expect_encoded(
+    rt: &impl Abort,
+    alloc: Global,
+    shop: &Catalogue,
+    instrument: u32,
+    attrs: &[OwnedAttr],
+    wanted: Result<SetKey, Refusal>,
+) -> Result<(), Fail> {
+    assert!(rt; shop.encode_owned(instrument, attrs) == wanted);
+    assert!(rt; encoded_with_room(alloc, shop, instrument, attrs)? == wanted);
+    Ok(())
+}
+
+#[test]
+fn owned_attributes_are_encoded_alike(rt: HostRuntime) -> Result<(), Fail> {
+    let shop = read(rt.alloc(), SHOP)?;
+    for (instrument, attrs, wanted) in ENCODED {
+        let attrs = owned(rt.alloc(), attrs)?;
+        expect_encoded(
+            &rt,
+            rt.alloc(),
+            &shop,
+            *instrument,
+            attrs.as_slice(),
+            *wanted,
+        )?;
+    }
+    Ok(())
+}
+
+// Keys that no instrument declares.
+const STRANGE: &[&str] = &["s0", "s1", "s2", "s3", "s4", "s5", "s6", "s7", "s8", "s9"];
+
+fn flag(alloc: Global, key: &str) -> Result<OwnedAttr, Fail> {
+    let key = Text::new(alloc, key)?;
+    Ok(OwnedAttr {
+        key,
+        value: AttrValue::Flag(true),
+    })
+}
+
+// Attributes of strange keys, and of one more.
+fn strange(alloc: Global, last: &str) -> Result<Items<OwnedAttr>, Fail> {
+    let mut attrs = Items::new(alloc);
+    for key in STRANGE {
+        attrs.push(flag(alloc, key)?)?;
+    }
+    attrs.push(flag(alloc, last)?)?;
+    Ok(attrs)
+}
+
+#[test]
+fn long_lists_are_refused_alike(rt: HostRuntime) -> Result<(), Fail> {
+    let shop = read(rt.alloc(), SHOP)?;
+    for (last, refusal) in [
+        ("s7", Refusal::DuplicateKey),
+        ("s10", Refusal::UnknownKey),
+        ("route", Refusal::UnknownKey),
+    ] {
+        let attrs = strange(rt.alloc(), last)?;
+        expect_encoded(&rt, rt.alloc(), &shop, 0, attrs.as_slice(), Err(refusal))?;
+    }
+    Ok(())
+}
+
+// The number of a value of the key with this name.
+fn number_of(keys: &[Key], name: &str, value: ValueRef<'_>) -> Option<u16> {
+    let key = keys.iter().find(|key| key.name.as_str() == name)?;
+    key.values.number_of(value)
+}
+
+#[test]
+fn values_are_numbered(rt: HostRuntime) -> Result<(), Fail> {
+    let shop = read(rt.alloc(), SHOP)?;
+    let hits = shop.instruments().first().ok_or("no instrument")?;
+    for (name, value, number) in [
+        ("route", ValueRef::Text("/b"), Some(1)),
+        ("code", ValueRef::Whole(404), Some(1)),
+        ("code", ValueRef::Text("200"), Some(2)),
+        ("code", ValueRef::Flag(true), None),
+    ] {
+        assert_eq!(rt; number_of(hits.keys.as_slice(), name, value), number);
+    }
+    Ok(())
+}
+
+const REFUSALS: &[(Refusal, &str)] = &[
+    (Refusal::Stranger, "12 Stranger"),
+    (Refusal::UnknownInstrument, "1 UnknownInstrument"),
+    (Refusal::UnknownRecorder, "2 UnknownRecorder"),
+    (Refusal::UnknownReader, "2 UnknownReader"),
+    (Refusal::DuplicateKey, "3 DuplicateKey"),
+    (Refusal::UnknownKey, "4 UnknownKey"),
+    (Refusal::UnknownValue, "5 UnknownValue"),
+    (Refusal::MissingKey, "6 MissingKey"),
+    (Refusal::ValueRange, "7 ValueRange"),
+    (Refusal::Closed, "8 Closed"),
+    (Refusal::Budget, "9 Budget"),
+    (Refusal::SumRange, "10 SumRange"),
+    (Refusal::Memory, "11 Memory"),
+];
+
+#[test]
+fn refusals_have_numbers_and_names(rt: HostRuntime) -> Result<(), Fail> {
+    for (refusal, printed) in REFUSALS {
+        assert_eq!(rt; refusal.to_string(rt.alloc())?.as_str(), *printed);
+    }
+    Ok(())
+}
+
+#[test]
+fn kinds_have_names(rt: HostRuntime) {
+    for (text, kind) in [
+        ("counter", Some(Kind::Counter)),
+        ("up_down_counter", Some(Kind::UpDownCounter)),
+        ("histogram", Some(Kind::Histogram)),
+        ("gauge", Some(Kind::Gauge)),
+        ("Gauge", None),
+    ] {
+        assert!(rt; Kind::named(text) == kind);
+    }
+    assert!(rt; Kind::Counter.is_monotonic() && !Kind::UpDownCounter.is_monotonic());
+}

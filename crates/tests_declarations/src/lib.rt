@@ -1,0 +1,18 @@
+//! Tests of the crates of declarations: patterns, catalogues, configs, and the streams that they give.
+//!
+//! A module tests one crate through its public surface. It has what no clause says: examples from outside, printed texts,
+//! and that a call succeeds while memory is there.
+#![tactic(auto)]
+
+#[cfg(test)]
+mod catalogue;
+#[cfg(test)]
+mod config;
+#[cfg(test)]
+mod encoding;
+#[cfg(test)]
+mod patterns;
+#[cfg(test)]
+mod streams;
+#[cfg(test)]
+mod words;

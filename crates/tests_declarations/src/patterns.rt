@@ -1,0 +1,177 @@
+//! Matches, reasons and faults of name patterns.
+use metric_base::{Copied, Items};
+use metric_glob::{Pattern, PatternFault, Reason};
+use metric_names::Name;
+use std::alloc::{AllocError, Global};
+use std::test::Fail;
+
+fn write_numbers(out: &mut String, numbers: &[u16]) -> Result<(), Fail> {
+    Ok(write!(out, " {numbers:?}")?)
+}
+
+// A reason as a text.
+fn shown(alloc: Global, reason: &Reason) -> Result<String, Fail> {
+    let mut out = String::new(alloc);
+    match reason {
+        Reason::Takes(takes) => {
+            out.push_str("takes")?;
+            write_numbers(&mut out, takes.as_slice())?;
+        }
+        Reason::Rows(rows) => {
+            out.push_str("rows")?;
+            for row in rows.as_slice() {
+                write_numbers(&mut out, row.as_slice())?;
+            }
+        }
+    }
+    Ok(out)
+}
+
+// A pattern, a name, and why the name matches or does not.
+const REASONS: &[(&str, &str, &str)] = &[
+    ("http.*", "HTTP.server", "takes [6]"),
+    ("h?ts", "HITS", "takes []"),
+    ("*", "a", "takes [1]"),
+    ("a*", "a", "takes [0]"),
+    ("**", "abc", "takes [0, 3]"),
+    ("*b*", "abcb", "takes [1, 2]"),
+    ("*b", "abcb", "takes [3]"),
+    ("a*c?*", "abcbcdc", "takes [1, 3]"),
+    (
+        "a*b*c",
+        "aXbYd",
+        "rows [0] [1, 2] [1, 2] [1, 2, 3, 4] [1, 2, 3, 4] [1, 2, 3, 4]",
+    ),
+    ("b", "a", "rows [0] []"),
+    ("a?", "a", "rows [0] [1]"),
+    ("?", "ab", "rows [0] [1] []"),
+];
+
+#[test]
+fn a_reason_says_why_a_name_matches_or_does_not(rt: HostRuntime) -> Result<(), Fail> {
+    for (pattern, name, wanted) in REASONS {
+        let pattern = Pattern::parse(rt.alloc(), pattern)?;
+        let name = Name::parse(rt.alloc(), name)?;
+        let reason = pattern.why(rt.alloc(), &name)?;
+        assert_eq!(rt; shown(rt.alloc(), &reason)?.as_str(), *wanted);
+        assert!(rt; pattern.confirms(&name, &reason));
+        assert_eq!(rt; pattern.matches(&name), wanted.starts_with("takes"));
+    }
+    Ok(())
+}
+
+fn items(alloc: Global, values: &[u16]) -> Result<Items<u16>, AllocError> {
+    Ok(Items::from_vec(Vec::from_slice(alloc, values)?))
+}
+
+// A reason that somebody states.
+#[derive(Clone, Copy, Debug)]
+enum Stated {
+    Takes(&'static [u16]),
+    Rows(&'static [&'static [u16]]),
+}
+
+fn reason_of(alloc: Global, stated: Stated) -> Result<Reason, AllocError> {
+    match stated {
+        Stated::Takes(takes) => Ok(Reason::Takes(items(alloc, takes)?)),
+        Stated::Rows(lists) => {
+            let mut rows = Items::new(alloc);
+            for list in lists {
+                rows.push(items(alloc, list)?)?;
+            }
+            Ok(Reason::Rows(rows))
+        }
+    }
+}
+
+// A pattern, a name, what is stated of them, and whether it is true.
+const STATED: &[(&str, &str, Stated, bool)] = &[
+    ("http.*", "HTTP.server", Stated::Takes(&[6]), true),
+    ("http.*", "HTTP.server", Stated::Takes(&[5]), false),
+    ("http.*", "HTTP.server", Stated::Takes(&[7]), false),
+    ("http.*", "HTTP.server", Stated::Takes(&[6, 0]), false),
+    ("http.*", "HTTP.server", Stated::Takes(&[]), false),
+    ("h?t", "HITS", Stated::Takes(&[]), false),
+    ("a*", "a", Stated::Rows(&[&[0], &[1]]), false),
+    ("b", "a", Stated::Rows(&[&[0], &[]]), true),
+    ("b", "a", Stated::Rows(&[&[0]]), false),
+    ("b", "a", Stated::Rows(&[&[], &[]]), false),
+    ("b", "a", Stated::Rows(&[&[0, 0], &[]]), false),
+    ("b", "a", Stated::Rows(&[&[0], &[1]]), false),
+    // Places past the pattern's end do no harm.
+    ("b*", "a", Stated::Rows(&[&[0, 2, 3, 65535], &[0, 7]]), true),
+];
+
+#[test]
+fn only_true_reasons_are_confirmed(rt: HostRuntime) -> Result<(), Fail> {
+    for (pattern, name, stated, is_true) in STATED {
+        let pattern = Pattern::parse(rt.alloc(), pattern)?;
+        let name = Name::parse(rt.alloc(), name)?;
+        let reason = reason_of(rt.alloc(), *stated)?;
+        assert_eq!(rt; pattern.confirms(&name, &reason), *is_true, "{stated:?}");
+    }
+    Ok(())
+}
+
+// Whether a name matches a pattern, where the reason is confirmed.
+fn does_match(alloc: Global, pattern: &str, name: &str) -> Result<Option<bool>, Fail> {
+    let pattern = Pattern::parse(alloc, pattern)?;
+    let name = Name::parse(alloc, name)?;
+    let reason = pattern.why(alloc, &name)?;
+    let does_match = matches!(reason, Reason::Takes(_));
+    let is_told = pattern.confirms(&name, &reason) && pattern.matches(&name) == does_match;
+    Ok(is_told.then_some(does_match))
+}
+
+#[test]
+fn the_longest_patterns_answer_at_once(rt: HostRuntime) -> Result<(), Fail> {
+    let name = "a".repeat(rt.alloc(), 255)?;
+    let stars = "*".repeat(rt.alloc(), 254)?;
+    for (last, wanted) in [("*", true), ("b", false)] {
+        let pattern = format!(in rt.alloc(); "{stars}{last}")?;
+        assert_eq!(rt; does_match(rt.alloc(), &pattern, &name)?, Some(wanted));
+    }
+    Ok(())
+}
+
+// What a text is as a pattern: the pattern itself, or the fault as it is printed.
+fn as_pattern(alloc: Global, text: &str) -> Result<String, Fail> {
+    match Pattern::parse(alloc, text) {
+        Ok(pattern) => Ok(String::from_str(alloc, pattern.copy(alloc)?.as_str())?),
+        Err(fault) => Ok(format!(in alloc; "{fault}")?),
+    }
+}
+
+// A text, how often it stands, what follows, and the fault.
+const PATTERNS: &[(&str, usize, &str, &str)] = &[
+    ("*", 1, "", ""),
+    ("http. ?", 1, "", ""),
+    ("~", 255, "", ""),
+    ("", 1, "", "1 Empty"),
+    ("é", 1, "", "2 BadCharacter at 0"),
+    ("ab\u{7f}é", 1, "", "2 BadCharacter at 2"),
+    ("a", 256, "\t", "2 BadCharacter at 256"),
+    ("a", 256, "", "3 TooLong"),
+];
+
+#[test]
+fn a_pattern_is_up_to_255_printable_characters(rt: HostRuntime) -> Result<(), Fail> {
+    for (part, count, end, fault) in PATTERNS {
+        let front = part.repeat(rt.alloc(), (*count).min(256))?;
+        let text = format!(in rt.alloc(); "{front}{end}")?;
+        let wanted = if fault.is_empty() {
+            text.as_str()
+        } else {
+            *fault
+        };
+        assert_eq!(rt; as_pattern(rt.alloc(), &text)?.as_str(), wanted);
+    }
+    Ok(())
+}
+
+#[test]
+fn want_of_memory_is_printed(rt: HostRuntime) -> Result<(), Fail> {
+    let memory = PatternFault::Memory.to_string(rt.alloc())?;
+    assert_eq!(rt; memory.as_str(), "4 Memory");
+    Ok(())
+}

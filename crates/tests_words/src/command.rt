@@ -1,0 +1,72 @@
+//! Command lines: those that are taken, and the words that are refused.
+use metric_command::{Line, LineFault, command_of, lines_are_taken, others_are_refused};
+use std::test::Fail;
+
+const TRIAL: Result<Line, LineFault> = Ok(Line::Replay { trial: true });
+
+const REPLAY: Result<Line, LineFault> = Ok(Line::Replay { trial: false });
+
+const SHOW: Result<Line, LineFault> = Ok(Line::Show);
+
+const MISUSE: Result<Line, LineFault> = Err(LineFault::Usage);
+
+// Command lines, with words that are divided by single spaces.
+const LINES: &[(&str, Result<Line, LineFault>)] = &[
+    ("metric_kit", TRIAL),
+    ("metric_kit show", SHOW),
+    ("metric_kit replay", REPLAY),
+    ("metric_kit replay --trial", TRIAL),
+    ("./kit replay --trial", TRIAL),
+    ("metric_kit --", TRIAL),
+    ("metric_kit replay --", REPLAY),
+    // Help and version are a misuse.
+    ("metric_kit help", MISUSE),
+    ("metric_kit help show", MISUSE),
+    ("metric_kit --help", MISUSE),
+    ("metric_kit -h", MISUSE),
+    ("metric_kit show --help", MISUSE),
+    ("metric_kit replay -h", MISUSE),
+    ("metric_kit --version", MISUSE),
+    ("metric_kit -V", MISUSE),
+    ("metric_kit replay --version", MISUSE),
+    // So is every other word.
+    ("metric_kit reply", MISUSE),
+    ("metric_kit Show", MISUSE),
+    ("metric_kit sho", MISUSE),
+    ("metric_kit ", MISUSE),
+    ("metric_kit --trial", MISUSE),
+    ("metric_kit --trial replay", MISUSE),
+    ("metric_kit show --trial", MISUSE),
+    ("metric_kit show replay", MISUSE),
+    ("metric_kit replay --trial --trial", MISUSE),
+    ("metric_kit replay --trial=true", MISUSE),
+    ("metric_kit replay --tria", MISUSE),
+    ("metric_kit replay -t", MISUSE),
+    ("metric_kit replay trial", MISUSE),
+    ("metric_kit -- show", MISUSE),
+    ("metric_kit replay --trial input", MISUSE),
+];
+
+#[test]
+fn a_command_line_is_read_or_is_a_misuse(rt: HostRuntime) -> Result<(), Fail> {
+    for (text, line) in LINES {
+        let words: Vec<&str> = text.split(' ').collect(rt.alloc())?;
+        assert_eq!(rt; command_of(rt.alloc(), &words), *line, "{text}");
+    }
+    Ok(())
+}
+
+#[test]
+fn a_line_without_the_name_asks_for_a_trial(rt: HostRuntime) {
+    assert_eq!(rt; command_of(rt.alloc(), &[]), TRIAL);
+    lines_are_taken();
+    others_are_refused();
+}
+
+#[test]
+fn each_fault_has_its_text(rt: HostRuntime) -> Result<(), Fail> {
+    for (fault, text) in [(LineFault::Usage, "usage"), (LineFault::Memory, "memory")] {
+        assert_eq!(rt; format!(in rt.alloc(); "{fault}")?.as_str(), text);
+    }
+    Ok(())
+}

@@ -1,0 +1,275 @@
+//! Inputs divided into their parts, and the first lines with which no input goes on.
+use metric_parts::{InputFault, Needs, Parts, Script, one_reading, parts_of};
+use metric_text::lines;
+use std::alloc::Global;
+use std::test::Fail;
+
+const MAKE: Needs = Needs {
+    certificate: false,
+    script: false,
+};
+
+const CHECK: Needs = Needs {
+    certificate: true,
+    script: false,
+};
+
+const TRIAL: Needs = Needs {
+    certificate: false,
+    script: true,
+};
+
+const REPLAY: Needs = Needs {
+    certificate: true,
+    script: true,
+};
+
+// The lines of a script with their numbers, and the number after the last.
+fn shown_script(alloc: Global, script: &Script<'_>) -> Result<String, Fail> {
+    let mut out = String::new(alloc);
+    for (place, line) in script.lines().iter().enumerate() {
+        let number = script.line_number(place);
+        let text = str::from_utf8(line)?;
+        write!(out, "{number}:{text} ")?;
+    }
+    let end = script.line_number(script.lines().len());
+    write!(out, "{end}")?;
+    Ok(out)
+}
+
+// Each part as it was read, `-` where there is none.
+fn shown(alloc: Global, parts: &Parts<'_>) -> Result<String, Fail> {
+    let certificate = match &parts.certificate {
+        Some(text) => text.as_str(),
+        None => "-",
+    };
+    let script = match &parts.script {
+        Some(script) => shown_script(alloc, script)?,
+        None => String::from_str(alloc, "-")?,
+    };
+    let catalogue = parts.catalogue.as_str();
+    let config = parts.config.as_str();
+    Ok(format!(in alloc; "[{catalogue}][{config}][{certificate}][{script}]")?)
+}
+
+// What is read of an input, or its fault as it is printed.
+fn told(alloc: Global, input: &[u8], needs: Needs) -> Result<String, Fail> {
+    let lines = lines(alloc, input)?;
+    match parts_of(alloc, &lines, needs) {
+        Ok(parts) => shown(alloc, &parts),
+        Err(fault) => Ok(format!(in alloc; "{fault}")?),
+    }
+}
+
+const ALL: &str =
+    "%% catalogue\nformat = 1\n\n%% config\nformat = 1\n%% certificate\nformat = 2\n%% script\nstart 0\n# x\n";
+
+const READ: &[(&str, Needs, &str)] = &[
+    (ALL, MAKE, "[format = 1\n][format = 1][-][-]"),
+    (ALL, CHECK, "[format = 1\n][format = 1][format = 2][-]"),
+    (
+        ALL,
+        TRIAL,
+        "[format = 1\n][format = 1][-][9:start 0 10:# x 11]",
+    ),
+    (
+        ALL,
+        REPLAY,
+        "[format = 1\n][format = 1][format = 2][9:start 0 10:# x 11]",
+    ),
+    ("%% catalogue\n%% config\n%% script", TRIAL, "[][][-][4]"),
+    // Lines are joined by line feeds, and a carriage return is dropped before one.
+    (
+        "%% catalogue\r\na = \"\"\"\r\nb\"\"\"\r\n%% config\r\n\r\nc\r\r\nd",
+        MAKE,
+        "[a = \"\"\"\nb\"\"\"][\nc\r\nd][-][-]",
+    ),
+    // What only looks like a header is contents.
+    ("%% catalogue\n%%\n%% config\n", MAKE, "[%%][][-][-]"),
+    (
+        "%% catalogue\n%%script\n%% config\n",
+        MAKE,
+        "[%%script][][-][-]",
+    ),
+    (
+        "%% catalogue\n %% script\n%% config\n",
+        MAKE,
+        "[ %% script][][-][-]",
+    ),
+    (
+        "%% catalogue\n# %% x\n%% config\n",
+        MAKE,
+        "[# %% x][][-][-]",
+    ),
+    (
+        "%% catalogue\n%%\tconfig\n%% config\n",
+        MAKE,
+        "[%%\tconfig][][-][-]",
+    ),
+    ("%% catalogue\r\n%% config\r\n", MAKE, "[][][-][-]"),
+    (
+        "%% catalogue\n%% config\n%% script\nanything\n",
+        MAKE,
+        "[][][-][-]",
+    ),
+    (
+        "%% catalogue\n%% config\n%% certificate\nanything\n",
+        MAKE,
+        "[][][-][-]",
+    ),
+];
+
+#[test]
+fn the_parts_that_are_needed_are_read(rt: HostRuntime) -> Result<(), Fail> {
+    for (text, needs, wanted) in READ {
+        let told = told(rt.alloc(), text.as_bytes(), *needs)?;
+        assert_eq!(rt; told.as_str(), *wanted, "{text:?}");
+    }
+    Ok(())
+}
+
+const FAULTY: &[(&[u8], Needs, &str)] = &[
+    // The first line is the catalogue's header, and nothing else.
+    (b"", MAKE, "input line 1"),
+    (b"\n", MAKE, "input line 1"),
+    (
+        b"# a catalogue\n%% catalogue\n%% config\n",
+        MAKE,
+        "input line 1",
+    ),
+    (
+        b"\xef\xbb\xbf%% catalogue\n%% config\n",
+        MAKE,
+        "input line 1",
+    ),
+    (b"%% config\n%% catalogue\n", MAKE, "input line 1"),
+    // A line that begins as a header is a header in its place.
+    (
+        b"%% catalogue\n%% catalogue\n%% config\n",
+        MAKE,
+        "input line 2",
+    ),
+    (
+        b"%% catalogue\na\n%% config\nb\n%% config\n",
+        MAKE,
+        "input line 5",
+    ),
+    (
+        b"%% catalogue\n%% config\n%% script \n",
+        TRIAL,
+        "input line 3",
+    ),
+    (
+        b"%% catalogue\n%% config\n%%  script\n",
+        TRIAL,
+        "input line 3",
+    ),
+    (
+        b"%% catalogue\n%% config\n%% Script\n",
+        TRIAL,
+        "input line 3",
+    ),
+    (
+        b"%% catalogue\na = \"\"\"\n%% foo\n\"\"\"\n%% config\n",
+        MAKE,
+        "input line 3",
+    ),
+    (b"%% catalogue\n%% \n%% config\n", MAKE, "input line 2"),
+    // No header skips a part that is needed.
+    (b"%% catalogue\n%% script\n", MAKE, "input line 2"),
+    (
+        b"%% catalogue\n%% config\n%% script\nstart 0\n",
+        REPLAY,
+        "input line 3",
+    ),
+    (
+        b"%% catalogue\n%% config\n%% script\n",
+        CHECK,
+        "input line 3",
+    ),
+    // Headers of parts that are not needed stand in their places too.
+    (
+        b"%% catalogue\n%% config\n%% script\n%% certificate\n",
+        MAKE,
+        "input line 4",
+    ),
+    (
+        b"%% catalogue\n%% config\n%% script\n%% certificate\n",
+        TRIAL,
+        "input line 4",
+    ),
+    (
+        b"%% catalogue\n%% config\n%% certificate\n%% certificate\n",
+        MAKE,
+        "input line 4",
+    ),
+    (
+        b"%% catalogue\n%% config\n%% script\n%% script\n",
+        MAKE,
+        "input line 4",
+    ),
+    (
+        b"%% catalogue\n%% config\n%% script\n%% config\n",
+        TRIAL,
+        "input line 4",
+    ),
+    // A part that is needed is missing at the end.
+    (b"%% catalogue", MAKE, "input line 2"),
+    (b"%% catalogue\na\n", MAKE, "input line 3"),
+    (b"%% catalogue\n%% config\n", CHECK, "input line 3"),
+    (b"%% catalogue\n%% config\n", TRIAL, "input line 3"),
+    (b"%% catalogue\n%% config\nb\n\n", REPLAY, "input line 5"),
+    (
+        b"%% catalogue\n%% config\n%% certificate\n",
+        REPLAY,
+        "input line 4",
+    ),
+    // A carriage return is dropped where a line feed comes after it, and nowhere else.
+    (b"%% catalogue\r\r\n%% config\r\n", MAKE, "input line 1"),
+    (
+        b"%% catalogue\r\n%% config\r\n%% script\r",
+        TRIAL,
+        "input line 3",
+    ),
+    // Every line is UTF-8, in parts that are not needed too.
+    (
+        b"%% catalogue\n%% config\n%% script\na\xff\n",
+        TRIAL,
+        "input line 4",
+    ),
+    (
+        b"%% catalogue\n%% config\n%% script\na\xff\n",
+        MAKE,
+        "input line 4",
+    ),
+    (
+        b"%% catalogue\n%% config\n%% certificate\n\xff",
+        TRIAL,
+        "input line 4",
+    ),
+    (b"%% catalogue\n\xff\n%% catalogue\n", MAKE, "input line 2"),
+    (
+        b"%% catalogue\n%% config\n\xe2\x82\n\xac\n",
+        MAKE,
+        "input line 3",
+    ),
+    (b"%% catalogue\n%% config\n%% \xff\n", MAKE, "input line 3"),
+    (b"\xef\xbb\n%% catalogue\n%% config\n", MAKE, "input line 1"),
+];
+
+#[test]
+fn the_first_line_with_which_no_input_goes_on_is_told(rt: HostRuntime) -> Result<(), Fail> {
+    for (input, needs, wanted) in FAULTY {
+        let told = told(rt.alloc(), input, *needs)?;
+        assert_eq!(rt; told.as_str(), *wanted, "{input:?}");
+    }
+    Ok(())
+}
+
+#[test]
+fn want_of_memory_is_printed(rt: HostRuntime) -> Result<(), Fail> {
+    one_reading();
+    let memory = InputFault::Memory.to_string(rt.alloc())?;
+    assert_eq!(rt; memory.as_str(), "memory");
+    Ok(())
+}
