@@ -59,7 +59,8 @@ fn negative_value(digits: &[u8]) -> Option<i128>
 }
 
 fn digits_value(digits: &[u8]) -> Option<u128>
-    ensures { AllDigits 10 digits.now → digits_value 10 digits.now < 2 ^ 128 → result ≡ Some (digits_value 10 digits.now) }
+    ensures { AllDigits 10 digits.now → digits_value 10 digits.now < 2 ^ 128
+        → result ≡ Some (digits_value 10 digits.now) }
 {
     let mut number = 0;
     for digit in digits {
@@ -70,7 +71,8 @@ fn digits_value(digits: &[u8]) -> Option<u128>
 
 // The number with one more digit.
 fn with_digit(number: u128, digit: u8) -> Option<u128>
-    ensures { digit_value digit < 10 → number * 10 + digit_value digit < 2 ^ 128 → result ≡ Some (number * 10 + digit_value digit) }
+    ensures { digit_value digit < 10 → number * 10 + digit_value digit < 2 ^ 128
+        → result ≡ Some (number * 10 + digit_value digit) }
 {
     let value = char::from(digit).to_digit(10)?;
     number.checked_mul(10)?.checked_add(u128::from(value))

@@ -171,7 +171,8 @@ fn one_of(
 }
 
 fn put_evidence(alloc: Global, table: &mut Table, evidence: &Evidence) -> Result<(), AllocError>
-    ensures { OnOk result (PutsEvidence evidence.now (table_view table.old) (table_view table.new)) }
+    ensures { OnOk result
+        (PutsEvidence evidence.now (table_view table.old) (table_view table.new)) }
 {
     match evidence {
         Evidence::Name(Reason::Takes(takes)) => put(alloc, table, "takes", takes),

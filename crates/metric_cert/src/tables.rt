@@ -60,7 +60,8 @@ pub(crate) fn put<T: Entry>(
     name: &str,
     entry: &T,
 ) -> Result<(), AllocError>
-    ensures { OnOk result (Puts T.step T.levels name.now entry.now (table_view table.old) (table_view table.new)) }
+    ensures { OnOk result
+        (Puts T.step T.levels name.now entry.now (table_view table.old) (table_view table.new)) }
 {
     let value = entry.write(alloc)?;
     insert(alloc, table, name, value)
@@ -73,7 +74,8 @@ pub(crate) fn put_given<T: Entry>(
     name: &str,
     entry: &Option<T>,
 ) -> Result<(), AllocError>
-    ensures { OnOk result (PutsGiven T.step T.levels name.now entry.now (table_view table.old) (table_view table.new)) }
+    ensures { OnOk result (PutsGiven T.step T.levels name.now entry.now
+        (table_view table.old) (table_view table.new)) }
 {
     match entry {
         Some(entry) => put(alloc, table, name, entry),
@@ -82,7 +84,8 @@ pub(crate) fn put_given<T: Entry>(
 }
 
 fn insert(alloc: Global, table: &mut Table, name: &str, value: Value) -> Result<(), AllocError>
-    ensures { OnOk result (table_view table.new ≡ with_member name.now (view value) (table_view table.old)) }
+    ensures { OnOk result
+        (table_view table.new ≡ with_member name.now (view value) (table_view table.old)) }
 {
     let key = String::from_str(alloc, name)?;
     table.insert(key, value)?;

@@ -36,8 +36,10 @@ pub(crate) trait Command {
         sink: &mut W,
         answer: &Self::Answer,
     ) -> Result<(), KitFault>
-        ensures ok { OnOk result (Appends (W.contents sink.old) (W.contents sink.new) (text answer.now)) }
-        ensures prefix { AppendsPrefix (W.contents sink.old) (W.contents sink.new) (text answer.now) }
+        ensures ok { OnOk result
+            (Appends (W.contents sink.old) (W.contents sink.new) (text answer.now)) }
+        ensures prefix { AppendsPrefix (W.contents sink.old) (W.contents sink.new)
+            (text answer.now) }
         ensures broken { IfErr result (IsSinkFault (W.failures sink.old) (W.failures sink.new)) };
 }
 

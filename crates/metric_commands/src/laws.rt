@@ -9,7 +9,8 @@ use metric_script::one_script;
 /// An input has one output. So [`replay`](crate::replay) writes what the bytes read determine. Does
 /// nothing.
 pub fn one_output()
-    ensures { (options : ReplayOptions) (input a b : List ℕ) → IsOutput options input a → IsOutput options input b → a ≡ b }
+    ensures { (options : ReplayOptions) (input a b : List ℕ)
+        → IsOutput options input a → IsOutput options input b → a ≡ b }
 {
     one_reading();
     one_script();

@@ -102,9 +102,11 @@ impl Parts<Warning> for Listing {
 #[tactic(auto, unfolding(crate::specs::Showing::listing_text), using(crate::proofs::TextLaws::two_texts))]
 fn write_lines<W: Sink>(alloc: Global, sink: &mut W, listing: &Listing) -> Result<(), KitFault>
     ensures ok { OnOk result (Appends (W.contents sink.old) (W.contents sink.new)
-        (listing_text listing.now.catalogue listing.now.config listing.now.streams.list listing.now.streams.warnings)) }
+        (listing_text listing.now.catalogue listing.now.config
+        listing.now.streams.list listing.now.streams.warnings)) }
     ensures prefix { AppendsPrefix (W.contents sink.old) (W.contents sink.new)
-        (listing_text listing.now.catalogue listing.now.config listing.now.streams.list listing.now.streams.warnings) }
+        (listing_text listing.now.catalogue listing.now.config
+        listing.now.streams.list listing.now.streams.warnings) }
     ensures broken { IfErr result (IsSinkFault (W.failures sink.old) (W.failures sink.new)) }
     ensures counted { OnOk result (W.failures sink.new ≡ W.failures sink.old) }
 {

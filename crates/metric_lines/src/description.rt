@@ -28,7 +28,8 @@ pub(crate) fn described_stream<'a>(
     streams: &'a [Stream],
     number: u32,
 ) -> Option<Description<'a>>
-    ensures { option_map described_by result ≡ described_stream catalogue.now config.now streams.now number }
+    ensures { option_map described_by result
+        ≡ described_stream catalogue.now config.now streams.now number }
 {
     let stream = streams.get(number as usize)?;
     let reader = config.readers().get(stream.reader as usize)?;

@@ -17,7 +17,8 @@ pub fn identity_order(
     right_meter: &Meter,
 ) -> Ordering
     ensures { result
-        ≡ identity_order (identity_with left.now left_meter.now) (identity_with right.now right_meter.now) }
+        ≡ identity_order (identity_with left.now left_meter.now)
+        (identity_with right.now right_meter.now) }
 {
     match left.reader.cmp(&right.reader) {
         Ordering::Equal => match scope_order(left_meter, right_meter) {

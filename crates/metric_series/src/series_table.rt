@@ -61,7 +61,8 @@ impl SeriesTable {
     /// range. A refused value changes nothing, and a value of a held series takes no memory.
     pub fn add(&mut self, set: SetKey, value: i64) -> Result<(), SeriesFault>
         ensures in_range { JudgesRange (Stands self.old) set value result }
-        ensures stands { OnOk result (TakesRecording (Stands self.old) (Stands self.new) set value) }
+        ensures stands { OnOk result
+            (TakesRecording (Stands self.old) (Stands self.new) set value) }
         ensures err { OnErr result (self.new ≡ self.old) }
     {
         match self {

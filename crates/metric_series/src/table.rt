@@ -70,7 +70,8 @@ impl<A: Aggregate> TableOf<A> {
     pub fn add(&mut self, set: &SetKey, value: i64) -> Result<(), SeriesFault>
         ensures in_range { JudgesRange (StandsTable A.Aggregate self.old) set.now value result }
         ensures stands { OnOk result
-            (TakesRecording (StandsTable A.Aggregate self.old) (StandsTable A.Aggregate self.new) set.now value) }
+            (TakesRecording (StandsTable A.Aggregate self.old) (StandsTable A.Aggregate self.new)
+            set.now value) }
         ensures err { OnErr result (self.new ≡ self.old) }
     {
         let key = SeriesKey::new(restrict(self.kept.get().as_slice(), set));
@@ -112,7 +113,8 @@ impl<A: Aggregate> TableOf<A> {
     /// The points of the held series in ascending order of their set keys, then the overflow point where some
     /// value fell into the overflow series (Metrics SDK, cardinality limits). Fails only where memory is refused.
     pub fn points(&self, alloc: Global) -> Result<Vec<Point>, AllocError>
-        ensures { IfOk result (λ points. ReportsPoints (StandsTable A.Aggregate self.now) points.items) }
+        ensures { IfOk result (λ points.
+            ReportsPoints (StandsTable A.Aggregate self.now) points.items) }
     {
         let keys = ascending(alloc, &self.series)?;
         let mut points = Vec::with_capacity(alloc, keys.len() + 1)?;
