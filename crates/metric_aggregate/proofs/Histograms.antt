@@ -8,7 +8,8 @@ use Rattle.metric_aggregate.specs.BucketAgg.{Histogram, StandsBuckets, histogram
 use Rattle.metric_aggregate.specs.Value.{sum_of, least_or, greatest_or, bucket_of, bucket_counts, kept_sum, value_of}
 use Rattle.metric_aggregate.specs.declared.point_value.PointValue.TheVariants.{Buckets}
 use Rattle.std.proofs.lemmas.Bool.{true≢false}
-use Rattle.metric_aggregate.specs.ValueLaws.{sum_of-push, least_or-push, greatest_or-push, bucket_counts-push, bucket_counts_are}
+use Rattle.metric_aggregate.specs.ValueLaws.{sum_of-push, bucket_counts-push, bucket_counts_are}
+use Rattle.metric_aggregate.proofs.Extremes.{least_or-push, greatest_or-push}
 
 -- the one histogram is the other with one value more
 pub record AddsValue (old new : Histogram) (value : ℤ) : Type 0 where

@@ -1,2 +1,3 @@
+pub mod Extremes
 pub mod Histograms
 pub mod RisingLaws

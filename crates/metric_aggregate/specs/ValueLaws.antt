@@ -1,32 +1,14 @@
 -- How the value of a list changes with one value more.
 use Rattle.std.proofs.Common.{◌≡◌, ℕ, ◌+◌, ◌-◌, ◌<◌, ◌≤◌, ℤ, pos, ◌+ℤ◌, Bool, cond, List, [], ◌∷◌, ◌++◌, length, refl, ap, sym, ◌∙◌, arith, get_or, set, ⊎_elim, subst, add-zero}
 use Rattle.std.specs.Prelude.{◌==◌, slice_set, slice_index}
-use Rattle.std.specs.Int.{int_min, int_max}
 use Rattle.std.proofs.lemmas.Bool.{cases_eq, eq-eqb, ne_eqb}
-use Rattle.std.proofs.lemmas.Int.{ints, clamps}
 use Rattle.std.proofs.lemmas.List.{get_or-set_same, get_or-set_other, length-set}
 use Rattle.std.proofs.lemmas.List.FromFn.{fill_by_all, length-map-range_with_len, get_or-map-range_with_len}
 use Rattle.std.proofs.lemmas.List.Sums.{fold_push, sum_by_push, count_by-le-length}
-use Rattle.metric_aggregate.specs.Value.{sum_of, last_of, least_or, greatest_or, bucket_of, bucket_count, bucket_counts}
+use Rattle.metric_aggregate.specs.Value.{sum_of, bucket_of, bucket_count, bucket_counts}
 
 pub sum_of-push : (xs : List ℤ) (v : ℤ) → sum_of (xs ++ v ∷ []) ≡ sum_of xs +ℤ v
 sum_of-push xs v = fold_push ◌+ℤ◌ (pos 0) xs v
-
-int_min_assoc : (a b c : ℤ) → int_min a (int_min b c) ≡ int_min (int_min a b) c
-int_min_assoc a b c = omega (arith, ints, clamps)
-
-int_max_assoc : (a b c : ℤ) → int_max a (int_max b c) ≡ int_max (int_max a b) c
-int_max_assoc a b c = omega (arith, ints, clamps)
-
-pub least_or-push : (none : ℤ) (xs : List ℤ) (v : ℤ) → least_or none (xs ++ v ∷ []) ≡ int_min (least_or v xs) v
-least_or-push none [] v = refl
-least_or-push none (x ∷ []) v = omega (arith, ints, clamps)
-least_or-push none (x ∷ y ∷ ys) v = ap (int_min x) (least_or-push x (y ∷ ys) v) ∙ int_min_assoc x (least_or v (y ∷ ys)) v
-
-pub greatest_or-push : (none : ℤ) (xs : List ℤ) (v : ℤ) → greatest_or none (xs ++ v ∷ []) ≡ int_max (greatest_or v xs) v
-greatest_or-push none [] v = refl
-greatest_or-push none (x ∷ []) v = omega (arith, ints, clamps)
-greatest_or-push none (x ∷ y ∷ ys) v = ap (int_max x) (greatest_or-push x (y ∷ ys) v) ∙ int_max_assoc x (greatest_or v (y ∷ ys)) v
 
 -- each bucket but that of the value stays as it is
 pub bucket_count-push : (bs xs : List ℤ) (v : ℤ) (k : ℕ) → bucket_count bs (xs ++ v ∷ []) k ≡ bucket_count bs xs k + cond (bucket_of bs v == k) 1 0

@@ -1,1 +1,3 @@
 pub mod Powers
+mod Budgets
+mod Tables

@@ -1,8 +1,14 @@
 //! The numbers that budgets and a range bound.
-ghost use Rattle.std.specs.Prelude.{◌≡◌, ◌<◌, ◌≤◌, ◌^◌, ◌*◌, pos, ◌≤ℤ◌, length};
+ghost use Rattle.std.specs.Prelude.{◌≡◌, ◌<◌, ◌≤◌, ◌+◌, ◌^◌, ◌*◌, ℕ, pos, ◌≤ℤ◌, All, AllPairs, IfOk, find, length, map, slice_index, sum_by, ◌≢◌};
+ghost use Rattle.metric_catalogue.specs.Sound.{IsSoundBudget, IsSoundRecorder};
+ghost use Rattle.metric_resolve.specs.Applying.{all_instruments};
+ghost use Rattle.metric_catalogue.specs.Budgets.{amount_in, amount_of};
+ghost use Rattle.metric_catalogue.specs.Recorders.{is_budget};
 ghost use Rattle.metric_bounds.specs.Amounts.{amount_with, high_with, low_with, total_of};
 
-use metric_catalogue::Catalogue;
+use metric_base::Items;
+use metric_catalogue::{Budget, Catalogue, Recorder};
+use std::alloc::{AllocError, Global};
 
 /// How often an instrument may be recorded: the sum of its budgets over all recorders. It may be above the
 /// greatest `u64`.
@@ -15,6 +21,45 @@ pub fn total(catalogue: &Catalogue, instrument: u32) -> u128
         total += u128::from(recorder.budget(instrument));
     }
     total
+}
+
+/// How often each instrument may be recorded, in order, by one walk over all budgets.
+pub fn totals(alloc: Global, catalogue: &Catalogue) -> Result<Items<u128>, AllocError>
+    ensures { IfOk result (λ totals. totals
+        ≡ map (total_of catalogue.now) (all_instruments catalogue.now)) }
+{
+    let mut totals = vec![in alloc; 0u128; catalogue.instruments().len()]?;
+    add_recorders(totals.as_mut_slice(), catalogue.recorders());
+    Ok(Items::from_vec(totals))
+}
+
+// Adds the budgets of all recorders to totals that are 0.
+fn add_recorders(totals: &mut [u128], recorders: &[Recorder])
+    requires few { length recorders.now ≤ 64 }
+    requires known { All (IsSoundRecorder (length totals.old)) recorders.now }
+    requires zero { (i : ℕ) → slice_index totals.old i ≡ 0 }
+    ensures length { length totals.new ≡ length totals.old }
+    ensures added { (i : ℕ) → i < length totals.old → slice_index totals.new i
+        ≡ sum_by (λ recorder. amount_of recorder i) recorders.now }
+{
+    for recorder in recorders {
+        add_budgets(totals, recorder.budgets.as_slice());
+    }
+}
+
+// Adds the budgets of a recorder, at most one for an instrument, to the totals of the instruments.
+fn add_budgets(totals: &mut [u128], budgets: &[Budget])
+    requires known { All (IsSoundBudget (length totals.old)) budgets.now }
+    requires apart { AllPairs (λ b other. b.instrument ≢ other.instrument) budgets.now }
+    requires room { (i : ℕ) → i < length totals.old → slice_index totals.old i ≤ 2 ^ 127 }
+    ensures length { length totals.new ≡ length totals.old }
+    ensures added { (i : ℕ) → i < length totals.old
+        → slice_index totals.new i
+        ≡ slice_index totals.old i + amount_in (find (is_budget i) budgets.now) }
+{
+    for budget in budgets {
+        totals[budget.instrument as usize] += u128::from(budget.amount);
+    }
 }
 
 /// How far apart two sums of at most so many values of a range may be.

@@ -8,6 +8,6 @@ mod amounts;
 mod products;
 mod sums;
 
-pub use amounts::{amount, high, low, total};
+pub use amounts::{amount, high, low, total, totals};
 pub use products::sets;
-pub use sums::keeps_sum;
+pub use sums::{keeps_sum, summed};

@@ -1,5 +1,5 @@
 -- Attributes in another order name the same set key.
-use Rattle.std.proofs.Common.{◌≡◌, ℕ, ◌+◌, ◌≤◌, Bool, true, false, cond, not, ◌&&◌, ◌||◌, List, [], ◌∷◌, ◌++◌, ◌-◌, length, map, replicate, find, Option, Some, None, is_some, unwrap_or, Result, Ok, refl, sym, ap, subst, ◌∙◌, arith, slice_get, true≢false}
+use Rattle.std.proofs.Common.{◌≡◌, ℕ, ◌+◌, ◌≤◌, Bool, true, false, cond, not, ◌&&◌, ◌||◌, List, [], ◌∷◌, ◌++◌, ◌-◌, length, map, replicate, find, Option, Some, None, unwrap_or, Result, Ok, refl, sym, ap, subst, ◌∙◌, arith, slice_get, true≢false}
 use Rattle.std.proofs.lemmas.Slice.Eq.{bytes_eq-Decides}
 use Rattle.std.proofs.lemmas.List.Sorted.{list_any-IsPermutation, sum_by-IsPermutation}
 use Rattle.std.proofs.lemmas.List.Sums.{sum_by-cons}
@@ -13,7 +13,7 @@ use Rattle.metric_catalogue.specs.declared.contents.Instrument.{Instrument}
 use Rattle.metric_catalogue.specs.declared.contents.Key.{Key}
 use Rattle.metric_catalogue.specs.declared.refusal.Refusal.{Refusal}
 use Rattle.metric_catalogue.specs.declared.refusal.Refusal.TheVariants.{UnknownInstrument, DuplicateKey, UnknownKey, UnknownValue, MissingKey}
-use Rattle.metric_catalogue.specs.Encoding.{Given, encode_of, entry_at, entry_of, has_repeated_key, is_complete, is_declared, is_of, set_of}
+use Rattle.metric_catalogue.specs.Encoding.{Given, encode_of, entry_at, entry_of, has_declared_value, has_repeated_key, is_complete, is_declared, is_of, set_of}
 use Rattle.metric_catalogue.specs.Places.{place, same_value}
 use Rattle.metric_catalogue.proofs.Differing.{neither, repeated_same}
 use Rattle.metric_catalogue.proofs.SameValues.{same_value-Decides}
@@ -106,10 +106,10 @@ few_of (given ∷ attrs) name e =
     by false h alone rest = let one = count_by-no (is_of name) given attrs h in omega arith
 
 abbrev steps : Bool → Bool → Bool → Bool → List ℕ → Result (List ℕ) Refusal
-steps repeated declared allowed complete set = do
+steps repeated declared valued complete set = do
   _ ← require (not repeated) DuplicateKey
   _ ← require declared UnknownKey
-  _ ← require allowed UnknownValue
+  _ ← require valued UnknownValue
   _ ← require complete MissingKey
   Ok set
 
@@ -149,7 +149,7 @@ module _ (xs ys : List Given) (perm : IsPermutation xs ys) where
   set_of_by : (b : Bool) → has_repeated_key xs ≡ b → (keys : List Key) → set_of keys xs ≡ set_of keys ys
   unfolding set_of
   set_of_by true e keys = let also : has_repeated_key ys ≡ true = sym (repeated_same xs ys perm) ∙ e in rw (e, also) refl
-  set_of_by false e keys = λ i. steps (repeated_same xs ys perm i) (all_same (is_declared keys) i) (list_all (λ key. is_some (entry_same e key i)) keys) (complete_same keys i)
+  set_of_by false e keys = λ i. steps (repeated_same xs ys perm i) (all_same (is_declared keys) i) (all_same (has_declared_value keys) i) (complete_same keys i)
       (map (λ key. unwrap_or (entry_same e key i) 0) keys ++ replicate (8 - length keys) 0)
 
   encode_by : (o : Option Instrument) → (require_some o UnknownInstrument >>= λ instrument. set_of instrument.keys xs) ≡ (require_some o UnknownInstrument >>= λ instrument. set_of instrument.keys ys)

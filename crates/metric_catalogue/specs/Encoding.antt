@@ -30,6 +30,14 @@ has_repeated_key (given ∷ attrs) = list_any (is_of given.0) attrs || has_repea
 abbrev pub is_declared : List Key → Given → Bool
 is_declared keys given = list_any (is_key given.0) keys
 
+-- where the attribute is of the key, the key declares its value
+abbrev pub declares : Given → Key → Bool
+declares given key = not (is_of key.name given) || is_some (place key.values given.1)
+
+-- the attribute's value is declared for its key
+abbrev pub has_declared_value : List Key → Given → Bool
+has_declared_value keys given = list_all (declares given) keys
+
 -- the key is given, or may be left out
 abbrev pub is_complete : List Given → Key → Bool
 is_complete attrs key = key.optional || list_any (is_of key.name) attrs
@@ -47,10 +55,6 @@ entry_of key (Some given) = entry_with key given.1
 abbrev pub entry_at : List Given → Key → Option ℕ
 entry_at attrs key = entry_of key (find (is_of key.name) attrs)
 
--- the key declares the value that it is given, where it is given one
-abbrev pub is_allowed : List Given → Key → Bool
-is_allowed attrs key = is_some (entry_at attrs key)
-
 -- an entry for each declared key, and 0 in the places that are left
 abbrev pub set_key : List Key → List Given → List ℕ
 set_key keys attrs = map (λ key. unwrap_or (entry_at attrs key) 0) keys ++ replicate (8 - length keys) 0
@@ -60,7 +64,7 @@ unfoldable pub set_of : List Key → List Given → Result (List ℕ) Refusal
 set_of keys attrs = do
   _ ← require (not (has_repeated_key attrs)) DuplicateKey
   _ ← require (list_all (is_declared keys) attrs) UnknownKey
-  _ ← require (list_all (is_allowed attrs) keys) UnknownValue
+  _ ← require (list_all (has_declared_value keys) attrs) UnknownValue
   _ ← require (list_all (is_complete attrs) keys) MissingKey
   Ok (set_key keys attrs)
 

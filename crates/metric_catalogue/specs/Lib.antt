@@ -13,5 +13,6 @@ pub mod Recorders
 pub mod Catalogues
 pub mod Sound
 pub mod Encoding
+pub mod ByKeys
 pub mod Attributes
 pub mod Budgets

@@ -1,10 +1,11 @@
 //! The set key that attributes name.
-ghost use Rattle.std.specs.Prelude.{◌≡◌, ◌≤◌, None, Some, find, if◌then◌else◌, length, map, true, vec_capacity};
+ghost use Rattle.std.specs.Prelude.{◌≡◌, ◌≤◌, None, Some, false, find, if◌then◌else◌, length, map, true, vec_capacity};
 ghost use Rattle.std.specs.List.{list_all, list_any};
 ghost use Rattle.std.specs.Option.{option_copied};
 ghost use Rattle.metric_names.specs.Values.{value_of};
 ghost use Rattle.metric_catalogue.specs.Attributes.{given_by_owned};
-ghost use Rattle.metric_catalogue.specs.Encoding.{IgnoresOrder, encode_of, entry_at, entry_with, is_allowed, is_complete, is_declared, is_of, set_key, set_of};
+ghost use Rattle.metric_catalogue.specs.ByKeys.{is_allowed};
+ghost use Rattle.metric_catalogue.specs.Encoding.{IgnoresOrder, encode_of, entry_at, entry_with, has_declared_value, has_repeated_key, is_complete, is_declared, is_of, set_key, set_of};
 ghost use Rattle.metric_catalogue.specs.Keys.{is_key};
 
 use crate::attributes::{Attribute, OwnedAttr};
@@ -147,8 +148,18 @@ fn is_complete<A: Attribute>(key: &Key, attrs: &[A]) -> bool
     key.optional || is_given(attrs, key.name.as_str())
 }
 
-// The set key of attributes, or nothing where a key does not declare the value that it is given.
+// The set key of attributes, or nothing where some value is not declared for its key.
 fn set_key<A: Attribute>(keys: &[Key], attrs: &[A]) -> Option<SetKey>
+    requires keys { length keys.now ≤ 8 }
+    requires distinct { has_repeated_key (map A.given attrs.now) ≡ false }
+    ensures { result ≡ (if list_all (has_declared_value keys.now) (map A.given attrs.now)
+        then Some (set_key keys.now (map A.given attrs.now)) else None) }
+{
+    entries_of(keys, attrs)
+}
+
+// The entry of each key, or nothing where some key does not declare the value that it is given.
+fn entries_of<A: Attribute>(keys: &[Key], attrs: &[A]) -> Option<SetKey>
     requires { length keys.now ≤ 8 }
     ensures { result ≡ (if list_all (is_allowed (map A.given attrs.now)) keys.now
         then Some (set_key keys.now (map A.given attrs.now)) else None) }

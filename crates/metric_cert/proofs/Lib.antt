@@ -2,3 +2,10 @@ pub mod Digits
 pub mod Spelled
 pub mod Tabled
 pub mod Written
+mod Finds
+mod Pairs
+mod Named
+mod Numbered
+mod Collided
+mod Rising
+mod Validity

@@ -12,13 +12,8 @@ use Rattle.std.proofs.lemmas.Int.{to_z-of_z}
 use Rattle.std.proofs.lemmas.Fmt.{decimal_is_IsNumeral_wide}
 use Rattle.std.proofs.lemmas.Slice.Eq.{bytes_eq-Decides}
 use Rattle.std.proofs.lemmas.Str.Parse.{digit_from_value}
-use Rattle.metric_text.specs.ReadingLaws.{some_when}
+use Rattle.metric_text.specs.ReadingLaws.{none_from, some_when}
 use Rattle.metric_cert.specs.Decimals.{wide_of}
-
--- no value, so none
-none_from : {A : Type 0} (o : Option A) → ((x : A) → o ≡ Some x → ⊥) → o ≡ None
-none_from None never = refl
-none_from (Some x) never = absurd (never x refl)
 
 both_true : (a b : Bool) → (a && b) ≡ true → (a ≡ true) × (b ≡ true)
 both_true true b e = (refl, e)

@@ -1,7 +1,9 @@
 pub mod Bounds
 pub mod Certificates
 pub mod Decimals
+pub mod Making
 pub mod Names
+pub mod Ordering
 pub mod Orders
 pub mod Reading
 pub mod Reasons

@@ -1,1 +1,9 @@
-pub mod PlanLaws
+pub mod EvidenceLaws
+pub mod OfferLaws
+pub mod OrderLaws
+pub mod OwnStreams
+pub mod Pairs
+pub mod Safety
+pub mod Singles
+pub mod Validity
+pub mod Walks

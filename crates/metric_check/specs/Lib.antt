@@ -1,3 +1,6 @@
-pub mod Faults
-pub mod Counting
-pub mod Plans
+pub mod Checked
+pub mod Findings
+pub mod Known
+pub mod Offered
+pub mod Paired
+pub mod Rising

@@ -1,10 +1,22 @@
-//! Plans: a catalogue with a config, their streams, and the facts on which the run of each instrument
-//! depends.
+//! The check of certificates: whether a certificate shows that a catalogue and a config can overflow
+//! neither a limit nor a number.
+//!
+//! It trusts nobody who made the certificate, and matches no name itself: it confirms the reasons, fills the
+//! streams that they give, and compares what the certificate says of them.
 #![tactic(auto)]
 
-mod counting;
-mod fault;
-mod plan;
+mod bounds;
+mod certificates;
+mod entries;
+mod evidence;
+mod laws;
+mod limits;
+mod numbers;
+mod offers;
+mod orders;
+mod reasons;
+mod stream_list;
 
-pub use fault::CheckFault;
-pub use plan::Plan;
+pub use certificates::check;
+pub use laws::{faults_are_single, nothing_is_found_where_valid, valid_is_safe};
+pub use metric_plan::{CheckFault, Plan};

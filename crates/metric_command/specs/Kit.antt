@@ -7,12 +7,22 @@ use Rattle.clap.specs.declared.builder.ArgAction.TheVariants.{SetTrue}
 abbrev pub trial_flag : Rule
 trial_flag = record (new_rule (codes "trial")) { long = Some (codes "trial"); action = Some SetTrue }
 
+abbrev pub make_app : App
+make_app = new_app (codes "make")
+
+abbrev pub check_app : App
+check_app = new_app (codes "check")
+
 abbrev pub show_app : App
 show_app = new_app (codes "show")
 
 abbrev pub replay_app : App
 replay_app = with_rule (new_app (codes "replay")) trial_flag
 
+-- the program, with a subcommand for each command that has no flags
+abbrev pub plain_app : App
+plain_app = with_subcommand (with_subcommand (with_subcommand (new_app (codes "metric_kit")) make_app.top) check_app.top) show_app.top
+
 -- the program, with a subcommand for each command
 abbrev pub kit_app : App
-kit_app = with_subcommand (with_subcommand (new_app (codes "metric_kit")) show_app.top) replay_app.top
+kit_app = with_subcommand plain_app replay_app.top

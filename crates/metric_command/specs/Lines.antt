@@ -5,7 +5,7 @@ use Rattle.std.specs.Str.{bytes_eq}
 use Rattle.clap.specs.Words.{Row, Text, fault_of, first_of, subcommand_of, takes}
 use Rattle.metric_command.specs.Kit.{kit_app}
 use Rattle.metric_command.specs.declared.line.Line.{Line}
-use Rattle.metric_command.specs.declared.line.Line.TheVariants.{Show, Replay}
+use Rattle.metric_command.specs.declared.line.Line.TheVariants.{Make, Check, Show, Replay}
 
 -- whether a flag was given: clap keeps the text "true" of it then
 abbrev pub has_flag : Text → List Row → Bool
@@ -14,7 +14,11 @@ has_flag flag rows = option_map_or (λ text. bytes_eq text (codes "true")) (firs
 -- the command by its name, with its flags; no name means a trial
 abbrev pub line_in : Option (Text × List Row) → Line
 line_in None = Replay true
-line_in (Some (name, rows)) = if bytes_eq name (codes "show") then Show else Replay (has_flag (codes "trial") rows)
+line_in (Some (name, rows)) =
+    if bytes_eq name (codes "make") then Make
+    else if bytes_eq name (codes "check") then Check
+    else if bytes_eq name (codes "show") then Show
+    else Replay (has_flag (codes "trial") rows)
 
 -- clap has a fault of some kind to tell
 abbrev pub IsRefused : List Text → Type 0

@@ -1,12 +1,14 @@
 // Which command lines the program has, as its definitions tell clap of them.
 ghost use Rattle.std.specs.Prelude.{List, ℕ, [], ◌∷◌, codes, true, false};
 ghost use Rattle.metric_command.specs.Lines.{IsRefused, Means};
-ghost use Rattle.metric_command.specs.declared.line.Line.TheVariants.{Show, Replay};
+ghost use Rattle.metric_command.specs.declared.line.Line.TheVariants.{Make, Check, Show, Replay};
 
 /// Clap takes each line of the program, whatever the first word is, and this is what it means. Does
 /// nothing.
 pub fn lines_are_taken()
     ensures no_words { (name : List ℕ) → Means (name ∷ []) (Replay true) }
+    ensures make { (name : List ℕ) → Means (name ∷ codes "make" ∷ []) Make }
+    ensures check { (name : List ℕ) → Means (name ∷ codes "check" ∷ []) Check }
     ensures show { (name : List ℕ) → Means (name ∷ codes "show" ∷ []) Show }
     ensures replay { (name : List ℕ) → Means (name ∷ codes "replay" ∷ []) (Replay false) }
     ensures trial { (name : List ℕ) →

@@ -11,6 +11,10 @@ use thiserror::Error;
 /// A command of the program, with its flags.
 #[derive(Clone, Copy, Debug, PartialEq, Eq)]
 pub enum Line {
+    /// Print a certificate that a catalogue and a config are safe.
+    Make,
+    /// Check a certificate that a catalogue and a config are safe.
+    Check,
     /// Print the streams and the warnings of a config.
     Show,
     /// Replay a script and print its replies.

@@ -1,16 +1,16 @@
 // The reading of a command line.
 ghost use Rattle.std.specs.Prelude.{◌≡◌, [], IfOk, IsErrOf, OnOk, Some, map, true};
 ghost use Rattle.clap.specs.Words.{app_of, fault_of, found_of, rows_of, subcommand_of, subcommand_rows_of, takes};
-ghost use Rattle.metric_command.specs.Kit.{kit_app};
+ghost use Rattle.metric_command.specs.Kit.{kit_app, plain_app};
 ghost use Rattle.metric_command.specs.Lines.{IsRefused, has_flag, line_in};
 
 use crate::line::{Line, LineFault};
 use clap::{Arg, ArgAction, ArgMatches, Command};
 use std::alloc::{AllocError, Global};
 
-/// The command that the words of a command line ask for: `show`, `replay` or `replay --trial`. The
-/// first word is the program's name, whatever it is. No further word asks for a trial, and so does
-/// the word `--` alone, which clap takes as the end of the flags.
+/// The command that the words of a command line ask for: `make`, `check`, `show`, `replay` or
+/// `replay --trial`. The first word is the program's name, whatever it is. No further word asks for a
+/// trial, and so does the word `--` alone, which clap takes as the end of the flags.
 ///
 /// # Errors
 ///
@@ -39,9 +39,17 @@ fn kit_command<'a>(alloc: Global) -> Result<Command<'a>, AllocError>
         .long("trial")
         .action(ArgAction::SetTrue);
     let replay = Command::new(alloc, "replay").arg(trial)?;
+    plain_command(alloc)?.subcommand(replay)
+}
+
+// The program with the commands that have no flags.
+fn plain_command<'a>(alloc: Global) -> Result<Command<'a>, AllocError>
+    ensures { IfOk result (λ command. app_of command ≡ plain_app) }
+{
     Command::new(alloc, "metric_kit")
-        .subcommand(Command::new(alloc, "show"))?
-        .subcommand(replay)
+        .subcommand(Command::new(alloc, "make"))?
+        .subcommand(Command::new(alloc, "check"))?
+        .subcommand(Command::new(alloc, "show"))
 }
 
 fn line_of(matches: &ArgMatches<'_>) -> Line
@@ -57,6 +65,8 @@ fn named_line(command: &str, flags: &ArgMatches<'_>) -> Line
     ensures { result ≡ line_in (Some (command.now, rows_of (found_of flags.now))) }
 {
     match command {
+        "make" => Line::Make,
+        "check" => Line::Check,
         "show" => Line::Show,
         _ => Line::Replay {
             trial: is_given(flags, "trial"),

@@ -1,6 +1,7 @@
 mod AnswerLaws
 mod OutputLaws
 mod PartLaws
+mod PlanLaws
 mod Replayed
 mod RunLaws
 mod TextLaws

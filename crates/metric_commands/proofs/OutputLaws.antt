@@ -1,5 +1,5 @@
 -- An input has one output.
-use Rattle.std.proofs.Common.{false, ◌≡◌, ℕ, List, [], Option, Some, sym, ap, subst, ◌∙◌}
+use Rattle.std.proofs.Common.{Bool, true, false, inl, inr, ◌≡◌, ℕ, List, [], Option, Some, sym, ap, subst, ◌∙◌}
 use Rattle.metric_base.specs.StepLaws.{ok_is}
 use Rattle.metric_catalogue.specs.Catalogues.{catalogue_of}
 use Rattle.metric_catalogue.specs.declared.contents.Contents.{Contents as Declared}
@@ -12,10 +12,11 @@ use Rattle.metric_parts.specs.declared.needs.Needs.{Needs}
 use Rattle.metric_parts.specs.declared.parts.Parts.{Parts}
 use Rattle.metric_script.specs.Scripts.{IsScript}
 use Rattle.metric_history.specs.Legal.{AllLegal}
-use Rattle.metric_check.specs.Plans.{PlanValue, plan_of}
+use Rattle.metric_plan.specs.Plans.{PlanValue, plan_of}
 use Rattle.metric_history.specs.declared.event.Event.{Event}
 use Rattle.metric_history.specs.declared.event.Reply.{Reply}
 use Rattle.metric_commands.specs.declared.options.ReplayOptions.{ReplayOptions}
+use Rattle.metric_commands.specs.Declarations.{IsDeclared}
 use Rattle.metric_commands.specs.Replies.{replies_text}
 use Rattle.metric_commands.specs.Replaying.{IsPlanned, IsOutput}
 use Rattle.metric_commands.proofs.AnswerLaws.{one_run}
@@ -27,11 +28,19 @@ same_read : (law : (needs : Needs) (lines : List (List ℕ)) (a b : Contents) �
     → (needs : Needs) (lines : List (List ℕ)) (a b : Parts) → IsRead needs lines a → IsRead needs lines b → a ≡ b
 same_read law needs lines a b p q = p.texts ∙ ap (read_of needs) (law needs lines p.parts q.parts p.is_input q.is_input) ∙ sym q.texts
 
+-- parts have one catalogue and one config
+same_facts : (is_certified : Bool) (read : Parts) (c d : Declared) (e f : Setup) → IsDeclared read c e → IsDeclared read d f → plan_of is_certified c e ≡ plan_of is_certified d f
+same_facts is_certified read c d e f p q =
+    let contents : c ≡ d = ok_is c d (catalogue_of read.catalogue) p.is_catalogue q.is_catalogue in
+    let config : e ≡ f = ok_is e f (config_of read.config) p.is_config q.is_config in
+    ap (λ (x : Declared). plan_of is_certified x e) contents ∙ ap (λ (x : Setup). plan_of is_certified d x) config
+
 same_plan : (options : ReplayOptions) (read : Parts) (a b : PlanValue) → IsPlanned options read a → IsPlanned options read b → a ≡ b
-same_plan options read a b p q =
-    let contents : p.contents ≡ q.contents = ok_is p.contents q.contents (catalogue_of read.catalogue) p.declared.is_catalogue q.declared.is_catalogue in
-    let config : p.config ≡ q.config = ok_is p.config q.config (config_of read.config) p.declared.is_config q.declared.is_config in
-    p.planned ∙ ap (λ (c : Declared). plan_of false c p.config) contents ∙ ap (λ (c : Setup). plan_of false q.contents c) config ∙ sym q.planned
+same_plan options read a b (inl (_, p)) (inl (_, q)) = p.planned ∙ same_facts false read p.contents q.contents p.config q.config p.declared q.declared ∙ sym q.planned
+same_plan options read a b (inr (_, p)) (inr (_, q)) =
+    p.planned ∙ same_facts true read p.contents q.contents p.config q.config p.claimed.declared q.claimed.declared ∙ sym q.planned
+same_plan options read a b (inl (trial, p)) (inr (certified, q)) = absurd cc
+same_plan options read a b (inr (certified, p)) (inl (trial, q)) = absurd cc
 
 pub one_output : (parts : (needs : Needs) (lines : List (List ℕ)) (a b : Contents) → IsInput needs lines a → IsInput needs lines b → a ≡ b)
     → (starts : (lines : List (List ℕ)) (s t : ℕ) (a b : List Event) → IsScript lines s a → IsScript lines t b → s ≡ t)

@@ -1,3 +1,6 @@
+pub mod Certifying
+pub mod Checking
+pub mod Claims
 pub mod Faults
 pub mod Commands
 pub mod Written

@@ -1,14 +1,18 @@
 -- What reading a catalogue, reading a config and planning give, as a command answers it.
-use Rattle.std.specs.Prelude.{◌≡◌, Bool, true, false, Result, Ok, Err}
+use Rattle.std.specs.Prelude.{◌≡◌, true, false, Some, Result, Ok, Err}
 use Rattle.metric_catalogue.specs.declared.contents.Contents.{Contents}
 use Rattle.metric_catalogue.specs.declared.fault.CatalogueFault.{CatalogueFault}
 use Rattle.metric_views.specs.declared.config.Setup.{Setup}
 use Rattle.metric_views.specs.declared.fault.ViewFault.{ViewFault}
-use Rattle.metric_check.specs.Counting.{is_counted}
-use Rattle.metric_check.specs.Plans.{PlanValue, plan_of}
-use Rattle.metric_check.specs.declared.fault.CheckFault.TheVariants.{CountRange}
+use Rattle.metric_cert.specs.Valid.{IsValid}
+use Rattle.metric_cert.specs.declared.certificate.Certificate.{Certificate}
+use Rattle.metric_cert.specs.declared.fault.CertFault.{CertFault}
+use Rattle.metric_check.specs.Findings.{CheckFinds}
+use Rattle.metric_plan.specs.Counting.{is_counted}
+use Rattle.metric_plan.specs.Plans.{PlanValue, plan_of}
+use Rattle.metric_plan.specs.declared.fault.CheckFault.TheVariants.{CountRange}
 use Rattle.metric_commands.specs.declared.fault.KitFault.{KitFault}
-use Rattle.metric_commands.specs.declared.fault.KitFault.TheVariants.{Catalogue, Config as BadConfig, Check, NotYet, Memory}
+use Rattle.metric_commands.specs.declared.fault.KitFault.TheVariants.{Catalogue, Config as BadConfig, Certificate as BadCertificate, Check, Memory}
 
 -- a catalogue, or its first fault, unless memory was refused
 abbrev pub ReadsCatalogue : Result Contents KitFault → Result Contents CatalogueFault → Type 0
@@ -23,10 +27,22 @@ ReadsConfig (Err (BadConfig fault)) read = read ≡ Err fault
 ReadsConfig (Err Memory) read = Unit {0}
 ReadsConfig (Err _) read = ⊥
 
--- the plan of a trial, that its budgets cannot be counted, or that it is no trial, unless memory was refused
-abbrev pub Plans : Result PlanValue KitFault → Bool → Contents → Setup → Type 0
-Plans (Ok plan) trial contents config = (trial ≡ true) × (is_counted contents ≡ true) × (plan ≡ plan_of false contents config)
-Plans (Err (Check CountRange)) trial contents config = (trial ≡ true) × (is_counted contents ≡ false)
-Plans (Err NotYet) trial contents config = trial ≡ false
-Plans (Err Memory) trial contents config = Unit {0}
-Plans (Err _) trial contents config = ⊥
+abbrev pub ReadsCertificate : Result Certificate KitFault → Result Certificate CertFault → Type 0
+ReadsCertificate (Ok certificate) read = read ≡ Ok certificate
+ReadsCertificate (Err (BadCertificate fault)) read = read ≡ Err fault
+ReadsCertificate (Err Memory) read = Unit {0}
+ReadsCertificate (Err _) read = ⊥
+
+-- the certified plan, or the first fault of the certificate's check, unless memory was refused
+abbrev pub Certifies : Result PlanValue KitFault → Contents → Setup → Certificate → Type 0
+Certifies (Ok plan) contents config certificate = IsValid contents config certificate × (plan ≡ plan_of true contents config)
+Certifies (Err (Check fault)) contents config certificate = CheckFinds contents config certificate (Some fault)
+Certifies (Err Memory) contents config certificate = Unit {0}
+Certifies (Err _) contents config certificate = ⊥
+
+-- the plan of a trial, or that its budgets cannot be counted, unless memory was refused
+abbrev pub Tries : Result PlanValue KitFault → Contents → Setup → Type 0
+Tries (Ok plan) contents config = (is_counted contents ≡ true) × (plan ≡ plan_of false contents config)
+Tries (Err (Check CountRange)) contents config = is_counted contents ≡ false
+Tries (Err Memory) contents config = Unit {0}
+Tries (Err _) contents config = ⊥

@@ -5,7 +5,7 @@ use Rattle.metric_catalogue.specs.declared.refusal.Refusal.{Refusal}
 use Rattle.metric_catalogue.specs.declared.refusal.Refusal.TheVariants as refusals
 use Rattle.metric_history.specs.declared.event.Reply.{Reply}
 use Rattle.metric_history.specs.declared.event.Reply.TheVariants.{Accepted, Collected, Done, Refused}
-use Rattle.metric_check.specs.Plans.{PlanValue}
+use Rattle.metric_plan.specs.Plans.{PlanValue}
 use Rattle.metric_lines.specs.Batches.{batch_text}
 use Rattle.metric_commands.specs.Written.{parts_text}
 

@@ -2,7 +2,7 @@
 use Rattle.std.specs.Prelude.{◌≡◌, ℕ, false, List, []}
 use Rattle.std.specs.List.{list_any}
 use Rattle.metric_history.specs.Legal.{AllLegal}
-use Rattle.metric_check.specs.Plans.{PlanValue}
+use Rattle.metric_plan.specs.Plans.{PlanValue}
 use Rattle.metric_history.specs.declared.event.Event.{Event}
 use Rattle.metric_history.specs.declared.event.Reply.{Reply}
 use Rattle.metric_commands.specs.Replies.{is_want_of_memory}

@@ -1,5 +1,5 @@
 //! The replies to the script of an input.
-ghost use Rattle.std.specs.Prelude.{◌≡◌, IfOk, IfErr};
+ghost use Rattle.std.specs.Prelude.{◌≡◌, IfOk, IfErr, IsSome, false};
 ghost use Rattle.std.specs.List.{list_any};
 ghost use Rattle.metric_commands.specs.Replaying.{IsFirstFault, IsOutput, IsPlanFault, IsPlanned};
 ghost use Rattle.metric_commands.specs.Replies.{is_want_of_memory, replies_text};
@@ -8,12 +8,13 @@ ghost use Rattle.metric_commands.specs.Runs.{IsRun};
 
 use crate::fault::KitFault;
 use crate::options::ReplayOptions;
-use crate::planning::{catalogue_of, config_of, plan_of};
+use crate::planning::{certified_plan, trial_plan};
 use metric_catalogue::Refusal;
-use metric_check::Plan;
 use metric_core::Core;
 use metric_history::{Event, Reply};
+use metric_marked::Marked;
 use metric_parts::{Parts, parts_of};
+use metric_plan::Plan;
 use metric_script::events_of;
 use metric_text::lines;
 use std::alloc::Global;
@@ -21,7 +22,7 @@ use std::alloc::Global;
 /// A core that has run a script, and its replies. None of them is want of memory.
 #[derive(Drop)]
 pub(crate) struct Answers {
-    pub core: Core,
+    pub core: Core<Marked>,
     pub replies: Vec<Reply>,
 }
 
@@ -43,15 +44,18 @@ pub(crate) fn answers_to(
     run(alloc, plan, script.start, script.events.as_slice())
 }
 
-// The plan of what the parts declare.
+// The plan of what the parts declare: that of a trial, or the one that their certificate shows to be safe.
 fn planned(alloc: Global, options: ReplayOptions, parts: &Parts<'_>) -> Result<Plan, KitFault>
+    requires { options.trial ≡ false → IsSome parts.now.certificate }
     ensures ok { IfOk result (IsPlanned options parts.now) }
     ensures first { IfErr result (λ fault. IsPlanFault options fault parts.now) }
     ensures own { IfErr result IsOfInput }
 {
-    let catalogue = catalogue_of(alloc, parts.catalogue.as_str())?;
-    let config = config_of(alloc, parts.config.as_str())?;
-    plan_of(alloc, options.trial, catalogue, config)
+    if options.trial {
+        trial_plan(alloc, parts)
+    } else {
+        certified_plan(alloc, parts)
+    }
 }
 
 // Runs events from a start. Want of memory for one of them is that of the whole run.

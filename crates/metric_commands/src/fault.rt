@@ -3,9 +3,10 @@ ghost use Rattle.std.specs.Prelude.{◌≡◌};
 ghost use Rattle.metric_commands.specs.Faults.{status_of};
 
 use metric_catalogue::CatalogueFault;
-use metric_check::CheckFault;
+use metric_cert::{CertFault, MakeFault};
 use metric_io::{Broken, ReadFault};
 use metric_parts::InputFault;
+use metric_plan::CheckFault;
 use metric_views::ViewFault;
 use std::alloc::{AllocError, Global};
 use thiserror::Error;
@@ -29,12 +30,16 @@ pub enum KitFault {
     /// The config is none.
     #[error("refused: config {0}")]
     Config(ViewFault),
-    /// There is no plan of the catalogue and the config.
+    /// The certificate is none.
+    #[error("refused: certificate {0}")]
+    Certificate(CertFault),
+    /// There is no plan of the catalogue and the config: the certificate does not show that they are safe, or
+    /// the budgets of a trial cannot be counted.
     #[error("refused: check {0}")]
     Check(CheckFault),
-    /// A replay by a certificate, which is not served yet.
-    #[error("refused: not yet")]
-    NotYet,
+    /// The catalogue and the config are not safe, so there is no certificate.
+    #[error("refused: make {0}")]
+    Make(MakeFault),
     /// The sink failed, or took nothing of something.
     #[error("refused: write")]
     Write,
@@ -49,8 +54,11 @@ impl KitFault {
         ensures { result ≡ status_of self.now }
     {
         match self {
-            KitFault::Catalogue(_) | KitFault::Config(_) | KitFault::Check(_) | KitFault::NotYet =>
-                1,
+            KitFault::Catalogue(_)
+            | KitFault::Config(_)
+            | KitFault::Certificate(_)
+            | KitFault::Check(_)
+            | KitFault::Make(_) => 1,
             KitFault::Read | KitFault::Input { .. } => 3,
             KitFault::Memory => 4,
             KitFault::Write => 5,

@@ -1,13 +1,16 @@
-//! The commands of the program: a script replayed, and the streams of a config shown.
+//! The commands of the program: a script replayed, the streams of a config shown, a certificate made, and
+//! one checked.
 //!
 //! Each reads one input of parts from a source and writes one text to a sink, or stops with the first
 //! fault that the input has.
 #![tactic(auto)]
 
 mod answers;
+mod checks;
 mod command;
 mod fault;
 mod laws;
+mod makes;
 mod options;
 mod parts;
 mod planning;
@@ -15,8 +18,10 @@ mod replays;
 mod replies;
 mod show;
 
+pub use checks::check_run;
 pub use fault::KitFault;
 pub use laws::one_output;
+pub use makes::make_run;
 pub use options::ReplayOptions;
 pub use replays::replay;
 pub use show::show_run;

@@ -9,10 +9,10 @@ ghost use Rattle.metric_commands.specs.Written.{IsSinkFault};
 use crate::fault::KitFault;
 use crate::parts::{Parts, write_parts};
 use metric_catalogue::Refusal;
-use metric_check::Plan;
 use metric_history::Reply;
 use metric_io::Sink;
 use metric_lines::push_batch;
+use metric_plan::Plan;
 use metric_text::{push_byte, push_number, push_text};
 use std::alloc::{AllocError, Global};
 

@@ -1,10 +1,12 @@
--- How what a history says of an instrument changes with one event more.
+-- How a cell keeps to a history with one event more.
 use Rattle.std.proofs.Common.{◌≡◌, ◌≢◌, ℕ, ◌<◌, Bool, true, false, ◌&&◌, cond, max, List, [], ◌∷◌, ◌++◌, Option, Some, None, Result, Ok, length, refl, sym, ap, subst, ◌∙◌, arith}
-use Rattle.std.specs.Prelude.{◌==◌, nat_lt, slice_get, slice_index, slice_index_or, slice_set}
+use Rattle.std.specs.Prelude.{◌==◌, nat_lt, slice_get, slice_index, slice_index_or}
 use Rattle.std.proofs.lemmas.Bool.{eq-eqb, ne_eqb, ltb-true}
 use Rattle.std.proofs.lemmas.Bool.Decides.{nat_tests}
-use Rattle.std.proofs.lemmas.List.{append-nil, length-set, get_or-set_same, get_or-set_other}
+use Rattle.std.proofs.lemmas.List.{append-nil, length-replicate, length-set}
 use Rattle.metric_base.specs.Steps.{◌>>=◌, require, require_some}
+use Rattle.metric_book.specs.Journals.{Standing}
+use Rattle.metric_catalogue.specs.declared.contents.Contents.{Contents}
 use Rattle.metric_catalogue.specs.declared.refusal.Refusal.{Refusal}
 use Rattle.metric_catalogue.specs.declared.refusal.Refusal.TheVariants.{UnknownInstrument, UnknownReader}
 use Rattle.metric_history.specs.Encoded.{encoded}
@@ -20,9 +22,11 @@ use Rattle.metric_history.specs.Facts.{RunFacts}
 use Rattle.metric_history.specs.Answers.{Told, recorded, collected, closing, batch}
 use Rattle.metric_history.specs.History.{History, answered, added_by, accepted, collects, mark_of, batch_time, previous_of, closes, is_closed, told_of}
 use Rattle.metric_history.specs.Legal.{LegalRecord, LegalCollect, LegalClose, Legal}
-use Rattle.metric_core.specs.Cells.{CellValue, told_by}
-use Rattle.metric_core.specs.CoreStands.{CellStands}
-use Rattle.metric_core.specs.CellSteps.{entry_of, cell_collected, cell_closed, cell_after, LegalOn}
+use Rattle.metric_core.specs.Cells.{CellStands, CellValue, new_cell, told_by}
+use Rattle.metric_core.specs.CellAnswers.{with_batch, with_entry}
+use Rattle.metric_core.specs.CoreStands.{CellKeepsTo}
+use Rattle.metric_core.specs.Steps.{CellStep, cell_after, encoded_entry, outcome}
+use Rattle.metric_core.proofs.CellLaws.{same_everywhere, set_at}
 
 -- an event that changes nothing of an instrument
 pub record IsQuiet (facts : RunFacts) (i : ℕ) (event : Event) (reply : Reply) : Type 0 where
@@ -30,11 +34,11 @@ pub record IsQuiet (facts : RunFacts) (i : ℕ) (event : Event) (reply : Reply) 
   pub collects_none : (reader : ℕ) → collects i reader event reply ≡ false
   pub closes_none : closes i event reply ≡ false
 
-pub quiet_stands : (facts : RunFacts) (own : Facts) (since : ℕ) (c : CellValue) (h : History) (i : ℕ) (event : Event) (reply : Reply)
-    → IsQuiet facts i event reply → CellStands facts own since c h i → CellStands facts own since c (answered event reply ∷ h) i
-quiet_stands facts own since c h i event reply q s = record {
+pub quiet_follows : {B : Type 0} (stands : B → Standing) (facts : RunFacts) (since : ℕ) (c : CellValue B) (h : History) (i : ℕ) (event : Event) (reply : Reply)
+    → IsQuiet facts i event reply → CellKeepsTo stands c since (told_of facts since h i) → CellKeepsTo stands c since (told_of facts since (answered event reply ∷ h) i)
+quiet_follows stands facts since c h i event reply q s = record {
+  known = subst (λ (journal : List Entry). CellStands stands c journal) (sym (ap (λ (more : List Entry). accepted facts h i ++ more) q.adds_none ∙ append-nil (accepted facts h i))) s.known;
   begins = s.begins;
-  entries = s.entries ∙ sym (ap (λ (more : List Entry). accepted facts h i ++ more) q.adds_none ∙ append-nil (accepted facts h i));
   mark = λ reader. s.mark reader ∙ sym (ap (λ (b : Bool). cond b (length (accepted facts h i)) (mark_of facts h i reader)) (q.collects_none reader));
   previous = λ reader. s.previous reader ∙ sym (ap (λ (b : Bool). cond b (max (batch_time reply) (previous_of since h i reader)) (previous_of since h i reader)) (q.collects_none reader));
   closed = s.closed ∙ sym (ap (λ (b : Bool). cond b true (is_closed h i)) q.closes_none);
@@ -51,7 +55,7 @@ refused_is_quiet facts i (Close instrument) refusal = record { adds_none = refl;
 -- an event of another instrument
 pub elsewhere_is_quiet : (facts : RunFacts) (i : ℕ) (event : Event) (reply : Reply) → instrument_of event ≢ i → IsQuiet facts i event reply
 elsewhere_is_quiet facts i (Record recorder instrument attrs value) Accepted other =
-    record { adds_none = ap (λ (b : Bool). cond b (entry_of recorder (encoded facts.contents instrument attrs) value ∷ []) []) (ne_eqb instrument i other); collects_none = λ reader. refl; closes_none = refl }
+    record { adds_none = ap (λ (b : Bool). cond b (encoded_entry recorder (encoded facts.contents instrument attrs) value ∷ []) []) (ne_eqb instrument i other); collects_none = λ reader. refl; closes_none = refl }
 elsewhere_is_quiet facts i (Record recorder instrument attrs value) (Collected b) other = record { adds_none = refl; collects_none = λ reader. refl; closes_none = refl }
 elsewhere_is_quiet facts i (Record recorder instrument attrs value) Done other = record { adds_none = refl; collects_none = λ reader. refl; closes_none = refl }
 elsewhere_is_quiet facts i (Record recorder instrument attrs value) (Refused refusal) other = record { adds_none = refl; collects_none = λ reader. refl; closes_none = refl }
@@ -70,50 +74,47 @@ pub collected_known : (known : Bool) (b given : Batch) → LegalCollect (require
 collected_known true b given legal = (refl, legal)
 collected_known false b given legal = absurd legal
 
-set_at : (xs : List ℕ) (q r x d : ℕ) → q < length xs → slice_index_or (slice_set xs q x) r d ≡ cond (q == r) x (slice_index_or xs r d)
-set_at xs q r x d below = at (q == r) refl
-  where
-    at : (b : Bool) → (q == r) ≡ b → slice_index_or (slice_set xs q x) r d ≡ cond b x (slice_index_or xs r d)
-    at true e = let same : q ≡ r = grind (arith, nat_tests) in subst (λ (k : ℕ). slice_index_or (slice_set xs q x) k d ≡ x) same (get_or-set_same xs q x d below)
-    at false e = let other : r ≢ q = grind (arith, nat_tests) in get_or-set_other xs q r x d other
-
--- the state after an accepted recording
-recorded_stands : (facts : RunFacts) (own : Facts) (since : ℕ) (c : CellValue) (h : History) (i : ℕ) (entry : Entry) (event : Event)
+-- the cell after an accepted recording
+recorded_follows : {B : Type 0} (stands : B → Standing) (facts : RunFacts) (since : ℕ) (c new : CellValue B) (h : History) (i : ℕ) (entry : Entry) (event : Event)
     → added_by facts i event Accepted ≡ entry ∷ [] → ((reader : ℕ) → collects i reader event Accepted ≡ false) → closes i event Accepted ≡ false
-    → CellStands facts own since c h i → CellStands facts own since (record c { entries = c.entries ++ entry ∷ [] }) (answered event Accepted ∷ h) i
-recorded_stands facts own since c h i entry event adds collects_none closes_none s = record {
-  begins = s.begins;
-  entries = ap (λ (es : List Entry). es ++ entry ∷ []) s.entries ∙ ap (λ (more : List Entry). accepted facts h i ++ more) (sym adds);
-  mark = λ reader. s.mark reader ∙ sym (ap (λ (b : Bool). cond b (length (accepted facts h i)) (mark_of facts h i reader)) (collects_none reader));
-  previous = λ reader. s.previous reader ∙ sym (ap (λ (b : Bool). cond b (max 0 (previous_of since h i reader)) (previous_of since h i reader)) (collects_none reader));
-  closed = s.closed ∙ sym (ap (λ (b : Bool). cond b true (is_closed h i)) closes_none);
-  one_mark_each = s.one_mark_each;
-  one_time_each = s.one_time_each;
+    → ((journal : List Entry) → CellStands stands c journal → CellStands stands new (journal ++ entry ∷ [])) → new ≡ with_entry c entry new.book
+    → CellKeepsTo stands c since (told_of facts since h i) → CellKeepsTo stands new since (told_of facts since (answered event Accepted ∷ h) i)
+recorded_follows {B} stands facts since c new h i entry event adds collects_none closes_none gains after s = record {
+  known = subst (λ (more : List Entry). CellStands stands new (accepted facts h i ++ more)) (sym adds) (gains (accepted facts h i) s.known);
+  begins = ap (λ (v : CellValue B). v.start) after ∙ s.begins;
+  mark = λ reader. ap (λ (v : CellValue B). slice_index v.marks reader) after ∙ s.mark reader ∙ sym (ap (λ (b : Bool). cond b (length (accepted facts h i)) (mark_of facts h i reader)) (collects_none reader));
+  previous = λ reader. ap (λ (v : CellValue B). slice_index_or v.times reader v.start) after ∙ s.previous reader ∙ sym (ap (λ (b : Bool). cond b (max 0 (previous_of since h i reader)) (previous_of since h i reader)) (collects_none reader));
+  closed = ap (λ (v : CellValue B). v.is_closed) after ∙ s.closed ∙ sym (ap (λ (b : Bool). cond b true (is_closed h i)) closes_none);
+  one_mark_each = ap (λ (v : CellValue B). length v.marks) after ∙ s.one_mark_each ∙ sym (ap (λ (v : CellValue B). length v.facts.delta) after);
+  one_time_each = ap (λ (v : CellValue B). length v.times) after ∙ s.one_time_each ∙ sym (ap (λ (v : CellValue B). length v.facts.delta) after);
 }
 
--- the state after an answered collection
-collected_stands : (facts : RunFacts) (own : Facts) (since : ℕ) (c : CellValue) (h : History) (i q now : ℕ) (b : Batch)
-    → LegalCollect (collected own c.start (told_by c) q now) (Collected b)
-    → CellStands facts own since c h i → CellStands facts own since (cell_collected c q (Collected b)) (answered (Collect q i now) (Collected b) ∷ h) i
-collected_stands facts own since c h i q now b legal s =
-    let parts = collected_known (nat_lt q (length own.delta)) (batch own c.start (told_by c) q now) b legal in
-    let known : q < length own.delta = ltb-true q (length own.delta) parts.0 in
+-- the cell after an answered collection
+collected_follows : {B : Type 0} (stands : B → Standing) (facts : RunFacts) (since : ℕ) (c new : CellValue B) (h : History) (i q now : ℕ) (b : Batch)
+    → LegalCollect (collected c.facts c.start (told_by c (accepted facts h i)) q now) (Collected b)
+    → CellStands stands new (accepted facts h i ++ []) → new ≡ with_batch c q b.time new.book
+    → CellKeepsTo stands c since (told_of facts since h i) → CellKeepsTo stands new since (told_of facts since (answered (Collect q i now) (Collected b) ∷ h) i)
+collected_follows {B} stands facts since c new h i q now b legal kept after s =
+    let parts = collected_known (nat_lt q (length c.facts.delta)) (batch c.facts c.start (told_by c (accepted facts h i)) q now) b legal in
+    let known : q < length c.facts.delta = ltb-true q (length c.facts.delta) parts.0 in
     let time : b.time ≡ max now (slice_index_or c.times q c.start) = ap (λ (given : Batch). given.time) parts.1 in
     record {
-      begins = s.begins;
-      entries = s.entries ∙ sym (append-nil (accepted facts h i));
+      known = kept;
+      begins = ap (λ (v : CellValue B). v.start) after ∙ s.begins;
       mark = λ r.
-          set_at c.marks q r (length c.entries) 0 (omega (arith, s.one_mark_each))
-          ∙ ap (λ (n : ℕ). cond (q == r) n (slice_index c.marks r)) (ap length s.entries)
+          ap (λ (v : CellValue B). slice_index v.marks r) after
+          ∙ set_at c.marks q r c.count 0 (omega (arith, s.one_mark_each))
+          ∙ ap (λ (n : ℕ). cond (q == r) n (slice_index c.marks r)) s.known.counted
           ∙ ap (λ (n : ℕ). cond (q == r) (length (accepted facts h i)) n) (s.mark r)
           ∙ sym (ap (λ (t : Bool). cond (t && (q == r)) (length (accepted facts h i)) (mark_of facts h i r)) (eq-eqb i i refl));
       previous = λ r.
-          set_at c.times q r b.time c.start (omega (arith, s.one_time_each))
+          ap (λ (v : CellValue B). slice_index_or v.times r v.start) after
+          ∙ set_at c.times q r b.time c.start (omega (arith, s.one_time_each))
           ∙ later time r (q == r) refl
           ∙ sym (ap (λ (t : Bool). cond (t && (q == r)) (max b.time (previous_of since h i r)) (previous_of since h i r)) (eq-eqb i i refl));
-      closed = s.closed;
-      one_mark_each = length-set c.marks q (length c.entries) ∙ s.one_mark_each;
-      one_time_each = length-set c.times q b.time ∙ s.one_time_each;
+      closed = ap (λ (v : CellValue B). v.is_closed) after ∙ s.closed;
+      one_mark_each = ap (λ (v : CellValue B). length v.marks) after ∙ length-set c.marks q c.count ∙ s.one_mark_each ∙ sym (ap (λ (v : CellValue B). length v.facts.delta) after);
+      one_time_each = ap (λ (v : CellValue B). length v.times) after ∙ length-set c.times q b.time ∙ s.one_time_each ∙ sym (ap (λ (v : CellValue B). length v.facts.delta) after);
     }
   where
     later : b.time ≡ max now (slice_index_or c.times q c.start) → (r : ℕ) (t : Bool) → (q == r) ≡ t
@@ -124,74 +125,83 @@ collected_stands facts own since c h i q now b legal s =
         omega (arith, time, before)
     later time r false e = s.previous r
 
--- the state after a close
-closed_stands : (facts : RunFacts) (own : Facts) (since : ℕ) (c : CellValue) (h : History) (i : ℕ)
-    → CellStands facts own since c h i → CellStands facts own since (cell_closed c Done) (answered (Close i) Done ∷ h) i
-closed_stands facts own since c h i s = record {
-  begins = s.begins;
-  entries = s.entries ∙ sym (append-nil (accepted facts h i));
-  mark = s.mark;
-  previous = s.previous;
-  closed = sym (ap (λ (b : Bool). cond b true (is_closed h i)) (eq-eqb i i refl));
-  one_mark_each = s.one_mark_each;
-  one_time_each = s.one_time_each;
+-- the cell after a close
+closed_follows : {B : Type 0} (stands : B → Standing) (facts : RunFacts) (since : ℕ) (c new : CellValue B) (h : History) (i : ℕ)
+    → CellStands stands new (accepted facts h i ++ []) → new ≡ record c { is_closed = true }
+    → CellKeepsTo stands c since (told_of facts since h i) → CellKeepsTo stands new since (told_of facts since (answered (Close i) Done ∷ h) i)
+closed_follows {B} stands facts since c new h i kept after s = record {
+  known = kept;
+  begins = ap (λ (v : CellValue B). v.start) after ∙ s.begins;
+  mark = λ r. ap (λ (v : CellValue B). slice_index v.marks r) after ∙ s.mark r;
+  previous = λ r. ap (λ (v : CellValue B). slice_index_or v.times r v.start) after ∙ s.previous r;
+  closed = ap (λ (v : CellValue B). v.is_closed) after ∙ sym (ap (λ (b : Bool). cond b true (is_closed h i)) (eq-eqb i i refl));
+  one_mark_each = ap (λ (v : CellValue B). length v.marks) after ∙ s.one_mark_each ∙ sym (ap (λ (v : CellValue B). length v.facts.delta) after);
+  one_time_each = ap (λ (v : CellValue B). length v.times) after ∙ s.one_time_each ∙ sym (ap (λ (v : CellValue B). length v.facts.delta) after);
 }
 
--- the state after an event of the instrument
-pub event_stands : (facts : RunFacts) (own : Facts) (since : ℕ) (c : CellValue) (h : History) (event : Event) (reply : Reply)
-    → LegalOn facts.contents own c event reply → CellStands facts own since c h (instrument_of event)
-    → CellStands facts own since (cell_after facts.contents c event reply) (answered event reply ∷ h) (instrument_of event)
-event_stands facts own since c h (Record n i attrs v) Accepted legal s =
-    let entry : Entry = entry_of n (encoded facts.contents i attrs) v in
-    recorded_stands facts own since c h i entry (Record n i attrs v) (ap (λ (b : Bool). cond b (entry ∷ []) []) (eq-eqb i i refl)) (λ reader. refl) refl s
-event_stands facts own since c h (Record n i attrs v) (Collected b) legal s =
-    quiet_stands facts own since c h i (Record n i attrs v) (Collected b) (record { adds_none = refl; collects_none = λ reader. refl; closes_none = refl }) s
-event_stands facts own since c h (Record n i attrs v) Done legal s =
-    quiet_stands facts own since c h i (Record n i attrs v) Done (record { adds_none = refl; collects_none = λ reader. refl; closes_none = refl }) s
-event_stands facts own since c h (Record n i attrs v) (Refused refusal) legal s =
-    quiet_stands facts own since c h i (Record n i attrs v) (Refused refusal) (refused_is_quiet facts i (Record n i attrs v) refusal) s
-event_stands facts own since c h (Collect q i now) Accepted legal s =
-    quiet_stands facts own since c h i (Collect q i now) Accepted (record { adds_none = refl; collects_none = λ reader. refl; closes_none = refl }) s
-event_stands facts own since c h (Collect q i now) (Collected b) legal s = collected_stands facts own since c h i q now b legal s
-event_stands facts own since c h (Collect q i now) Done legal s =
-    quiet_stands facts own since c h i (Collect q i now) Done (record { adds_none = refl; collects_none = λ reader. refl; closes_none = refl }) s
-event_stands facts own since c h (Collect q i now) (Refused refusal) legal s =
-    quiet_stands facts own since c h i (Collect q i now) (Refused refusal) (refused_is_quiet facts i (Collect q i now) refusal) s
-event_stands facts own since c h (Close i) Accepted legal s =
-    quiet_stands facts own since c h i (Close i) Accepted (record { adds_none = refl; collects_none = λ reader. refl; closes_none = refl }) s
-event_stands facts own since c h (Close i) (Collected b) legal s =
-    quiet_stands facts own since c h i (Close i) (Collected b) (record { adds_none = refl; collects_none = λ reader. refl; closes_none = refl }) s
-event_stands facts own since c h (Close i) Done legal s = closed_stands facts own since c h i s
-event_stands facts own since c h (Close i) (Refused refusal) legal s =
-    quiet_stands facts own since c h i (Close i) (Refused refusal) (refused_is_quiet facts i (Close i) refusal) s
+-- the cell after an event that changes nothing
+same_follows : {B : Type 0} (stands : B → Standing) (facts : RunFacts) (since : ℕ) (c new : CellValue B) (h : History) (i : ℕ) (event : Event) (reply : Reply)
+    → new ≡ c → IsQuiet facts i event reply → CellKeepsTo stands c since (told_of facts since h i) → CellKeepsTo stands new since (told_of facts since (answered event reply ∷ h) i)
+same_follows {B} stands facts since c new h i event reply after q s =
+    subst (λ (v : CellValue B). CellKeepsTo stands v since (told_of facts since (answered event reply ∷ h) i)) (sym after) (quiet_follows stands facts since c h i event reply q s)
 
--- what the state tells is what the history comes to
-same_told : (facts : RunFacts) (own : Facts) (since : ℕ) (c : CellValue) (h : History) (i : ℕ) → CellStands facts own since c h i → told_by c ≡ told_of facts since h i
-same_told facts own since c h i s = λ j. record {
-  accepted = s.entries j;
+-- the cell after an event of the instrument
+pub event_follows : {B : Type 0} (stands : B → Standing) (facts : RunFacts) (since : ℕ) (c new : CellValue B) (h : History) (event : Event) (reply : Reply)
+    → CellStep stands facts.contents c event (outcome reply new) → CellKeepsTo stands c since (told_of facts since h (instrument_of event))
+    → CellKeepsTo stands new since (told_of facts since (answered event reply ∷ h) (instrument_of event))
+event_follows stands facts since c new h (Record n i attrs v) Accepted step s =
+    let entry : Entry = encoded_entry n (encoded facts.contents i attrs) v in
+    recorded_follows stands facts since c new h i entry (Record n i attrs v) (ap (λ (b : Bool). cond b (entry ∷ []) []) (eq-eqb i i refl)) (λ reader. refl) refl step.gains step.after s
+event_follows stands facts since c new h (Record n i attrs v) (Collected b) step s =
+    same_follows stands facts since c new h i (Record n i attrs v) (Collected b) step.after (record { adds_none = refl; collects_none = λ reader. refl; closes_none = refl }) s
+event_follows stands facts since c new h (Record n i attrs v) Done step s =
+    same_follows stands facts since c new h i (Record n i attrs v) Done step.after (record { adds_none = refl; collects_none = λ reader. refl; closes_none = refl }) s
+event_follows stands facts since c new h (Record n i attrs v) (Refused refusal) step s =
+    same_follows stands facts since c new h i (Record n i attrs v) (Refused refusal) step.after (refused_is_quiet facts i (Record n i attrs v) refusal) s
+event_follows stands facts since c new h (Collect q i now) Accepted step s =
+    same_follows stands facts since c new h i (Collect q i now) Accepted step.after (record { adds_none = refl; collects_none = λ reader. refl; closes_none = refl }) s
+event_follows stands facts since c new h (Collect q i now) (Collected b) step s =
+    collected_follows stands facts since c new h i q now b (step.legal (accepted facts h i) s.known) (step.gains (accepted facts h i) s.known) step.after s
+event_follows stands facts since c new h (Collect q i now) Done step s =
+    same_follows stands facts since c new h i (Collect q i now) Done step.after (record { adds_none = refl; collects_none = λ reader. refl; closes_none = refl }) s
+event_follows stands facts since c new h (Collect q i now) (Refused refusal) step s =
+    same_follows stands facts since c new h i (Collect q i now) (Refused refusal) step.after (refused_is_quiet facts i (Collect q i now) refusal) s
+event_follows stands facts since c new h (Close i) Accepted step s =
+    same_follows stands facts since c new h i (Close i) Accepted step.after (record { adds_none = refl; collects_none = λ reader. refl; closes_none = refl }) s
+event_follows stands facts since c new h (Close i) (Collected b) step s =
+    same_follows stands facts since c new h i (Close i) (Collected b) step.after (record { adds_none = refl; collects_none = λ reader. refl; closes_none = refl }) s
+event_follows stands facts since c new h (Close i) Done step s = closed_follows stands facts since c new h i (step.gains (accepted facts h i) s.known) step.after s
+event_follows stands facts since c new h (Close i) (Refused refusal) step s =
+    same_follows stands facts since c new h i (Close i) (Refused refusal) step.after (refused_is_quiet facts i (Close i) refusal) s
+
+-- what the cell tells is what the history comes to
+same_told : {B : Type 0} (stands : B → Standing) (facts : RunFacts) (since : ℕ) (c : CellValue B) (h : History) (i : ℕ) → CellKeepsTo stands c since (told_of facts since h i)
+    → told_by c (accepted facts h i) ≡ told_of facts since h i
+same_told stands facts since c h i s = λ j. record {
+  accepted = accepted facts h i;
   mark = λ reader. s.mark reader j;
   previous = λ reader. s.previous reader j;
   closed = s.closed j;
 }
 
--- what is legal in the state is legal after the history
-pub event_legal : (facts : RunFacts) (own : Facts) (since : ℕ) (c : CellValue) (h : History) (event : Event) (reply : Reply)
-    → slice_get facts.instruments (instrument_of event) ≡ Some own → CellStands facts own since c h (instrument_of event)
-    → LegalOn facts.contents own c event reply → Legal facts since h event reply
-event_legal facts own since c h (Record n i attrs v) reply known s legal =
+-- what is legal for the cell is legal after the history
+pub event_legal : {B : Type 0} (stands : B → Standing) (facts : RunFacts) (since : ℕ) (c new : CellValue B) (h : History) (event : Event) (reply : Reply)
+    → slice_get facts.instruments (instrument_of event) ≡ Some c.facts → CellKeepsTo stands c since (told_of facts since h (instrument_of event))
+    → CellStep stands facts.contents c event (outcome reply new) → Legal facts since h event reply
+event_legal stands facts since c new h (Record n i attrs v) reply known s step =
     let given = encoded facts.contents i attrs in
     subst (λ (answer : Result Entry Refusal). LegalRecord answer reply)
-    (ap (λ (t : Told). recorded own t given n v) (same_told facts own since c h i s)
-    ∙ sym (ap (λ (o : Option Facts). require_some o UnknownInstrument >>= λ f. recorded f (told_of facts since h i) given n v) known)) legal
-event_legal facts own since c h (Collect q i now) reply known s legal =
+    (ap (λ (t : Told). recorded c.facts t given n v) (same_told stands facts since c h i s)
+    ∙ sym (ap (λ (o : Option Facts). require_some o UnknownInstrument >>= λ f. recorded f (told_of facts since h i) given n v) known)) (step.legal (accepted facts h i) s.known)
+event_legal stands facts since c new h (Collect q i now) reply known s step =
     subst (λ (answer : Result Batch Refusal). LegalCollect answer reply)
-    (ap (λ (t : Told). collected own c.start t q now) (same_told facts own since c h i s)
-    ∙ ap (λ (n : ℕ). collected own n (told_of facts since h i) q now) s.begins
-    ∙ sym (ap (λ (o : Option Facts). require_some o UnknownInstrument >>= λ f. collected f since (told_of facts since h i) q now) known)) legal
-event_legal facts own since c h (Close i) reply known s legal =
+    (ap (λ (t : Told). collected c.facts c.start t q now) (same_told stands facts since c h i s)
+    ∙ ap (λ (n : ℕ). collected c.facts n (told_of facts since h i) q now) s.begins
+    ∙ sym (ap (λ (o : Option Facts). require_some o UnknownInstrument >>= λ f. collected f since (told_of facts since h i) q now) known)) (step.legal (accepted facts h i) s.known)
+event_legal stands facts since c new h (Close i) reply known s step =
     subst (λ (answer : Result (Unit {0}) Refusal). LegalClose answer reply)
-    (ap closing (same_told facts own since c h i s)
-    ∙ sym (ap (λ (o : Option Facts). require_some o UnknownInstrument >>= λ f. closing (told_of facts since h i)) known)) legal
+    (ap closing (same_told stands facts since c h i s)
+    ∙ sym (ap (λ (o : Option Facts). require_some o UnknownInstrument >>= λ f. closing (told_of facts since h i)) known)) (step.legal (accepted facts h i) s.known)
 
 -- an event of an unknown instrument
 pub unknown_legal : (facts : RunFacts) (since : ℕ) (h : History) (event : Event) → slice_get facts.instruments (instrument_of event) ≡ None
@@ -203,3 +213,31 @@ unknown_legal facts since h (Collect q i now) unknown =
     subst (λ (o : Option Facts). LegalCollect (require_some o UnknownInstrument >>= λ f. collected f since (told_of facts since h i) q now) (Refused UnknownInstrument)) (sym unknown) refl
 unknown_legal facts since h (Close i) unknown =
     subst (λ (o : Option Facts). LegalClose (require_some o UnknownInstrument >>= λ f. closing (told_of facts since h i)) (Refused UnknownInstrument)) (sym unknown) refl
+
+-- an event keeps the facts of its cell
+pub cell_facts : {B : Type 0} (contents : Contents) (c : CellValue B) (event : Event) (reply : Reply) (book : B) → (cell_after contents c event reply book).facts ≡ c.facts
+cell_facts contents c (Record n i attrs v) Accepted book = refl
+cell_facts contents c (Record n i attrs v) (Collected b) book = refl
+cell_facts contents c (Record n i attrs v) Done book = refl
+cell_facts contents c (Record n i attrs v) (Refused refusal) book = refl
+cell_facts contents c (Collect q i now) Accepted book = refl
+cell_facts contents c (Collect q i now) (Collected b) book = refl
+cell_facts contents c (Collect q i now) Done book = refl
+cell_facts contents c (Collect q i now) (Refused refusal) book = refl
+cell_facts contents c (Close i) Accepted book = refl
+cell_facts contents c (Close i) (Collected b) book = refl
+cell_facts contents c (Close i) Done book = refl
+cell_facts contents c (Close i) (Refused refusal) book = refl
+
+-- a cell without recordings keeps to the empty history
+pub new_follows : {B : Type 0} (stands : B → Standing) (facts : RunFacts) (start i : ℕ) (c : CellValue B) → c ≡ new_cell c.facts start c.book → CellStands stands c []
+    → CellKeepsTo stands c start (told_of facts start [] i)
+new_follows {B} stands facts start i c made s = record {
+  known = s;
+  begins = ap (λ (v : CellValue B). v.start) made;
+  mark = λ r. ap (λ (v : CellValue B). slice_index v.marks r) made ∙ same_everywhere (length c.facts.delta) 0 r;
+  previous = λ r. ap (λ (v : CellValue B). slice_index_or v.times r v.start) made ∙ same_everywhere (length c.facts.delta) start r;
+  closed = ap (λ (v : CellValue B). v.is_closed) made;
+  one_mark_each = ap (λ (v : CellValue B). length v.marks) made ∙ length-replicate (length c.facts.delta) 0;
+  one_time_each = ap (λ (v : CellValue B). length v.times) made ∙ length-replicate (length c.facts.delta) start;
+}

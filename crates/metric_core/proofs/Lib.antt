@@ -1,4 +1,6 @@
+pub mod BudgetLaws
+pub mod CellLaws
 pub mod HistoryLaws
-pub mod NewCells
-pub mod RangeLaws
+pub mod PlanFacts
 pub mod RunLaws
+pub mod StepLaws

@@ -1,26 +1,23 @@
--- How all cells stand for a history with one event more, and what is legal for a list of events.
-use Rattle.std.proofs.Common.{◌≡◌, ◌≢◌, ℕ, zero, suc, true, ◌<◌, ◌≤◌, ◌⊎◌, List, [], ◌∷◌, ◌++◌, Some, None, length, get_or, refl, sym, ap, subst, ◌∙◌, arith, ⊎_elim, inl, inr}
+-- How all cells keep to a history with one event more, and what is legal for a list of events.
+use Rattle.std.proofs.Common.{◌≡◌, ◌≢◌, ℕ, zero, suc, ◌<◌, ◌≤◌, List, [], ◌∷◌, ◌++◌, Some, length, get_or, refl, sym, ap, subst, ◌∙◌, arith, ⊎_elim}
 use Rattle.std.specs.Prelude.{slice_get, slice_set}
 use Rattle.std.proofs.lemmas.Bool.{cases_eq}
 use Rattle.std.proofs.lemmas.List.{length-set, get_or-set_same, get_or-set_other}
-use Rattle.std.proofs.lemmas.Option.{slice_get-get_or, slice_get_within, slice_get_past, get_or_from_slice_get}
+use Rattle.std.proofs.lemmas.Option.{slice_get-get_or, slice_get_within, slice_get_past, get_or_from_slice_get, same_Some}
+use Rattle.metric_book.specs.Journals.{Standing}
 use Rattle.metric_catalogue.specs.declared.contents.Contents.{Contents}
 use Rattle.metric_catalogue.specs.declared.refusal.Refusal.TheVariants.{UnknownInstrument}
 use Rattle.metric_history.specs.declared.event.Event.{Event}
 use Rattle.metric_history.specs.declared.event.Reply.{Reply}
 use Rattle.metric_history.specs.declared.event.Reply.TheVariants.{Refused}
 use Rattle.metric_history.specs.Events.{instrument_of}
-use Rattle.metric_history.specs.declared.facts.Facts.{Facts}
 use Rattle.metric_history.specs.Facts.{RunFacts}
-use Rattle.metric_history.specs.History.{History, answered}
-use Rattle.metric_core.specs.Steps.{Steps}
+use Rattle.metric_history.specs.History.{History, answered, told_of}
 use Rattle.metric_history.specs.Legal.{Legal, AllLegal, grown}
 use Rattle.metric_core.specs.Cells.{CellValue}
-use Rattle.metric_core.specs.CoreStands.{CellStands, CellsStand}
-use Rattle.metric_core.specs.CellSteps.{cell_after, LegalOn}
-use Rattle.metric_core.specs.Ranges.{cell_in_range, CellsInRange}
-use Rattle.metric_core.proofs.RangeLaws.{event_in_range}
-use Rattle.metric_core.proofs.HistoryLaws.{quiet_stands, refused_is_quiet, elsewhere_is_quiet, event_stands, event_legal, unknown_legal}
+use Rattle.metric_core.specs.CoreStands.{AreCellsOf, CellKeepsTo}
+use Rattle.metric_core.specs.Steps.{CellStep, Steps, outcome}
+use Rattle.metric_core.proofs.HistoryLaws.{cell_facts, elsewhere_is_quiet, event_follows, event_legal, quiet_follows, refused_is_quiet, unknown_legal}
 
 slice_get-set_same : {X : Type 0} (xs : List X) (k : ℕ) (x : X) → k < length xs → slice_get (slice_set xs k x) k ≡ Some x
 slice_get-set_same xs k x below =
@@ -31,76 +28,68 @@ slice_get-set_other xs k i x y other found =
     let below : i < length xs = omega (arith, slice_get_within (slice_set xs k x) i y found, length-set xs k x) in
     slice_get-get_or xs i y below ∙ ap Some (sym (get_or-set_other xs k i x y other) ∙ get_or_from_slice_get (slice_set xs k x) i y y found)
 
+-- what holds of each element at its place holds with one replaced, where it holds of the new one
+at_each : {X : Type 0} (P : ℕ → X → Type 0) (xs : List X) (k : ℕ) (x : X) → k < length xs → P k x
+    → ((i : ℕ) (y : X) → i ≢ k → slice_get xs i ≡ Some y → P i y) → (i : ℕ) (y : X) → slice_get (slice_set xs k x) i ≡ Some y → P i y
+at_each P xs k x below here there i y found = ⊎_elim at_k (λ other. there i y other (slice_get-set_other xs k i x y other found)) (cases_eq i k)
+  where
+    at_k : i ≡ k → P i y
+    at_k same =
+        let got : slice_get (slice_set xs k x) i ≡ Some x = subst (λ (n : ℕ). slice_get (slice_set xs k x) n ≡ Some x) (sym same) (slice_get-set_same xs k x below) in
+        let is_x : x ≡ y = same_Some x y (sym got ∙ found) in
+        subst (P i) is_x (subst (λ (n : ℕ). P n x) (sym same) here)
+
+-- what holds of each element at its place holds with one more
+pub at_each_push : {X : Type 0} (P : ℕ → X → Type 0) (xs : List X) (x : X) → ((i : ℕ) (y : X) → slice_get xs i ≡ Some y → P i y) → P (length xs) x
+    → (i : ℕ) (y : X) → slice_get (xs ++ x ∷ []) i ≡ Some y → P i y
+at_each_push P [] x each last zero y found = subst (P 0) (same_Some x y found) last
+at_each_push P [] x each last (suc i) y found = absurd cc
+at_each_push P (w ∷ xs) x each last zero y found = each 0 y found
+at_each_push P (w ∷ xs) x each last (suc i) y found = at_each_push (λ n. P (suc n)) xs x (λ j z f. each (suc j) z f) last i y found
+
+-- the facts of a cell after an event
+step_facts : {B : Type 0} (stands : B → Standing) (facts : RunFacts) (c new : CellValue B) (event : Event) (reply : Reply) → CellStep stands facts.contents c event (outcome reply new)
+    → new.facts ≡ c.facts
+step_facts {B} stands facts c new event reply step = ap (λ (v : CellValue B). v.facts) step.after ∙ cell_facts facts.contents c event reply new.book
+
 -- an event of a known instrument
-pub known_steps : (facts : RunFacts) (own : Facts) (cells : List CellValue) (c : CellValue) (event : Event) (reply : Reply)
-    → slice_get facts.instruments (instrument_of event) ≡ Some own → slice_get cells (instrument_of event) ≡ Some c
-    → LegalOn facts.contents own c event reply
-    → Steps facts cells event reply (slice_set cells (instrument_of event) (cell_after facts.contents c event reply))
-known_steps facts own cells c event reply ruled found legal = record {
-  legal = λ since h s. event_legal facts own since c h event reply ruled (s.each (instrument_of event) c own found ruled) legal;
-  stands = λ since h s. record {
-    one_each = length-set cells (instrument_of event) (cell_after facts.contents c event reply) ∙ s.one_each;
-    each = λ i c' own' found' ruled'. ⊎_elim (λ same. here since h s i c' own' found' ruled' same) (λ other. there since h s i c' own' found' ruled' other) (cases_eq i (instrument_of event));
-  };
-  in_range = λ stays. record {
-    each = λ i c' own' found' ruled'. ⊎_elim (λ same. stays_here stays i c' own' found' ruled' same)
-        (λ other. stays.each i c' own' (slice_get-set_other cells (instrument_of event) i (cell_after facts.contents c event reply) c' other found') ruled') (cases_eq i (instrument_of event));
+pub known_steps : {B : Type 0} (stands : B → Standing) (facts : RunFacts) (cells : List (CellValue B)) (c new : CellValue B) (event : Event) (reply : Reply)
+    → slice_get cells (instrument_of event) ≡ Some c → CellStep stands facts.contents c event (outcome reply new)
+    → Steps stands facts cells event (outcome reply (slice_set cells (instrument_of event) new))
+known_steps {B} stands facts cells c new event reply found step =
+    record {
+      cells_of = cells_of;
+      legal = λ since h s. event_legal stands facts since c new h event reply (s.cells_of.own (instrument_of event) c found) (s.each (instrument_of event) c found) step;
+      follows = λ since h s. record {
+        cells_of = cells_of s.cells_of;
+        each = at_each (λ (i : ℕ) (d : CellValue B). CellKeepsTo stands d since (told_of facts since (answered event reply ∷ h) i)) cells (instrument_of event) new below
+            (event_follows stands facts since c new h event reply step (s.each (instrument_of event) c found))
+            (λ i d other there. quiet_follows stands facts since d h i event reply (elsewhere_is_quiet facts i event reply (λ e. other (sym e))) (s.each i d there));
+      };
+    }
+  where
+    below : instrument_of event < length cells
+    below = slice_get_within cells (instrument_of event) c found
+
+    cells_of : AreCellsOf facts.instruments cells → AreCellsOf facts.instruments (slice_set cells (instrument_of event) new)
+    cells_of of = record {
+      one_each = length-set cells (instrument_of event) new ∙ of.one_each;
+      own = at_each (λ (i : ℕ) (d : CellValue B). slice_get facts.instruments i ≡ Some d.facts) cells (instrument_of event) new below
+          (of.own (instrument_of event) c found ∙ ap Some (sym (step_facts stands facts c new event reply step)))
+          (λ i d other there. of.own i d there);
+    }
+
+-- an event of an instrument that has no cell
+pub unknown_steps : {B : Type 0} (stands : B → Standing) (facts : RunFacts) (cells : List (CellValue B)) (event : Event) → length cells ≤ instrument_of event
+    → Steps stands facts cells event (outcome (Refused UnknownInstrument) cells)
+unknown_steps stands facts cells event past = record {
+  cells_of = λ of. of;
+  legal = λ since h s. unknown_legal facts since h event (slice_get_past facts.instruments (instrument_of event) (omega (arith, s.cells_of.one_each)));
+  follows = λ since h s. record {
+    cells_of = s.cells_of;
+    each = λ i c found. quiet_follows stands facts since c h i event (Refused UnknownInstrument) (refused_is_quiet facts i event UnknownInstrument) (s.each i c found);
   };
 }
-  where
-    stays_here : CellsInRange facts.instruments cells → (i : ℕ) (c' : CellValue) (own' : Facts)
-        → slice_get (slice_set cells (instrument_of event) (cell_after facts.contents c event reply)) i ≡ Some c' → slice_get facts.instruments i ≡ Some own' → i ≡ instrument_of event
-        → cell_in_range own' c' ≡ true
-    stays_here stays i c' own' found' ruled' same =
-        let at_k : slice_get (slice_set cells (instrument_of event) (cell_after facts.contents c event reply)) (instrument_of event) ≡ Some (cell_after facts.contents c event reply) =
-        slice_get-set_same cells (instrument_of event) (cell_after facts.contents c event reply) (slice_get_within cells (instrument_of event) c found) in
-        let is_new : c' ≡ cell_after facts.contents c event reply = cc in
-        let is_own : own' ≡ own = cc in
-        ap (λ (o : Facts). cell_in_range o c') is_own
-        ∙ ap (cell_in_range own) is_new
-        ∙ event_in_range facts.contents own c event reply legal (stays.each (instrument_of event) c own found ruled)
-
-    here : (since : ℕ) (h : History) → CellsStand facts since cells h → (i : ℕ) (c' : CellValue) (own' : Facts)
-        → slice_get (slice_set cells (instrument_of event) (cell_after facts.contents c event reply)) i ≡ Some c' → slice_get facts.instruments i ≡ Some own' → i ≡ instrument_of event
-        → CellStands facts own' since c' (answered event reply ∷ h) i
-    here since h s i c' own' found' ruled' same =
-        let at_k : slice_get (slice_set cells (instrument_of event) (cell_after facts.contents c event reply)) (instrument_of event) ≡ Some (cell_after facts.contents c event reply) =
-        slice_get-set_same cells (instrument_of event) (cell_after facts.contents c event reply) (slice_get_within cells (instrument_of event) c found) in
-        let is_new : c' ≡ cell_after facts.contents c event reply = cc in
-        let is_own : own' ≡ own = cc in
-        let done : CellStands facts own since (cell_after facts.contents c event reply) (answered event reply ∷ h) (instrument_of event) =
-        event_stands facts own since c h event reply legal (s.each (instrument_of event) c own found ruled) in
-        subst (λ (n : ℕ). CellStands facts own' since c' (answered event reply ∷ h) n) (sym same)
-        (subst (λ (d : CellValue). CellStands facts own' since d (answered event reply ∷ h) (instrument_of event)) (sym is_new)
-        (subst (λ (o : Facts). CellStands facts o since (cell_after facts.contents c event reply) (answered event reply ∷ h) (instrument_of event)) (sym is_own) done))
-
-    there : (since : ℕ) (h : History) → CellsStand facts since cells h → (i : ℕ) (c' : CellValue) (own' : Facts)
-        → slice_get (slice_set cells (instrument_of event) (cell_after facts.contents c event reply)) i ≡ Some c' → slice_get facts.instruments i ≡ Some own' → (i ≡ instrument_of event → ⊥)
-        → CellStands facts own' since c' (answered event reply ∷ h) i
-    there since h s i c' own' found' ruled' other =
-        quiet_stands facts own' since c' h i event reply (elsewhere_is_quiet facts i event reply (λ e. other (sym e)))
-        (s.each i c' own' (slice_get-set_other cells (instrument_of event) i (cell_after facts.contents c event reply) c' other found') ruled')
-
--- an event of an instrument that has no facts or no cell
-pub unknown_steps : (facts : RunFacts) (cells : List CellValue) (event : Event)
-    → (slice_get facts.instruments (instrument_of event) ≡ None) ⊎ (slice_get cells (instrument_of event) ≡ None)
-    → Steps facts cells event (Refused UnknownInstrument) cells
-unknown_steps facts cells event none = record {
-  legal = λ since h s. unknown_legal facts since h event (⊎_elim (λ unruled. unruled) (λ unheld. unruled since h s unheld) none);
-  stands = λ since h s. record {
-    one_each = s.one_each;
-    each = λ i c own found ruled. quiet_stands facts own since c h i event (Refused UnknownInstrument) (refused_is_quiet facts i event UnknownInstrument) (s.each i c own found ruled);
-  };
-  in_range = λ stays. stays;
-}
-  where
-    past : {X : Type 0} (xs : List X) (k : ℕ) → slice_get xs k ≡ None → length xs ≤ k
-    past [] k e = omega arith
-    past (x ∷ xs) zero e = absurd cc
-    past (x ∷ xs) (suc k) e = omega (arith, past xs k e)
-
-    unruled : (since : ℕ) (h : History) → CellsStand facts since cells h → slice_get cells (instrument_of event) ≡ None → slice_get facts.instruments (instrument_of event) ≡ None
-    unruled since h s unheld = slice_get_past facts.instruments (instrument_of event) (omega (arith, s.one_each, past cells (instrument_of event) unheld))
 
 -- one event more
 pub AllLegal_push : (facts : RunFacts) (since : ℕ) (events : List Event) (replies : List Reply) (h : History) (event : Event) (reply : Reply)
@@ -120,31 +109,15 @@ grown_push (e ∷ events) [] h event reply long = absurd (omega arith)
 grown_push (e ∷ events) (r ∷ replies) h event reply long = grown_push events replies (answered e r ∷ h) event reply (omega arith)
 
 -- The same by places.
-pub unknown_at : (facts : RunFacts) (cells : List CellValue) (event : Event) (k : ℕ) → k ≡ instrument_of event
-    → (length facts.instruments ≤ k) ⊎ (length cells ≤ k) → Steps facts cells event (Refused UnknownInstrument) cells
-unknown_at facts cells event k at past =
-    unknown_steps facts cells event
-    (subst (λ (n : ℕ). (slice_get facts.instruments n ≡ None) ⊎ (slice_get cells n ≡ None)) at
-    (⊎_elim (λ few. inl (slice_get_past facts.instruments k few)) (λ few. inr (slice_get_past cells k few)) past))
+pub unknown_at : {B : Type 0} (stands : B → Standing) (facts : RunFacts) (cells : List (CellValue B)) (event : Event) (k : ℕ) → k ≡ instrument_of event → length cells ≤ k
+    → Steps stands facts cells event (outcome (Refused UnknownInstrument) cells)
+unknown_at stands facts cells event k at past = unknown_steps stands facts cells event (omega (arith, at))
 
-pub known_at : (facts : RunFacts) (cells : List CellValue) (event : Event) (reply : Reply) (k : ℕ) (contents : Contents) (all : List Facts) (own : Facts) (c new : CellValue)
-    → k ≡ instrument_of event → contents ≡ facts.contents → all ≡ facts.instruments → k < length all → own ≡ get_or all k own → k < length cells → c ≡ get_or cells k c
-    → LegalOn contents own (get_or cells k c) event reply → new ≡ cell_after contents (get_or cells k c) event reply
-    → Steps facts cells event reply (slice_set cells k new)
-known_at facts cells event reply k contents all own c new at declared ruled below is_own held is_cell legal is_new =
-    let rule_at : slice_get facts.instruments k ≡ Some own = subst (λ (rs : List Facts). slice_get rs k ≡ Some own) ruled (slice_get-get_or all k own below ∙ ap Some (sym is_own)) in
-    let cell_at : slice_get cells k ≡ Some (get_or cells k c) = slice_get-get_or cells k c held in
-    let legal' : LegalOn facts.contents own (get_or cells k c) event reply = subst (λ (d : Contents). LegalOn d own (get_or cells k c) event reply) declared legal in
-    let is_new' : new ≡ cell_after facts.contents (get_or cells k c) event reply = is_new ∙ ap (λ (d : Contents). cell_after d (get_or cells k c) event reply) declared in
-    let done : Steps facts cells event reply (slice_set cells (instrument_of event) (cell_after facts.contents (get_or cells k c) event reply)) =
-    known_steps facts own cells (get_or cells k c) event reply
-    (subst (λ (n : ℕ). slice_get facts.instruments n ≡ Some own) at rule_at) (subst (λ (n : ℕ). slice_get cells n ≡ Some (get_or cells k c)) at cell_at) legal' in
-    subst (λ (n : ℕ). Steps facts cells event reply (slice_set cells n new)) (sym at)
-    (subst (λ (d : CellValue). Steps facts cells event reply (slice_set cells (instrument_of event) d)) (sym is_new') done)
-
--- the cell at a place stays in range with the facts there
-pub cell_at_in_range : (facts all : List Facts) (cells : List CellValue) (k : ℕ) (own : Facts) (c : CellValue) → CellsInRange facts cells
-    → all ≡ facts → k < length all → own ≡ get_or all k own → k < length cells → cell_in_range own (get_or cells k c) ≡ true
-cell_at_in_range facts all cells k own c stays ruled below is_own held =
-    stays.each k (get_or cells k c) own (slice_get-get_or cells k c held)
-    (subst (λ (rs : List Facts). slice_get rs k ≡ Some own) ruled (slice_get-get_or all k own below ∙ ap Some (sym is_own)))
+pub known_at : {B : Type 0} (stands : B → Standing) (facts : RunFacts) (cells : List (CellValue B)) (event : Event) (reply : Reply) (k : ℕ) (contents : Contents) (d new : CellValue B)
+    → k ≡ instrument_of event → contents ≡ facts.contents → k < length cells → CellStep stands contents (get_or cells k d) event (outcome reply new)
+    → Steps stands facts cells event (outcome reply (slice_set cells k new))
+known_at {B} stands facts cells event reply k contents d new at declared held step =
+    let found : slice_get cells k ≡ Some (get_or cells k d) = slice_get-get_or cells k d held in
+    let own : CellStep stands facts.contents (get_or cells k d) event (outcome reply new) = subst (λ (of : Contents). CellStep stands of (get_or cells k d) event (outcome reply new)) declared step in
+    subst (λ (n : ℕ). Steps stands facts cells event (outcome reply (slice_set cells n new))) (sym at)
+    (known_steps stands facts cells (get_or cells k d) new event reply (subst (λ (n : ℕ). slice_get cells n ≡ Some (get_or cells k d)) at found) own)

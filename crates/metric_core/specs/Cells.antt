@@ -1,36 +1,74 @@
--- The state of one instrument.
-use Rattle.std.specs.Prelude.{ℕ, Bool, false, List, [], length, replicate, slice_index, slice_index_or}
+-- The state of one instrument, and for which recordings it stands.
+use Rattle.std.specs.Prelude.{◌≡◌, ◌<◌, ◌≤◌, ◌*◌, ◌^◌, ℕ, ℤ, pos, neg_ℤ, ◌≤ℤ◌, Bool, true, false, ◌&&◌, List, length, replicate, slice_index, slice_index_or, sum, ◌==◌}
+use Rattle.std.specs.List.{list_all}
+use Rattle.metric_aggregate.specs.Value.{sum_of}
+use Rattle.metric_book.specs.Journals.{Standing, no_marks}
 use Rattle.metric_history.specs.declared.entry.Entry.{Entry}
 use Rattle.metric_history.specs.declared.facts.Facts.{Facts}
-use Rattle.metric_history.specs.Answers.{Told}
+use Rattle.metric_history.specs.Answers.{Told, spent}
+use Rattle.metric_history.specs.Facts.{in_bounds, is_full_set}
+use Rattle.metric_history.specs.Points.{values}
 
--- the start of the run, its accepted recordings, each reader's last mark and time, and whether it is closed
-pub record CellValue : Type 0 where
+-- what its run depends on, the book of its recordings, the start, how many recordings each reader's last batch
+-- counted and the time of that batch, how many recordings each recorder made, how many there are and their sum,
+-- and whether it is closed
+pub record CellValue (B : Type 0) : Type 0 where
+  pub facts : Facts
+  pub book : B
   pub start : ℕ
-  pub entries : List Entry
   pub marks : List ℕ
   pub times : List ℕ
-  pub closed : Bool
+  pub spent : List ℕ
+  pub count : ℕ
+  pub total : ℤ
+  pub is_closed : Bool
 
--- that of an instrument without recordings, for so many readers
-abbrev pub new_cell : ℕ → ℕ → CellValue
-new_cell start readers = record {
+-- that of an instrument without recordings
+abbrev pub new_cell : {B : Type 0} → Facts → ℕ → B → CellValue B
+new_cell facts start book = record {
+  facts = facts;
+  book = book;
   start = start;
-  entries = [];
-  marks = replicate readers 0;
-  times = replicate readers start;
-  closed = false;
+  marks = no_marks facts;
+  times = replicate (length facts.delta) start;
+  spent = replicate (length facts.budgets) 0;
+  count = 0;
+  total = pos 0;
+  is_closed = false;
 }
 
--- the same for the readers of its facts
-abbrev pub new_cell_of : ℕ → Facts → CellValue
-new_cell_of start own = new_cell start (length own.delta)
+-- The cell stands for these accepted recordings, oldest first: its book does, and it has counted them.
+pub record CellStands {B : Type 0} (stands : B → Standing) (c : CellValue B) (journal : List Entry) : Type 0 where
+  pub book : stands c.book c.facts journal c.marks
+  pub counted : c.count ≡ length journal
+  pub summed : c.total ≡ sum_of (values journal)
+  pub charged : (recorder : ℕ) → recorder < length c.facts.budgets → slice_index c.spent recorder ≡ spent journal recorder
 
--- what the state tells of the instrument
-abbrev pub told_by : CellValue → Told
-told_by c = record {
-  accepted = c.entries;
+-- whether a recording is of a set key that is a full set, with a value in range
+abbrev pub is_sound : Facts → Entry → Bool
+is_sound facts entry = (length entry.set == 8) && (is_full_set facts.keys entry.set && in_bounds facts entry.value)
+
+-- What each cell keeps: it stands for some sound recordings, no recorder has made more of them than its budget,
+-- and the budgets together are a u64.
+pub record CellKept {B : Type 0} (stands : B → Standing) (c : CellValue B) : Type 0 where
+  pub journal : List Entry
+  pub known : CellStands stands c journal
+  pub sound : list_all (is_sound c.facts) journal ≡ true
+  pub one_mark_each : length c.marks ≡ length c.facts.delta
+  pub one_time_each : length c.times ≡ length c.facts.delta
+  pub one_budget_each : length c.spent ≡ length c.facts.budgets
+  pub within : (recorder : ℕ) → slice_index c.spent recorder ≤ slice_index c.facts.budgets recorder
+  pub past : (reader : ℕ) → slice_index c.marks reader ≤ c.count
+  pub counted : c.count ≡ sum c.spent
+  pub budgeted : sum c.facts.budgets < 2 ^ 64
+  pub low : neg_ℤ (pos (2 ^ 63 * c.count)) ≤ℤ c.total
+  pub high : c.total ≤ℤ pos (2 ^ 63 * c.count)
+
+-- what a cell that stands for these recordings tells of the instrument
+abbrev pub told_by : {B : Type 0} → CellValue B → List Entry → Told
+told_by c journal = record {
+  accepted = journal;
   mark = slice_index c.marks;
   previous = λ reader. slice_index_or c.times reader c.start;
-  closed = c.closed;
+  closed = c.is_closed;
 }

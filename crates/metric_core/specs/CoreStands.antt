@@ -1,31 +1,39 @@
 -- For which history a core stands.
 use Rattle.std.specs.Prelude.{◌≡◌, ℕ, List, Some, length, slice_get, slice_index, slice_index_or}
+use Rattle.metric_book.specs.Journals.{Standing}
 use Rattle.metric_history.specs.declared.facts.Facts.{Facts}
 use Rattle.metric_history.specs.Facts.{RunFacts}
-use Rattle.metric_history.specs.History.{History, accepted, mark_of, previous_of, is_closed}
-use Rattle.metric_core.specs.Cells.{CellValue}
-use Rattle.metric_check.specs.Plans.{PlanValue}
+use Rattle.metric_history.specs.Answers.{Told}
+use Rattle.metric_history.specs.History.{History, told_of}
+use Rattle.metric_core.specs.Cells.{CellValue, CellStands}
+use Rattle.metric_plan.specs.Plans.{PlanValue}
 
--- a cell has what the history says of its instrument
-pub record CellStands (facts : RunFacts) (own : Facts) (since : ℕ) (c : CellValue) (h : History) (i : ℕ) : Type 0 where
+-- A cell has what was told of its instrument since a start: its book stands for the accepted recordings with the
+-- marks of the answered collections.
+pub record CellKeepsTo {B : Type 0} (stands : B → Standing) (c : CellValue B) (since : ℕ) (told : Told) : Type 0 where
+  pub known : CellStands stands c told.accepted
   pub begins : c.start ≡ since
-  pub entries : c.entries ≡ accepted facts h i
-  pub mark : (reader : ℕ) → slice_index c.marks reader ≡ mark_of facts h i reader
-  pub previous : (reader : ℕ) → slice_index_or c.times reader c.start ≡ previous_of since h i reader
-  pub closed : c.closed ≡ is_closed h i
-  pub one_mark_each : length c.marks ≡ length own.delta
-  pub one_time_each : length c.times ≡ length own.delta
+  pub mark : (reader : ℕ) → slice_index c.marks reader ≡ told.mark reader
+  pub previous : (reader : ℕ) → slice_index_or c.times reader c.start ≡ told.previous reader
+  pub closed : c.is_closed ≡ told.closed
+  pub one_mark_each : length c.marks ≡ length c.facts.delta
+  pub one_time_each : length c.times ≡ length c.facts.delta
 
--- each instrument's cell does
-pub record CellsStand (facts : RunFacts) (since : ℕ) (cells : List CellValue) (h : History) : Type 0 where
-  pub one_each : length cells ≡ length facts.instruments
-  pub each : (i : ℕ) (c : CellValue) (own : Facts) → slice_get cells i ≡ Some c → slice_get facts.instruments i ≡ Some own → CellStands facts own since c h i
+-- there is a cell for the facts of each instrument
+pub record AreCellsOf {B : Type 0} (all : List Facts) (cells : List (CellValue B)) : Type 0 where
+  pub one_each : length cells ≡ length all
+  pub own : (i : ℕ) (c : CellValue B) → slice_get cells i ≡ Some c → slice_get all i ≡ Some c.facts
 
-pub record CoreValue : Type 0 where
+-- each cell has what the history says of its instrument
+pub record CellsStand {B : Type 0} (stands : B → Standing) (facts : RunFacts) (since : ℕ) (cells : List (CellValue B)) (h : History) : Type 0 where
+  pub cells_of : AreCellsOf facts.instruments cells
+  pub each : (i : ℕ) (c : CellValue B) → slice_get cells i ≡ Some c → CellKeepsTo stands c since (told_of facts since h i)
+
+pub record CoreValue (B : Type 0) : Type 0 where
   pub plan : PlanValue
   pub start : ℕ
-  pub cells : List CellValue
+  pub cells : List (CellValue B)
 
 -- a core has what the history says of each instrument
-abbrev pub CoreStands : CoreValue → History → Type 0
-CoreStands core h = CellsStand core.plan.facts core.start core.cells h
+abbrev pub CoreStands : {B : Type 0} → (B → Standing) → CoreValue B → History → Type 0
+CoreStands stands core h = CellsStand stands core.plan.facts core.start core.cells h

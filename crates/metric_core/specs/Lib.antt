@@ -1,5 +1,5 @@
 pub mod Cells
-pub mod CellSteps
+pub mod CellAnswers
+pub mod CertifiedRuns
 pub mod CoreStands
-pub mod Ranges
 pub mod Steps

@@ -1,267 +1,256 @@
-//! The state of one instrument: its accepted recordings and each reader's last collection.
-ghost use Rattle.std.specs.Prelude.{◌≡◌, ◌≤◌, ◌<◌, false, true, [], ◌∷◌, ◌++◌, length, max, replicate, slice_index, slice_index_or, slice_set, IfOk, OnOk, OnErr};
-ghost use Rattle.metric_history.specs.Answers.{covered, recorded, collected, closing, spent as spent_of, batch as batch_of};
-ghost use Rattle.metric_core.specs.Cells.{new_cell, told_by};
-ghost use Rattle.metric_core.specs.CellSteps.{marked, cell_recorded, cell_collected, cell_closed, entry_of};
-ghost use Rattle.metric_history.specs.Legal.{LegalRecord, LegalCollect, LegalClose};
-ghost use Rattle.metric_core.specs.Ranges.{cell_in_range};
-ghost use Rattle.metric_history.specs.Windows.{fits_stream as stays_in_range, fits_all};
+//! The state of one instrument.
+ghost use Rattle.std.specs.Prelude.{◌≡◌, ◌≤◌, ◌<◌, ◌+◌, ◌-◌, ◌^◌, pos, neg_ℤ, ◌+ℤ◌, ◌≤ℤ◌, Some, [], true, length, nat_lt, slice_get, slice_index, slice_set, sum, vec_len, IfOk, IfErr, OnOk, OnErr};
+ghost use Rattle.metric_core.specs.Cells.{CellKept, CellStands, new_cell};
+ghost use Rattle.metric_core.specs.CellAnswers.{AnswersClose, AnswersRecording, GainsEntry, KeepsJournal, ReportsBatch, entry_of, with_batch, with_entry};
+ghost use Rattle.metric_history.specs.Facts.{in_bounds, is_full_set};
 
-use crate::points::stream_points;
-use crate::sums::fits_stream;
+use crate::copies::copy_facts;
+use metric_book::Book;
 use metric_catalogue::{Refusal, SetKey};
-use metric_history::{Batch, Entry, Facts, Reply};
-use metric_views::Stream;
+use metric_history::{Batch, Entry, Facts};
+use metric_plan::Plan;
 use std::alloc::{AllocError, Global};
 use std::marker::Model;
 
-/// The state of one instrument. What it answers is read off its list of accepted recordings.
+/// The state of one instrument: a book of its accepted recordings, and what is counted beside it.
+///
+/// A cell stands for a list of accepted recordings, oldest first, as its book does. Each call is one step on the
+/// instrument; refused, it changes nothing.
 #[derive(Drop)]
-pub struct Cell {
+pub struct Cell<B: Book> {
+    facts: Facts,
+    book: B,
     start: u64,
-    entries: Vec<Entry>,
     marks: Vec<u64>,
     times: Vec<u64>,
-    closed: bool,
+    spent: Vec<u64>,
+    count: u64,
+    total: i128,
+    is_closed: bool,
 }
 
-impl Model for Cell {
-    ghost use Rattle.std.specs.Prelude.{ℕ, ◌≤◌, length, slice_index};
-    ghost use Rattle.metric_core.specs.Cells.{CellValue};
+impl<B: Book> Model for Cell<B> {
+    ghost use Rattle.metric_core.specs.Cells.{CellValue, CellKept};
 
-    ghost Value = { CellValue };
+    ghost Value = { CellValue B };
 
     ghost view = { λ c. record {
+      facts = c.facts;
+      book = c.book;
       start = c.start;
-      entries = c.entries.items;
       marks = c.marks.items;
       times = c.times.items;
-      closed = c.closed;
+      spent = c.spent.items;
+      count = c.count;
+      total = c.total;
+      is_closed = c.is_closed;
     } };
 
-    ghost invariant = { λ c.
-        (reader : ℕ) → slice_index c.marks.items reader ≤ length c.entries.items };
+    ghost invariant = { λ c. CellKept B.stands (record {
+      facts = c.facts;
+      book = c.book;
+      start = c.start;
+      marks = c.marks.items;
+      times = c.times.items;
+      spent = c.spent.items;
+      count = c.count;
+      total = c.total;
+      is_closed = c.is_closed;
+    }) };
 }
 
-impl Cell {
-    /// An instrument without recordings, for so many readers, since a time in nanoseconds.
-    pub fn new(alloc: Global, readers: usize, start: u64) -> Result<Cell, AllocError>
-        ensures { IfOk result (λ c. c ≡ new_cell start readers) }
+impl<B: Book> Cell<B> {
+    /// The instrument of this number without recordings, since a start in nanoseconds. The start is also the seed
+    /// of a book that hashes. Fails only where memory is refused.
+    pub fn new(
+        alloc: Global,
+        plan: &Plan,
+        instrument: u32,
+        start: u64,
+    ) -> Result<Cell<B>, AllocError>
+        requires { instrument < length plan.now.facts.instruments }
+        ensures facts { IfOk result (λ cell.
+            slice_get plan.now.facts.instruments instrument ≡ Some cell.facts) }
+        ensures new { IfOk result (λ cell. cell ≡ new_cell cell.facts start cell.book) }
+        ensures stands { IfOk result (λ cell. CellStands B.stands cell []) }
     {
+        let facts = copy_facts(alloc, plan.facts(instrument))?;
+        let book = B::new(alloc, plan, instrument, start)?;
+        let marks = vec![in alloc; 0; facts.delta.len()]?;
+        let times = vec![in alloc; start; facts.delta.len()]?;
+        let spent = vec![in alloc; 0; facts.budgets.len()]?;
         Ok(Cell {
+            facts,
+            book,
             start,
-            entries: Vec::new(alloc),
-            marks: vec![in alloc; 0; readers]?,
-            times: vec![in alloc; start; readers]?,
-            closed: false,
+            marks,
+            times,
+            spent,
+            count: 0,
+            total: 0,
+            is_closed: false,
         })
     }
 
-    // How many recordings the reader's last batch counted.
-    fn mark(&self, reader: u32) -> u64
+    /// Makes a recording (Metrics API, synchronous instruments). `Closed` comes exactly where the instrument is
+    /// closed, else `Budget` exactly where the recorder has made as many recordings as its budget, else `SumRange`
+    /// exactly where some series would leave its range; the only other refusal is `Memory`.
+    pub fn record(&mut self, recorder: u32, set: SetKey, value: i64) -> Result<(), Refusal>
+        requires recorder { recorder < length self.old.facts.budgets }
+        requires set { is_full_set self.old.facts.keys set ≡ true }
+        requires value { in_bounds self.old.facts value ≡ true }
+        ensures answer { AnswersRecording B.stands self.old (entry_of recorder set value) result }
+        ensures new { let entry = entry_of recorder set value in
+            OnOk result (self.new ≡ with_entry self.old entry self.new.book) }
+        ensures stands { let entry = entry_of recorder set value in
+            OnOk result (GainsEntry B.stands self.old self.new entry) }
+        ensures err { OnErr result (self.new ≡ self.old) }
+    {
+        if self.is_closed {
+            return Err(Refusal::Closed);
+        }
+        if !has_budget(&self.spent, self.facts.budgets.as_slice(), recorder) {
+            return Err(Refusal::Budget);
+        }
+        self.book.push(Entry {
+            recorder,
+            set,
+            value,
+        })?;
+        charge(&mut self.spent, recorder);
+        self.count += 1;
+        self.total = total_with(&self.total, &value);
+        Ok(())
+    }
+
+    /// What the reader is told at a time in nanoseconds: its points since its last collection (delta) or since
+    /// the start (cumulative) (Metrics SDK, collect). The only refusal is `Memory`.
+    pub fn collect(&mut self, alloc: Global, reader: u32, now: u64) -> Result<Batch, Refusal>
+        requires { reader < length self.old.facts.delta }
+        ensures batch { IfOk result (λ batch. ReportsBatch B.stands self.old reader now batch) }
+        ensures new { IfOk result (λ batch.
+            self.new ≡ with_batch self.old reader batch.time self.new.book) }
+        ensures stands { OnOk result (KeepsJournal B.stands self.old self.new) }
+        ensures refused { IfErr result (λ refusal. refusal ≡ Refusal.Memory) }
+        ensures err { OnErr result (self.new ≡ self.old) }
+    {
+        let Ok(window) = self.book.window(alloc, reader) else {
+            return Err(Refusal::Memory);
+        };
+        let at = reader as usize;
+        let previous = self.times[at];
+        let time = now.max(previous);
+        self.marks[at] = self.count;
+        self.times[at] = time;
+        Ok(Batch {
+            reader,
+            instrument: self.facts.instrument,
+            from: window.from,
+            mark: window.mark,
+            start: if self.facts.is_delta(reader) {
+                previous
+            } else {
+                self.start
+            },
+            time,
+            streams: window.streams,
+        })
+    }
+
+    /// Ends the recordings. `Closed` comes exactly where the instrument is closed.
+    pub fn close(&mut self) -> Result<(), Refusal>
+        ensures answer { AnswersClose self.old result }
+        ensures new { OnOk result (self.new ≡ record self.old { is_closed = true }) }
+        ensures stands { KeepsJournal B.stands self.old self.new }
+        ensures err { OnErr result (self.new ≡ self.old) }
+    {
+        if self.is_closed {
+            return Err(Refusal::Closed);
+        }
+        self.is_closed = true;
+        Ok(())
+    }
+
+    /// What its run depends on.
+    pub fn facts(&self) -> &Facts
+        ensures facts { result.now ≡ self.now.facts }
+        ensures kept { CellKept B.stands self.now }
+    {
+        &self.facts
+    }
+
+    /// The number of the instrument.
+    pub fn instrument(&self) -> u32
+        ensures { result ≡ self.now.facts.instrument }
+    {
+        self.facts.instrument
+    }
+
+    /// The least value that may be recorded.
+    pub fn lo(&self) -> i64
+        ensures { result ≡ self.now.facts.lo }
+    {
+        self.facts.lo
+    }
+
+    /// How many recordings the recorder has made; none for one of another number.
+    pub fn spent(&self, recorder: u32) -> u64
+        ensures spent { result ≡ slice_index self.now.spent recorder }
+        ensures within { result ≤ slice_index self.now.facts.budgets recorder }
+    {
+        self.spent.get(recorder as usize).copied().unwrap_or(0)
+    }
+
+    /// How many recordings the reader's last batch counted, 0 before one.
+    pub fn mark_of(&self, reader: u32) -> u64
         ensures mark { result ≡ slice_index self.now.marks reader }
-        ensures low { result ≤ length self.now.entries }
+        ensures past { result ≤ self.now.count }
     {
         self.marks.get(reader as usize).copied().unwrap_or(0)
     }
 
-    // The time of the reader's last batch, or the start.
-    fn previous(&self, reader: u32) -> u64
-        ensures { result ≡ slice_index_or self.now.times reader self.now.start }
+    /// How many recordings were accepted.
+    pub fn count(&self) -> u64
+        ensures count { result ≡ self.now.count }
+        ensures counted { result ≡ sum self.now.spent }
+        ensures within { result ≤ sum self.now.facts.budgets }
     {
-        self.times
-            .get(reader as usize)
-            .copied()
-            .unwrap_or(self.start)
+        self.count
     }
 
-    // The recordings that the reader's next collection covers.
-    fn window(&self, facts: &Facts, reader: u32) -> &[Entry]
-        ensures { result.now ≡ covered facts.now (told_by self.now) reader }
+    /// The sum of all accepted values.
+    pub fn sum(&self) -> i128
+        ensures { result ≡ self.now.total }
     {
-        let mark = self.mark(reader) as usize;
-        if facts.is_delta(reader) {
-            &self.entries[mark..]
-        } else {
-            &self.entries
-        }
-    }
-
-    // How many recordings the recorder made.
-    fn spent(&self, recorder: u32) -> u64
-        ensures { result ≡ spent_of self.now.entries recorder }
-    {
-        self.entries
-            .iter()
-            .filter(|entry| entry.recorder == recorder)
-            .count() as u64
-    }
-
-    // Whether the series of a stream into which a recording falls stays in range.
-    fn fits_in(&self, facts: &Facts, stream: &Stream, entry: &Entry) -> bool
-        ensures { let window = covered facts.now (told_by self.now) stream.now.reader in
-            result ≡ stays_in_range stream.now window entry.now }
-    {
-        fits_stream(stream, self.window(facts, stream.reader), entry)
-    }
-
-    // Whether that of each stream does.
-    fn fits(&self, facts: &Facts, entry: &Entry) -> bool
-        ensures { let told = told_by self.now in
-            result ≡ fits_all facts.now told.mark told.accepted entry.now }
-    {
-        let streams = facts.streams.as_slice();
-        for numbered in streams {
-            if !self.fits_in(facts, &numbered.stream, entry) {
-                return false;
-            }
-        }
-        true
-    }
-
-    // The entry of a recording, or why it is refused. Takes no memory.
-    fn admit(
-        &self,
-        facts: &Facts,
-        encoded: Result<SetKey, Refusal>,
-        recorder: u32,
-        value: &i64,
-    ) -> Result<Entry, Refusal>
-        ensures answer { result ≡ recorded facts.now (told_by self.now) encoded recorder value.now }
-        ensures entry { IfOk result (λ entry. entry ≡ entry_of recorder encoded value.now) }
-    {
-        let Some(budget) = facts.budgets.as_slice().get(recorder as usize) else {
-            return Err(Refusal::UnknownRecorder);
-        };
-        let set = encoded?;
-        if !facts.admits(value) {
-            return Err(Refusal::ValueRange);
-        }
-        if self.closed {
-            return Err(Refusal::Closed);
-        }
-        if self.spent(recorder) >= *budget {
-            return Err(Refusal::Budget);
-        }
-        let entry = Entry {
-            recorder,
-            set,
-            value: *value,
-        };
-        if !self.fits(facts, &entry) {
-            return Err(Refusal::SumRange);
-        }
-        Ok(entry)
-    }
-
-    // Puts a recording last. Where memory is refused, nothing changes.
-    fn push(&mut self, entry: Entry) -> Result<(), AllocError>
-        ensures ok { OnOk result (self.new ≡ cell_recorded self.old entry Reply.Accepted) }
-        ensures err { OnErr result (self.new ≡ self.old) }
-    {
-        self.entries.push(entry)?;
-        Ok(())
-    }
-
-    /// Makes a recording, whose attributes have this set key or are refused.
-    pub fn record(
-        &mut self,
-        facts: &Facts,
-        encoded: Result<SetKey, Refusal>,
-        recorder: u32,
-        value: &i64,
-    ) -> Reply
-        ensures legal { LegalRecord
-            (recorded facts.now (told_by self.old) encoded recorder value.now) result }
-        ensures new { let entry = entry_of recorder encoded value.now in
-            self.new ≡ cell_recorded self.old entry result }
-    {
-        match self.admit(facts, encoded, recorder, value) {
-            Err(refusal) => Reply::Refused(refusal),
-            Ok(entry) => match self.push(entry) {
-                Ok(()) => Reply::Accepted,
-                Err(_) => Reply::Refused(Refusal::Memory),
-            },
-        }
-    }
-
-    // What a collection by the reader reports.
-    #[tactic(auto, using(crate::proofs::RangeLaws::reader_of_cell))]
-    fn batch(
-        &self,
-        alloc: Global,
-        facts: &Facts,
-        reader: u32,
-        now: u64,
-    ) -> Result<Batch, AllocError>
-        requires { cell_in_range facts.now self.now ≡ true }
-        ensures { IfOk result (λ b.
-            b ≡ batch_of facts.now self.now.start (told_by self.now) reader now) }
-    {
-        let is_delta = facts.is_delta(reader);
-        let mark = self.mark(reader);
-        let previous = self.previous(reader);
-        let streams = stream_points(alloc, facts, reader, self.window(facts, reader))?;
-        Ok(Batch {
-            reader,
-            instrument: facts.instrument,
-            from: if is_delta { mark } else { 0 },
-            mark: self.entries.len() as u64,
-            start: if is_delta { previous } else { self.start },
-            time: now.max(previous),
-            streams,
-        })
-    }
-
-    // The reader has a batch of this time.
-    #[tactic(auto, using(std::proofs::lemmas::List::set_past))]
-    fn mark_batch(&mut self, reader: u32, time: u64)
-        ensures { self.new ≡ marked self.old reader time }
-    {
-        let count = self.entries.len() as u64;
-        put(self.marks.as_mut_slice(), reader, count);
-        put(self.times.as_mut_slice(), reader, time);
-    }
-
-    /// Makes a collection by the reader. Each series of the instrument is in range.
-    pub fn collect(&mut self, alloc: Global, facts: &Facts, reader: u32, now: u64) -> Reply
-        requires { cell_in_range facts.now self.old ≡ true }
-        ensures legal { LegalCollect
-            (collected facts.now self.old.start (told_by self.old) reader now) result }
-        ensures new { self.new ≡ cell_collected self.old reader result }
-    {
-        if reader as usize >= facts.delta.len() {
-            return Reply::Refused(Refusal::UnknownReader);
-        }
-        match self.batch(alloc, facts, reader, now) {
-            Err(_) => Reply::Refused(Refusal::Memory),
-            Ok(batch) => {
-                self.mark_batch(reader, batch.time);
-                Reply::Collected(batch)
-            }
-        }
-    }
-
-    /// Closes the instrument, unless it is closed.
-    pub fn close(&mut self) -> Reply
-        ensures legal { LegalClose (closing (told_by self.old)) result }
-        ensures new { self.new ≡ cell_closed self.old result }
-    {
-        if self.closed {
-            return Reply::Refused(Refusal::Closed);
-        }
-        self.closed = true;
-        Reply::Done
+        self.total
     }
 }
 
-// Replaces the number of a reader, where there is one.
-#[tactic(auto, using(std::proofs::lemmas::List::set_past))]
-fn put(numbers: &mut [u64], reader: u32, number: u64)
-    ensures { numbers.new ≡ slice_set numbers.old reader number }
+// Whether the recorder has made fewer recordings than its budget.
+fn has_budget(spent: &[u64], budgets: &[u64], recorder: u32) -> bool
+    requires spent { recorder < length spent.now }
+    requires budgets { recorder < length budgets.now }
+    ensures { result ≡ nat_lt (slice_index spent.now recorder) (slice_index budgets.now recorder) }
 {
-    let at = reader as usize;
-    if at < numbers.len() {
-        numbers[at] = number;
-    }
+    let at = recorder as usize;
+    spent[at] < budgets[at]
+}
+
+// Counts one recording more of the recorder.
+fn charge(spent: &mut Vec<u64>, recorder: u32)
+    requires known { recorder < vec_len spent.old }
+    requires room { slice_index spent.old.items recorder + 1 < 2 ^ 64 }
+    ensures { let before = slice_index spent.old.items recorder in
+        spent.new.items ≡ slice_set spent.old.items recorder (before + 1) }
+{
+    spent[recorder as usize] += 1;
+}
+
+// The sum with one value more.
+fn total_with(total: &i128, value: &i64) -> i128
+    requires low { neg_ℤ (pos (2 ^ 127 - 2 ^ 63)) ≤ℤ total.now }
+    requires high { total.now ≤ℤ pos (2 ^ 127 - 2 ^ 63) }
+    ensures { result ≡ total.now +ℤ value.now }
+{
+    *total + i128::from(*value)
 }

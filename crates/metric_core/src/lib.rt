@@ -3,11 +3,10 @@
 #![tactic(auto)]
 
 mod cell;
-mod points;
+mod copies;
 mod run;
-mod series;
 mod steps;
-mod sums;
 
+pub use cell::Cell;
 pub use metric_history::{Batch, Entry, Event, Point, Reply, StreamPoints};
 pub use run::Core;

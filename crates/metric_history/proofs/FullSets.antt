@@ -2,13 +2,14 @@
 use Rattle.std.proofs.Common.{◌≡◌, ℕ, zero, suc, ◌+◌, ◌-◌, ◌<◌, Bool, true, false, ◌&&◌, ◌||◌, cond, List, [], ◌∷◌, ◌++◌, Option, Some, None, Ok, length, map, refl, sym, ap, subst, ◌∙◌, arith}
 use Rattle.std.specs.Prelude.{◌==◌, not, replicate, find, is_some, option_map, unwrap_or}
 use Rattle.std.specs.List.{list_all, list_any}
-use Rattle.std.proofs.lemmas.Bool.{and_parts, true≢false}
+use Rattle.std.proofs.lemmas.Bool.{and_parts, not-true, true≢false}
 use Rattle.std.proofs.lemmas.Bool.Decides.{nat_tests}
 use Rattle.metric_base.specs.StepLaws.{ok_is, require_ok}
 use Rattle.metric_names.specs.declared.value.AttrValue.{AttrValue}
 use Rattle.metric_catalogue.specs.declared.contents.Key.{Key}
 use Rattle.metric_catalogue.specs.declared.refusal.Refusal.TheVariants.{DuplicateKey, UnknownKey, UnknownValue, MissingKey}
-use Rattle.metric_catalogue.specs.Encoding.{Given, is_of, has_repeated_key, is_declared, is_allowed, is_complete, entry_of, entry_at, set_key, set_of}
+use Rattle.metric_catalogue.specs.ByKeys.{is_allowed, values_by_keys}
+use Rattle.metric_catalogue.specs.Encoding.{Given, is_of, has_repeated_key, is_declared, has_declared_value, is_complete, entry_of, entry_at, set_key, set_of}
 use Rattle.metric_catalogue.specs.Places.{same_value, place}
 use Rattle.metric_catalogue.specs.PlaceLaws.{position_from-within}
 use Rattle.metric_history.specs.Facts.{is_entry, is_full_set, key_facts, EncodesFullSets}
@@ -58,7 +59,8 @@ unfolding set_of
 encoded_sets_are_full keys attrs set made =
     let new = require_ok (not (has_repeated_key attrs)) DuplicateKey _ set made in
     let known = require_ok (list_all (is_declared keys) attrs) UnknownKey _ set new.1 in
-    let allowed = require_ok (list_all (is_allowed attrs) keys) UnknownValue _ set known.1 in
-    let complete = require_ok (list_all (is_complete attrs) keys) MissingKey _ set allowed.1 in
+    let valued = require_ok (list_all (has_declared_value keys) attrs) UnknownValue _ set known.1 in
+    let complete = require_ok (list_all (is_complete attrs) keys) MissingKey _ set valued.1 in
+    let allowed = sym (values_by_keys keys attrs (not-true (has_repeated_key attrs) new.0)) ∙ valued.0 in
     subst (λ (entries : List ℕ). is_full_set (map key_facts keys) entries ≡ true) (ok_is (set_key keys attrs) set (Ok (set_key keys attrs)) refl complete.1)
-    (entries_fit attrs keys (8 - length keys) allowed.0 complete.0)
+    (entries_fit attrs keys (8 - length keys) allowed complete.0)

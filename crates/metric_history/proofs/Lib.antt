@@ -2,3 +2,4 @@ pub mod CountedOnce
 pub mod FactsLaws
 pub mod LegalLaws
 pub mod FullSets
+pub mod Distinct

@@ -318,5 +318,3 @@ distinct_from (x ∷ keys) found key = ap (λ (fs : List (List ℕ)). fold found
 -- the first key, and the distinct ones among the others
 pub distinct-cons : (key : List ℕ) (keys : List (List ℕ)) → distinct (key ∷ keys) ≡ key ∷ others key (distinct keys)
 distinct-cons key keys = distinct_from keys [] key
-
-pub ruleset distinct_laws = (distinct-cons)

@@ -17,7 +17,7 @@ pub fn ascending_sorts_keys()
 {}
 
 /// The distinct keys are the first key, and the distinct ones of the others.
-#[tactic(auto, using(crate::specs::SeriesLaws::distinct_laws))]
+#[tactic(auto, using(crate::proofs::Distinct::distinct_laws))]
 pub fn distinct_drops_repetitions()
     ensures { (key : List ℕ) (keys : List (List ℕ))
         → distinct (key ∷ keys) ≡ key ∷ others key (distinct keys) }

@@ -68,7 +68,5 @@ parts_in_next part a b c xs i d next within is appends p =
     let after : flat_map part (drop i xs) ≡ next ++ others = ap (flat_map part) (drop_more xs i d within) ∙ ap (λ l. l ++ others) (sym is) in
     prefix_in_next a b c _ _ next others appends p (parts-apart part xs i ∙ ap (λ l. flat_map part (take i xs) ++ l) after)
 
--- what a loop cites that writes one text in pieces, and one that writes a text of parts
+-- what a loop cites that writes one text in pieces
 pub ruleset prefixes = (AppendsPrefix-start, AppendsPrefix-more, AppendsPrefix-kept)
-
-pub ruleset prefixes_of_parts = (parts_so_far, parts_in_next)

@@ -2,7 +2,7 @@
 #![tactic(auto)]
 
 use metric_command::{Line, LineFault, command_of};
-use metric_commands::{KitFault, ReplayOptions, replay, show_run};
+use metric_commands::{KitFault, ReplayOptions, check_run, make_run, replay, show_run};
 use metric_io::{StdSink, StdSource};
 use std::alloc::{AllocError, Global};
 use std::env;
@@ -64,6 +64,8 @@ fn run(rt: &HostRuntime, line: Line) -> Result<(), KitFault> {
             &mut source,
             &mut sink,
         ),
+        Line::Check => check_run(rt.alloc(), &mut source, &mut sink),
+        Line::Make => make_run(rt.alloc(), &mut source, &mut sink),
         Line::Show => show_run(rt.alloc(), &mut source, &mut sink),
     }
 }

@@ -22,7 +22,8 @@ use Rattle.metric_views.specs.declared.stream.Stream.{Stream}
 use Rattle.metric_history.specs.Series.{has, held, rows, series, place_found}
 use Rattle.metric_history.specs.SeriesLaws.{same_key, key_is_same}
 use Rattle.metric_history.specs.Windows.{fits_stream}
-use Rattle.metric_series.specs.Tables.{Table, Adds, HasFirst, HasRows, HasValues, StandsTable}
+use Rattle.metric_series.specs.Ready.{Adds}
+use Rattle.metric_series.specs.Tables.{Table, HasRows, StandsTable}
 use Rattle.metric_series.proofs.LongerWindow.{held-known, held-full, held-new, place_found_is, fits_where_found, values_where_found, rows-other, rows-new, rest-known, rest-room, rest-new}
 
 has_flipped : (key : List ℕ) (keys : List (List ℕ)) → list_any (bytes_eq key) keys ≡ has keys key
@@ -55,34 +56,6 @@ module _ {A : Type 0} where
   lookup-others test (e ∷ es) key a other = ap (λ (o : Option A). cond (test e.0) (Some e.1) o) (lookup-others test es key a other)
 
 module _ {A : Type 0} (by : aggregate.Ghosts A) where
-  -- so it is where a series takes a value
-  pub HasValues-set_value : (es : List (List ℕ × A)) (key : List ℕ) (old new : A) → HasValues by es → lookup (bytes_eq key) es ≡ Some old
-      → (by.is_empty old ≡ false → by.is_empty new ≡ false) → HasValues by (set_value (bytes_eq key) es new)
-  HasValues-set_value es key old new all at some other b h =
-      let found = lookup-set_value nat_list_eq_equiv (bytes_eq key) (λ x y e. nat_list_eq_equiv.congr key x y e) other new es (ap is_some at) in
-      split (bytes_eq key other) (sym found ∙ h)
-    where
-      split : (c : Bool) → cond c (Some new) (lookup (bytes_eq other) es) ≡ Some b → by.is_empty b ≡ false
-      split true e = let same : new ≡ b = cc in subst (λ (x : A). by.is_empty x ≡ false) same (some (all key old at))
-      split false e = all other b e
-
-  -- a series that comes last has a value where it was made with one
-  pub HasValues-push : (es : List (List ℕ × A)) (key : List ℕ) (a : A) → HasValues by es → by.is_empty a ≡ false → HasValues by (es ++ (key, a) ∷ [])
-  HasValues-push es key a all some other b h = split (bytes_eq other) es (all other b) h
-    where
-      split : (test : List ℕ → Bool) (es : List (List ℕ × A)) → (lookup test es ≡ Some b → by.is_empty b ≡ false) → lookup test (es ++ (key, a) ∷ []) ≡ Some b → by.is_empty b ≡ false
-      split test [] before h = at (test key) h
-        where
-          at : (c : Bool) → cond c (Some a) None ≡ Some b → by.is_empty b ≡ false
-          at true e = let same : a ≡ b = cc in subst (λ (x : A). by.is_empty x ≡ false) same some
-          at false e = absurd cc
-      split test (e ∷ es) before h = at (test e.0) before h (split test es)
-        where
-          at : (c : Bool) → (cond c (Some e.1) (lookup test es) ≡ Some b → by.is_empty b ≡ false) → cond c (Some e.1) (lookup test (es ++ (key, a) ∷ [])) ≡ Some b
-              → ((lookup test es ≡ Some b → by.is_empty b ≡ false) → lookup test (es ++ (key, a) ∷ []) ≡ Some b → by.is_empty b ≡ false) → by.is_empty b ≡ false
-          at true before h rest = before h
-          at false before h rest = rest before h
-
   rows_added : (s : Stream) (window : List Entry) (entry : Entry) (place : Option (List ℕ)) (old new : A) → place_found s window entry ≡ place
       → Adds by old new entry.value → HasRows by old s window place → HasRows by new s (window ++ entry ∷ []) place
   rows_added s window entry place old new found adds had =
@@ -204,9 +177,9 @@ module _ {A : Type 0} (by : aggregate.Ghosts A) where
             ∙ ap (λ (es : List Entry). in_range (stream_aggregation s) (values es ++ entry.value ∷ [])) no_rows
             ∙ one_in_range (stream_aggregation s) entry.value fits
 
-        pub new_stands : (first : A) (entries : List (List ℕ × A)) → HasFirst by t.overflow first entry.value → entries ≡ t.series ++ (key, first) ∷ []
-            → StandsTable by (record t { series = entries }) s (window ++ entry ∷ [])
-        new_stands first entries begun is = record {
+        pub new_stands : (empty first : A) (entries : List (List ℕ × A)) → by.aggregation empty ≡ by.aggregation t.overflow → by.stands empty [] → Adds by empty first entry.value
+            → entries ≡ t.series ++ (key, first) ∷ [] → StandsTable by (record t { series = entries }) s (window ++ entry ∷ [])
+        new_stands empty first entries alike none adds is = record {
           kept = known.kept;
           limit = known.limit;
           held = ap keys_of is ∙ map_push (λ (e : List ℕ × A). e.0) t.series (key, first) ∙ ap (λ (keys : List (List ℕ)). keys ++ key ∷ []) known.held ∙ sym held_longer;
@@ -223,8 +196,8 @@ module _ {A : Type 0} (by : aggregate.Ghosts A) where
 
             own_rows : HasRows by first s (window ++ entry ∷ []) (Some key)
             own_rows = record {
-              aggregation = begun.aggregation ∙ known.rest.aggregation;
-              stands = subst (λ (vs : List ℤ). by.stands first vs) one_row begun.stands;
+              aggregation = adds.aggregation ∙ alike ∙ known.rest.aggregation;
+              stands = subst (λ (vs : List ℤ). by.stands first vs) one_row (adds.stands [] none);
             }
 
             split : (other : List ℕ) (b : A) (same : Bool) → bytes_eq other key ≡ same → lookup (bytes_eq other) (t.series ++ (key, first) ∷ []) ≡ Some b

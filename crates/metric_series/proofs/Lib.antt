@@ -1,3 +1,6 @@
+mod Putting
+mod Variants
+mod Placing
 pub mod LongerWindow
 pub mod Adding
 pub mod Sorting

@@ -1,8 +1,13 @@
 -- What the calls of a table say of each stream and each window of recordings for which the table stands.
-use Rattle.std.specs.Prelude.{◌≡◌, ℕ, ℤ, Bool, true, false, List, [], ◌∷◌, ◌++◌, Option, Result, Ok, Err}
+use Rattle.std.specs.Prelude.{◌≡◌, ℕ, ℤ, Bool, true, false, List, [], ◌∷◌, ◌++◌, Option, Some, None, Result, Ok, Err}
+use Rattle.metric_aggregate.specs.Aggregation.{Aggregation}
+use Rattle.metric_aggregate.specs.Value.{value_of}
+use Rattle.metric_catalogue.specs.declared.refusal.Refusal.{Refusal}
+use Rattle.metric_catalogue.specs.declared.refusal.Refusal.TheVariants as refusals
 use Rattle.metric_history.specs.declared.batch.Point.{Point}
 use Rattle.metric_history.specs.declared.entry.Entry.{Entry}
 use Rattle.metric_history.specs.Points.{point, points}
+use Rattle.metric_history.specs.Series.{series}
 use Rattle.metric_history.specs.Windows.{fits_stream}
 use Rattle.metric_series.specs.declared.fault.SeriesFault.{SeriesFault}
 use Rattle.metric_series.specs.declared.fault.SeriesFault.TheVariants.{SumRange, Memory}
@@ -12,8 +17,13 @@ use Rattle.metric_views.specs.declared.stream.Stream.{Stream}
 abbrev pub entry_of : ℕ → List ℕ → ℤ → Entry
 entry_of recorder set value = record { recorder = recorder; set = set; value = value }
 
+-- what an event is refused for a fault of a table
+abbrev pub refusal_of : SeriesFault → Refusal
+refusal_of SumRange = refusals.SumRange
+refusal_of Memory = refusals.Memory
+
 -- whether an answer lets a value in, as far as ranges go
-abbrev pub is_in_range : Result (Unit {0}) SeriesFault → Bool
+abbrev pub is_in_range : {X : Type 0} → Result X SeriesFault → Bool
 is_in_range (Ok done) = true
 is_in_range (Err SumRange) = false
 is_in_range (Err Memory) = true
@@ -22,21 +32,40 @@ is_in_range (Err Memory) = true
 abbrev pub Standing : Type 1
 Standing = Stream → List Entry → Type 0
 
--- the answer is `SumRange` exactly where the series into which the value falls would leave its range
-abbrev pub JudgesRange : Standing → List ℕ → ℤ → Result (Unit {0}) SeriesFault → Type 0
-JudgesRange stands set value result =
+-- whether the series into which a value falls stays in range with it
+abbrev pub JudgesValue : Standing → List ℕ → ℤ → Bool → Type 0
+JudgesValue stands set value verdict =
     (s : Stream) (window : List Entry) (recorder : ℕ) → stands s window
-    → fits_stream s window (entry_of recorder set value) ≡ is_in_range result
+    → fits_stream s window (entry_of recorder set value) ≡ verdict
+
+-- the answer is `SumRange` exactly where it would leave its range
+abbrev pub JudgesRange : {X : Type 0} → Standing → List ℕ → ℤ → Result X SeriesFault → Type 0
+JudgesRange stands set value result = JudgesValue stands set value (is_in_range result)
+
+-- the verdict on a value whose series has this key
+abbrev pub JudgesSeries : Standing → List ℕ → ℤ → Bool → Type 0
+JudgesSeries stands key value verdict =
+    (s : Stream) (window : List Entry) (entry : Entry) → stands s window → key ≡ series s.kept entry → value ≡ entry.value
+    → fits_stream s window entry ≡ verdict
 
 -- the new table stands for one recording more
 abbrev pub TakesRecording : Standing → Standing → List ℕ → ℤ → Type 0
 TakesRecording old new set value =
     (s : Stream) (window : List Entry) (recorder : ℕ) → old s window → new s (window ++ entry_of recorder set value ∷ [])
 
+-- the new table stands for no recordings
+abbrev pub ForgetsAll : Standing → Standing → Type 0
+ForgetsAll old new = (s : Stream) (window : List Entry) → old s window → new s []
+
+-- the point of a series or of the overflow series, for the values of its recordings; none without a value
+abbrev pub point_of : Aggregation → Option (List ℕ) → List ℤ → Option Point
+point_of kind place [] = None
+point_of kind place (value ∷ values) = Some (record { set = place; value = value_of kind (value ∷ values) })
+
 -- the points are those of the window
 abbrev pub ReportsPoints : Standing → List Point → Type 0
 ReportsPoints stands reported = (s : Stream) (window : List Entry) → stands s window → reported ≡ points s window
 
--- the point is that of a series of the window, or of its overflow series
-abbrev pub ReportsPoint : Standing → Option (List ℕ) → Point → Type 0
-ReportsPoint stands place reported = (s : Stream) (window : List Entry) → stands s window → reported ≡ point s window place
+-- the point is that of a series of the window
+abbrev pub ReportsPoint : Standing → List ℕ → Option Point → Type 0
+ReportsPoint stands key reported = (s : Stream) (window : List Entry) → stands s window → reported ≡ Some (point s window (Some key))

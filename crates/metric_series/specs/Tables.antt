@@ -1,5 +1,5 @@
 -- What a table of series keeps, and for which recordings it stands.
-use Rattle.std.specs.Prelude.{◌≡◌, ℕ, ℤ, Bool, false, List, [], ◌∷◌, ◌++◌, Option, Some, None}
+use Rattle.std.specs.Prelude.{◌≡◌, ℕ, Bool, List, Option, Some, None}
 use Rattle.std.specs.Map.{keys_of, lookup}
 use Rattle.std.specs.Str.{bytes_eq}
 use Rattle.metric_aggregate.specs.declared.aggregate.Aggregate as aggregate
@@ -21,22 +21,6 @@ pub record Table (A : Type 0) : Type 0 where
   pub overflow : A
 
 module _ {A : Type 0} (by : aggregate.Ghosts A) where
-  -- each held series has a value
-  abbrev pub HasValues : List (List ℕ × A) → Type 0
-  HasValues series = (key : List ℕ) (a : A) → lookup (bytes_eq key) series ≡ Some a → by.is_empty a ≡ false
-
-  -- an aggregate takes a value
-  pub record Adds (old new : A) (value : ℤ) : Type 0 where
-    pub aggregation : by.aggregation new ≡ by.aggregation old
-    pub some : by.is_empty new ≡ false
-    pub stands : (added : List ℤ) → by.stands old added → by.stands new (added ++ value ∷ [])
-
-  -- an aggregate of the same aggregation has one value alone
-  pub record HasFirst (like first : A) (value : ℤ) : Type 0 where
-    pub aggregation : by.aggregation first ≡ by.aggregation like
-    pub some : by.is_empty first ≡ false
-    pub stands : by.stands first (value ∷ [])
-
   -- an aggregate has the values of a series of the window, or of its overflow series
   pub record HasRows (a : A) (s : Stream) (window : List Entry) (place : Option (List ℕ)) : Type 0 where
     pub aggregation : by.aggregation a ≡ stream_aggregation s

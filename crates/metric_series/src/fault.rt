@@ -1,8 +1,9 @@
 //! Why a table does not take a value.
+use metric_catalogue::Refusal;
 use std::alloc::AllocError;
 
 /// Why a table does not take a value. The table is then as it was.
-#[derive(Clone, Copy, Debug, PartialEq, Eq)]
+#[derive(Clone, Copy, Debug, PartialEq, Eq, Drop)]
 pub enum SeriesFault {
     /// The sum or the count of the series into which the value falls would leave its range.
     SumRange,
@@ -18,5 +19,19 @@ impl From<AllocError> for SeriesFault {
 
     fn from(_refused: AllocError) -> SeriesFault {
         SeriesFault::Memory
+    }
+}
+
+impl From<SeriesFault> for Refusal {
+    ghost use Rattle.std.specs.Prelude.{◌≡◌};
+    ghost use Rattle.metric_series.specs.Calls.{refusal_of};
+
+    ghost from_gives = { λ fault refusal. refusal ≡ refusal_of fault };
+
+    fn from(fault: SeriesFault) -> Refusal {
+        match fault {
+            SeriesFault::SumRange => Refusal::SumRange,
+            SeriesFault::Memory => Refusal::Memory,
+        }
     }
 }

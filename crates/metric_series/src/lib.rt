@@ -7,10 +7,12 @@
 
 mod fault;
 mod key;
+mod place;
 mod seeded;
 mod series_table;
 mod table;
 
 pub use fault::SeriesFault;
+pub use place::Place;
 pub use series_table::SeriesTable;
 pub use table::TableOf;

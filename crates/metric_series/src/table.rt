@@ -1,16 +1,19 @@
 //! A table of series whose values are aggregated alike.
-ghost use Rattle.std.specs.Prelude.{◌≡◌, ℕ, true, false, List, [], ◌∷◌, ◌++◌, None, Some, OnOk, OnErr, IfOk};
+ghost use Rattle.std.specs.Prelude.{◌≡◌, ℕ, ℤ, true, List, [], ◌++◌, None, Some, OnOk, OnErr, IfOk, IfSome, is_some};
+ghost use Rattle.std.specs.Option.{option_to_list};
 ghost use Rattle.std.specs.Map.{keys_of, lookup};
 ghost use Rattle.std.specs.Str.{bytes_eq};
 ghost use Rattle.metric_history.specs.Facts.{stream_aggregation};
 ghost use Rattle.metric_history.specs.Points.{ascending as in_order};
 ghost use Rattle.metric_views.specs.declared.stream.Stream.{Stream};
-ghost use Rattle.metric_history.specs.Series.{has};
-ghost use Rattle.metric_series.specs.Calls.{JudgesRange, ReportsPoint, ReportsPoints, TakesRecording, is_in_range};
-ghost use Rattle.metric_series.specs.Tables.{Adds, HasFirst, StandsTable};
+ghost use Rattle.metric_history.specs.Series.{has, restricted};
+ghost use Rattle.metric_series.specs.Calls.{ForgetsAll, JudgesRange, JudgesSeries, JudgesValue, ReportsPoint, ReportsPoints, TakesRecording, point_of as point_by};
+ghost use Rattle.metric_series.specs.Ready.{AddsAt, FitsAt, IsPlace, IsReadyTable, PutsEmpty};
+ghost use Rattle.metric_series.specs.Tables.{StandsTable, Table};
 
 use crate::fault::SeriesFault;
 use crate::key::{SeriesKey, restrict};
+use crate::place::Place;
 use crate::seeded::Seeded;
 use indexmap::IndexMap;
 use metric_aggregate::Aggregate;
@@ -33,13 +36,11 @@ pub struct TableOf<A: Aggregate> {
 }
 
 impl<A: Aggregate> Model for TableOf<A> {
-    ghost use Rattle.metric_series.specs.Tables.{Table, HasValues};
+    ghost use Rattle.metric_series.specs.Tables.{Table};
 
     ghost Value = { Table A };
 
     ghost view = { λ t. record { kept = t.kept; limit = t.limit; series = t.series.entries; overflow = t.overflow } };
-
-    ghost invariant = { λ t. HasValues A.Aggregate t.series.entries };
 }
 
 impl<A: Aggregate> TableOf<A> {
@@ -66,6 +67,76 @@ impl<A: Aggregate> TableOf<A> {
         }
     }
 
+    // The key of the series of a set.
+    fn key(&self, set: &SetKey) -> SeriesKey
+        ensures { result ≡ restricted self.now.kept set.now }
+    {
+        SeriesKey::new(restrict(self.kept.get().as_slice(), set))
+    }
+
+    // Where a value of a series falls; none where the series there would leave its range with it.
+    fn find(&self, key: &SeriesKey, value: i64) -> Option<Place>
+        ensures in_range { JudgesSeries (StandsTable A.Aggregate self.now) key.now value
+            (is_some result) }
+        ensures place { IfSome result (IsPlace A.Aggregate self.now key.now value) }
+    {
+        if let Some((index, _, aggregate)) = self.series.get_full(key) {
+            return fitting(aggregate, value, Place::Held(index));
+        }
+        let count = self.series.len();
+        if count < self.limit as usize {
+            return Some(Place::New(count));
+        }
+        fitting(&self.overflow, value, Place::Overflow)
+    }
+
+    /// Whether the series into which a value falls stays in range with it.
+    pub fn fits(&self, set: &SetKey, value: i64) -> bool
+        ensures { JudgesValue (StandsTable A.Aggregate self.now) set.now value result }
+    {
+        self.find(&self.key(set), value).is_some()
+    }
+
+    /// Finds the place of a value, and puts an empty aggregate there where it is new, so that `put` can not fail.
+    pub fn ready(&mut self, set: &SetKey, value: i64) -> Result<Place, SeriesFault>
+        ensures in_range { JudgesRange (StandsTable A.Aggregate self.old) set.now value result }
+        ensures ok { IfOk result (IsReadyTable A.Aggregate self.old self.new set.now value) }
+        ensures err { OnErr result (self.new ≡ self.old) }
+    {
+        let key = self.key(set);
+        let place = self.find(&key, value).ok_or(SeriesFault::SumRange)?;
+        if let Place::New(_) = place {
+            put_empty(&mut self.series, key, self.alloc, &self.overflow)?;
+        }
+        Ok(place)
+    }
+
+    /// Adds the value for which the table is ready.
+    pub fn put(&mut self, place: Place, value: i64)
+        requires { (old : Table A) × (set : List ℕ) ×
+            IsReadyTable A.Aggregate old self.old set value place }
+        ensures { (old : Table A) (set : List ℕ)
+            → IsReadyTable A.Aggregate old self.old set value place
+            → TakesRecording (StandsTable A.Aggregate old) (StandsTable A.Aggregate self.new)
+            set value }
+    {
+        match place {
+            Place::Held(index) => add_at(&mut self.series, index, value),
+            Place::New(index) => add_at(&mut self.series, index, value),
+            Place::Overflow => self.overflow.add(value),
+        }
+    }
+
+    /// Takes the empty aggregate out again, where one was put in.
+    pub fn unready(&mut self, place: Place)
+        ensures { (old : Table A) (set : List ℕ) (value : ℤ)
+            → IsReadyTable A.Aggregate old self.old set value place → self.new ≡ old }
+    {
+        if let Place::New(_) = place {
+            self.series.pop();
+        }
+    }
+
     /// Adds a value to the series of a set.
     pub fn add(&mut self, set: &SetKey, value: i64) -> Result<(), SeriesFault>
         ensures in_range { JudgesRange (StandsTable A.Aggregate self.old) set.now value result }
@@ -74,40 +145,26 @@ impl<A: Aggregate> TableOf<A> {
             set.now value) }
         ensures err { OnErr result (self.new ≡ self.old) }
     {
-        let key = SeriesKey::new(restrict(self.kept.get().as_slice(), set));
-        if let Some(aggregate) = self.series.get_mut(&key) {
-            return add_value(aggregate, value);
-        }
-        if self.series.len() >= self.limit as usize {
-            return add_value(&mut self.overflow, value);
-        }
-        let first = first_value(self.alloc, &self.overflow, value)?;
-        insert_last(&mut self.series, key, first)?;
+        let place = self.ready(set, value)?;
+        self.put(place, value);
         Ok(())
     }
-}
 
-impl<A: Aggregate> TableOf<A> {
-    // The point of a held series.
-    fn point(&self, alloc: Global, key: &SeriesKey) -> Result<Point, AllocError>
-        requires { has (keys_of self.now.series) key.now ≡ true }
-        ensures { IfOk result (ReportsPoint (StandsTable A.Aggregate self.now) (Some key.now)) }
+    /// Forgets all values. Takes no memory.
+    pub fn reset(&mut self)
+        ensures { ForgetsAll (StandsTable A.Aggregate self.old) (StandsTable A.Aggregate self.new) }
     {
-        let aggregate = self.series.get(key).unwrap();
-        let value = aggregate.read(alloc)?;
-        Ok(Point {
-            set: Some(key.set()),
-            value,
-        })
+        self.series.clear();
+        self.overflow.reset();
     }
 
-    // The point of the overflow series, into which some value fell.
-    fn overflow_point(&self, alloc: Global) -> Result<Point, AllocError>
-        requires { A.is_empty self.now.overflow ≡ false }
-        ensures { IfOk result (ReportsPoint (StandsTable A.Aggregate self.now) None) }
+    // The point of a held series; none where its aggregate is empty.
+    fn point(&self, alloc: Global, key: &SeriesKey) -> Result<Option<Point>, AllocError>
+        requires { has (keys_of self.now.series) key.now ≡ true }
+        ensures { IfOk result (ReportsPoint (StandsTable A.Aggregate self.now) key.now) }
     {
-        let value = self.overflow.read(alloc)?;
-        Ok(Point { set: None, value })
+        let aggregate = self.series.get(key).unwrap();
+        point_of(alloc, Some(key.set()), aggregate)
     }
 
     /// The points of the held series in ascending order of their set keys, then the overflow point where some
@@ -119,12 +176,9 @@ impl<A: Aggregate> TableOf<A> {
         let keys = ascending(alloc, &self.series)?;
         let mut points = Vec::with_capacity(alloc, keys.len() + 1)?;
         for key in &keys {
-            points.push(self.point(alloc, key)?)?;
+            push_point(&mut points, self.point(alloc, key)?)?;
         }
-        if self.overflow.is_empty() {
-            return Ok(points);
-        }
-        points.push(self.overflow_point(alloc)?)?;
+        push_point(&mut points, point_of(alloc, None, &self.overflow)?)?;
         Ok(points)
     }
 }
@@ -141,39 +195,66 @@ fn ascending<A: Aggregate>(
     Ok(keys)
 }
 
-// Adds a value, unless the aggregator would leave its range.
-fn add_value<A: Aggregate>(aggregate: &mut A, value: i64) -> Result<(), SeriesFault>
-    ensures in_range { A.fits aggregate.old value ≡ is_in_range result }
-    ensures adds { OnOk result (Adds A.Aggregate aggregate.old aggregate.new value) }
-    ensures some { A.is_empty aggregate.old ≡ false → A.is_empty aggregate.new ≡ false }
-    ensures err { OnErr result (aggregate.new ≡ aggregate.old) }
+// The point that an aggregate gives; none where it is empty.
+fn point_of<A: Aggregate>(
+    alloc: Global,
+    set: Option<SetKey>,
+    aggregate: &A,
+) -> Result<Option<Point>, AllocError>
+    ensures { IfOk result (λ point. (added : List ℤ) → A.stands aggregate.now added
+        → point ≡ point_by (A.aggregation aggregate.now) set added) }
 {
-    if !aggregate.fits(value) {
-        return Err(SeriesFault::SumRange);
+    if aggregate.is_empty() {
+        return Ok(None);
     }
-    aggregate.add(value);
+    let value = aggregate.read(alloc)?;
+    Ok(Some(Point { set, value }))
+}
+
+// Puts a point last, where there is one.
+fn push_point(points: &mut Vec<Point>, point: Option<Point>) -> Result<(), AllocError>
+    ensures { OnOk result (points.new.items ≡ points.old.items ++ option_to_list point) }
+{
+    if let Some(point) = point {
+        points.push(point)?;
+    }
     Ok(())
 }
 
-// An aggregator of the same aggregation with one value, which fits alone.
-fn first_value<A: Aggregate>(alloc: Global, like: &A, value: i64) -> Result<A, AllocError>
-    ensures { IfOk result (λ first. HasFirst A.Aggregate like.now first value) }
+// The place, where the aggregate there stays in range with the value.
+fn fitting<A: Aggregate>(aggregate: &A, value: i64, place: Place) -> Option<Place>
+    ensures in_range { A.fits aggregate.now value ≡ is_some result }
+    ensures place { IfSome result (λ found. found ≡ place) }
 {
-    let mut first = like.another(alloc)?;
-    first.add(value);
-    Ok(first)
+    if aggregate.fits(value) {
+        Some(place)
+    } else {
+        None
+    }
 }
 
-// Puts a series last that is not there.
-fn insert_last<A: Aggregate>(
+// Puts an empty aggregate last, of a series that is not there. The one that is given makes it.
+fn put_empty<A: Aggregate>(
     series: &mut IndexMap<SeriesKey, A, Seeded>,
     key: SeriesKey,
-    aggregate: A,
+    alloc: Global,
+    like: &A,
 ) -> Result<(), AllocError>
     requires { lookup (bytes_eq key) series.old.entries ≡ None }
-    ensures ok { OnOk result (series.new.entries ≡ series.old.entries ++ (key, aggregate) ∷ []) }
+    ensures ok { OnOk result
+        (PutsEmpty A.Aggregate series.old.entries series.new.entries key like.now) }
     ensures err { OnErr result (series.new.entries ≡ series.old.entries) }
 {
-    series.insert(key, aggregate)?;
+    let empty = like.another(alloc)?;
+    series.insert(key, empty)?;
     Ok(())
+}
+
+// Adds a value to the series at an index, where it fits.
+fn add_at<A: Aggregate>(series: &mut IndexMap<SeriesKey, A, Seeded>, index: usize, value: i64)
+    requires { FitsAt A.Aggregate series.old.entries index value }
+    ensures { AddsAt A.Aggregate series.old.entries series.new.entries index value }
+{
+    let aggregate = series.get_index_mut(index).unwrap();
+    aggregate.add(value);
 }

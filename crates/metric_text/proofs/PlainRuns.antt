@@ -1,13 +1,13 @@
 -- Runs of plain bytes inside quotes, and the escapes between them.
 use Rattle.std.proofs.Common.{cond, ◌≡◌, ℕ, ◌≤◌, Bool, true, false, ◌==◌, List, [], ◌∷◌, ◌++◌, Option, Some, None, length, refl, sym, ap, subst, ◌∙◌, ◌⊎◌, inl, inr, append_assoc, arith}
-use Rattle.std.specs.Prelude.{if◌then◌else◌}
+use Rattle.std.specs.Prelude.{if◌then◌else◌, is_some}
 use Rattle.std.specs.List.{flat_map}
 use Rattle.std.specs.Option.{option_map}
 use Rattle.std.proofs.lemmas.Bool.Decides.{eqb_tells}
 use Rattle.metric_text.specs.Written.{letter_of, escape}
 use Rattle.metric_text.specs.Reading.{after_in, is_special, split_before, byte_of, escaped_in, with_front, unquoted_in}
 use Rattle.metric_text.specs.ReadingLaws.{pair_is, BeginsWith}
-use Rattle.metric_text.specs.QuoteLaws.{has_or_none, unquoted_in-plain}
+use Rattle.metric_text.specs.QuoteLaws.{unquoted_in-plain}
 
 shorter_either : (b : ℕ) (bytes : List ℕ) (rest : List ℕ × List ℕ) (test : Bool) → length rest.1 ≤ length bytes
     → length (cond {A = List ℕ × List ℕ} test ([], b ∷ bytes) (b ∷ rest.0, rest.1)).1 ≤ length (b ∷ bytes)
@@ -27,6 +27,10 @@ length-split_before passes (b ∷ bytes) = shorter_either b bytes (split_before 
 pub split_before-begins : (passes : ℕ → Bool) (bytes : List ℕ) → BeginsWith passes (split_before passes bytes).1
 split_before-begins passes [] = tt
 split_before-begins passes (b ∷ bytes) = begins_either passes b bytes (split_before passes bytes) (passes b) refl (split_before-begins passes bytes)
+
+has_or_none : {A : Type 0} (o : Option A) → (is_some o ≡ true) ⊎ (o ≡ None)
+has_or_none None = inr refl
+has_or_none (Some x) = inl refl
 
 -- whether a byte is written with a backslash
 special_or_plain : (b : ℕ) → (is_special b ≡ true) ⊎ (letter_of b ≡ None)

@@ -10,8 +10,7 @@ use Rattle.std.proofs.lemmas.Slice.Eq.{bytes_eq-Decides}
 use Rattle.std.proofs.lemmas.Fmt.{IsAscii-decimal, IsAscii-signed, parse-decimal, parse-signed_decimal}
 use Rattle.std.proofs.lemmas.Str.{IsUtf8-from_ascii}
 use Rattle.metric_text.specs.Reading.{number_of, signed_of}
-use Rattle.metric_text.specs.ReadingLaws.{number_of-text, number_of-some, signed_of-text, signed_of-some}
-use Rattle.metric_text.proofs.Splits.{none_from}
+use Rattle.metric_text.specs.ReadingLaws.{none_from, number_of-text, number_of-some, signed_of-text, signed_of-some}
 use Rattle.std.specs.Int.Signed.{mag}
 
 mag-small : (z : ℤ) → FitsSigned w64 z → mag z < 2 ^ 63

@@ -14,7 +14,7 @@ use Rattle.std.proofs.lemmas.Slice.Eq.{strip_prefix_is, strip_suffix_is}
 use Rattle.metric_text.specs.Lines.{is_feed, line_in, lines_of, without_return}
 use Rattle.metric_text.proofs.LineLaws.{lines_of-first, length-line_in, line_in-open, line_in-ended}
 use Rattle.metric_text.specs.Reading.{split_before, after_in}
-use Rattle.metric_text.specs.ReadingLaws.{after_in-some}
+use Rattle.metric_text.specs.ReadingLaws.{none_from, after_in-some}
 
 cut_step : (test : Bool) (b : ℕ) (bytes : List ℕ) (front : List ℕ × List ℕ) (n : ℕ) → front.0 ≡ take n bytes → front.1 ≡ drop n bytes
     → ((cond {A = List ℕ × List ℕ} test ([], b ∷ bytes) (b ∷ front.0, front.1)).0 ≡ take (cond (not test) (1 + n) 0) (b ∷ bytes))
@@ -43,10 +43,6 @@ cut_at_place passes bytes place e =
     let found : unwrap_or place (length bytes) ≡ position_or_len passes bytes =
     ap (λ o. unwrap_or o (length bytes)) (e ∙ sym (position_from-zero passes bytes)) ∙ place_is (ltb (position_or_len passes bytes) (length bytes)) (position_or_len passes bytes) (length bytes) refl most in
     rw found (cut_first passes bytes)
-
-pub none_from : {A : Type 0} (o : Option A) → ((x : A) → o ≡ Some x → ⊥) → o ≡ None
-none_from None never = refl
-none_from (Some x) never = absurd (never x refl)
 
 pub after_in-text : (keyword rest : List ℕ) → after_in keyword (keyword ++ rest) ≡ Some rest
 after_in-text [] rest = refl

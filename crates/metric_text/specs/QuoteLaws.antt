@@ -35,10 +35,6 @@ letter_cases b =
           ]
     ]
 
-pub has_or_none : {A : Type 0} (o : Option A) → (is_some o ≡ true) ⊎ (o ≡ None)
-has_or_none None = inr refl
-has_or_none (Some x) = inl refl
-
 -- a byte that stands for itself is neither a quote nor a backslash
 plain_is_other : (c b : ℕ) → (letter_of c ≡ None → ⊥) → letter_of b ≡ None → (b == c) ≡ false
 plain_is_other c b special plain =

@@ -31,6 +31,11 @@ pub after_some : {A B P : Type 0} (o : Option A) (f : A → Option B) (y : B) �
 after_some None f y e rest = absurd cc
 after_some (Some x) f y e rest = rest x refl e
 
+-- a step that never succeeds fails
+pub none_from : {A : Type 0} (o : Option A) → ((x : A) → o ≡ Some x → ⊥) → o ≡ None
+none_from None never = refl
+none_from (Some x) never = absurd (never x refl)
+
 -- Keywords
 
 pub after_in-some : (keyword bytes rest : List ℕ) → after_in keyword bytes ≡ Some rest → bytes ≡ keyword ++ rest

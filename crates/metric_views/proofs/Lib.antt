@@ -1,3 +1,4 @@
 mod SoundReaders
 mod SoundSetups
 mod EachLaws
+mod Selecting

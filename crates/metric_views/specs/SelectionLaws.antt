@@ -62,5 +62,3 @@ selects-Decides criteria meter instrument =
       },
       λ s. d.1 ((s.instrument_name, (s.instrument_type, s.instrument_unit)), (s.meter_name, (s.meter_version, s.meter_schema_url))),
     )
-
-pub ruleset selection_laws = (selects-Decides)

@@ -13,7 +13,7 @@ impl View {
     /// Whether the view selects an instrument of a meter: every criterion that it gives holds
     /// (Metrics SDK, instrument selection criteria). Unit and meter fields are compared by bytes. Takes
     /// no memory.
-    #[tactic(auto, using(crate::specs::SelectionLaws::selection_laws))]
+    #[tactic(auto, using(crate::proofs::Selecting::selecting))]
     pub fn selects(&self, meter: &Meter, instrument: &Instrument) -> bool
         ensures test { IsTrue result ↔ Selects self.now.criteria meter.now instrument.now }
         ensures value { result ≡ selects self.now.criteria meter.now instrument.now }

@@ -1,5 +1,6 @@
 //! A catalogue in which every field is given, lists at their limits, and faults with their places.
 use crate::encoding::read;
+use crate::tables::{write_integers, write_many, write_name};
 use crate::words::kind_word;
 use metric_catalogue::{Catalogue, CatalogueFault, CataloguePlace, Instrument, Key, Recorder};
 use metric_names::AttrValue;
@@ -168,25 +169,35 @@ fn write_instruments(out: &mut String, catalogue: &Catalogue) -> Result<(), Fail
     Ok(())
 }
 
-// All that a catalogue declares, or its fault as it is printed.
-fn told(alloc: Global, text: &str) -> Result<String, Fail> {
-    let catalogue = match Catalogue::read(alloc, text) {
-        Ok(catalogue) => catalogue,
-        Err(fault) => return Ok(format!(in alloc; "{fault}")?),
-    };
-    let mut out = String::new(alloc);
-    write_meters(&mut out, &catalogue)?;
-    write_instruments(&mut out, &catalogue)?;
+fn write_recorders(out: &mut String, catalogue: &Catalogue) -> Result<(), Fail> {
     for recorder in catalogue.recorders() {
-        write_recorder(&mut out, recorder)?;
+        write_recorder(out, recorder)?;
     }
+    Ok(())
+}
+
+// All that a catalogue declares.
+fn shown(alloc: Global, catalogue: &Catalogue) -> Result<String, Fail> {
+    let mut out = String::new(alloc);
+    write_meters(&mut out, catalogue)?;
+    write_instruments(&mut out, catalogue)?;
+    write_recorders(&mut out, catalogue)?;
     Ok(out)
+}
+
+// The same of the catalogue that a text is, or its fault as it is printed.
+fn told(alloc: Global, text: &str) -> Result<String, Fail> {
+    match Catalogue::read(alloc, text) {
+        Ok(catalogue) => shown(alloc, &catalogue),
+        Err(fault) => Ok(fault.to_string(alloc)?),
+    }
 }
 
 #[test]
 fn every_field_is_read(rt: HostRuntime) -> Result<(), Fail> {
-    assert_eq!(rt; told(rt.alloc(), SHOP)?.as_str(), SHOWN);
-    assert_eq!(rt; told(rt.alloc(), "format = 1")?.as_str(), "");
+    for (text, wanted) in [(SHOP, SHOWN), ("format = 1", "")] {
+        assert_eq!(rt; told(rt.alloc(), text)?.as_str(), wanted);
+    }
     Ok(())
 }
 
@@ -197,20 +208,6 @@ fn budgets_are_of_recorder_and_instrument(rt: HostRuntime) -> Result<(), Fail> {
         assert_eq!(rt; catalogue.budget(recorder, instrument), amount);
     }
     Ok(())
-}
-
-// The name of a thing and its number, as a field of a table.
-fn write_name(out: &mut String, table: &str, number: usize) -> Result<(), Fail> {
-    Ok(write!(out, "[[{table}]]\nname = 'n{number}'\n")?)
-}
-
-// So many integers in a list, rising from 0.
-fn write_integers(out: &mut String, field: &str, count: usize) -> Result<(), Fail> {
-    write!(out, "{field} = [")?;
-    for number in 0..count {
-        write!(out, "{number},")?;
-    }
-    Ok(writeln!(out, "]")?)
 }
 
 fn write_many_instruments(out: &mut String, count: usize) -> Result<(), Fail> {
@@ -225,13 +222,6 @@ fn write_many_keys(out: &mut String, keys: usize, values: usize) -> Result<(), F
     for number in 0..keys {
         write_name(out, "meter.instrument.key", number)?;
         write_integers(out, "values", values)?;
-    }
-    Ok(())
-}
-
-fn write_many(out: &mut String, table: &str, count: usize) -> Result<(), Fail> {
-    for number in 0..count {
-        write_name(out, table, number)?;
     }
     Ok(())
 }
@@ -332,14 +322,21 @@ const COUNTS: &[(Counts, &str)] = &[
     ),
 ];
 
+// How many meters, instruments and recorders there are, and the last budget.
+fn sizes(alloc: Global) -> Result<(usize, usize, usize, u64), Fail> {
+    let text = at_limits(alloc)?;
+    let catalogue = read(alloc, &text)?;
+    Ok((
+        catalogue.meters().len(),
+        catalogue.instruments().len(),
+        catalogue.recorders().len(),
+        catalogue.budget(63, 511),
+    ))
+}
+
 #[test]
 fn lists_are_taken_up_to_their_limits(rt: HostRuntime) -> Result<(), Fail> {
-    let text = at_limits(rt.alloc())?;
-    let catalogue = read(rt.alloc(), &text)?;
-    assert_eq!(rt; catalogue.meters().len(), 64);
-    assert_eq!(rt; catalogue.instruments().len(), 512);
-    assert_eq!(rt; catalogue.recorders().len(), 64);
-    assert_eq!(rt; catalogue.budget(63, 511), 1);
+    assert_eq!(rt; sizes(rt.alloc())?, (64, 512, 64, 1));
     Ok(())
 }
 

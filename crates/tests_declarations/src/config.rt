@@ -1,4 +1,5 @@
 //! A config in which every field is given, lists at their limits, and faults with their places.
+use crate::tables::{write_integers, write_many};
 use crate::words::{aggregation_word, kind_word, temporality_word};
 use metric_base::{Few, Text};
 use metric_catalogue::Kind;
@@ -200,30 +201,33 @@ fn write_views(out: &mut String, views: &[View]) -> Result<(), Fail> {
     Ok(())
 }
 
-// All that a config says, or its fault as it is printed.
-fn told(alloc: Global, text: &str) -> Result<String, Fail> {
-    let config = match Config::read(alloc, text) {
-        Ok(config) => config,
-        Err(fault) => return Ok(format!(in alloc; "{fault}")?),
-    };
-    let mut out = String::new(alloc);
-    for reader in config.readers() {
-        write_reader(&mut out, reader)?;
+fn write_readers(out: &mut String, readers: &[Reader]) -> Result<(), Fail> {
+    for reader in readers {
+        write_reader(out, reader)?;
     }
+    Ok(())
+}
+
+// All that a config says.
+fn shown(alloc: Global, config: &Config) -> Result<String, Fail> {
+    let mut out = String::new(alloc);
+    write_readers(&mut out, config.readers())?;
     write_views(&mut out, config.views())?;
     Ok(out)
 }
 
-#[test]
-fn every_field_is_read(rt: HostRuntime) -> Result<(), Fail> {
-    assert_eq!(rt; told(rt.alloc(), FULL)?.as_str(), SHOWN);
-    assert_eq!(rt; told(rt.alloc(), "format = 1")?.as_str(), "");
-    Ok(())
+// The same of the config that a text is, or its fault as it is printed.
+fn told(alloc: Global, text: &str) -> Result<String, Fail> {
+    match Config::read(alloc, text) {
+        Ok(config) => shown(alloc, &config),
+        Err(fault) => Ok(fault.to_string(alloc)?),
+    }
 }
 
-fn write_many_readers(out: &mut String, count: usize) -> Result<(), Fail> {
-    for number in 0..count {
-        writeln!(out, "[[reader]]\nname = 'n{number}'")?;
+#[test]
+fn every_field_is_read(rt: HostRuntime) -> Result<(), Fail> {
+    for (text, wanted) in [(FULL, SHOWN), ("format = 1", "")] {
+        assert_eq!(rt; told(rt.alloc(), text)?.as_str(), wanted);
     }
     Ok(())
 }
@@ -239,14 +243,6 @@ fn write_texts(out: &mut String, field: &str, count: usize) -> Result<(), Fail> 
     write!(out, "{field} = [")?;
     for number in 0..count {
         write!(out, "'k{number}',")?;
-    }
-    Ok(writeln!(out, "]")?)
-}
-
-fn write_boundaries(out: &mut String, count: usize) -> Result<(), Fail> {
-    write!(out, "boundaries = [")?;
-    for number in 0..count {
-        write!(out, "{number},")?;
     }
     Ok(writeln!(out, "]")?)
 }
@@ -272,9 +268,9 @@ const LIMITS: Counts = Counts {
 // A config whose last view has the lists.
 fn with_counts(alloc: Global, counts: Counts) -> Result<String, Fail> {
     let mut out = String::from_str(alloc, "format = 1\n")?;
-    write_many_readers(&mut out, counts.readers)?;
+    write_many(&mut out, "reader", counts.readers)?;
     write_many_views(&mut out, counts.views)?;
-    write_boundaries(&mut out, counts.boundaries)?;
+    write_integers(&mut out, "boundaries", counts.boundaries)?;
     write_texts(&mut out, "keep", counts.keep)?;
     write_texts(&mut out, "exclude", counts.exclude)?;
     Ok(out)
@@ -283,7 +279,7 @@ fn with_counts(alloc: Global, counts: Counts) -> Result<String, Fail> {
 /// A config of sixteen readers without views.
 pub(crate) fn of_readers(alloc: Global) -> Result<String, Fail> {
     let mut out = String::from_str(alloc, "format = 1\n")?;
-    write_many_readers(&mut out, 16)?;
+    write_many(&mut out, "reader", 16)?;
     Ok(out)
 }
 
@@ -320,12 +316,16 @@ const COUNTS: &[(Counts, &str)] = &[
     ),
 ];
 
+// How many readers and views there are.
+fn sizes(alloc: Global, counts: Counts) -> Result<(usize, usize), Fail> {
+    let text = with_counts(alloc, counts)?;
+    let config = Config::read(alloc, &text)?;
+    Ok((config.readers().len(), config.views().len()))
+}
+
 #[test]
 fn lists_are_taken_up_to_their_limits(rt: HostRuntime) -> Result<(), Fail> {
-    let text = with_counts(rt.alloc(), LIMITS)?;
-    let config = Config::read(rt.alloc(), &text)?;
-    assert_eq!(rt; config.readers().len(), 16);
-    assert_eq!(rt; config.views().len(), 256);
+    assert_eq!(rt; sizes(rt.alloc(), LIMITS)?, (16, 256));
     Ok(())
 }
 

@@ -190,22 +190,26 @@ fn long_lists_are_refused_alike(rt: HostRuntime) -> Result<(), Fail> {
 }
 
 // The number of a value of the key with this name.
-fn number_of(keys: &[Key], name: &str, value: ValueRef<'_>) -> Option<u16> {
+fn number_of(alloc: Global, name: &str, value: ValueRef<'_>) -> Result<Option<u16>, Fail> {
+    let shop = read(alloc, SHOP)?;
+    let hits = shop.instruments().first().ok_or("no instrument")?;
+    Ok(number_in(hits.keys.as_slice(), name, value))
+}
+
+fn number_in(keys: &[Key], name: &str, value: ValueRef<'_>) -> Option<u16> {
     let key = keys.iter().find(|key| key.name.as_str() == name)?;
     key.values.number_of(value)
 }
 
 #[test]
 fn values_are_numbered(rt: HostRuntime) -> Result<(), Fail> {
-    let shop = read(rt.alloc(), SHOP)?;
-    let hits = shop.instruments().first().ok_or("no instrument")?;
     for (name, value, number) in [
         ("route", ValueRef::Text("/b"), Some(1)),
         ("code", ValueRef::Whole(404), Some(1)),
         ("code", ValueRef::Text("200"), Some(2)),
         ("code", ValueRef::Flag(true), None),
     ] {
-        assert_eq!(rt; number_of(hits.keys.as_slice(), name, value), number);
+        assert_eq!(rt; number_of(rt.alloc(), name, value)?, number);
     }
     Ok(())
 }

@@ -15,4 +15,6 @@ mod patterns;
 #[cfg(test)]
 mod streams;
 #[cfg(test)]
+mod tables;
+#[cfg(test)]
 mod words;

@@ -47,15 +47,30 @@ const REASONS: &[(&str, &str, &str)] = &[
     ("?", "ab", "rows [0] [1] []"),
 ];
 
+// Why a name matches a pattern or does not.
+fn why(alloc: Global, pattern: &str, name: &str) -> Result<String, Fail> {
+    let pattern = Pattern::parse(alloc, pattern)?;
+    let name = Name::parse(alloc, name)?;
+    let reason = pattern.why(alloc, &name)?;
+    shown(alloc, &reason)
+}
+
+// Whether a name matches a pattern, where the reason is confirmed.
+fn does_match(alloc: Global, pattern: &str, name: &str) -> Result<Option<bool>, Fail> {
+    let pattern = Pattern::parse(alloc, pattern)?;
+    let name = Name::parse(alloc, name)?;
+    let reason = pattern.why(alloc, &name)?;
+    let does_match = matches!(reason, Reason::Takes(_));
+    let is_told = pattern.confirms(&name, &reason) && pattern.matches(&name) == does_match;
+    Ok(is_told.then_some(does_match))
+}
+
 #[test]
 fn a_reason_says_why_a_name_matches_or_does_not(rt: HostRuntime) -> Result<(), Fail> {
     for (pattern, name, wanted) in REASONS {
-        let pattern = Pattern::parse(rt.alloc(), pattern)?;
-        let name = Name::parse(rt.alloc(), name)?;
-        let reason = pattern.why(rt.alloc(), &name)?;
-        assert_eq!(rt; shown(rt.alloc(), &reason)?.as_str(), *wanted);
-        assert!(rt; pattern.confirms(&name, &reason));
-        assert_eq!(rt; pattern.matches(&name), wanted.starts_with("takes"));
+        assert_eq!(rt; why(rt.alloc(), pattern, name)?.as_str(), *wanted);
+        let does_match = does_match(rt.alloc(), pattern, name)?;
+        assert_eq!(rt; does_match, Some(wanted.starts_with("takes")));
     }
     Ok(())
 }
@@ -102,25 +117,20 @@ const STATED: &[(&str, &str, Stated, bool)] = &[
     ("b*", "a", Stated::Rows(&[&[0, 2, 3, 65535], &[0, 7]]), true),
 ];
 
+fn confirms(alloc: Global, pattern: &str, name: &str, stated: Stated) -> Result<bool, Fail> {
+    let pattern = Pattern::parse(alloc, pattern)?;
+    let name = Name::parse(alloc, name)?;
+    let reason = reason_of(alloc, stated)?;
+    Ok(pattern.confirms(&name, &reason))
+}
+
 #[test]
 fn only_true_reasons_are_confirmed(rt: HostRuntime) -> Result<(), Fail> {
     for (pattern, name, stated, is_true) in STATED {
-        let pattern = Pattern::parse(rt.alloc(), pattern)?;
-        let name = Name::parse(rt.alloc(), name)?;
-        let reason = reason_of(rt.alloc(), *stated)?;
-        assert_eq!(rt; pattern.confirms(&name, &reason), *is_true, "{stated:?}");
+        let is_confirmed = confirms(rt.alloc(), pattern, name, *stated)?;
+        assert_eq!(rt; is_confirmed, *is_true, "{stated:?}");
     }
     Ok(())
-}
-
-// Whether a name matches a pattern, where the reason is confirmed.
-fn does_match(alloc: Global, pattern: &str, name: &str) -> Result<Option<bool>, Fail> {
-    let pattern = Pattern::parse(alloc, pattern)?;
-    let name = Name::parse(alloc, name)?;
-    let reason = pattern.why(alloc, &name)?;
-    let does_match = matches!(reason, Reason::Takes(_));
-    let is_told = pattern.confirms(&name, &reason) && pattern.matches(&name) == does_match;
-    Ok(is_told.then_some(does_match))
 }
 
 #[test]

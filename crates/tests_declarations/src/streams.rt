@@ -155,13 +155,18 @@ fn resolved(alloc: Global, catalogue: &str, config: &str) -> Result<Streams, Fai
     Ok(resolve(alloc, &catalogue, &config)?)
 }
 
-// Each stream by a line, or only by its numbers, and each warning.
+fn write_streams(out: &mut String, alloc: Global, streams: &[Stream]) -> Result<(), Fail> {
+    for stream in streams {
+        write_stream(out, &stream.copy(alloc)?)?;
+    }
+    Ok(())
+}
+
+// Each stream by a line, and each warning.
 fn shown(alloc: Global, catalogue: &str, config: &str) -> Result<String, Fail> {
     let streams = resolved(alloc, catalogue, config)?;
     let mut out = String::new(alloc);
-    for stream in streams.list() {
-        write_stream(&mut out, &stream.copy(alloc)?)?;
-    }
+    write_streams(&mut out, alloc, streams.list())?;
     write_warnings(&mut out, streams.warnings())?;
     Ok(out)
 }
@@ -171,8 +176,9 @@ fn every_part_of_the_streams_is_given(rt: HostRuntime) -> Result<(), Fail> {
     streams_are_what_views_give();
     collisions_are_of_one_identity();
     unfit_views_sum_gauges();
-    assert_eq!(rt; shown(rt.alloc(), SHOP, CONFIG)?.as_str(), SHOWN);
-    assert_eq!(rt; shown(rt.alloc(), SHOP, "format = 1")?.as_str(), "");
+    for (config, wanted) in [(CONFIG, SHOWN), ("format = 1", "")] {
+        assert_eq!(rt; shown(rt.alloc(), SHOP, config)?.as_str(), wanted);
+    }
     Ok(())
 }
 
@@ -216,14 +222,17 @@ const CRITERIA: &[(&str, [Option<u32>; 4])] = &[
     ),
 ];
 
+// The view of each stream, where there is one reader and this view.
+fn views_of(alloc: Global, view: &str) -> Result<Vec<Option<u32>>, Fail> {
+    let config = format!(in alloc; "format = 1\n[[reader]]\nname = 'r'\n[[view]]\n{view}\n")?;
+    let streams = resolved(alloc, SHOP, &config)?;
+    Ok(streams.list().iter().map(|s| s.view).collect(alloc)?)
+}
+
 #[test]
 fn a_view_selects_by_all_its_criteria(rt: HostRuntime) -> Result<(), Fail> {
     for (view, wanted) in CRITERIA {
-        let config = format!(in rt.alloc();
-            "format = 1\n[[reader]]\nname = 'r'\n[[view]]\n{view}\n"
-        )?;
-        let streams = resolved(rt.alloc(), SHOP, &config)?;
-        let views: Vec<Option<u32>> = streams.list().iter().map(|s| s.view).collect(rt.alloc())?;
+        let views = views_of(rt.alloc(), view)?;
         assert_eq!(rt; views.as_slice(), wanted.as_slice(), "{view}");
     }
     Ok(())
@@ -257,10 +266,8 @@ const SMALL: &[(&str, &str)] = &[
     ),
 ];
 
-fn numbers(alloc: Global, config: &str) -> Result<String, Fail> {
-    let streams = resolved(alloc, TWO, config)?;
-    let mut out = String::new(alloc);
-    for stream in streams.list() {
+fn write_numbers(out: &mut String, streams: &[Stream]) -> Result<(), Fail> {
+    for stream in streams {
         let reader = stream.reader;
         let instrument = stream.instrument;
         match stream.view {
@@ -268,6 +275,14 @@ fn numbers(alloc: Global, config: &str) -> Result<String, Fail> {
             None => write!(out, "{reader} {instrument} -, ")?,
         }
     }
+    Ok(())
+}
+
+fn numbers(alloc: Global, tables: &str) -> Result<String, Fail> {
+    let config = format!(in alloc; "format = 1\n{tables}")?;
+    let streams = resolved(alloc, TWO, &config)?;
+    let mut out = String::new(alloc);
+    write_numbers(&mut out, streams.list())?;
     write_warnings(&mut out, streams.warnings())?;
     Ok(out)
 }
@@ -275,25 +290,24 @@ fn numbers(alloc: Global, config: &str) -> Result<String, Fail> {
 #[test]
 fn streams_stand_by_reader_instrument_and_view(rt: HostRuntime) -> Result<(), Fail> {
     for (tables, wanted) in SMALL {
-        let config = format!(in rt.alloc(); "format = 1\n{tables}")?;
-        assert_eq!(rt; numbers(rt.alloc(), &config)?.as_str(), *wanted, "{tables}");
+        assert_eq!(rt; numbers(rt.alloc(), tables)?.as_str(), *wanted, "{tables}");
     }
     Ok(())
 }
 
 // What the view of this number, or the default, makes of an instrument for the first reader.
-fn filled(
+fn write_fill(
+    out: &mut String,
     alloc: Global,
     catalogue: &Catalogue,
     config: &Config,
     instrument: u32,
     view: Option<u32>,
-) -> Result<String, Fail> {
+) -> Result<(), Fail> {
     let has_view = match view {
         Some(number) => (number as usize) < config.views().len(),
         None => true,
     };
-    let mut out = String::new(alloc);
     if config.readers().is_empty()
         || instrument as usize >= catalogue.instruments().len()
         || !has_view
@@ -301,10 +315,17 @@ fn filled(
         return Err(Fail::from("no such number"));
     }
     match fill(alloc, catalogue, config, 0, instrument, view)? {
-        Fill::Unfit => out.push_str("unfit\n")?,
-        Fill::Dropped => out.push_str("dropped\n")?,
-        Fill::Kept(stream) => write_stream(&mut out, &stream)?,
+        Fill::Unfit => Ok(out.push_str("unfit\n")?),
+        Fill::Dropped => Ok(out.push_str("dropped\n")?),
+        Fill::Kept(stream) => write_stream(out, &stream),
     }
+}
+
+fn filled(alloc: Global, instrument: u32, view: Option<u32>) -> Result<String, Fail> {
+    let catalogue = read(alloc, SHOP)?;
+    let config = config_of(alloc, CONFIG)?;
+    let mut out = String::new(alloc);
+    write_fill(&mut out, alloc, &catalogue, &config, instrument, view)?;
     Ok(out)
 }
 
@@ -326,10 +347,8 @@ const FILLS: &[(u32, Option<u32>, &str)] = &[
 
 #[test]
 fn one_view_makes_one_stream_of_an_instrument(rt: HostRuntime) -> Result<(), Fail> {
-    let catalogue = read(rt.alloc(), SHOP)?;
-    let config = config_of(rt.alloc(), CONFIG)?;
     for (instrument, view, wanted) in FILLS {
-        let filled = filled(rt.alloc(), &catalogue, &config, *instrument, *view)?;
+        let filled = filled(rt.alloc(), *instrument, *view)?;
         assert_eq!(rt; filled.as_str(), *wanted);
     }
     Ok(())
@@ -340,8 +359,7 @@ fn meter_of<'a>(catalogue: &'a Catalogue, stream: &Stream) -> Option<&'a Meter> 
     catalogue.meters().get(instrument.meter as usize)
 }
 
-// How two streams stand by their identities.
-fn order_of(
+fn order_in(
     catalogue: &Catalogue,
     streams: &[Stream],
     left: usize,
@@ -357,10 +375,15 @@ fn order_of(
     ))
 }
 
+// How two streams stand by their identities.
+fn order_of(alloc: Global, left: usize, right: usize) -> Result<Option<Ordering>, Fail> {
+    let catalogue = read(alloc, SHOP)?;
+    let streams = resolved(alloc, SHOP, CONFIG)?;
+    Ok(order_in(&catalogue, streams.list(), left, right))
+}
+
 #[test]
 fn identities_stand_by_reader_meter_and_name(rt: HostRuntime) -> Result<(), Fail> {
-    let catalogue = read(rt.alloc(), SHOP)?;
-    let streams = resolved(rt.alloc(), SHOP, CONFIG)?;
     for (left, right, wanted) in [
         (3, 4, Ordering::Equal),
         (0, 3, Ordering::Less),
@@ -368,7 +391,7 @@ fn identities_stand_by_reader_meter_and_name(rt: HostRuntime) -> Result<(), Fail
         (4, 6, Ordering::Less),
         (1, 2, Ordering::Greater),
     ] {
-        let order = order_of(&catalogue, streams.list(), left, right);
+        let order = order_of(rt.alloc(), left, right)?;
         assert!(rt; order == Some(wanted));
     }
     Ok(())

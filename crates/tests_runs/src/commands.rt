@@ -1,8 +1,9 @@
-//! Whole inputs replayed and shown: what is written, or the line and the exit status of the fault.
+//! Whole inputs replayed, shown and checked: what is written, or the line and the exit status of the fault.
 use metric_catalogue::{CatalogueFault, CataloguePlace};
-use metric_check::CheckFault;
-use metric_commands::{KitFault, ReplayOptions, one_output, replay, show_run};
+use metric_cert::CertFault;
+use metric_commands::{KitFault, ReplayOptions, check_run, one_output, replay, show_run};
 use metric_io::{CutSink, CutSource};
+use metric_plan::CheckFault;
 use metric_views::{ConfigPlace, ViewFault};
 use std::alloc::Global;
 use std::test::Fail;
@@ -11,6 +12,7 @@ use std::test::Fail;
 enum Command {
     Trial,
     Replay,
+    Check,
     Show,
 }
 
@@ -23,6 +25,7 @@ fn run(
     match command {
         Command::Trial => replay(alloc, ReplayOptions { trial: true }, source, sink),
         Command::Replay => replay(alloc, ReplayOptions { trial: false }, source, sink),
+        Command::Check => check_run(alloc, source, sink),
         Command::Show => show_run(alloc, source, sink),
     }
 }
@@ -153,6 +156,35 @@ name = \"D\"
 temporality = { counter = \"delta\" }
 ";
 
+const READERS_CERTIFIED: &str = "format = 1
+[[reader]]
+name = \"C\"
+[[reader]]
+name = \"D\"
+temporality = { counter = \"delta\" }
+%% certificate
+format = 1
+reason = []
+stream = [{ reader = 0, instrument = 0, by = \"product\", sets = 1 }, { reader = 1, instrument = 0, by = \"product\", sets = 1 }]
+bound = [{ instrument = 0, total = \"2\", amount = \"200\", low = \"0\", high = \"200\" }]
+order = [{ reader = 0, streams = [0] }, { reader = 1, streams = [1] }]
+";
+
+// The same with a greatest sum that is 1 too small.
+const READERS_MISJUDGED: &str = "format = 1
+[[reader]]
+name = \"C\"
+[[reader]]
+name = \"D\"
+temporality = { counter = \"delta\" }
+%% certificate
+format = 1
+reason = []
+stream = [{ reader = 0, instrument = 0, by = \"product\", sets = 1 }, { reader = 1, instrument = 0, by = \"product\", sets = 1 }]
+bound = [{ instrument = 0, total = \"2\", amount = \"200\", low = \"0\", high = \"199\" }]
+order = [{ reader = 0, streams = [0] }, { reader = 1, streams = [1] }]
+";
+
 const READERS_RUN: &str = "start 0
 record 0 0 5
 collect 1 0 10
@@ -227,6 +259,13 @@ const DONE: &[(Command, &str, &str, &str, &str)] = &[
         READERS_RUN,
         READERS_OUTPUT,
     ),
+    (
+        Command::Replay,
+        BUDGETED,
+        READERS_CERTIFIED,
+        READERS_RUN,
+        READERS_OUTPUT,
+    ),
     (Command::Trial, HITS, MAIN, "start 0\n", ""),
     (
         Command::Trial,
@@ -243,6 +282,13 @@ close 0
     ),
     (Command::Show, SHOWN, SHOWN_VIEWS, "", SHOWN_OUTPUT),
     (Command::Show, HITS, "format = 1\n", "no script\n", ""),
+    (
+        Command::Check,
+        BUDGETED,
+        READERS_CERTIFIED,
+        "no script\n",
+        "accepted\n",
+    ),
 ];
 
 #[test]
@@ -295,10 +341,10 @@ const DECLARED: &[(&str, &str, &str)] = &[
 #[test]
 fn a_faulty_declaration_is_told(rt: HostRuntime) -> Result<(), Fail> {
     for (catalogue, config, wanted) in DECLARED {
-        let trial = told_of(rt.alloc(), Command::Trial, catalogue, config, RUN)?;
-        assert_eq!(rt; trial.as_str(), *wanted);
-        let show = told_of(rt.alloc(), Command::Show, catalogue, config, RUN)?;
-        assert_eq!(rt; show.as_str(), *wanted);
+        for command in [Command::Trial, Command::Show] {
+            let told = told_of(rt.alloc(), command, catalogue, config, RUN)?;
+            assert_eq!(rt; told.as_str(), *wanted);
+        }
     }
     Ok(())
 }
@@ -319,7 +365,7 @@ name = \"c\"
 budget = [{ instrument = 0, amount = 2 }]
 ";
 
-// Faults of the input's lines and of its plan, and what is not served yet.
+// Faults of the input's lines, of its certificate and of its plan.
 const REFUSED: &[(Command, &str, &str, &str, &str)] = &[
     (
         Command::Trial,
@@ -361,7 +407,50 @@ const REFUSED: &[(Command, &str, &str, &str, &str)] = &[
         HITS,
         "format = 1\n%% certificate\n",
         RUN,
-        "refused: not yet, 1",
+        "refused: certificate 2 Shape, 1",
+    ),
+    (Command::Check, HITS, MAIN, RUN, "refused: input line 19, 3"),
+    (
+        Command::Check,
+        HITS,
+        "[a\n%% certificate\n[a\n",
+        RUN,
+        "refused: config 1 NotToml, 1",
+    ),
+    (
+        Command::Check,
+        HITS,
+        "format = 1\n%% certificate\n[a\n",
+        RUN,
+        "refused: certificate 1 NotToml, 1",
+    ),
+    (
+        Command::Check,
+        HITS,
+        "format = 1\n%% certificate\n",
+        RUN,
+        "refused: certificate 2 Shape, 1",
+    ),
+    (
+        Command::Check,
+        BUDGETED,
+        READERS_MISJUDGED,
+        RUN,
+        "refused: check 11 SumHigh, 1",
+    ),
+    (
+        Command::Replay,
+        BUDGETED,
+        READERS_MISJUDGED,
+        "rec\n",
+        "refused: check 11 SumHigh, 1",
+    ),
+    (
+        Command::Replay,
+        BUDGETED,
+        READERS_CERTIFIED,
+        "rec\n",
+        "refused: input line 23, 3",
     ),
     (
         Command::Trial,
@@ -385,41 +474,58 @@ fn input_of(alloc: Global, script: &str) -> Result<String, Fail> {
     Ok(format!(in alloc; "%% catalogue\n{HITS}%% config\n{MAIN}%% script\n{script}")?)
 }
 
+// Whether a sink with this room has what goes into it of the output, and the fault tells so.
+fn is_cut(alloc: Global, input: &str, room: usize) -> bool {
+    let mut source = CutSource::new(input.as_bytes(), None);
+    let mut sink = CutSink::new(alloc, Some(room));
+    let fault = run(alloc, Command::Trial, &mut source, &mut sink).err();
+    fault == Some(KitFault::Write) && OUTPUT.as_bytes().get(..room) == Some(sink.taken())
+}
+
 #[test]
 fn a_writer_that_fails_has_a_prefix(rt: HostRuntime) -> Result<(), Fail> {
     let input = input_of(rt.alloc(), RUN)?;
     for room in 0..OUTPUT.len() {
-        let mut source = CutSource::new(input.as_bytes(), None);
-        let mut sink = CutSink::new(rt.alloc(), Some(room));
-        let fault = run(rt.alloc(), Command::Trial, &mut source, &mut sink).err();
-        assert!(rt; fault == Some(KitFault::Write));
-        assert!(rt; OUTPUT.as_bytes().get(..room) == Some(sink.taken()));
+        assert!(rt; is_cut(rt.alloc(), &input, room), "{room}");
     }
     Ok(())
+}
+
+// What is told where this read fails.
+fn told_up_to(alloc: Global, command: Command, input: &str, failing: u64) -> Result<String, Fail> {
+    let mut source = CutSource::new(input.as_bytes(), Some(failing)).in_pieces(50);
+    told(alloc, command, &mut source, &mut CutSink::new(alloc, None))
 }
 
 #[test]
 fn a_reader_that_fails_writes_nothing(rt: HostRuntime) -> Result<(), Fail> {
     let input = input_of(rt.alloc(), RUN)?;
-    for command in [Command::Trial, Command::Replay, Command::Show] {
+    for command in [
+        Command::Trial,
+        Command::Replay,
+        Command::Check,
+        Command::Show,
+    ] {
         for failing in 1..10 {
-            let mut source = CutSource::new(input.as_bytes(), Some(failing)).in_pieces(50);
-            let mut sink = CutSink::new(rt.alloc(), None);
-            let told = told(rt.alloc(), command, &mut source, &mut sink)?;
+            let told = told_up_to(rt.alloc(), command, &input, failing)?;
             assert_eq!(rt; told.as_str(), "refused: input, 3");
         }
     }
     Ok(())
 }
 
+// The fault of a command whose sink can not be flushed.
+fn unflushed(alloc: Global, command: Command, input: &str) -> Option<KitFault> {
+    let mut source = CutSource::new(input.as_bytes(), None);
+    let mut sink = CutSink::new(alloc, None).with_failing_flush();
+    run(alloc, command, &mut source, &mut sink).err()
+}
+
 #[test]
 fn a_flush_that_fails_is_a_write(rt: HostRuntime) -> Result<(), Fail> {
     let input = input_of(rt.alloc(), "start 0\n")?;
     for command in [Command::Trial, Command::Show] {
-        let mut source = CutSource::new(input.as_bytes(), None);
-        let mut sink = CutSink::new(rt.alloc(), None).with_failing_flush();
-        let fault = run(rt.alloc(), command, &mut source, &mut sink).err();
-        assert!(rt; fault == Some(KitFault::Write));
+        assert!(rt; unflushed(rt.alloc(), command, &input) == Some(KitFault::Write));
     }
     Ok(())
 }
@@ -446,7 +552,11 @@ const PRINTED: &[(KitFault, &str, u8)] = &[
         "refused: check 12 CountRange",
         1,
     ),
-    (KitFault::NotYet, "refused: not yet", 1),
+    (
+        KitFault::Certificate(CertFault::Shape),
+        "refused: certificate 2 Shape",
+        1,
+    ),
     (KitFault::Write, "refused: write", 5),
     (KitFault::Memory, "refused: memory", 4),
 ];

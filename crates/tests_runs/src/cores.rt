@@ -1,9 +1,12 @@
 //! Runs of events on a core, and the replies that they get.
 use crate::{points, scripts};
+use metric_book::{Book, JournalBook};
 use metric_catalogue::Catalogue;
-use metric_check::{CheckFault, Plan};
 use metric_core::Core;
 use metric_history::{Batch, Reply};
+use metric_marked::Marked;
+use metric_plan::{CheckFault, Plan};
+use metric_script::ScriptEvents;
 use metric_views::Config;
 use std::alloc::Global;
 use std::test::Fail;
@@ -54,35 +57,52 @@ fn write_replies(out: &mut String, alloc: Global, replies: &[Reply]) -> Result<(
     Ok(())
 }
 
-// A core over the plan of a catalogue and a config, or why there is none.
-fn core_of(
-    alloc: Global,
-    catalogue: &str,
-    config: &str,
-    start: u64,
-) -> Result<Result<Core, CheckFault>, Fail> {
-    let catalogue = Catalogue::read(alloc, catalogue)?;
-    let config = Config::read(alloc, config)?;
+fn trial(alloc: Global, catalogue: Catalogue, config: Config) -> Result<Plan, CheckFault> {
     match Plan::trial(alloc, catalogue, config) {
-        Ok(plan) => match Core::new(alloc, plan, start) {
-            Ok(core) => Ok(Ok(core)),
-            Err((_, refused)) => Err(Fail::from(refused)),
-        },
-        Err((_, _, fault)) => Ok(Err(fault)),
+        Ok(plan) => Ok(plan),
+        Err((_, _, fault)) => Err(fault),
     }
 }
 
-// The replies to the events of a script, or the fault of the plan.
-fn told(alloc: Global, catalogue: &str, config: &str, script: &str) -> Result<String, Fail> {
-    let read = scripts::read(alloc, script)??;
-    let mut core = match core_of(alloc, catalogue, config, read.start)? {
-        Ok(core) => core,
-        Err(fault) => return Ok(fault.to_string(alloc)?),
-    };
+// The plan of a catalogue and a config, or why there is none.
+fn plan_of(alloc: Global, catalogue: &str, config: &str) -> Result<Result<Plan, CheckFault>, Fail> {
+    let catalogue = Catalogue::read(alloc, catalogue)?;
+    let config = Config::read(alloc, config)?;
+    Ok(trial(alloc, catalogue, config))
+}
+
+fn core_of<B: Book>(alloc: Global, plan: Plan, start: u64) -> Result<Core<B>, Fail> {
+    match Core::new(alloc, plan, start) {
+        Ok(core) => Ok(core),
+        Err((_, refused)) => Err(Fail::from(refused)),
+    }
+}
+
+fn shown(alloc: Global, replies: &[Reply]) -> Result<String, Fail> {
     let mut out = String::new(alloc);
-    let replies = core.run(alloc, read.events.as_slice())?;
-    write_replies(&mut out, alloc, &replies)?;
+    write_replies(&mut out, alloc, replies)?;
     Ok(out)
+}
+
+// The replies of a new core over a plan to the events of a script.
+fn replied<B: Book>(alloc: Global, plan: Plan, script: &ScriptEvents) -> Result<String, Fail> {
+    let mut core: Core<B> = core_of(alloc, plan, script.start)?;
+    let replies = core.run(alloc, script.events.as_slice())?;
+    shown(alloc, &replies)
+}
+
+// The same of a catalogue and a config, or the fault of their plan.
+fn told<B: Book>(
+    alloc: Global,
+    catalogue: &str,
+    config: &str,
+    script: &str,
+) -> Result<String, Fail> {
+    let read = scripts::read(alloc, script)??;
+    match plan_of(alloc, catalogue, config)? {
+        Ok(plan) => replied::<B>(alloc, plan, &read),
+        Err(fault) => Ok(fault.to_string(alloc)?),
+    }
 }
 
 const ROUTES: &str = "format = 1
@@ -265,8 +285,10 @@ batch 0 0, 2 to 2, 20 to 30: stream 0
 #[test]
 fn events_are_replied_to(rt: HostRuntime) -> Result<(), Fail> {
     for (catalogue, config, script, wanted) in RUNS {
-        let told = told(rt.alloc(), catalogue, config, script)?;
-        assert_eq!(rt; told.as_str(), *wanted);
+        let listed = told::<JournalBook>(rt.alloc(), catalogue, config, script)?;
+        assert_eq!(rt; listed.as_str(), *wanted);
+        let running = told::<Marked>(rt.alloc(), catalogue, config, script)?;
+        assert_eq!(rt; running.as_str(), *wanted);
     }
     Ok(())
 }

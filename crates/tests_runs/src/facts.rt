@@ -1,4 +1,5 @@
 //! What the run of each instrument depends on.
+use metric_base::Items;
 use metric_catalogue::Catalogue;
 use metric_history::{Event, Facts, all_facts};
 use metric_resolve::resolve;
@@ -97,19 +98,36 @@ fn write_facts(out: &mut String, facts: &Facts) -> Result<(), Fail> {
     Ok(writeln!(out)?)
 }
 
-fn shown(alloc: Global, catalogue: &str, config: &str) -> Result<String, Fail> {
-    let catalogue = Catalogue::read(alloc, catalogue)?;
-    let config = Config::read(alloc, config)?;
-    let streams = resolve(alloc, &catalogue, &config)?;
+fn facts_of(alloc: Global, catalogue: &Catalogue, config: &Config) -> Result<Items<Facts>, Fail> {
+    let streams = resolve(alloc, catalogue, config)?;
     if streams.list().len() > 1000 {
         return Err(Fail::from("too many streams"));
     }
-    let all = all_facts(alloc, true, &catalogue, config.readers(), streams.list())?;
-    let mut out = String::new(alloc);
-    for facts in all.as_slice() {
-        write_facts(&mut out, facts)?;
+    Ok(all_facts(alloc, true, catalogue, config.readers(), streams.list())?)
+}
+
+fn write_all(out: &mut String, all: &[Facts]) -> Result<(), Fail> {
+    for facts in all {
+        write_facts(out, facts)?;
     }
+    Ok(())
+}
+
+fn listed(alloc: Global, all: &[Facts]) -> Result<String, Fail> {
+    let mut out = String::new(alloc);
+    write_all(&mut out, all)?;
     Ok(out)
+}
+
+fn shown_of(alloc: Global, catalogue: &Catalogue, config: &Config) -> Result<String, Fail> {
+    let all = facts_of(alloc, catalogue, config)?;
+    listed(alloc, all.as_slice())
+}
+
+fn shown(alloc: Global, catalogue: &str, config: &str) -> Result<String, Fail> {
+    let catalogue = Catalogue::read(alloc, catalogue)?;
+    let config = Config::read(alloc, config)?;
+    shown_of(alloc, &catalogue, &config)
 }
 
 #[test]

@@ -59,13 +59,17 @@ fn write_event(out: &mut Vec<u8>, event: &Event) -> Result<(), Fail> {
     Ok(push_text(out, "\n")?)
 }
 
-/// What is read of a script whose first line is the fourth of the input.
-pub(crate) fn read(alloc: Global, script: &str) -> Result<Result<ScriptEvents, InputFault>, Fail> {
-    let input = format!(in alloc; "%% catalogue\n%% config\n%% script\n{script}")?;
-    let lines = lines(alloc, input.as_bytes())?;
+fn read_input(alloc: Global, input: &[u8]) -> Result<Result<ScriptEvents, InputFault>, Fail> {
+    let lines = lines(alloc, input)?;
     let parts = parts_of(alloc, &lines, TRIAL)?;
     let script = parts.script.ok_or("no script")?;
     Ok(events_of(alloc, &script))
+}
+
+/// What is read of a script whose first line is the fourth of the input.
+pub(crate) fn read(alloc: Global, script: &str) -> Result<Result<ScriptEvents, InputFault>, Fail> {
+    let input = format!(in alloc; "%% catalogue\n%% config\n%% script\n{script}")?;
+    read_input(alloc, input.as_bytes())
 }
 
 // The start and the events of a script as they are spelled, or the fault.

@@ -1,6 +1,7 @@
 //! Tables of series: which are held, the order of their points, and the overflow point.
 use crate::points::shown;
 use metric_catalogue::Catalogue;
+use metric_history::Point;
 use metric_series::SeriesTable;
 use metric_views::{Config, Fill, Stream, fill};
 use std::alloc::Global;
@@ -17,39 +18,63 @@ range = [0, 9]
 key = [{ name = "route", values = ["/a", "/b", "/c"] }]
 "#;
 
-// The default stream of the counter, for a reader with this limit.
-fn stream(alloc: Global, limit: u32) -> Result<Stream, Fail> {
-    let catalogue = Catalogue::read(alloc, CATALOGUE)?;
+// A config of one reader with this limit.
+fn config_of(alloc: Global, limit: u32) -> Result<Config, Fail> {
     let text = format!(in alloc;
         "format = 1\n[[reader]]\nname = \"main\"\nlimit = {{ counter = {limit} }}\n"
     )?;
-    let config = Config::read(alloc, &text)?;
+    Ok(Config::read(alloc, &text)?)
+}
+
+fn default_of(alloc: Global, catalogue: &Catalogue, config: &Config) -> Result<Stream, Fail> {
     if catalogue.instruments().is_empty() || config.readers().is_empty() {
         return Err("nothing declared".into());
     }
-    match fill(alloc, &catalogue, &config, 0, 0, None)? {
+    match fill(alloc, catalogue, config, 0, 0, None)? {
         Fill::Kept(stream) => Ok(stream),
         Fill::Unfit | Fill::Dropped => Err("no stream".into()),
     }
 }
 
-// The points after these adds, each of an entry of the set key and a value.
-fn told(alloc: Global, limit: u32, adds: &[(u16, i64)]) -> Result<String, Fail> {
-    let mut table = SeriesTable::new(alloc, &stream(alloc, limit)?)?;
-    let mut out = String::new(alloc);
+// The default stream of the counter, for a reader with this limit.
+fn stream(alloc: Global, limit: u32) -> Result<Stream, Fail> {
+    let catalogue = Catalogue::read(alloc, CATALOGUE)?;
+    let config = config_of(alloc, limit)?;
+    default_of(alloc, &catalogue, &config)
+}
+
+// Adds values, each of an entry of the set key, and tells which are refused.
+fn add_all(out: &mut String, table: &mut SeriesTable, adds: &[(u16, i64)]) -> Result<(), Fail> {
     for (entry, value) in adds {
         if table.add([*entry, 0, 0, 0, 0, 0, 0, 0], *value).is_err() {
             out.push_str("refused, ")?;
         }
     }
-    for point in &table.points(alloc)? {
-        match &point.set {
-            Some(set) => write!(out, "{}: ", set[0])?,
-            None => out.push_str("overflow: ")?,
-        }
-        out.push_str(&shown(alloc, &point.value)?)?;
-        out.push_str("; ")?;
+    Ok(())
+}
+
+fn write_point(out: &mut String, alloc: Global, point: &Point) -> Result<(), Fail> {
+    match &point.set {
+        Some(set) => write!(out, "{}: ", set[0])?,
+        None => out.push_str("overflow: ")?,
     }
+    out.push_str(&shown(alloc, &point.value)?)?;
+    Ok(out.push_str("; ")?)
+}
+
+fn write_points(out: &mut String, alloc: Global, points: &[Point]) -> Result<(), Fail> {
+    for point in points {
+        write_point(out, alloc, point)?;
+    }
+    Ok(())
+}
+
+// The points after these adds.
+fn told(alloc: Global, limit: u32, adds: &[(u16, i64)]) -> Result<String, Fail> {
+    let mut table = SeriesTable::new(alloc, &stream(alloc, limit)?)?;
+    let mut out = String::new(alloc);
+    add_all(&mut out, &mut table, adds)?;
+    write_points(&mut out, alloc, &table.points(alloc)?)?;
     Ok(out)
 }
 

@@ -5,7 +5,7 @@ use metric_catalogue::{Catalogue, SetKey};
 use metric_history::{Batch, Point, StreamPoints};
 use metric_lines::{push_batch, push_shown, push_warning};
 use metric_resolve::{Warning, resolve};
-use metric_views::Config;
+use metric_views::{Config, Stream};
 use std::alloc::Global;
 use std::test::Fail;
 
@@ -204,16 +204,31 @@ stream 3 reader=\"main\" instrument=2 view=- name=\"stock\" kind=sum monotonic=n
 stream 4 reader=\"main\" instrument=3 view=- name=\"level\" kind=last temporality=cumulative limit=2000 keys=[]
 ";
 
+fn push_streams(
+    out: &mut Vec<u8>,
+    catalogue: &Catalogue,
+    config: &Config,
+    streams: &[Stream],
+) -> Result<(), Fail> {
+    for (number, stream) in streams.iter().enumerate() {
+        push_shown(out, catalogue, config, number as u64, stream)?;
+    }
+    Ok(())
+}
+
+// The lines of all streams.
+fn listing(alloc: Global) -> Result<Vec<u8>, Fail> {
+    let catalogue = read_shop(alloc, SHOP)?;
+    let config = read_config(alloc, CONFIG)?;
+    let streams = resolve(alloc, &catalogue, &config)?;
+    let mut out = Vec::new(alloc);
+    push_streams(&mut out, &catalogue, &config, streams.list())?;
+    Ok(out)
+}
+
 #[test]
 fn a_stream_has_a_line(rt: HostRuntime) -> Result<(), Fail> {
-    let catalogue = read_shop(rt.alloc(), SHOP)?;
-    let config = read_config(rt.alloc(), CONFIG)?;
-    let streams = resolve(rt.alloc(), &catalogue, &config)?;
-    let mut out = Vec::new(rt.alloc());
-    for (number, stream) in streams.list().iter().enumerate() {
-        push_shown(&mut out, &catalogue, &config, number as u64, stream)?;
-    }
-    assert_eq!(rt; out.as_slice(), LISTING.as_bytes());
+    assert_eq!(rt; listing(rt.alloc())?.as_slice(), LISTING.as_bytes());
     Ok(())
 }
 

@@ -1,15 +1,23 @@
 //! Texts, lists, shared values and copies.
-use metric_base::{Boundaries, Copied, Few, Items, Shared, Text, copy_all, is_rising, is_same};
+use metric_base::{
+    Boundaries, Copied, Exact, Few, Items, Shared, Text, copy_all, is_rising, is_same,
+};
 use std::alloc::{AllocError, Global};
 use std::collections::HashMap;
 use std::test::Fail;
 
+// The bytes of a text, and those of its copy.
+fn kept(alloc: Global, bytes: &str) -> Result<String, AllocError> {
+    let text = Text::new(alloc, bytes)?;
+    let mut kept = text.copy(alloc)?.into_string();
+    kept.push_str(text.as_str())?;
+    Ok(kept)
+}
+
 #[test]
 fn a_text_keeps_its_bytes(rt: HostRuntime) -> Result<(), Fail> {
-    for bytes in ["é\"", "", "e"] {
-        let text = Text::new(rt.alloc(), bytes)?;
-        assert_eq!(rt; text.as_str(), bytes);
-        assert_eq!(rt; text.copy(rt.alloc())?.into_string().as_str(), bytes);
+    for (bytes, twice) in [("é\"", "é\"é\""), ("", ""), ("e", "ee")] {
+        assert_eq!(rt; kept(rt.alloc(), bytes)?.as_str(), twice);
     }
     Ok(())
 }
@@ -32,14 +40,13 @@ fn texts_of_the_same_bytes_are_the_same(rt: HostRuntime) -> Result<(), Fail> {
 #[test]
 fn lists_keep_their_values(rt: HostRuntime) -> Result<(), Fail> {
     let mut items: Items<u64> = Items::new(rt.alloc());
-    assert!(rt; items.is_empty());
+    let was_empty = items.is_empty();
     for value in [7, 9] {
         items.push(value)?;
     }
     let same = Items::from_vec(items.copy(rt.alloc())?.into_vec());
-    assert!(rt; is_same(&items, &same));
+    assert!(rt; was_empty && items.len() == 2 && is_same(&items, &same));
     assert_eq!(rt; items.as_slice(), [7, 9].as_slice());
-    assert_eq!(rt; items.len(), 2);
     Ok(())
 }
 
@@ -47,19 +54,28 @@ fn lists_keep_their_values(rt: HostRuntime) -> Result<(), Fail> {
 fn bounded_lists_keep_their_values(rt: HostRuntime) -> Result<(), Fail> {
     let few: Few<u64, 2> = Few::from_items(copy_all(rt.alloc(), &[7u64, 9])?);
     let copied = few.copy(rt.alloc())?;
-    assert!(rt; is_same(&few, &copied));
-    assert_eq!(rt; few.len(), 2);
+    assert!(rt; few.len() == 2 && is_same(&few, &copied));
     assert_eq!(rt; copied.into_items().as_slice(), [7, 9].as_slice());
     Ok(())
 }
 
+// Whether the copy of a value is the value.
+fn is_copied<T: Copied + Exact + Drop>(alloc: Global, value: &T) -> Result<bool, AllocError> {
+    Ok(is_same(&value.copy(alloc)?, value))
+}
+
 #[test]
 fn numbers_and_options_are_copied(rt: HostRuntime) -> Result<(), Fail> {
-    assert!(rt; is_same(&(-7i64).copy(rt.alloc())?, &-7));
-    assert!(rt; is_same(&7u16.copy(rt.alloc())?, &7));
-    assert!(rt; !is_same(&7u64.copy(rt.alloc())?, &8));
-    assert_eq!(rt; Some(7u64).copy(rt.alloc())?, Some(7));
-    assert_eq!(rt; None::<u64>.copy(rt.alloc())?, None);
+    let numbers = [
+        is_copied(rt.alloc(), &-7i64)?,
+        is_copied(rt.alloc(), &7u16)?,
+        is_copied(rt.alloc(), &7u64)?,
+        is_same(&7u64, &8),
+    ];
+    assert_eq!(rt; numbers, [true, true, true, false]);
+    for option in [Some(7u64), None] {
+        assert_eq!(rt; option.copy(rt.alloc())?, option);
+    }
     Ok(())
 }
 
@@ -67,8 +83,7 @@ fn numbers_and_options_are_copied(rt: HostRuntime) -> Result<(), Fail> {
 fn shared_values_are_the_value(rt: HostRuntime) -> Result<(), Fail> {
     let shared = Shared::new(rt.alloc(), Text::new(rt.alloc(), "é")?)?;
     let other = shared.copy(rt.alloc())?;
-    assert_eq!(rt; shared.get().as_str(), "é");
-    assert_eq!(rt; other.get().as_str(), "é");
+    assert_eq!(rt; [shared.get().as_str(), other.get().as_str()], ["é", "é"]);
     Ok(())
 }
 

@@ -35,19 +35,14 @@ fn table(alloc: Global) -> Result<Table, Fail> {
 #[test]
 fn texts_are_read(rt: HostRuntime) -> Result<(), Fail> {
     let table = table(rt.alloc())?;
-    for (name, wanted) in [
-        ("name", Ok("é")),
-        ("flag", Err(Fault::WrongKind)),
-        ("absent", Err(Fault::Missing)),
+    for (name, needed, optional) in [
+        ("name", Ok("é"), Ok(Some("é"))),
+        ("flag", Err(Fault::WrongKind), Err(Fault::WrongKind)),
+        ("absent", Err(Fault::Missing), Ok(None)),
     ] {
-        assert_eq!(rt; text_field(&table, name, &FAULTS), wanted, "{name}");
-    }
-    for (name, wanted) in [
-        ("name", Ok(Some("é"))),
-        ("flag", Err(Fault::WrongKind)),
-        ("absent", Ok(None)),
-    ] {
-        assert_eq!(rt; optional_text(&table, name, &FAULTS), wanted, "{name}");
+        let read = text_field(&table, name, &FAULTS) == needed
+            && optional_text(&table, name, &FAULTS) == optional;
+        assert!(rt; read, "{name}");
     }
     Ok(())
 }
@@ -111,8 +106,7 @@ fn values_have_one_kind(rt: HostRuntime) -> Result<(), Fail> {
         ("row", Err(Fault::WrongKind), Err(Fault::WrongKind)),
     ] {
         let value = required(&table, name, &FAULTS)?;
-        assert_eq!(rt; integer_of(value, &FAULTS), integer);
-        assert_eq!(rt; text_of(value, &FAULTS), text);
+        assert!(rt; integer_of(value, &FAULTS) == integer && text_of(value, &FAULTS) == text);
         assert!(rt; table_of(value, &FAULTS).is_err());
     }
     Ok(())

@@ -7,6 +7,7 @@ use metric_text::{
     push_list, push_numbered, push_quoted, push_text, push_value, quoted_at, u32_at, u32_of,
     u64_of, value_at, word_at,
 };
+use std::alloc::Global;
 use std::test::Fail;
 
 // Texts, and how they are quoted.
@@ -17,16 +18,20 @@ const QUOTED: &[(&str, &str)] = &[
     ("\t\r é\u{1}", "\"\\t\\r é\u{1}\""),
 ];
 
+// Whether a text is written so, and read back where more follows.
+fn is_read_back(alloc: Global, text: &str, spelled: &str) -> Result<bool, Fail> {
+    let mut out = Vec::new(alloc);
+    push_quoted(&mut out, text)?;
+    let is_spelled = out.as_slice() == spelled.as_bytes();
+    push_text(&mut out, "=1")?;
+    let (read, rest) = quoted_at(alloc, &out)?;
+    Ok(is_spelled && read.as_str() == text && rest == b"=1".as_slice())
+}
+
 #[test]
 fn a_text_is_written_in_quotes_and_read_back(rt: HostRuntime) -> Result<(), Fail> {
     for (text, spelled) in QUOTED {
-        let mut out = Vec::new(rt.alloc());
-        push_quoted(&mut out, text)?;
-        assert_eq!(rt; out.as_slice(), spelled.as_bytes());
-        push_text(&mut out, "=1")?;
-        let (read, rest) = quoted_at(rt.alloc(), &out)?;
-        assert_eq!(rt; read.as_str(), *text);
-        assert_eq!(rt; rest, b"=1".as_slice());
+        assert!(rt; is_read_back(rt.alloc(), text, spelled)?, "{text:?}");
     }
     Ok(())
 }
@@ -93,9 +98,9 @@ const NUMBERS: &[(&str, Option<u32>, Option<u64>, Option<i64>)] = &[
 #[test]
 fn numbers_are_read_in_their_ranges(rt: HostRuntime) {
     for (word, small, large, signed) in NUMBERS {
-        assert_eq!(rt; u32_of(word.as_bytes()), *small, "{word:?}");
-        assert_eq!(rt; u64_of(word.as_bytes()), *large, "{word:?}");
-        assert_eq!(rt; i64_of(word.as_bytes()), *signed, "{word:?}");
+        let bytes = word.as_bytes();
+        let read = (u32_of(bytes), u64_of(bytes), i64_of(bytes));
+        assert_eq!(rt; read, (*small, *large, *signed), "{word:?}");
     }
 }
 

@@ -7,6 +7,14 @@ pub returns-clause-no_words : goal.returns-clause-no_words
 unfolding clap_on_literals
 returns-clause-no_words c = λ name. (refl, refl)
 
+pub returns-clause-make : goal.returns-clause-make
+unfolding clap_on_literals
+returns-clause-make c = λ name. (refl, refl)
+
+pub returns-clause-check : goal.returns-clause-check
+unfolding clap_on_literals
+returns-clause-check c = λ name. (refl, refl)
+
 pub returns-clause-show : goal.returns-clause-show
 unfolding clap_on_literals
 returns-clause-show c = λ name. (refl, refl)

@@ -1,6 +1,11 @@
-use Rattle.metric_commands.proofs.TextLaws.{prefix_of_second}
+use Rattle.metric_commands.proofs.TextLaws.{prefix_of_first, prefix_of_second}
 use Rattle.metric_commands.specs.Showing.{listing_text}
 use Rattle.metric_commands.proofs.show.write_lines.Goals as goal
+
+pub returns-in_err-write_parts-clause-prefix : goal.returns-in_err-write_parts-clause-prefix
+unfolding listing_text
+returns-in_err-write_parts-clause-prefix g c =
+    rw (← c.list.ensures.list) (prefix_of_first _ (g.W.Sink.contents c.write_parts.new.sink) _ _ c.write_parts.ensures.prefix)
 
 pub returns-in_err-write_parts-2-clause-prefix : goal.returns-in_err-write_parts-2-clause-prefix
 unfolding listing_text

@@ -10,7 +10,7 @@ use Rattle.metric_core.proofs.RunLaws.{AllLegal_push, grown_push}
 use Rattle.metric_core.proofs.run.run_on.Goals as goal
 
 pub loop-event-preserved : goal.loop-event-preserved
-loop-event-preserved c =
+loop-event-preserved g c =
     let facts = c.args.plan.now.facts in
     let event = c.event-item.result in
     let reply = c.step-reply.result in
@@ -22,7 +22,7 @@ loop-event-preserved c =
     let long : length done ≡ length front = omega (arith, c.loop-event.invariant.count, length-take-le c.loop-event.event-index c.args.events.now (omega arith)) in
     record {
       count = omega (arith, ap length pushed, length_push done reply);
-      in_range = c.step-reply.ensures.steps.in_range c.loop-event.invariant.in_range;
+      cells = c.step-reply.ensures.steps.cells_of c.loop-event.invariant.cells;
       replies = omega (arith, c.push_reserved.ensures.capacity, c.loop-event.invariant.replies);
       room = c.step-reply.ensures.room ∙ c.loop-event.invariant.room;
       legal = λ since h s.
@@ -30,13 +30,13 @@ loop-event-preserved c =
           (subst (λ (rs : List Reply). AllLegal facts since h (front ++ event ∷ []) rs) (sym pushed)
           (AllLegal_push facts since front done h event reply long (c.loop-event.invariant.legal since h s) (c.step-reply.ensures.steps.legal since (grown h front done) (c.loop-event.invariant.stands since h s))));
       stands = λ since h s.
-          subst (λ (es : List Event). CellsStand facts since c.step-reply.new.cells (grown h es c.push_reserved.new.self.items)) (sym more)
-          (subst (λ (rs : List Reply). CellsStand facts since c.step-reply.new.cells (grown h (front ++ event ∷ []) rs)) (sym pushed)
-          (subst (λ (g : History). CellsStand facts since c.step-reply.new.cells g) (sym (grown_push front done h event reply long))
-          (c.step-reply.ensures.steps.stands since (grown h front done) (c.loop-event.invariant.stands since h s))));
+          subst (λ (es : List Event). CellsStand g.B.Book.stands facts since c.step-reply.new.cells (grown h es c.push_reserved.new.self.items)) (sym more)
+          (subst (λ (rs : List Reply). CellsStand g.B.Book.stands facts since c.step-reply.new.cells (grown h (front ++ event ∷ []) rs)) (sym pushed)
+          (subst (λ (past : History). CellsStand g.B.Book.stands facts since c.step-reply.new.cells past) (sym (grown_push front done h event reply long))
+          (c.step-reply.ensures.steps.follows since (grown h front done) (c.loop-event.invariant.stands since h s))));
     }
 
 pub returns-clause-stands : goal.returns-clause-stands
-returns-clause-stands c = λ since h s.
+returns-clause-stands g c = λ since h s.
     let whole : take c.loop-event.event-index c.args.events.now ≡ c.args.events.now = take_all c.loop-event.event-index c.args.events.now (omega arith) in
-    subst (λ (es : List Event). CellsStand c.args.plan.now.facts since c.loop-event.cells (grown h es c.loop-event.replies.items)) whole (c.loop-event.invariant.stands since h s)
+    subst (λ (es : List Event). CellsStand g.B.Book.stands c.args.plan.now.facts since c.loop-event.cells (grown h es c.loop-event.replies.items)) whole (c.loop-event.invariant.stands since h s)

@@ -1,11 +1,11 @@
 -- the series is there, and has the recordings of its set key
-use Rattle.std.proofs.Common.{◌≡◌, Some, List, ℕ, Option, None, Bor, refl, ap, subst, sym, ◌∙◌}
+use Rattle.std.proofs.Common.{◌≡◌, Some, Option, None, Bor, Result, Ok, Err, refl, ap, sym, ◌∙◌}
 use Rattle.std.specs.Map.{keys_of, lookup}
 use Rattle.std.specs.Option.{option_copied}
-use Rattle.std.specs.Prelude.{is_some}
+use Rattle.std.specs.Prelude.{is_some, IfOk}
 use Rattle.std.specs.Str.{bytes_eq}
 use Rattle.metric_history.specs.Series.{has}
-use Rattle.metric_series.specs.Tables.{StandsTable}
+use Rattle.metric_series.specs.Calls.{point_of as point_by}
 use Rattle.metric_series.proofs.Adding.{lookup-held}
 use Rattle.metric_series.proofs.Reading.{point_is}
 use Rattle.metric_series.proofs.table.TableOf.point.Goals as goal
@@ -13,6 +13,10 @@ use Rattle.metric_series.proofs.table.TableOf.point.Goals as goal
 is_some-option_copied : {X : Type 0} (o : Option (Bor X)) → is_some (option_copied o) ≡ is_some o
 is_some-option_copied None = refl
 is_some-option_copied (Some x) = refl
+
+if_ok_weaker : {X E : Type 0} {P Q : X → Type 0} (result : Result X E) → ((x : X) → P x → Q x) → IfOk result P → IfOk result Q
+if_ok_weaker (Ok x) weaker p = weaker x p
+if_ok_weaker (Err e) weaker p = tt
 
 pub unwrap-aggregate-requires : goal.unwrap-aggregate-requires
 unwrap-aggregate-requires g c =
@@ -22,13 +26,11 @@ unwrap-aggregate-requires g c =
     ∙ ap (λ t. has (keys_of t.series) c.args.key.now) c.self.view_is
     ∙ c.requires
 
-pub read-requires : goal.read-requires
-read-requires g c = c.self.invariant c.args.key.now c.unwrap-aggregate.result.now (sym c.get.ensures.value ∙ ap option_copied c.unwrap-aggregate.ensures)
-
 pub returns : goal.returns
-returns g c = λ s window stands.
-    let known = subst (λ t. StandsTable g.A.Aggregate t s window) (sym c.self.view_is) stands in
-    let at : lookup (bytes_eq c.args.key.now) c.self.inside.series.entries ≡ Some c.unwrap-aggregate.result.now =
-    sym c.get.ensures.value ∙ ap option_copied c.unwrap-aggregate.ensures in
-    ap (λ (set : List ℕ). record { set = Some set; value = c.in_ok-value.value }) c.set.ensures
-    ∙ point_is g.A.Aggregate s window c.unwrap-aggregate.result.now (Some c.args.key.now) c.in_ok-value.value (known.each c.args.key.now c.unwrap-aggregate.result.now at) c.in_ok-value.ensures
+returns g c = if_ok_weaker c.point_of.result
+    (λ point read s window stands.
+    let at : lookup (bytes_eq c.args.key.now) c.args.self.now.series ≡ Some c.unwrap-aggregate.result.now =
+    ap (λ t. lookup (bytes_eq c.args.key.now) t.series) (sym c.self.view_is) ∙ sym c.get.ensures.value ∙ ap option_copied c.unwrap-aggregate.ensures in
+    point_is g.A.Aggregate c.args.self.now s window stands c.args.key.now c.unwrap-aggregate.result.now point c.requires at
+    (λ added had. read added had ∙ ap (λ set. point_by (g.A.Aggregate.aggregation c.unwrap-aggregate.result.now) (Some set) added) c.set.ensures))
+    c.point_of.ensures

@@ -1,0 +1,3 @@
+pub mod JournalStands
+pub mod Journals
+pub mod Ranges

@@ -1,0 +1,56 @@
+//! What each book does.
+ghost use Rattle.std.specs.Prelude.{◌≡◌, ◌<◌, ℕ, List, length, IfOk, OnOk, OnErr};
+ghost use Rattle.metric_book.specs.Journals.{BeginsJournal, HasReader, JudgesRecording, MayTake, MovesMark, ReportsWindow, TakesRecording};
+ghost use Rattle.metric_history.specs.declared.entry.Entry.{Entry as entries};
+ghost use Rattle.metric_history.specs.declared.facts.Facts.{Facts as facts};
+
+use metric_base::Items;
+use metric_catalogue::Refusal;
+use metric_history::{Entry, StreamPoints};
+use metric_plan::Plan;
+use std::alloc::{AllocError, Global};
+
+/// What a collection covers and reports, without its times.
+#[derive(Drop)]
+pub struct Window {
+    /// The first recording that is covered: the reader's previous mark (delta), or 0 (cumulative).
+    pub from: u64,
+    /// The number of accepted recordings so far.
+    pub mark: u64,
+    /// The points of each stream that the reader has of the instrument, in stream order.
+    pub streams: Items<StreamPoints>,
+}
+
+/// What the accepted recordings of one instrument are kept in, and what each reader is told of them.
+///
+/// A book stands for a journal: the accepted recordings, oldest first, with a mark for each reader, the number
+/// of recordings that its last batch counted. A book may stand for several journals, where it keeps less than
+/// a list; each of its calls does what it says for all of them.
+pub trait Book: Drop {
+    // The book stands for this journal with these marks, of an instrument with these facts.
+    ghost stands: { Self → facts → List entries → List ℕ → Type 0 };
+
+    /// The book of an instrument without recordings. Where set keys are hashed, the seed keeps strangers from
+    /// choosing sets that collide. Fails only where memory is refused.
+    fn new(alloc: Global, plan: &Plan, instrument: u32, seed: u64) -> Result<Self, AllocError>
+    where
+        Self: Sized,
+        requires { instrument < length plan.now.facts.instruments }
+        ensures { IfOk result (λ book. BeginsJournal (stands book) plan.now.facts instrument) };
+
+    /// Puts a recording last. `SumRange` comes exactly where it would take a series of some stream out of range;
+    /// the only other refusal is `Memory`. Refused, the book is as it was.
+    fn push(&mut self, entry: Entry) -> Result<(), Refusal>
+        requires { MayTake (stands self.old) entry }
+        ensures answer { JudgesRecording (stands self.old) entry result }
+        ensures stands { OnOk result (TakesRecording (stands self.old) (stands self.new) entry) }
+        ensures err { OnErr result (self.new ≡ self.old) };
+
+    /// What a collection by the reader covers and reports; its mark moves to the number of recordings so far, and
+    /// no other mark moves. Fails only where memory is refused, and then nothing has changed.
+    fn window(&mut self, alloc: Global, reader: u32) -> Result<Window, AllocError>
+        requires { HasReader (stands self.old) reader }
+        ensures window { IfOk result (λ window. ReportsWindow (stands self.old) reader window) }
+        ensures stands { OnOk result (MovesMark (stands self.old) (stands self.new) reader) }
+        ensures err { OnErr result (self.new ≡ self.old) };
+}

@@ -1,0 +1,27 @@
+-- where no fault is found the certificate is valid, and the streams are safe; where it is valid, only memory refuses
+use Rattle.std.proofs.Common.{List, sym, subst}
+use Rattle.metric_bounds.specs.Safe.{AreSafe}
+use Rattle.metric_views.specs.declared.stream.Stream.{Stream}
+use Rattle.metric_cert.specs.Valid.{IsValid}
+use Rattle.metric_check.proofs.Safety.{valid_is_safe}
+use Rattle.metric_check.proofs.Validity.{finds_nothing_where_valid, memory_alone, on_ok}
+use Rattle.metric_check.proofs.certificates.check.Goals as goal
+
+pub certified-requires-clause-safe : goal.certified-requires-clause-safe
+certified-requires-clause-safe c =
+    let contents = c.args.catalogue in
+    let config = c.args.config in
+    let certificate = c.args.certificate.now in
+    subst (λ (ss : List Stream). AreSafe contents ss) (sym c.in-Ok.ensures.streams)
+    (valid_is_safe contents config certificate c.meters.ensures.sound ((finds_nothing_where_valid contents config certificate).0 c.in-Ok.ensures.found))
+
+pub returns-in-Ok-clause-valid : goal.returns-in-Ok-clause-valid
+returns-in-Ok-clause-valid c =
+    let contents = c.args.catalogue in
+    let config = c.args.config in
+    let certificate = c.args.certificate.now in
+    on_ok c.certified.result (IsValid contents config certificate) ((finds_nothing_where_valid contents config certificate).0 c.in-Ok.ensures.found)
+
+pub returns-in-Err-clause-memory : goal.returns-in-Err-clause-memory
+returns-in-Err-clause-memory c =
+    memory_alone c.args.catalogue c.args.config c.args.certificate.now c.in-Err.fault c.in-Err.ensures.found

@@ -1,0 +1,14 @@
+-- an entry too many, or too few
+use Rattle.std.proofs.Common.{arith}
+use Rattle.metric_plan.specs.declared.fault.CheckFault.TheVariants.{StreamMissing, StreamStrange}
+use Rattle.metric_check.specs.Findings.{EntryFinds}
+use Rattle.metric_check.proofs.Walks.{onward_missing, onward_more}
+use Rattle.metric_check.proofs.entries.check_entries.Goals as goal
+
+pub returns-then-number-streams : goal.returns-then-number-streams
+returns-then-number-streams c =
+    onward_more EntryFinds StreamMissing StreamStrange c.args.streams.now c.args.entries.now c.loop-number.number (omega arith) (omega arith) c.loop-number.invariant
+
+pub returns-then-entries-streams : goal.returns-then-entries-streams
+returns-then-entries-streams c =
+    onward_missing EntryFinds StreamMissing StreamStrange c.args.streams.now c.args.entries.now c.loop-number.number (omega arith) (omega arith) c.loop-number.invariant

@@ -1,0 +1,11 @@
+-- the offers of the instruments so far
+use Rattle.std.proofs.Common.{◌≡◌, ℕ, length, Some, slice_get}
+use Rattle.metric_check.specs.declared.offers.Offer.{Offer}
+use Rattle.metric_check.specs.Offered.{IsOffer}
+use Rattle.metric_check.proofs.offers.offers_of.Given as goal
+
+abbrev pub invariant-loop-number : goal.invariant-loop-number
+invariant-loop-number l = record {
+  count : length l.offers ≡ l.number;
+  each : (k : ℕ) (offer : Offer) → slice_get l.offers k ≡ Some offer → IsOffer l.catalogue l.config k offer;
+}

@@ -1,0 +1,36 @@
+-- What the steps of a check have shown for the steps after them.
+use Rattle.std.specs.Prelude.{◌≡◌, ℕ, ◌<◌, Bool, true, false, IsSomeAnd, List, length, slice_get}
+use Rattle.std.specs.List.{AllZip}
+use Rattle.metric_catalogue.specs.declared.contents.Contents.{Contents}
+use Rattle.metric_views.specs.declared.config.Config.{Config}
+use Rattle.metric_bounds.specs.Amounts.{total_of}
+use Rattle.metric_glob.specs.declared.reason.Reason.TheVariants.{Takes}
+use Rattle.metric_cert.specs.declared.bound.InstrumentBound.{InstrumentBound}
+use Rattle.metric_catalogue.specs.declared.contents.Instrument.{Instrument}
+use Rattle.metric_catalogue.specs.declared.contents.Meter.{Meter}
+use Rattle.metric_views.specs.declared.config.Criteria.{Criteria}
+use Rattle.metric_cert.specs.declared.reason.Criterion.TheVariants.{InstrumentType, InstrumentUnit, MeterName, MeterVersion, MeterSchemaUrl}
+use Rattle.metric_cert.specs.declared.reason.Evidence.{Evidence}
+use Rattle.metric_cert.specs.declared.reason.Evidence.TheVariants.{Name}
+use Rattle.metric_cert.specs.declared.reason.SelectionReason.{SelectionReason}
+use Rattle.metric_cert.specs.Valid.{Holds, IsReasonOf, all_pairs}
+
+-- The criteria beside the name hold one by one.
+abbrev pub EachHolds : Criteria → Meter → Instrument → Type 0
+EachHolds criteria meter instrument =
+    Holds InstrumentType criteria meter instrument × Holds InstrumentUnit criteria meter instrument × Holds MeterName criteria meter instrument
+    × Holds MeterVersion criteria meter instrument × Holds MeterSchemaUrl criteria meter instrument
+
+-- The reasons are those of all pairs, and true.
+abbrev pub AreReasons : Contents → Config → List SelectionReason → Type 0
+AreReasons contents config reasons = AllZip (IsReasonOf contents config) (all_pairs contents config) reasons
+
+-- whether evidence, where it is true, shows that a view selects an instrument
+abbrev pub selects_by : Evidence → Bool
+selects_by (Name (Takes takes)) = true
+selects_by _ = false
+
+-- The bounds have the sum of the budgets of each instrument.
+abbrev pub AreTotals : Contents → List InstrumentBound → Type 0
+AreTotals contents bounds =
+    (number : ℕ) → number < length contents.instruments → IsSomeAnd (slice_get bounds number) (λ bound. bound.total ≡ total_of contents number)

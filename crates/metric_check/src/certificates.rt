@@ -1,0 +1,119 @@
+//! The check of a certificate.
+ghost use Rattle.std.specs.Prelude.{◌≡◌, ◌≢◌, ◌∷◌, [], IfErr, IfOk, OnOk, Some, true};
+ghost use Rattle.metric_bounds.specs.First.{Reports};
+ghost use Rattle.metric_cert.specs.Valid.{IsValid};
+ghost use Rattle.metric_glob.specs.declared.characters.TheConstants.{ANY_TEXT};
+ghost use Rattle.metric_plan.specs.Plans.{plan_of};
+ghost use Rattle.metric_resolve.specs.Resolved.{streams_of};
+ghost use Rattle.metric_check.specs.Findings.{CheckFinds, StreamsFind};
+ghost use Rattle.metric_check.specs.Known.{AreReasons};
+
+use crate::bounds::check_bounds;
+use crate::entries::check_entries;
+use crate::limits::check_limits;
+use crate::offers::offers_of;
+use crate::orders::check_orders;
+use crate::reasons::check_reasons;
+use crate::stream_list::streams_of;
+use metric_base::Few;
+use metric_catalogue::Catalogue;
+use metric_cert::{Certificate, SelectionReason};
+use metric_glob::Pattern;
+use metric_plan::{CheckFault, Plan};
+use metric_views::{Config, Stream};
+use std::alloc::{AllocError, Global};
+
+/// The certified plan of a catalogue and a config, where a certificate shows that they can overflow neither
+/// a limit nor a number, whoever made it.
+///
+/// The faults are tried in these steps: the reasons of all pairs of a view and an instrument, by view
+/// (`PairMissing`, `BadTakes`, `BadMiss`, `BadRows`); the streams that the reasons give (`StreamStrange`,
+/// `StreamMissing`); the orders of the readers (`BadOrder`); the bounds of each instrument (`CountRange`,
+/// `AmountRange`, `SumLow`, `SumHigh`); the number of series of each stream (`BadSets`, `LimitExceeded`).
+/// The first fault of the first step that fails is answered. `Memory` may stand in place of any. Where
+/// there is no plan, catalogue and config are handed back.
+pub fn check(
+    alloc: Global,
+    catalogue: Catalogue,
+    config: Config,
+    certificate: &Certificate,
+) -> Result<Plan, (Catalogue, Config, CheckFault)>
+    ensures plan { IfOk result (λ plan. plan ≡ plan_of true catalogue config) }
+    ensures valid { OnOk result (IsValid catalogue config certificate.now) }
+    ensures fault { IfErr result (λ refused. refused.2 ≢ CheckFault.Memory
+        → CheckFinds catalogue config certificate.now (Some refused.2)) }
+    ensures memory { IfErr result (λ refused. IsValid catalogue config certificate.now
+        → refused.2 ≡ CheckFault.Memory) }
+    ensures back { IfErr result (λ refused. (refused.0 ≡ catalogue) × (refused.1 ≡ config)) }
+{
+    // What each catalogue keeps is among the reasons why a valid certificate shows safety.
+    let _ = catalogue.meters();
+    match checked_streams(alloc, &catalogue, &config, certificate) {
+        Ok(streams) => Plan::certified(alloc, catalogue, config, streams),
+        Err(fault) => Err((catalogue, config, fault)),
+    }
+}
+
+// The streams, where no step has a fault.
+fn checked_streams(
+    alloc: Global,
+    catalogue: &Catalogue,
+    config: &Config,
+    certificate: &Certificate,
+) -> Result<Few<Stream, 2_097_152>, CheckFault>
+    ensures found { Reports CheckFault.Memory
+        (CheckFinds catalogue.now config.now certificate.now) result }
+    ensures streams { IfOk result (λ streams. streams ≡ streams_of catalogue.now config.now) }
+{
+    let any = any_name(alloc)?;
+    let reasons = certificate.reasons.as_slice();
+    check_reasons(&any, catalogue, config, reasons)?;
+    let streams = given_streams(alloc, catalogue, config, reasons)?;
+    check_streams(alloc, catalogue, config, certificate, streams.as_slice())?;
+    Ok(streams)
+}
+
+// The first fault of the steps after the reasons.
+fn check_streams(
+    alloc: Global,
+    catalogue: &Catalogue,
+    config: &Config,
+    certificate: &Certificate,
+    streams: &[Stream],
+) -> Result<(), CheckFault>
+    requires { streams.now ≡ streams_of catalogue.now config.now }
+    ensures { Reports CheckFault.Memory
+        (StreamsFind catalogue.now config.now certificate.now streams.now) result }
+{
+    let entries = certificate.streams.as_slice();
+    let bounds = certificate.bounds.as_slice();
+    check_entries(streams, entries)?;
+    check_orders(catalogue, config, streams, certificate.orders.as_slice())?;
+    check_bounds(alloc, catalogue, streams, bounds)?;
+    check_limits(catalogue, streams, entries, bounds)
+}
+
+// The pattern of any name, by which a view without a pattern is read.
+fn any_name(alloc: Global) -> Result<Pattern, AllocError>
+    ensures { IfOk result (λ pattern. pattern ≡ ANY_TEXT ∷ []) }
+{
+    match Pattern::parse(alloc, "*") {
+        Ok(pattern) => Ok(pattern),
+        Err(_) => Err(AllocError),
+    }
+}
+
+// The streams that true reasons give.
+fn given_streams(
+    alloc: Global,
+    catalogue: &Catalogue,
+    config: &Config,
+    reasons: &[SelectionReason],
+) -> Result<Few<Stream, 2_097_152>, AllocError>
+    requires { AreReasons catalogue.now config.now reasons.now }
+    ensures { IfOk result (λ streams. streams ≡ streams_of catalogue.now config.now) }
+{
+    let offers = offers_of(alloc, catalogue, config, reasons)?;
+    let streams = streams_of(alloc, catalogue, config, offers.as_slice())?;
+    Ok(Few::from_items(streams))
+}

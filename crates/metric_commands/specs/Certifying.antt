@@ -1,0 +1,71 @@
+-- What making a certificate makes of the bytes of its input.
+use Rattle.std.specs.Prelude.{◌≡◌, ℕ, List, Some, Result, Ok, Err}
+use Rattle.metric_text.specs.Lines.{lines_of}
+use Rattle.metric_parts.specs.Input.{IsFirstFault as IsFaultyLine}
+use Rattle.metric_parts.specs.Kept.{IsRead}
+use Rattle.metric_parts.specs.declared.parts.Parts.{Parts}
+use Rattle.metric_catalogue.specs.declared.contents.Contents.{Contents}
+use Rattle.metric_views.specs.declared.config.Setup.{Setup}
+use Rattle.metric_resolve.specs.Resolved.{streams_of}
+use Rattle.metric_bounds.specs.Finding.{SafetyFinds}
+use Rattle.metric_cert.specs.declared.certificate.Certificate.{Certificate}
+use Rattle.metric_cert.specs.declared.make_fault.MakeFault.{MakeFault}
+use Rattle.metric_cert.specs.Certificates.{certificate_from}
+use Rattle.metric_cert.specs.Making.{IsMade, make_faults}
+use Rattle.metric_cert.specs.Valid.{IsValid}
+use Rattle.metric_commands.specs.declared.fault.KitFault.{KitFault}
+use Rattle.metric_commands.specs.declared.fault.KitFault.TheVariants.{Input, Catalogue, Config as BadConfig, Make, Memory}
+use Rattle.metric_commands.specs.Declarations.{IsDeclared, IsDeclaredFault, IsMisdeclared}
+use Rattle.metric_commands.specs.Showing.{show_needs}
+
+-- The certificate is the one that is made for a catalogue and a config, and shows that they are safe.
+pub record IsCertificateFor (contents : Contents) (config : Setup) (certificate : Certificate) : Type 0 where
+  pub made : IsMade contents config certificate
+  pub valid : IsValid contents config certificate
+
+-- This is the first part of safety that fails.
+abbrev pub IsUnsafe : Contents → Setup → MakeFault → Type 0
+IsUnsafe contents config fault = SafetyFinds make_faults contents (streams_of contents config) (Some fault)
+
+-- a certificate, or the first part of safety that fails, unless memory was refused
+abbrev pub Makes : Result Certificate KitFault → Contents → Setup → Type 0
+Makes (Ok certificate) contents config = IsCertificateFor contents config certificate
+Makes (Err (Make fault)) contents config = IsUnsafe contents config fault
+Makes (Err Memory) contents config = Unit {0}
+Makes (Err _) contents config = ⊥
+
+-- A text that is read as the certificate for what the parts declare.
+pub record IsCertified (read : Parts) (text : List ℕ) : Type 0 where
+  pub contents : Contents
+  pub config : Setup
+  pub declared : IsDeclared read contents config
+  pub certificate : Certificate
+  pub made : IsCertificateFor contents config certificate
+  pub reads : certificate_from text ≡ Ok certificate
+
+-- The text that making a certificate of the input writes.
+pub record IsCertificateText (input text : List ℕ) : Type 0 where
+  pub read : Parts
+  pub is_read : IsRead show_needs (lines_of input) read
+  pub certified : IsCertified read text
+
+-- What the parts declare is right, and not safe.
+pub record IsRefusedMake (read : Parts) (fault : MakeFault) : Type 0 where
+  pub contents : Contents
+  pub config : Setup
+  pub declared : IsDeclared read contents config
+  pub found : IsUnsafe contents config fault
+
+-- The fault is the first of the catalogue, the config and their safety.
+abbrev pub IsMakeFault : KitFault → Parts → Type 0
+IsMakeFault (Make fault) read = IsRefusedMake read fault
+IsMakeFault fault read = IsDeclaredFault fault read
+
+-- The fault is the first that the input has.
+abbrev pub IsFirstMakeFault : List ℕ → KitFault → Type 0
+IsFirstMakeFault input (Input line) = IsFaultyLine show_needs (lines_of input) line
+IsFirstMakeFault input (Catalogue fault) = IsMisdeclared show_needs input (IsMakeFault (Catalogue fault))
+IsFirstMakeFault input (BadConfig fault) = IsMisdeclared show_needs input (IsMakeFault (BadConfig fault))
+IsFirstMakeFault input (Make fault) = IsMisdeclared show_needs input (IsMakeFault (Make fault))
+IsFirstMakeFault input Memory = Unit {0}
+IsFirstMakeFault input _ = ⊥

@@ -1,0 +1,41 @@
+-- What checking a certificate makes of the bytes of its input.
+use Rattle.std.specs.Prelude.{◌≡◌, ℕ, true, false, List, codes}
+use Rattle.metric_text.specs.Lines.{lines_of}
+use Rattle.metric_parts.specs.Input.{IsFirstFault as IsFaultyLine}
+use Rattle.metric_parts.specs.Kept.{IsRead}
+use Rattle.metric_parts.specs.declared.needs.Needs.{Needs}
+use Rattle.metric_parts.specs.declared.parts.Parts.{Parts}
+use Rattle.metric_plan.specs.Plans.{PlanValue}
+use Rattle.metric_commands.specs.declared.fault.KitFault.{KitFault}
+use Rattle.metric_commands.specs.declared.fault.KitFault.TheVariants.{Input, Catalogue, Config as BadConfig, Certificate as BadCertificate, Check, Memory}
+use Rattle.metric_commands.specs.Claims.{IsCertifiedPlan, IsClaimFault}
+use Rattle.metric_commands.specs.Declarations.{IsMisdeclared}
+
+-- the certificate with what it is for
+abbrev pub check_needs : Needs
+check_needs = record { certificate = true; script = false }
+
+-- The input has a valid certificate for what it declares.
+pub record IsCertifiedInput (input : List ℕ) : Type 0 where
+  pub read : Parts
+  pub plan : PlanValue
+  pub is_read : IsRead check_needs (lines_of input) read
+  pub certified : IsCertifiedPlan read plan
+
+-- the line of an accepted certificate
+abbrev pub accepted_text : List ℕ
+accepted_text = codes "accepted\n"
+
+-- The text that checking the input writes.
+abbrev pub IsAcceptance : List ℕ → List ℕ → Type 0
+IsAcceptance input text = IsCertifiedInput input × (text ≡ accepted_text)
+
+-- The fault is the first that the input has.
+abbrev pub IsFirstCheckFault : List ℕ → KitFault → Type 0
+IsFirstCheckFault input (Input line) = IsFaultyLine check_needs (lines_of input) line
+IsFirstCheckFault input (Catalogue fault) = IsMisdeclared check_needs input (IsClaimFault (Catalogue fault))
+IsFirstCheckFault input (BadConfig fault) = IsMisdeclared check_needs input (IsClaimFault (BadConfig fault))
+IsFirstCheckFault input (BadCertificate fault) = IsMisdeclared check_needs input (IsClaimFault (BadCertificate fault))
+IsFirstCheckFault input (Check fault) = IsMisdeclared check_needs input (IsClaimFault (Check fault))
+IsFirstCheckFault input Memory = Unit {0}
+IsFirstCheckFault input _ = ⊥

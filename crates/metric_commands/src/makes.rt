@@ -1,0 +1,108 @@
+//! A certificate made for a catalogue and a config.
+ghost use Rattle.std.specs.Prelude.{◌≡◌, IfErr, IfOk, OnOk, string_bytes};
+ghost use Rattle.std.specs.Io.KnownBytes.{Appends};
+ghost use Rattle.metric_io.specs.Prefix.{AppendsPrefix};
+ghost use Rattle.metric_commands.specs.Certifying.{IsCertificateText, IsCertified, IsFirstMakeFault, IsMakeFault, Makes};
+ghost use Rattle.metric_commands.specs.Commands.{RunsCommand, sink_run, source_run};
+ghost use Rattle.metric_commands.specs.Faults.{IsOfInput};
+ghost use Rattle.metric_commands.specs.Written.{IsSinkFault};
+
+use crate::command::{Command, run};
+use crate::fault::KitFault;
+use crate::planning::{catalogue_of, config_of};
+use metric_catalogue::Catalogue;
+use metric_cert::{Certificate, MakeFault, make};
+use metric_io::{Sink, Source, write_all};
+use metric_parts::{Needs, Parts as InputParts, parts_of};
+use metric_text::lines;
+use metric_views::Config;
+use std::alloc::Global;
+
+/// Writes a certificate that the catalogue and the config of an input are safe, as a text that
+/// `Certificate::read` answers with the certificate that `make` gives. A refused input writes nothing.
+///
+/// # Errors
+///
+/// [`KitFault::Read`] and [`KitFault::Write`] where the source or the sink failed, [`KitFault::Memory`], and
+/// else the first fault that the input has.
+pub fn make_run<R: Source, W: Sink>(
+    alloc: Global,
+    source: &mut R,
+    sink: &mut W,
+) -> Result<(), KitFault>
+    ensures { RunsCommand IsCertificateText IsFirstMakeFault
+        (source_run R.remaining R.counts source.old source.new)
+        (sink_run W.contents W.failures sink.old sink.new) result }
+{
+    run(alloc, &Make, source, sink)
+}
+
+// The command that makes a certificate.
+struct Make;
+
+impl Command for Make {
+    ghost use Rattle.std.specs.Prelude.{string_bytes};
+    ghost use Rattle.metric_commands.specs.Certifying.{IsCertificateText as IsText, IsFirstMakeFault as IsFault};
+
+    type Answer = String;
+
+    ghost is_due = { λ _. IsText };
+
+    ghost is_first_fault = { λ _. IsFault };
+
+    ghost text = { λ text. string_bytes text };
+
+    fn answer(&self, alloc: Global, input: &[u8]) -> Result<String, KitFault> {
+        text_of(alloc, input)
+    }
+
+    fn write<W: Sink>(&self, _alloc: Global, sink: &mut W, text: &String) -> Result<(), KitFault> {
+        write_all(sink, text.as_bytes())?;
+        sink.flush()?;
+        Ok(())
+    }
+}
+
+// The text of the certificate for an input.
+fn text_of(alloc: Global, input: &[u8]) -> Result<String, KitFault>
+    ensures ok { IfOk result (λ text. IsCertificateText input.now (string_bytes text)) }
+    ensures first { IfErr result (IsFirstMakeFault input.now) }
+    ensures own { IfErr result IsOfInput }
+{
+    let lines = lines(alloc, input)?;
+    let needs = Needs {
+        certificate: false,
+        script: false,
+    };
+    let parts = parts_of(alloc, &lines, needs)?;
+    let text = certified(alloc, &parts)?;
+    Ok(text)
+}
+
+// The text of the certificate for what the parts declare.
+fn certified(alloc: Global, parts: &InputParts<'_>) -> Result<String, KitFault>
+    ensures ok { IfOk result (λ text. IsCertified parts.now (string_bytes text)) }
+    ensures first { IfErr result (λ fault. IsMakeFault fault parts.now) }
+    ensures own { IfErr result IsOfInput }
+{
+    let catalogue = catalogue_of(alloc, parts.catalogue.as_str())?;
+    let config = config_of(alloc, parts.config.as_str())?;
+    let certificate = certificate_for(alloc, &catalogue, &config)?;
+    let text = certificate.write(alloc)?;
+    Ok(text)
+}
+
+// The certificate for a catalogue and a config.
+fn certificate_for(
+    alloc: Global,
+    catalogue: &Catalogue,
+    config: &Config,
+) -> Result<Certificate, KitFault>
+    ensures { Makes result catalogue.now config.now }
+{
+    match make(alloc, catalogue, config) {
+        Ok(certificate) => Ok(certificate),
+        Err(MakeFault::Memory) => Err(KitFault::Memory),
+        Err(fault) => Err(KitFault::Make(fault)),
+    }
+}

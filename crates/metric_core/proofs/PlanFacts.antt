@@ -1,0 +1,98 @@
+-- What a plan keeps of the facts of one instrument.
+use Rattle.std.proofs.Common.{◌≡◌, ℕ, zero, suc, ◌+◌, ◌^◌, ◌<◌, Bool, true, List, [], ◌∷◌, Some, Result, Ok, Err, map, refl, sym, ap, subst, ◌∙◌, arith}
+use Rattle.std.specs.Prelude.{nat_lt, slice_get, sum, sum_by}
+use Rattle.std.proofs.lemmas.Bool.{and_parts, ltb-true}
+use Rattle.std.proofs.lemmas.List.Sums.{sum-map}
+use Rattle.std.proofs.lemmas.Option.{same_Some}
+use Rattle.metric_bounds.specs.Amounts.{total_of}
+use Rattle.metric_catalogue.specs.Budgets.{amount_of}
+use Rattle.metric_catalogue.specs.Attributes.{given_by_owned}
+use Rattle.metric_catalogue.specs.Encoding.{Given, encode_of, set_of}
+use Rattle.metric_catalogue.specs.declared.contents.Contents.{Contents}
+use Rattle.metric_catalogue.specs.declared.contents.Instrument.{Instrument}
+use Rattle.metric_catalogue.specs.declared.contents.Recorder.{Recorder}
+use Rattle.metric_catalogue.specs.declared.refusal.Refusal.{Refusal}
+use Rattle.metric_history.specs.Encoded.{encoded}
+use Rattle.metric_history.specs.declared.event.Event.{Event}
+use Rattle.metric_history.specs.declared.event.Event.TheVariants.{Record, Collect, Close}
+use Rattle.metric_history.specs.declared.facts.Facts.{Facts}
+use Rattle.metric_history.specs.Events.{instrument_of}
+use Rattle.metric_history.specs.Facts.{EncodesFullSets, RunFacts, facts_from, facts_of, is_full_set}
+use Rattle.metric_plan.specs.Counting.{counts_fit}
+use Rattle.metric_plan.specs.Plans.{IsPlan, PlanValue}
+use Rattle.metric_views.specs.declared.config.Reader.{Reader}
+use Rattle.metric_views.specs.declared.stream.Stream.{Stream}
+use Rattle.metric_core.specs.Steps.{HasFullSet, IsFullSet}
+
+-- the declared instrument that facts are of
+record IsOf (certified : Bool) (recorders : List Recorder) (readers : List Reader) (streams : List Stream) (instruments : List Instrument) (number i : ℕ) (own : Facts) : Type 0 where
+  pub declared : Instrument
+  pub found : slice_get instruments i ≡ Some declared
+  pub is : own ≡ facts_of certified recorders readers streams number declared
+
+facts_at : (certified : Bool) (recorders : List Recorder) (readers : List Reader) (streams : List Stream) (instruments : List Instrument) (first i : ℕ) (own : Facts)
+    → slice_get (facts_from certified recorders readers streams first instruments) i ≡ Some own → IsOf certified recorders readers streams instruments (first + i) i own
+facts_at certified recorders readers streams [] first i own found = absurd cc
+facts_at certified recorders readers streams (d ∷ instruments) first zero own found = record {
+  declared = d;
+  found = refl;
+  is = sym (same_Some (facts_of certified recorders readers streams first d) own found) ∙ ap (λ (n : ℕ). facts_of certified recorders readers streams n d) (omega arith);
+}
+facts_at certified recorders readers streams (d ∷ instruments) first (suc i) own found =
+    let rest = facts_at certified recorders readers streams instruments (first + 1) i own found in
+    record {
+      declared = rest.declared;
+      found = rest.found;
+      is = rest.is ∙ ap (λ (n : ℕ). facts_of certified recorders readers streams n rest.declared) (omega arith);
+    }
+
+-- those of a plan
+plan_facts_at : (plan : PlanValue) (i : ℕ) (own : Facts) → IsPlan plan → slice_get plan.facts.instruments i ≡ Some own
+    → IsOf plan.is_certified plan.facts.contents.recorders plan.config.readers plan.streams plan.facts.contents.instruments i i own
+plan_facts_at plan i own p found =
+    let from : IsOf plan.is_certified plan.facts.contents.recorders plan.config.readers plan.streams plan.facts.contents.instruments (0 + i) i own =
+    facts_at plan.is_certified plan.facts.contents.recorders plan.config.readers plan.streams plan.facts.contents.instruments 0 i own
+    (ap (λ (run : RunFacts). slice_get run.instruments i) (sym p.facts) ∙ found) in
+    subst (λ (n : ℕ). IsOf plan.is_certified plan.facts.contents.recorders plan.config.readers plan.streams plan.facts.contents.instruments n i own) (omega arith) from
+
+counted_at : (contents : Contents) (instruments : List Instrument) (first i : ℕ) (d : Instrument) → counts_fit contents first instruments ≡ true → slice_get instruments i ≡ Some d
+    → total_of contents (first + i) < 2 ^ 64
+counted_at contents [] first i d fits found = absurd cc
+counted_at contents (e ∷ instruments) first zero d fits found =
+    let parts = and_parts (nat_lt (total_of contents first) (2 ^ 64)) (counts_fit contents (first + 1) instruments) fits in
+    subst (λ (n : ℕ). total_of contents n < 2 ^ 64) (omega arith) (ltb-true (total_of contents first) (2 ^ 64) parts.0)
+counted_at contents (e ∷ instruments) first (suc i) d fits found =
+    let parts = and_parts (nat_lt (total_of contents first) (2 ^ 64)) (counts_fit contents (first + 1) instruments) fits in
+    subst (λ (n : ℕ). total_of contents n < 2 ^ 64) (omega arith) (counted_at contents instruments (first + 1) i d parts.1 found)
+
+-- the budgets of an instrument are together a u64
+pub budgets_fit : (plan : PlanValue) (i : ℕ) (own : Facts) → IsPlan plan → slice_get plan.facts.instruments i ≡ Some own → sum own.budgets < 2 ^ 64
+unfolding total_of
+budgets_fit plan i own p found =
+    let of = plan_facts_at plan i own p found in
+    let fits : sum_by (λ (recorder : Recorder). amount_of recorder i) plan.facts.contents.recorders < 2 ^ 64 =
+    subst (λ (n : ℕ). total_of plan.facts.contents n < 2 ^ 64) (omega arith) (counted_at plan.facts.contents plan.facts.contents.instruments 0 i of.declared p.counted of.found) in
+    let is : sum own.budgets ≡ sum_by (λ (recorder : Recorder). amount_of recorder i) plan.facts.contents.recorders =
+    ap (λ (f : Facts). sum f.budgets) of.is ∙ sum-map (λ (recorder : Recorder). amount_of recorder i) plan.facts.contents.recorders in
+    omega (arith, is, fits)
+
+-- what the attributes of a recording are encoded to is a full set of the instrument's keys
+full_at : (plan : PlanValue) (i : ℕ) (own : Facts) (attrs : List Given) → IsPlan plan → EncodesFullSets → slice_get plan.facts.instruments i ≡ Some own
+    → IsFullSet own (encode_of plan.facts.contents.instruments i attrs)
+unfolding encode_of
+full_at plan i own attrs p full found =
+    let of = plan_facts_at plan i own p found in
+    rw of.found (at (set_of of.declared.keys attrs) refl)
+  where
+    at : (r : Result (List ℕ) Refusal) → set_of (plan_facts_at plan i own p found).declared.keys attrs ≡ r → IsFullSet own r
+    at (Ok set) made =
+        let of = plan_facts_at plan i own p found in
+        ap (λ (f : Facts). is_full_set f.keys set) of.is ∙ full of.declared.keys attrs set made
+    at (Err refusal) made = tt
+
+pub has_full_set : (plan : PlanValue) (contents : Contents) (own : Facts) (event : Event) (k : ℕ) → IsPlan plan → EncodesFullSets → contents ≡ plan.facts.contents → k ≡ instrument_of event
+    → slice_get plan.facts.instruments k ≡ Some own → HasFullSet contents own event
+has_full_set plan contents own (Record n i attrs v) k p full declared at found =
+    subst (λ (d : Contents). IsFullSet own (encoded d i attrs)) (sym declared) (full_at plan i own (map given_by_owned attrs) p full (subst (λ (m : ℕ). slice_get plan.facts.instruments m ≡ Some own) at found))
+has_full_set plan contents own (Collect q i now) k p full declared at found = tt
+has_full_set plan contents own (Close i) k p full declared at found = tt

@@ -1,0 +1,9 @@
+-- no recorder has more than its budget
+use Rattle.std.proofs.Common.{◌≤◌, subst, sum}
+use Rattle.metric_core.proofs.BudgetLaws.{kept_within}
+use Rattle.metric_core.specs.Cells.{CellValue}
+use Rattle.metric_core.proofs.cell.Cell.count.Goals as goal
+
+pub returns-clause-within : goal.returns-clause-within
+returns-clause-within g c =
+    subst (λ (v : CellValue g.row.B.Denot). c.self.inside.count ≤ sum v.facts.budgets) c.self.view_is (kept_within g.B.Book.stands _ c.self.invariant)

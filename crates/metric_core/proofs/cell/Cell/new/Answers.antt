@@ -1,0 +1,16 @@
+-- a cell without recordings
+use Rattle.std.proofs.Common.{◌≡◌, Some, sym, ap, ◌∙◌, rules}
+use Rattle.std.specs.Prelude.{slice_get}
+use Rattle.metric_core.proofs.CellLaws.{kept_new, stands_new}
+use Rattle.metric_core.proofs.PlanFacts.{budgets_fit}
+use Rattle.metric_core.proofs.cell.Cell.new.Goals as goal
+
+pub invariant_of-result : goal.invariant_of-result
+invariant_of-result g c =
+    let found : slice_get c.args.plan.now.facts.instruments c.args.instrument ≡ Some c.in_ok-facts.facts = c.facts.ensures.facts ∙ ap Some (sym c.in_ok-facts.ensures) in
+    kept_new g.B.Book.stands _ c.args.start (search rules) (c.in_ok-book.ensures c.in_ok-facts.facts found) (budgets_fit c.args.plan.now c.args.instrument c.in_ok-facts.facts c.facts.ensures.kept found)
+
+pub returns-clause-stands : goal.returns-clause-stands
+returns-clause-stands g c =
+    let found : slice_get c.args.plan.now.facts.instruments c.args.instrument ≡ Some c.in_ok-facts.facts = c.facts.ensures.facts ∙ ap Some (sym c.in_ok-facts.ensures) in
+    stands_new g.B.Book.stands _ c.args.start (search rules) (c.in_ok-book.ensures c.in_ok-facts.facts found)

@@ -1,0 +1,5 @@
+pub mod Faults
+pub mod Exports
+pub mod States
+pub mod Calls
+pub mod Ticks

@@ -1,0 +1,51 @@
+//! The text of one batch, written to a sink.
+ghost use Rattle.std.specs.Prelude.{◌≡◌, ◌++◌, [], IfOk, IsErrOf, OnOk};
+ghost use Rattle.metric_io.specs.Counts.{HasFailed};
+ghost use Rattle.metric_export.specs.Exports.{Exports, plan_text};
+
+use crate::fault::ExportFault;
+use metric_history::Batch;
+use metric_io::{Sink, write_all};
+use metric_lines::push_batch;
+use metric_plan::Plan;
+use std::alloc::{AllocError, Global};
+
+/// Writes the text of a batch to a sink, by as many writes as the sink takes. The text is made first,
+/// so that a sink is written only where there is memory for all of it.
+///
+/// # Errors
+///
+/// - [`ExportFault::Write`] where the sink fails or takes nothing. It then holds a prefix of the text.
+/// - [`ExportFault::Memory`], before anything is written.
+pub fn write_batch<W: Sink>(
+    alloc: Global,
+    sink: &mut W,
+    plan: &Plan,
+    batch: &Batch,
+) -> Result<(), ExportFault>
+    ensures text { Exports (W.contents sink.old) (W.contents sink.new)
+        (plan_text plan.now batch.now) result }
+    ensures counted { OnOk result (W.failures sink.new ≡ W.failures sink.old) }
+    ensures failed { IsErrOf result ExportFault.Write →
+        HasFailed (W.failures sink.old) (W.failures sink.new) }
+    ensures memory { IsErrOf result ExportFault.Memory → sink.new ≡ sink.old }
+    ensures not_shut_down { IsErrOf result ExportFault.ShutDown → ⊥ }
+{
+    let text = text_of(alloc, plan, batch)?;
+    write_all(sink, &text)?;
+    Ok(())
+}
+
+fn text_of(alloc: Global, plan: &Plan, batch: &Batch) -> Result<Vec<u8>, AllocError>
+    ensures { IfOk result (λ text. text.items ≡ plan_text plan.now batch.now) }
+{
+    let mut text = Vec::new(alloc);
+    push_batch(
+        &mut text,
+        plan.catalogue(),
+        plan.config(),
+        plan.streams(),
+        batch,
+    )?;
+    Ok(text)
+}

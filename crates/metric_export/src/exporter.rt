@@ -1,0 +1,66 @@
+//! What every exporter promises.
+ghost use Rattle.std.specs.Prelude.{◌≡◌, ℕ, List, Option};
+ghost use Rattle.std.specs.Io.KnownBytes.{Keeps};
+ghost use Rattle.metric_io.specs.Counts.{HasFailed};
+ghost use Rattle.metric_history.specs.declared.batch.Batch.{Batch};
+ghost use Rattle.metric_plan.specs.Plans.{PlanValue};
+ghost use Rattle.metric_export.specs.Exports.{Exports};
+ghost use Rattle.metric_export.specs.States.{Answers, GoesOn};
+ghost use Rattle.metric_export.specs.declared.state.ExporterState.{ExporterState};
+
+use crate::fault::ExportFault;
+use metric_history::Batch;
+use metric_plan::Plan;
+use std::alloc::Global;
+
+/// What batches are handed on to (Metrics SDK, push metric exporter).
+///
+/// Contracts see in which text the exporter hands on a batch; the bytes that it handed on, where it
+/// knows them; the count of the failures of its device, which stops at 2^64 - 1; and its state. After
+/// [`shutdown`](MetricExporter::shutdown), whatever it answered, every call answers
+/// [`ExportFault::ShutDown`]. An exporter may go on after a failure, as one over a network does, or be
+/// broken by it, as a [`TextExporter`](crate::TextExporter) is.
+pub trait MetricExporter {
+    // The text in which a batch is handed on.
+    ghost text: { PlanValue → Batch → List ℕ };
+
+    // What was handed on, where the exporter knows it.
+    ghost contents: { Self → Option (List ℕ) };
+
+    // How often the device failed.
+    ghost failures: { Self → ℕ };
+
+    // Whether the exporter takes calls.
+    ghost state: { Self → ExporterState };
+
+    /// Hands on a batch of the plan.
+    ///
+    /// # Errors
+    ///
+    /// - [`ExportFault::Write`] only where the device failed, in this call or an earlier one; a prefix
+    ///   of the text was handed on.
+    /// - [`ExportFault::ShutDown`] exactly where the exporter was shut down.
+    /// - [`ExportFault::Memory`], and nothing was handed on.
+    fn export(&mut self, alloc: Global, plan: &Plan, batch: &Batch) -> Result<(), ExportFault>
+        ensures text { Exports (contents self.old) (contents self.new)
+            (text plan.now batch.now) result }
+        ensures answer { Answers (state self.old)
+            (HasFailed (failures self.old) (failures self.new)) result }
+        ensures state { GoesOn (state self.old) (state self.new) result };
+
+    /// Passes on what the exporter may still hold back. No text is added. The errors are those of
+    /// [`export`](MetricExporter::export).
+    fn force_flush(&mut self) -> Result<(), ExportFault>
+        ensures text { Keeps (contents self.old) (contents self.new) }
+        ensures answer { Answers (state self.old)
+            (HasFailed (failures self.old) (failures self.new)) result }
+        ensures state { GoesOn (state self.old) (state self.new) result };
+
+    /// Flushes, and takes no call from then on, whatever it answers. No text is added. The errors are
+    /// those of [`export`](MetricExporter::export).
+    fn shutdown(&mut self) -> Result<(), ExportFault>
+        ensures text { Keeps (contents self.old) (contents self.new) }
+        ensures answer { Answers (state self.old)
+            (HasFailed (failures self.old) (failures self.new)) result }
+        ensures state { state self.new ≡ ExporterState.ShutDown };
+}

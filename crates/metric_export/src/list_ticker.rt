@@ -1,0 +1,47 @@
+//! The ticks of a list.
+ghost use Rattle.std.specs.Prelude.{◌≡◌};
+ghost use Rattle.metric_export.specs.Ticks.{after_tick, next_tick};
+
+use crate::tick::{Tick, Ticker};
+use std::marker::Model;
+
+/// A ticker that gives the ticks of a list in order and waits for nothing. After them it stops at the
+/// moment of the last one, at 0 where there was none.
+///
+/// Contracts see the ticks that are left, and the moment of the last one that was given.
+#[derive(Drop)]
+pub struct ListTicker<'a> {
+    ticks: &'a [Tick],
+    last: u64,
+}
+
+impl<'a> Model for ListTicker<'a> {
+    ghost use Rattle.metric_export.specs.Ticks.{TicksLeft};
+
+    ghost Value = { TicksLeft };
+
+    ghost view = { λ t. record { ticks = t.ticks.now; last = t.last } };
+}
+
+impl<'a> ListTicker<'a> {
+    /// A ticker of these ticks.
+    pub fn new(ticks: &'a [Tick]) -> Self
+        ensures { result ≡ record { ticks = ticks.entry.now; last = 0 } }
+    {
+        ListTicker { ticks, last: 0 }
+    }
+}
+
+impl<R> Ticker<R> for ListTicker<'_> {
+    fn next(&mut self, _rt: &R) -> Tick
+        ensures tick { result ≡ next_tick self.old }
+        ensures after { self.new ≡ after_tick self.old }
+    {
+        let Some((tick, later)) = self.ticks.split_first() else {
+            return Tick::Stop(self.last);
+        };
+        self.ticks = later;
+        self.last = tick.moment();
+        *tick
+    }
+}

@@ -1,0 +1,32 @@
+//! When a periodic reader collects.
+ghost use Rattle.std.specs.Prelude.{◌≡◌};
+ghost use Rattle.metric_export.specs.Ticks.{moment_of};
+
+/// The next moment of a periodic reader.
+#[derive(Clone, Copy, Debug, PartialEq, Eq, Drop)]
+pub enum Tick {
+    /// A collection is due at this moment.
+    At(u64),
+    /// The last collection is due, at this moment.
+    Stop(u64),
+}
+
+impl Tick {
+    /// The moment of the tick.
+    pub fn moment(self) -> u64
+        ensures { result ≡ moment_of self }
+    {
+        match self {
+            Tick::At(moment) | Tick::Stop(moment) => moment,
+        }
+    }
+}
+
+/// What gives a periodic reader its moments (Metrics SDK, periodic exporting metric reader), in
+/// nanoseconds since 1970 where a clock gives them.
+///
+/// `R` is the runtime by which a ticker may wait for a moment to come.
+pub trait Ticker<R> {
+    /// The next moment, once it has come. After [`Tick::Stop`] it is not asked again.
+    fn next(&mut self, rt: &R) -> Tick;
+}

@@ -1,0 +1,16 @@
+-- one stream more has a table
+use Rattle.std.proofs.Common.{◌≡◌, ◌+◌, [], ◌∷◌, ◌++◌, take, refl, sym, ap, subst, ◌∙◌}
+use Rattle.std.proofs.lemmas.List.{take_more}
+use Rattle.metric_marked.specs.Marks.{StandAll}
+use Rattle.metric_marked.proofs.TableLaws.{stands-push}
+use Rattle.metric_marked.proofs.tables.empty_tables.Goals as goal
+
+pub loop-numbered-preserved : goal.loop-numbered-preserved
+loop-numbered-preserved c =
+    let i = c.loop-numbered.numbered-index in
+    let s = c.numbered-item.result in
+    let next : take (c.loop-numbered.numbered-index + 1) c.args.streams.now ≡ take c.loop-numbered.numbered-index c.args.streams.now ++ c.numbered-item.result ∷ [] =
+    take_more c.args.streams.now i s c.loop-numbered-test.true ∙ ap (λ x. take i c.args.streams.now ++ x ∷ []) (sym c.numbered-item.is) in
+    subst (λ streams. StandAll c.push.new.self.items streams (λ _. [])) (sym next)
+    (subst (λ tables. StandAll tables (take i c.args.streams.now ++ s ∷ []) (λ _. [])) (sym c.in_ok-push.ensures.items)
+    (stands-push c.loop-numbered.tables.items (take i c.args.streams.now) (λ _. []) _ s c.loop-numbered.invariant (record { number = refl; reader = refl; stands = c.in_ok-with_seed.ensures })))

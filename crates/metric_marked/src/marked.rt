@@ -1,0 +1,99 @@
+//! A book of running tables with a mark for each reader.
+ghost use Rattle.std.specs.Prelude.{◌≡◌, [], slice_index_or, false, IfOk, if◌then◌else◌};
+ghost use Rattle.metric_book.specs.Journals.{no_marks};
+ghost use Rattle.metric_marked.specs.Marks.{ClosesWindow, StandsMarked};
+
+use crate::stream_table::StreamTable;
+use crate::tables::{empty, empty_tables, points_of, push_all};
+use metric_base::Items;
+use metric_book::{Book, Window};
+use metric_catalogue::Refusal;
+use metric_history::{Entry, Facts};
+use metric_plan::Plan;
+use std::alloc::{AllocError, Global};
+use std::marker::Model;
+
+/// The accepted recordings of one instrument as the running values of their series (Metrics SDK, aggregation
+/// temporality). A cumulative reader's tables are never emptied; a delta reader's are emptied by each of its
+/// collections that is answered.
+#[derive(Drop)]
+pub struct Marked {
+    tables: Vec<StreamTable>,
+    delta: Items<bool>,
+    marks: Vec<u64>,
+    count: u64,
+}
+
+impl Model for Marked {
+    ghost use Rattle.metric_marked.specs.Marks.{MarkedValue};
+
+    ghost Value = { MarkedValue };
+
+    ghost view = { λ b. record { tables = b.tables.items; delta = b.delta; marks = b.marks.items; count = b.count } };
+}
+
+impl Marked {
+    // The book of an instrument with these facts, without recordings.
+    fn with_facts(alloc: Global, facts: &Facts, seed: u64) -> Result<Marked, AllocError>
+        ensures { IfOk result (λ book. StandsMarked book facts.now [] (no_marks facts.now)) }
+    {
+        Ok(Marked {
+            tables: empty_tables(alloc, facts.streams.as_slice(), seed)?,
+            delta: Items::from_vec(facts.delta.as_slice().to_vec(alloc)?),
+            marks: vec![in alloc; 0; facts.delta.len()]?,
+            count: 0,
+        })
+    }
+}
+
+impl Book for Marked {
+    ghost use Rattle.metric_marked.specs.Marks.{StandsMarked};
+
+    ghost stands = { StandsMarked };
+
+    fn new(alloc: Global, plan: &Plan, instrument: u32, seed: u64) -> Result<Marked, AllocError> {
+        Marked::with_facts(alloc, plan.facts(instrument), seed)
+    }
+
+    fn push(&mut self, entry: Entry) -> Result<(), Refusal> {
+        push_all(&mut self.tables, &entry)?;
+        self.count += 1;
+        Ok(())
+    }
+
+    fn window(&mut self, alloc: Global, reader: u32) -> Result<Window, AllocError> {
+        let streams = points_of(alloc, &self.tables, reader)?;
+        let is_delta = is_delta(self.delta.as_slice(), reader);
+        let from = window_start(is_delta, self.marks[reader as usize]);
+        close_window(&mut self.tables, is_delta, reader);
+        self.marks[reader as usize] = self.count;
+        Ok(Window {
+            from,
+            mark: self.count,
+            streams: Items::from_vec(streams),
+        })
+    }
+}
+
+// Whether a reader is delta; a reader of another number is not.
+fn is_delta(delta: &[bool], reader: u32) -> bool
+    ensures { result ≡ slice_index_or delta.now reader false }
+{
+    delta.get(reader as usize).copied().unwrap_or(false)
+}
+
+// The first recording that a collection covers.
+fn window_start(is_delta: bool, mark: u64) -> u64
+    ensures { result ≡ (if is_delta then mark else 0) }
+{
+    if is_delta { mark } else { 0 }
+}
+
+// Empties the tables of a reader whose next window begins after its collection.
+fn close_window(tables: &mut Vec<StreamTable>, is_delta: bool, reader: u32)
+    ensures { ClosesWindow tables.old.items tables.new.items is_delta reader }
+{
+    if is_delta {
+        empty(tables, reader);
+    }
+}

@@ -1,0 +1,36 @@
+-- There are facts for each instrument, and safe streams are of instruments whose recordings can be counted.
+use Rattle.std.proofs.Common.{◌≡◌, ◌<◌, ℕ, suc, ◌+◌, ◌^◌, Bool, true, List, [], ◌∷◌, length, Some, slice_get, nat_lt, refl, ap, subst, arith}
+use Rattle.std.proofs.lemmas.Bool.{and_from, lt-ltb}
+use Rattle.metric_catalogue.specs.declared.contents.Contents.{Contents}
+use Rattle.metric_catalogue.specs.declared.contents.Instrument.{Instrument}
+use Rattle.metric_catalogue.specs.declared.contents.Recorder.{Recorder}
+use Rattle.metric_views.specs.declared.config.Reader.{Reader}
+use Rattle.metric_views.specs.declared.stream.Stream.{Stream}
+use Rattle.metric_bounds.specs.Amounts.{total_of}
+use Rattle.metric_bounds.specs.Safe.{AreSafe}
+use Rattle.metric_history.specs.Facts.{facts_from}
+use Rattle.metric_plan.specs.Counting.{counts_fit, is_counted}
+
+pub length-facts_from : (certified : Bool) (recorders : List Recorder) (readers : List Reader) (streams : List Stream) (number : ℕ) (instruments : List Instrument)
+    → length (facts_from certified recorders readers streams number instruments) ≡ length instruments
+length-facts_from certified recorders readers streams number [] = refl
+length-facts_from certified recorders readers streams number (instrument ∷ instruments) =
+    ap (λ (n : ℕ). suc n) (length-facts_from certified recorders readers streams (number + 1) instruments)
+
+counted_from : (contents : Contents) (number : ℕ) (instruments : List Instrument)
+    → ((k : ℕ) (instrument : Instrument) → slice_get instruments k ≡ Some instrument → total_of contents (number + k) < 2 ^ 64)
+    → counts_fit contents number instruments ≡ true
+counted_from contents number [] each = refl
+counted_from contents number (instrument ∷ instruments) each =
+    let here : number + 0 ≡ number = omega arith in
+    let first : total_of contents number < 2 ^ 64 = subst (λ (n : ℕ). total_of contents n < 2 ^ 64) here (each 0 instrument refl) in
+    and_from (nat_lt (total_of contents number) (2 ^ 64)) (counts_fit contents (number + 1) instruments) (lt-ltb (total_of contents number) (2 ^ 64) first)
+    (counted_from contents (number + 1) instruments (λ k other at.
+    let there : number + suc k ≡ number + 1 + k = omega arith in
+    subst (λ (n : ℕ). total_of contents n < 2 ^ 64) there (each (suc k) other at)))
+
+pub safe_is_counted : (contents : Contents) (streams : List Stream) → AreSafe contents streams → is_counted contents ≡ true
+safe_is_counted contents streams safe =
+    counted_from contents 0 contents.instruments (λ k instrument at.
+    let here : k ≡ 0 + k = omega arith in
+    subst (λ (n : ℕ). total_of contents n < 2 ^ 64) here ((safe.instruments k instrument at).counts))

@@ -1,0 +1,41 @@
+-- What a plan is.
+use Rattle.std.specs.Prelude.{◌≡◌, Bool, true, IsTrue, List, length}
+use Rattle.metric_bounds.specs.Safe.{AreSafe}
+use Rattle.metric_catalogue.specs.declared.contents.Contents.{Contents}
+use Rattle.metric_views.specs.declared.config.Config.{Config}
+use Rattle.metric_views.specs.declared.stream.Stream.{Stream}
+use Rattle.metric_resolve.specs.Resolved.{streams_of}
+use Rattle.metric_history.specs.Facts.{RunFacts, facts_from}
+use Rattle.metric_plan.specs.Counting.{is_counted}
+
+-- whether it is certified, the config, the streams, and the facts of the instruments with their catalogue
+pub record PlanValue : Type 0 where
+  pub is_certified : Bool
+  pub config : Config
+  pub streams : List Stream
+  pub facts : RunFacts
+
+-- the facts of the instruments of a catalogue, for the readers of a config and all streams
+abbrev pub run_facts : Bool → Contents → Config → List Stream → RunFacts
+run_facts is_certified contents config streams = record {
+  contents = contents;
+  instruments = facts_from is_certified contents.recorders config.readers streams 0 contents.instruments;
+}
+
+-- the plan of a catalogue with a config
+abbrev pub plan_of : Bool → Contents → Config → PlanValue
+plan_of is_certified contents config = record {
+  is_certified = is_certified;
+  config = config;
+  streams = streams_of contents config;
+  facts = run_facts is_certified contents config (streams_of contents config);
+}
+
+-- What each plan keeps: the streams are those that the config gives for the catalogue, and the facts are theirs, one of each
+-- instrument. The budgets of each instrument are together a u64. A certified plan can overflow neither a limit nor a number.
+pub record IsPlan (plan : PlanValue) : Type 0 where
+  pub one_each : length plan.facts.instruments ≡ length plan.facts.contents.instruments
+  pub streams : plan.streams ≡ streams_of plan.facts.contents plan.config
+  pub facts : plan.facts ≡ run_facts plan.is_certified plan.facts.contents plan.config plan.streams
+  pub counted : is_counted plan.facts.contents ≡ true
+  pub safe : IsTrue plan.is_certified → AreSafe plan.facts.contents plan.streams

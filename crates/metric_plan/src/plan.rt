@@ -1,0 +1,203 @@
+//! Plans and how a trial makes one.
+ghost use Rattle.std.specs.Prelude.{◌≡◌, ◌↔◌, ◌<◌, Some, IsTrue, true, false, length, slice_get, IfOk, IfErr, OnOk};
+ghost use Rattle.metric_bounds.specs.Safe.{AreSafe};
+ghost use Rattle.metric_resolve.specs.Resolved.{streams_of};
+ghost use Rattle.metric_plan.specs.Counting.{is_counted};
+ghost use Rattle.metric_plan.specs.Plans.{IsPlan, plan_of, run_facts};
+
+use crate::counting::is_counted;
+use crate::fault::CheckFault;
+use metric_base::{Few, Items, copy_all};
+use metric_catalogue::Catalogue;
+use metric_history::{Facts, all_facts};
+use metric_resolve::resolve;
+use metric_views::{Config, Stream};
+use std::alloc::{AllocError, Global};
+use std::marker::Model;
+
+/// A catalogue with a config, the streams that they give, and what the run of each instrument depends on.
+///
+/// The type of a certified plan keeps that no two of its streams share an identity, that each can have at
+/// most as many series as its limit, and that no count and no kept sum leaves 64 bits, whatever is recorded
+/// within the budgets.
+#[derive(Drop)]
+pub struct Plan {
+    catalogue: Catalogue,
+    config: Config,
+    streams: Few<Stream, 2_097_152>,
+    facts: Items<Facts>,
+    is_certified: bool,
+}
+
+impl Model for Plan {
+    ghost use Rattle.metric_plan.specs.Plans.{PlanValue, IsPlan};
+
+    ghost Value = { PlanValue };
+
+    ghost view = { λ p. record {
+      is_certified = p.is_certified;
+      config = p.config;
+      streams = p.streams;
+      facts = record { contents = p.catalogue; instruments = p.facts };
+    } };
+
+    ghost invariant = { λ p. IsPlan (record {
+      is_certified = p.is_certified;
+      config = p.config;
+      streams = p.streams;
+      facts = record { contents = p.catalogue; instruments = p.facts };
+    }) };
+}
+
+impl Plan {
+    /// The plan of a catalogue and a config without a certificate, for any readers and views. `CountRange` comes
+    /// exactly where the budgets for some instrument are together above the range of u64. Where there is no plan,
+    /// catalogue and config are handed back.
+    pub fn trial(
+        alloc: Global,
+        catalogue: Catalogue,
+        config: Config,
+    ) -> Result<Plan, (Catalogue, Config, CheckFault)>
+        ensures plan { IfOk result (λ plan. plan ≡ plan_of false catalogue config) }
+        ensures counted { OnOk result (is_counted catalogue ≡ true) }
+        ensures count_range { IfErr result (λ refused.
+            (refused.2 ≡ CheckFault.CountRange) ↔ (is_counted catalogue ≡ false)) }
+        ensures back { IfErr result (λ refused. (refused.0 ≡ catalogue) × (refused.1 ≡ config)) }
+    {
+        if !is_counted(&catalogue) {
+            return Err((catalogue, config, CheckFault::CountRange));
+        }
+        match resolved(alloc, &catalogue, &config) {
+            Ok(streams) => Plan::new(alloc, false, catalogue, config, streams),
+            Err(_) => Err((catalogue, config, CheckFault::Memory)),
+        }
+    }
+
+    /// The certified plan of a catalogue and a config with the streams that they give. Who calls it has
+    /// shown that they can overflow neither a limit nor a number. Only `Memory` refuses; catalogue and
+    /// config are then handed back.
+    pub fn certified(
+        alloc: Global,
+        catalogue: Catalogue,
+        config: Config,
+        streams: Few<Stream, 2_097_152>,
+    ) -> Result<Plan, (Catalogue, Config, CheckFault)>
+        requires streams { streams ≡ streams_of catalogue config }
+        requires safe { AreSafe catalogue streams }
+        ensures plan { IfOk result (λ plan. plan ≡ plan_of true catalogue config) }
+        ensures memory { IfErr result (λ refused. refused.2 ≡ CheckFault.Memory) }
+        ensures back { IfErr result (λ refused. (refused.0 ≡ catalogue) × (refused.1 ≡ config)) }
+    {
+        Plan::new(alloc, true, catalogue, config, streams)
+    }
+
+    fn new(
+        alloc: Global,
+        is_certified: bool,
+        catalogue: Catalogue,
+        config: Config,
+        streams: Few<Stream, 2_097_152>,
+    ) -> Result<Plan, (Catalogue, Config, CheckFault)>
+        requires streams { streams ≡ streams_of catalogue config }
+        requires counted { is_counted catalogue ≡ true }
+        requires safe { IsTrue is_certified → AreSafe catalogue streams }
+        ensures plan { IfOk result (λ plan. plan ≡ plan_of is_certified catalogue config) }
+        ensures memory { IfErr result (λ refused. refused.2 ≡ CheckFault.Memory) }
+        ensures back { IfErr result (λ refused. (refused.0 ≡ catalogue) × (refused.1 ≡ config)) }
+    {
+        match facts_of(alloc, is_certified, &catalogue, &config, &streams) {
+            Ok(facts) => Ok(Plan {
+                catalogue,
+                config,
+                streams,
+                facts,
+                is_certified,
+            }),
+            Err(_) => Err((catalogue, config, CheckFault::Memory)),
+        }
+    }
+
+    /// Whether a certificate vouches for the plan's limits and numbers; that of a trial has none.
+    pub fn is_certified(&self) -> bool
+        ensures certified { result ≡ self.now.is_certified }
+        ensures safe { IsTrue result → AreSafe self.now.facts.contents self.now.streams }
+        ensures kept { IsPlan self.now }
+    {
+        self.is_certified
+    }
+
+    /// The catalogue.
+    pub fn catalogue(&self) -> &Catalogue
+        ensures catalogue { result.now ≡ self.now.facts.contents }
+        ensures one_each { length self.now.facts.instruments ≡ length result.now.instruments }
+        ensures kept { IsPlan self.now }
+    {
+        let _ = &self.facts;
+        &self.catalogue
+    }
+
+    /// The config.
+    pub fn config(&self) -> &Config
+        ensures { result.now ≡ self.now.config }
+    {
+        &self.config
+    }
+
+    /// The streams of all readers and instruments. A stream's number is its place here.
+    pub fn streams(&self) -> &[Stream]
+        ensures streams { result.now ≡ self.now.streams }
+        ensures kept { IsPlan self.now }
+    {
+        self.streams.as_slice()
+    }
+
+    /// What the run of the instrument of this number depends on.
+    pub fn facts(&self, instrument: u32) -> &Facts
+        requires { instrument < length self.now.facts.instruments }
+        ensures facts { slice_get self.now.facts.instruments instrument ≡ Some result.now }
+        ensures kept { IsPlan self.now }
+    {
+        &self.facts.as_slice()[instrument as usize]
+    }
+
+    /// The same of each instrument, in order.
+    pub fn all_facts(&self) -> &[Facts]
+        ensures facts { result.now ≡ self.now.facts.instruments }
+        ensures kept { IsPlan self.now }
+    {
+        self.facts.as_slice()
+    }
+}
+
+// The streams that a config gives for a catalogue.
+fn resolved(
+    alloc: Global,
+    catalogue: &Catalogue,
+    config: &Config,
+) -> Result<Few<Stream, 2_097_152>, AllocError>
+    ensures { IfOk result (λ streams. streams ≡ streams_of catalogue.now config.now) }
+{
+    let streams = resolve(alloc, catalogue, config)?;
+    let copies = copy_all(alloc, streams.list())?;
+    Ok(Few::from_items(copies))
+}
+
+// The facts of each instrument.
+fn facts_of(
+    alloc: Global,
+    is_certified: bool,
+    catalogue: &Catalogue,
+    config: &Config,
+    streams: &Few<Stream, 2_097_152>,
+) -> Result<Items<Facts>, AllocError>
+    ensures { IfOk result (λ facts. facts
+        ≡ (run_facts is_certified catalogue.now config.now streams.now).instruments) }
+{
+    all_facts(
+        alloc,
+        is_certified,
+        catalogue,
+        config.readers(),
+        streams.as_slice(),
+    )
+}

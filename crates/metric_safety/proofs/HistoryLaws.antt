@@ -1,0 +1,228 @@
+-- What a legal history of a safe run can be: its accepted recordings stay within the budgets, so nothing overflows.
+use Rattle.std.proofs.Common.{◌≡◌, ℕ, ◌+◌, ◌-◌, ◌<◌, ◌≤◌, ℤ, Bool, true, false, ◌&&◌, not, cond, List, [], ◌∷◌, ◌++◌, length, map, set, replicate, Option, Some, None, Result, Ok, Err, ◌⊎◌, inl, inr, refl, sym, ap, subst, ◌∙◌, arith}
+use Rattle.std.specs.Prelude.{sum, unwrap_or, slice_get, slice_index, slice_set, nat_lt, ◌==◌}
+use Rattle.std.specs.List.{list_all}
+use Rattle.std.specs.Result.{result_unwrap_or}
+use Rattle.std.proofs.lemmas.Bool.{and_from, eq-eqb, eqb-true, ltb-true, cases_eq, cases_lt}
+use Rattle.std.proofs.lemmas.List.{append-nil, get_or-set_same, get_or-set_other, get_or_past, length-map, length-append, length-replicate}
+use Rattle.std.proofs.lemmas.List.Folds.{list_all-append}
+use Rattle.std.proofs.lemmas.List.Sums.{sum_by-cons, sum_by-set, sum_by_push}
+use Rattle.metric_base.specs.StepLaws.{after_ok, require_ok, ok_is}
+use Rattle.metric_base.specs.Steps.{require_some}
+use Rattle.metric_catalogue.specs.Attributes.{given_by_owned}
+use Rattle.metric_catalogue.specs.Encoding.{Given, encode_of, entry_at, has_declared_value, has_repeated_key, is_complete, is_declared, set_key, set_of}
+use Rattle.metric_catalogue.specs.declared.attributes.OwnedAttr.{OwnedAttr}
+use Rattle.metric_catalogue.specs.declared.contents.Instrument.{Instrument}
+use Rattle.metric_catalogue.specs.declared.contents.Key.{Key}
+use Rattle.metric_catalogue.specs.declared.refusal.Refusal.{Refusal}
+use Rattle.metric_catalogue.specs.declared.refusal.Refusal.TheVariants.{UnknownInstrument, UnknownRecorder, DuplicateKey, UnknownKey, UnknownValue, MissingKey, ValueRange, Closed, Budget}
+use Rattle.metric_views.specs.declared.stream.Stream.{Stream}
+use Rattle.metric_history.specs.declared.entry.Entry.{Entry}
+use Rattle.metric_history.specs.declared.event.Event.{Event}
+use Rattle.metric_history.specs.declared.event.Event.TheVariants.{Record, Collect, Close}
+use Rattle.metric_history.specs.declared.event.Reply.{Reply}
+use Rattle.metric_history.specs.declared.event.Reply.TheVariants.{Accepted, Collected, Done, Refused}
+use Rattle.metric_history.specs.declared.facts.Facts.{Facts}
+use Rattle.metric_history.specs.Answers.{recorded, spent}
+use Rattle.metric_history.specs.Encoded.{encoded}
+use Rattle.metric_history.specs.Facts.{EncodesFullSets, RunFacts, in_bounds, is_full_set, key_facts}
+use Rattle.metric_history.specs.History.{History, accepted, added_by, is_closed, told_of}
+use Rattle.metric_history.specs.Legal.{IsLegal, Legal, LegalRecord, recording}
+use Rattle.metric_safety.specs.SafeFacts.{is_admitted, are_admitted}
+use Rattle.metric_safety.specs.SafeRuns.{IsSafeRun, KeepsBudgets}
+
+-- ---- budgets
+
+-- Entries of which each recorder has no more than its budget are no more than all budgets.
+budgets_hold : (entries : List Entry) (budgets : List ℕ) → ((recorder : ℕ) → spent entries recorder ≤ slice_index budgets recorder) → length entries ≤ sum budgets
+budgets_hold [] budgets within = omega arith
+budgets_hold (entry ∷ entries) budgets within =
+    by (first entry entries (slice_index budgets entry.recorder) (within entry.recorder))
+    (λ there some. budgets_hold entries (slice_set budgets entry.recorder (slice_index budgets entry.recorder - 1)) (λ r. later r there some (cases_eq r entry.recorder)))
+  where
+    -- the first entry is one of its recorder's
+    first : (entry : Entry) (entries : List Entry) (most : ℕ) → spent (entry ∷ entries) entry.recorder ≤ most → 1 + spent entries entry.recorder ≤ most
+    first entry entries most few =
+        omega (arith, few, sum_by-cons (λ (e : Entry). cond (e.recorder == entry.recorder) 1 0) entry entries, ap {B = ℕ} (λ (b : Bool). cond b 1 0) (eq-eqb entry.recorder entry.recorder refl))
+
+    inside : 1 + spent entries entry.recorder ≤ slice_index budgets entry.recorder → (entry.recorder < length budgets) ⊎ (length budgets ≤ entry.recorder) → entry.recorder < length budgets
+    inside some (inl below) = below
+    inside some (inr past) = absurd (omega (arith, some, get_or_past budgets entry.recorder 0 past))
+
+    later : (r : ℕ) → entry.recorder < length budgets → 1 + spent entries entry.recorder ≤ slice_index budgets entry.recorder → (r ≡ entry.recorder) ⊎ (r ≡ entry.recorder → ⊥)
+        → spent entries r ≤ slice_index (slice_set budgets entry.recorder (slice_index budgets entry.recorder - 1)) r
+    later r there some (inl same) =
+        subst (λ (k : ℕ). spent entries k ≤ slice_index (slice_set budgets entry.recorder (slice_index budgets entry.recorder - 1)) k) (sym same)
+        (omega (arith, some, get_or-set_same budgets entry.recorder (slice_index budgets entry.recorder - 1) 0 there))
+    later r there some (inr other) =
+        omega (arith, within r, get_or-set_other budgets entry.recorder r (slice_index budgets entry.recorder - 1) 0 other, sum_by-cons (λ (e : Entry). cond (e.recorder == r) 1 0) entry entries)
+
+    less : (at : ℕ) (budgets : List ℕ) (n : ℕ) → at < length budgets → 1 ≤ slice_index budgets at → n ≤ sum (slice_set budgets at (slice_index budgets at - 1)) → n + 1 ≤ sum budgets
+    less at budgets n there some few = omega (arith, some, few, sum_by-set (λ (n : ℕ). n) budgets at (slice_index budgets at - 1) 0 there)
+
+    by : 1 + spent entries entry.recorder ≤ slice_index budgets entry.recorder
+        → (entry.recorder < length budgets → 1 + spent entries entry.recorder ≤ slice_index budgets entry.recorder → length entries ≤ sum (slice_set budgets entry.recorder (slice_index budgets entry.recorder - 1)))
+        → length (entry ∷ entries) ≤ sum budgets
+    by some rest =
+        omega (arith, less entry.recorder budgets (length entries) (inside some (cases_lt entry.recorder (length budgets))) (omega (arith, some)) (rest (inside some (cases_lt entry.recorder (length budgets))) some))
+
+-- one recording more, by a recorder with something left
+pub one_more : (own : Facts) (journal : List Entry) (entry : Entry) → KeepsBudgets own journal → is_admitted own entry ≡ true → spent journal entry.recorder < slice_index own.budgets entry.recorder
+    → KeepsBudgets own (journal ++ entry ∷ [])
+one_more own journal entry before admits left =
+    record {
+      admitted = record {
+        admitted = list_all-append (is_admitted own) journal (entry ∷ []) ∙ and_from (are_admitted own journal) (are_admitted own (entry ∷ [])) before.admitted.admitted (and_from (is_admitted own entry) true admits refl);
+        budgeted = budgets_hold (journal ++ entry ∷ []) own.budgets (λ r. by r (entry.recorder == r) refl);
+      };
+      within = λ r. by r (entry.recorder == r) refl;
+    }
+  where
+    by : (r : ℕ) (b : Bool) → (entry.recorder == r) ≡ b → spent (journal ++ entry ∷ []) r ≤ slice_index own.budgets r
+    by r true e =
+        let same : entry.recorder ≡ r = eqb-true entry.recorder r e in
+        let counted : spent (journal ++ entry ∷ []) r ≡ spent journal r + cond (entry.recorder == r) 1 0 = sum_by_push (λ (x : Entry). cond (x.recorder == r) 1 0) journal entry in
+        let one : cond (entry.recorder == r) 1 0 ≡ 1 = ap {B = ℕ} (λ (b : Bool). cond b 1 0) e in
+        let some : spent journal r < slice_index own.budgets r = subst (λ (k : ℕ). spent journal k < slice_index own.budgets k) same left in
+        omega (arith, counted, one, some)
+    by r false e =
+        let counted : spent (journal ++ entry ∷ []) r ≡ spent journal r + cond (entry.recorder == r) 1 0 = sum_by_push (λ (x : Entry). cond (x.recorder == r) 1 0) journal entry in
+        let none : cond (entry.recorder == r) 1 0 ≡ 0 = ap {B = ℕ} (λ (b : Bool). cond b 1 0) e in
+        omega (arith, counted, none, before.within r)
+
+-- ---- encoded sets
+
+set_long : (keys : List Key) (attrs : List Given) (set : List ℕ) → length keys ≤ 8 → set_of keys attrs ≡ Ok set → length set ≡ 8
+unfolding set_of
+set_long keys attrs set few made =
+    let new = require_ok (not (has_repeated_key attrs)) DuplicateKey _ set made in
+    let known = require_ok (list_all (is_declared keys) attrs) UnknownKey _ set new.1 in
+    let allowed = require_ok (list_all (has_declared_value keys) attrs) UnknownValue _ set known.1 in
+    let complete = require_ok (list_all (is_complete attrs) keys) MissingKey _ set allowed.1 in
+    let is : set_key keys attrs ≡ set = ok_is (set_key keys attrs) set (Ok (set_key keys attrs)) refl complete.1 in
+    let long : length (set_key keys attrs) ≡ length keys + (8 - length keys) =
+    length-append (map (λ key. unwrap_or (entry_at attrs key) 0) keys) (replicate (8 - length keys) 0) ∙ both (length-map keys (λ key. unwrap_or (entry_at attrs key) 0)) (length-replicate (8 - length keys) 0) in
+    omega (arith, few, long, ap length is)
+  where
+    both : {a b c d : ℕ} → a ≡ b → c ≡ d → a + c ≡ b + d
+    both p q = cc
+
+-- the set key that attributes name for an instrument of a safe run
+pub record IsOwnSet (own : Facts) (set : List ℕ) : Type 0 where
+  pub long : length set ≡ 8
+  pub full : is_full_set own.keys set ≡ true
+
+pub encoded_set : EncodesFullSets → (streams : List Stream) (facts : RunFacts) → IsSafeRun streams facts → (number : ℕ) (own : Facts) → slice_get facts.instruments number ≡ Some own
+    → (attrs : List OwnedAttr) (set : List ℕ) → encoded facts.contents number attrs ≡ Ok set → IsOwnSet own set
+unfolding encode_of
+encoded_set full streams facts run number own at attrs set made =
+    after_ok (require_some (slice_get facts.contents.instruments number) UnknownInstrument) (λ instrument. set_of instrument.keys (map given_by_owned attrs)) set made
+    (λ instrument found rest. of instrument (there (slice_get facts.contents.instruments number) instrument found) rest)
+  where
+    there : (o : Option Instrument) (instrument : Instrument) → require_some o UnknownInstrument ≡ Ok instrument → o ≡ Some instrument
+    there None instrument e = absurd cc
+    there (Some i) instrument e = let same : i ≡ instrument = cc in ap Some same
+
+    of : (instrument : Instrument) → slice_get facts.contents.instruments number ≡ Some instrument → set_of instrument.keys (map given_by_owned attrs) ≡ Ok set → IsOwnSet own set
+    of instrument found rest =
+        let keys : own.keys ≡ map key_facts instrument.keys = run.keys number own instrument at found in
+        let few : length own.keys ≤ 8 = run.few_keys number own at in
+        record {
+          long = set_long instrument.keys (map given_by_owned attrs) set (omega (arith, few, ap length keys, length-map instrument.keys key_facts)) rest;
+          full = ap (λ all. is_full_set all set) keys ∙ full instrument.keys (map given_by_owned attrs) set rest;
+        }
+
+pub admits_set : (own : Facts) (recorder : ℕ) (set : List ℕ) (value : ℤ) → IsOwnSet own set → in_bounds own value ≡ true → is_admitted own (record { recorder = recorder; set = set; value = value }) ≡ true
+admits_set own recorder set value known ranged =
+    and_from (length set == 8) (is_full_set own.keys set && in_bounds own value) (eq-eqb (length set) 8 known.long)
+    (and_from (is_full_set own.keys set) (in_bounds own value) known.full ranged)
+
+-- ---- what an answer shows
+
+-- a recording that nothing refused
+record IsRecorded (facts : RunFacts) (start : ℕ) (h : History) (recorder number : ℕ) (attrs : List OwnedAttr) (value : ℤ) : Type 0 where
+  own : Facts
+  set : List ℕ
+  known : slice_get facts.instruments number ≡ Some own
+  named : encoded facts.contents number attrs ≡ Ok set
+  ranged : in_bounds own value ≡ true
+  left : spent (accepted facts h number) recorder < slice_index own.budgets recorder
+
+pub known_own : (o : Option Facts) (own : Facts) → require_some o UnknownInstrument ≡ Ok own → o ≡ Some own
+known_own None own e = absurd cc
+known_own (Some x) own e = let same : x ≡ own = cc in ap Some same
+
+recording_shows : (facts : RunFacts) (start : ℕ) (h : History) (recorder number : ℕ) (attrs : List OwnedAttr) (value : ℤ) (entry : Entry)
+    → recording facts start h recorder number attrs value ≡ Ok entry → IsRecorded facts start h recorder number attrs value
+recording_shows facts start h recorder number attrs value entry made =
+    after_ok (require_some (slice_get facts.instruments number) UnknownInstrument) (λ own. recorded own (told_of facts start h number) (encoded facts.contents number attrs) recorder value) entry made
+    (λ own found rest.
+    let by_recorder = require_ok (nat_lt recorder (length own.budgets)) UnknownRecorder _ entry rest in
+    after_ok (encoded facts.contents number attrs) _ entry by_recorder.1
+    (λ set named later.
+    let ranged = require_ok (in_bounds own value) ValueRange _ entry later in
+    let opened = require_ok (not (is_closed h number)) Closed _ entry ranged.1 in
+    let budgeted = require_ok (nat_lt (spent (accepted facts h number) recorder) (slice_index own.budgets recorder)) Budget _ entry opened.1 in
+    record {
+      own = own;
+      set = set;
+      known = known_own (slice_get facts.instruments number) own found;
+      named = named;
+      ranged = ranged.0;
+      left = ltb-true (spent (accepted facts h number) recorder) (slice_index own.budgets recorder) budgeted.0;
+    }))
+
+record IsAnswer {A : Type 0} (r : Result A Refusal) : Type 0 where
+  answer : A
+  is : r ≡ Ok answer
+
+legal_accepted : (r : Result Entry Refusal) → LegalRecord r Accepted → IsAnswer r
+legal_accepted (Ok entry) legal = record { answer = entry; is = refl }
+legal_accepted (Err refusal) legal = absurd legal
+
+one_own : (a b : Facts) (o : Option Facts) → o ≡ Some a → o ≡ Some b → a ≡ b
+one_own a b o p q = cc
+
+-- ---- the accepted recordings of a legal history
+
+-- one event more
+recorded_within : EncodesFullSets → (streams : List Stream) (facts : RunFacts) → IsSafeRun streams facts → (start : ℕ) (h : History) (number : ℕ) (own : Facts) → slice_get facts.instruments number ≡ Some own
+    → KeepsBudgets own (accepted facts h number) → (event : Event) (reply : Reply) → Legal facts start h event reply → KeepsBudgets own (accepted facts h number ++ added_by facts number event reply)
+recorded_within full streams facts run start h number own at before (Record recorder instrument attrs value) Accepted legal =
+    by (instrument == number) refl
+  where
+    entry : Entry
+    entry = record { recorder = recorder; set = result_unwrap_or (encoded facts.contents instrument attrs) []; value = value }
+
+    shown : IsRecorded facts start h recorder instrument attrs value
+    shown =
+        let answer = legal_accepted (recording facts start h recorder instrument attrs value) legal in
+        recording_shows facts start h recorder instrument attrs value answer.answer answer.is
+
+    by : (b : Bool) → (instrument == number) ≡ b → KeepsBudgets own (accepted facts h number ++ cond b (record { recorder = recorder; set = result_unwrap_or (encoded facts.contents instrument attrs) []; value = value } ∷ []) [])
+    by false e = subst (KeepsBudgets own) (sym (append-nil (accepted facts h number))) before
+    by true e =
+        let same : instrument ≡ number = eqb-true instrument number e in
+        let here : slice_get facts.instruments instrument ≡ Some own = ap (slice_get facts.instruments) same ∙ at in
+        let owns : shown.own ≡ own = one_own shown.own own (slice_get facts.instruments instrument) shown.known here in
+        let set_is : result_unwrap_or (encoded facts.contents instrument attrs) [] ≡ shown.set = ap (λ r. result_unwrap_or r []) shown.named in
+        let known = encoded_set full streams facts run instrument own here attrs shown.set shown.named in
+        let admits : is_admitted own (record { recorder = recorder; set = result_unwrap_or (encoded facts.contents instrument attrs) []; value = value }) ≡ true =
+        ap (λ (s : List ℕ). is_admitted own (record { recorder = recorder; set = s; value = value })) set_is
+        ∙ admits_set own recorder shown.set value known (ap (λ (f : Facts). in_bounds f value) (sym owns) ∙ shown.ranged) in
+        let left : spent (accepted facts h number) recorder < slice_index own.budgets recorder =
+        subst (λ (f : Facts). spent (accepted facts h number) recorder < slice_index f.budgets recorder) owns
+        (subst (λ (i : ℕ). spent (accepted facts h i) recorder < slice_index shown.own.budgets recorder) same shown.left) in
+        one_more own (accepted facts h number) (record { recorder = recorder; set = result_unwrap_or (encoded facts.contents instrument attrs) []; value = value }) before admits left
+recorded_within full streams facts run start h number own at before (Record recorder instrument attrs value) (Collected b) legal = subst (KeepsBudgets own) (sym (append-nil (accepted facts h number))) before
+recorded_within full streams facts run start h number own at before (Record recorder instrument attrs value) Done legal = subst (KeepsBudgets own) (sym (append-nil (accepted facts h number))) before
+recorded_within full streams facts run start h number own at before (Record recorder instrument attrs value) (Refused refusal) legal = subst (KeepsBudgets own) (sym (append-nil (accepted facts h number))) before
+recorded_within full streams facts run start h number own at before (Collect reader instrument now) reply legal = subst (KeepsBudgets own) (sym (append-nil (accepted facts h number))) before
+recorded_within full streams facts run start h number own at before (Close instrument) reply legal = subst (KeepsBudgets own) (sym (append-nil (accepted facts h number))) before
+
+-- The accepted recordings of a legal history stay within the budgets.
+pub accepted_within : EncodesFullSets → (streams : List Stream) (facts : RunFacts) (start : ℕ) (h : History) → IsSafeRun streams facts → IsLegal facts start h
+    → (number : ℕ) (own : Facts) → slice_get facts.instruments number ≡ Some own → KeepsBudgets own (accepted facts h number)
+accepted_within full streams facts start [] run legal number own at = record { admitted = record { admitted = refl; budgeted = omega arith }; within = λ recorder. omega arith }
+accepted_within full streams facts start (a ∷ older) run legal number own at =
+    recorded_within full streams facts run start older number own at (accepted_within full streams facts start older run legal.0 number own at) a.event a.reply legal.1

@@ -1,0 +1,10 @@
+pub mod Ranks
+pub mod SeriesBounds
+pub mod Counts
+pub mod NumberLaws
+pub mod WindowLaws
+pub mod PlanLaws
+pub mod HistoryLaws
+pub mod RangeLaws
+pub mod RefusalLaws
+pub mod BatchLaws

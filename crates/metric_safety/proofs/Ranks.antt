@@ -1,0 +1,88 @@
+-- The rank of a set key among those of a stream: its place in the mixed radix that the choices of each kept key make. Ranks are below
+-- the product, and one rank is of one series, so there are no more series than the product.
+use Rattle.std.proofs.Common.{◌≡◌, ℕ, zero, suc, ◌+◌, ◌-◌, ◌*◌, ◌<◌, Bool, true, false, cond, List, [], ◌∷◌, length, refl, sym, ◌∙◌, arith}
+use Rattle.std.specs.Prelude.{◌==◌, nat_le, if◌then◌else◌}
+use Rattle.std.specs.List.{list_all}
+use Rattle.std.proofs.lemmas.Bool.{and_parts, true≢false, eqb-true}
+use Rattle.std.proofs.lemmas.Bool.Decides.{nat_tests}
+use Rattle.std.proofs.lemmas.Nat.{mul-add-lt, same_from_place}
+use Rattle.std.proofs.Math.Nat.{mul_comm}
+use Rattle.metric_history.specs.declared.facts.KeyFacts.{KeyFacts}
+use Rattle.metric_history.specs.Facts.{is_entry, is_full_set}
+use Rattle.metric_history.specs.Series.{restricted}
+use Rattle.metric_safety.specs.SafeFacts.{key_factor, product_of}
+
+-- an entry of a key as a digit: where the key may be left out, that is the first of its choices
+abbrev pub digit : KeyFacts → ℕ → ℕ
+digit key entry = if key.optional then entry else entry - 1
+
+abbrev pub digit_if : Bool → KeyFacts → ℕ → ℕ
+digit_if kept key entry = if kept then digit key entry else 0
+
+abbrev pub rank : List Bool → List KeyFacts → List ℕ → ℕ
+rank [] keys set = 0
+rank (flag ∷ kept) [] set = 0
+rank (flag ∷ kept) (key ∷ keys) [] = 0
+rank (flag ∷ kept) (key ∷ keys) (entry ∷ set) = digit_if flag key entry * product_of kept keys + rank kept keys set
+
+entry_below : (values : ℕ) (optional : Bool) (entry : ℕ) → cond (entry == 0) optional (nat_le entry values) ≡ true
+    → cond optional entry (entry - 1) < values + cond optional 1 0
+entry_below values true zero e = omega arith
+entry_below values false zero e = absurd (true≢false (sym e))
+entry_below values true (suc n) e = grind (arith, nat_tests, e)
+entry_below values false (suc n) e = grind (arith, nat_tests, e)
+
+digit_below : (flag : Bool) (key : KeyFacts) (entry : ℕ) → is_entry key entry ≡ true → digit_if flag key entry < key_factor flag key
+digit_below true key entry e = entry_below key.values key.optional entry e
+digit_below false key entry e = omega arith
+
+-- the rank of a full set is below the product
+pub rank_below : (kept : List Bool) (keys : List KeyFacts) (set : List ℕ) → is_full_set keys set ≡ true → rank kept keys set < product_of kept keys
+rank_below [] keys set full = omega arith
+rank_below (flag ∷ kept) [] set full = omega arith
+rank_below (flag ∷ kept) (key ∷ keys) [] full = absurd (true≢false (sym full))
+rank_below (flag ∷ kept) (key ∷ keys) (entry ∷ set) full =
+    let parts = and_parts (is_entry key entry) (is_full_set keys set) full in
+    let rest = rank_below kept keys set parts.1 in
+    omega (arith, mul-add-lt (digit_if flag key entry) (product_of kept keys) (rank kept keys set) (key_factor flag key) (digit_below flag key entry parts.0) rest, mul_comm (key_factor flag key) (product_of kept keys))
+
+-- zeros of one length are one list
+zeros_same : (xs ys : List ℕ) → list_all (λ entry. entry == 0) xs ≡ true → list_all (λ entry. entry == 0) ys ≡ true → length xs ≡ length ys → xs ≡ ys
+zeros_same [] [] p q l = refl
+zeros_same [] (y ∷ ys) p q l = absurd (omega arith)
+zeros_same (x ∷ xs) [] p q l = absurd (omega arith)
+zeros_same (x ∷ xs) (y ∷ ys) p q l =
+    let a = and_parts (x == 0) (list_all (λ entry. entry == 0) xs) p in
+    let b = and_parts (y == 0) (list_all (λ entry. entry == 0) ys) q in
+    let heads : x ≡ y = eqb-true x 0 a.0 ∙ sym (eqb-true y 0 b.0) in
+    let tails : xs ≡ ys = zeros_same xs ys a.1 b.1 (omega arith) in
+    cc
+
+entry_same : (values : ℕ) (optional : Bool) (x y : ℕ) → cond (x == 0) optional (nat_le x values) ≡ true → cond (y == 0) optional (nat_le y values) ≡ true
+    → cond optional x (x - 1) ≡ cond optional y (y - 1) → x ≡ y
+entry_same values true x y p q e = e
+entry_same values false zero y p q e = absurd (true≢false (sym p))
+entry_same values false (suc x) zero p q e = absurd (true≢false (sym q))
+entry_same values false (suc x) (suc y) p q e = omega arith
+
+-- what a kept entry or a dropped one is in the series
+kept_same : (flag : Bool) (key : KeyFacts) (x y : ℕ) → is_entry key x ≡ true → is_entry key y ≡ true → digit_if flag key x ≡ digit_if flag key y
+    → cond flag x 0 ≡ cond flag y 0
+kept_same true key x y p q e = entry_same key.values key.optional x y p q e
+kept_same false key x y p q e = refl
+
+-- two full sets of one rank are of one series
+pub rank_same : (kept : List Bool) (keys : List KeyFacts) (xs ys : List ℕ) → length kept ≡ length keys → length xs ≡ length ys → is_full_set keys xs ≡ true → is_full_set keys ys ≡ true
+    → rank kept keys xs ≡ rank kept keys ys → restricted kept xs ≡ restricted kept ys
+rank_same [] [] xs ys flags long p q e = zeros_same xs ys p q long
+rank_same [] (key ∷ keys) xs ys flags long p q e = absurd (omega arith)
+rank_same (flag ∷ kept) [] xs ys flags long p q e = absurd (omega arith)
+rank_same (flag ∷ kept) (key ∷ keys) [] ys flags long p q e = absurd (true≢false (sym p))
+rank_same (flag ∷ kept) (key ∷ keys) (x ∷ xs) [] flags long p q e = absurd (true≢false (sym q))
+rank_same (flag ∷ kept) (key ∷ keys) (x ∷ xs) (y ∷ ys) flags long p q e =
+    let a = and_parts (is_entry key x) (is_full_set keys xs) p in
+    let b = and_parts (is_entry key y) (is_full_set keys ys) q in
+    let one = same_from_place (digit_if flag key x) (rank kept keys xs) (digit_if flag key y) (rank kept keys ys) (product_of kept keys) (rank_below kept keys xs a.1) (rank_below kept keys ys b.1) e in
+    let heads : cond flag x 0 ≡ cond flag y 0 = kept_same flag key x y a.0 b.0 one.0 in
+    let tails : restricted kept xs ≡ restricted kept ys = rank_same kept keys xs ys (omega arith) (omega arith) a.1 b.1 one.1 in
+    cc

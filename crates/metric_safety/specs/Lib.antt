@@ -1,0 +1,3 @@
+pub mod SafeFacts
+pub mod WindowBounds
+pub mod SafeRuns

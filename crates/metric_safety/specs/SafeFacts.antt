@@ -1,0 +1,64 @@
+-- When the facts of an instrument let no limit and no number overflow, whatever is recorded within its budgets.
+use Rattle.std.specs.Prelude.{◌≡◌, ℕ, ◌+◌, ◌*◌, ◌^◌, ◌<◌, ◌≤◌, pos, ◌≤ℤ◌, ◌<ℤ◌, min, Bool, true, ◌&&◌, ◌==◌, if◌then◌else◌, IsTrue, All, List, [], ◌∷◌, length, sum, FitsSigned}
+use Rattle.std.specs.Int.{w64}
+use Rattle.std.specs.List.{list_all}
+use Rattle.metric_views.specs.declared.stream.Stream.{Stream}
+use Rattle.metric_bounds.specs.Amounts.{amount_with, low_with, high_with}
+use Rattle.metric_bounds.specs.Sums.{keeps_sum}
+use Rattle.metric_history.specs.declared.entry.Entry.{Entry}
+use Rattle.metric_history.specs.declared.facts.Facts.{Facts}
+use Rattle.metric_history.specs.declared.facts.KeyFacts.{KeyFacts}
+use Rattle.metric_history.specs.declared.facts.NumberedStream.{NumberedStream}
+use Rattle.metric_history.specs.Facts.{in_bounds, is_full_set}
+
+-- what a recording may say of a key: one of its values, or nothing where it may be left out
+abbrev pub key_choices : KeyFacts → ℕ
+key_choices key = key.values + (if key.optional then 1 else 0)
+
+-- the same, as far as a stream sees it: a key that it does not keep tells nothing apart
+abbrev pub key_factor : Bool → KeyFacts → ℕ
+key_factor kept key = if kept then key_choices key else 1
+
+-- how many distinct series recordings may have: the product over the keys, of which each is kept or not
+abbrev pub product_of : List Bool → List KeyFacts → ℕ
+product_of [] keys = 1
+product_of (flag ∷ kept) [] = 1
+product_of (flag ∷ kept) (key ∷ keys) = key_factor flag key * product_of kept keys
+
+-- how often the instrument may be recorded
+abbrev pub total : Facts → ℕ
+total facts = sum facts.budgets
+
+-- A stream of an instrument has a place for each series that it can get, and its sums stay in 64 bits where it keeps them.
+pub record IsSafeStream (facts : Facts) (s : Stream) : Type 0 where
+  -- it says of each key whether it is kept
+  pub flags : length s.kept ≡ length facts.keys
+  -- the product over the keys is within the limit, or all budgets are
+  pub series : min (product_of s.kept facts.keys) (total facts) ≤ s.limit
+  -- no sum of recordings is below the least i64
+  pub low : IsTrue (keeps_sum s) → FitsSigned w64 (low_with (total facts) facts.lo)
+  -- no sum of recordings is above the greatest i64
+  pub high : IsTrue (keeps_sum s) → FitsSigned w64 (high_with (total facts) facts.hi)
+
+-- The facts of an instrument of which a certificate can vouch: its range is not empty, the recordings that its budgets allow are a
+-- u64, any two sums of their values are less than 2^64 apart, and each stream is safe. What a certified plan keeps of each instrument,
+-- and each slot behind a lock of its own. Nothing of a journal is said here: the laws of windows hold of every journal of these facts.
+pub record IsSafeFacts (facts : Facts) : Type 0 where
+  pub ordered : facts.lo ≤ℤ facts.hi
+  -- counts are a u64
+  pub counts : total facts < 2 ^ 64
+  -- what a recorder is told of its values is a u64
+  pub amounts : amount_with (total facts) facts.lo facts.hi <ℤ pos (2 ^ 64)
+  pub streams : All (λ (s : NumberedStream). IsSafeStream facts s.stream) facts.streams
+
+-- whether an instrument admits a recording: a full set of as many entries as each set key has, and a value in range
+abbrev pub is_admitted : Facts → Entry → Bool
+is_admitted facts entry = length entry.set == 8 && (is_full_set facts.keys entry.set && in_bounds facts entry.value)
+
+abbrev pub are_admitted : Facts → List Entry → Bool
+are_admitted facts entries = list_all (is_admitted facts) entries
+
+-- The recordings that an instrument may have accepted: it admits each, and they are no more than its budgets allow.
+pub record IsJournal (facts : Facts) (journal : List Entry) : Type 0 where
+  pub admitted : are_admitted facts journal ≡ true
+  pub budgeted : length journal ≤ total facts

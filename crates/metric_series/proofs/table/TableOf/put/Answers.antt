@@ -1,0 +1,48 @@
+-- the place is that of a held series, of the next one, or of the overflow series
+use Rattle.std.proofs.Common.{sym, subst, rules, w64, SFits}
+use Rattle.std.proofs.lemmas.Int.{to_z-of_z}
+use Rattle.metric_series.specs.Ready.{Adds, AddsAt, FitsAt, IsReadyTable}
+use Rattle.metric_series.specs.declared.place.Place.TheVariants.{Held, New, Overflow}
+use Rattle.metric_series.proofs.Putting.{held_fits_at, held_put, new_fits_at, new_put, rest_put}
+use Rattle.metric_series.proofs.table.TableOf.put.Goals as goal
+
+pub add_at-requires : goal.add_at-requires
+add_at-requires g c =
+    let in64 : SFits w64 c.args.value = search rules in
+    let ready = subst (λ t. IsReadyTable g.A.Aggregate c.requires.0 t c.requires.1 c.args.value (Held c.in-Held.index)) (sym c.self.view_is)
+    (subst (λ p. IsReadyTable g.A.Aggregate c.requires.0 c.args.self.now c.requires.1 c.args.value p) c.in-Held.is c.requires.2) in
+    subst (λ v. FitsAt g.A.Aggregate c.self.inside.series.entries c.in-Held.index v) (sym (to_z-of_z w64 c.args.value in64))
+    (held_fits_at g.A.Aggregate c.requires.0 _ c.requires.1 c.args.value c.in-Held.index ready)
+
+pub add_at-requires-in-New : goal.add_at-requires-in-New
+add_at-requires-in-New g c =
+    let in64 : SFits w64 c.args.value = search rules in
+    let ready = subst (λ t. IsReadyTable g.A.Aggregate c.requires.0 t c.requires.1 c.args.value (New c.in-New.index)) (sym c.self.view_is)
+    (subst (λ p. IsReadyTable g.A.Aggregate c.requires.0 c.args.self.now c.requires.1 c.args.value p) c.in-New.is c.requires.2) in
+    subst (λ v. FitsAt g.A.Aggregate c.self.inside.series.entries c.in-New.index v) (sym (to_z-of_z w64 c.args.value in64))
+    (new_fits_at g.A.Aggregate c.requires.0 _ c.requires.1 c.args.value c.in-New.index ready g.met.A.Aggregate.fits_in_range in64)
+
+pub returns-in-Held : goal.returns-in-Held
+returns-in-Held g c = λ old set given.
+    let in64 : SFits w64 c.args.value = search rules in
+    let ready = subst (λ t. IsReadyTable g.A.Aggregate old t set c.args.value (Held c.in-Held.index)) (sym c.self.view_is)
+    (subst (λ p. IsReadyTable g.A.Aggregate old c.args.self.now set c.args.value p) c.in-Held.is given) in
+    held_put g.A.Aggregate old _ set c.args.value c.in-Held.index ready c.add_at.new.series.entries
+    (subst (λ v. AddsAt g.A.Aggregate c.self.inside.series.entries c.add_at.new.series.entries c.in-Held.index v) (to_z-of_z w64 c.args.value in64) c.add_at.ensures)
+
+pub returns-in-New : goal.returns-in-New
+returns-in-New g c = λ old set given.
+    let in64 : SFits w64 c.args.value = search rules in
+    let ready = subst (λ t. IsReadyTable g.A.Aggregate old t set c.args.value (New c.in-New.index)) (sym c.self.view_is)
+    (subst (λ p. IsReadyTable g.A.Aggregate old c.args.self.now set c.args.value p) c.in-New.is given) in
+    new_put g.A.Aggregate old _ set c.args.value c.in-New.index ready c.add_at-in-New.new.series.entries
+    (subst (λ v. AddsAt g.A.Aggregate c.self.inside.series.entries c.add_at-in-New.new.series.entries c.in-New.index v) (to_z-of_z w64 c.args.value in64) c.add_at-in-New.ensures)
+
+pub returns-in-Overflow : goal.returns-in-Overflow
+returns-in-Overflow g c = λ old set given.
+    let in64 : SFits w64 c.args.value = search rules in
+    let ready = subst (λ t. IsReadyTable g.A.Aggregate old t set c.args.value Overflow) (sym c.self.view_is)
+    (subst (λ p. IsReadyTable g.A.Aggregate old c.args.self.now set c.args.value p) c.in-Overflow.is given) in
+    let adds : Adds g.A.Aggregate c.self.inside.overflow c.add.new.self c.args.value =
+    subst (λ v. Adds g.A.Aggregate c.self.inside.overflow c.add.new.self v) (to_z-of_z w64 c.args.value in64) (record { aggregation = c.add.ensures.aggregation; stands = c.add.ensures.stands }) in
+    rest_put g.A.Aggregate old _ set c.args.value ready c.add.new.self adds

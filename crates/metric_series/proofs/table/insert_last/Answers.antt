@@ -1,8 +1,0 @@
--- a key that is not there goes last
-use Rattle.std.proofs.Common.{◌∙◌}
-use Rattle.std.specs.Str.{bytes_eq}
-use Rattle.indexmap.proofs.CallerLemmas.{insert_entry-new}
-use Rattle.metric_series.proofs.table.insert_last.Goals as goal
-
-pub returns-clause-ok : goal.returns-clause-ok
-returns-clause-ok g c = c.in_ok-insert.ensures.entries ∙ insert_entry-new bytes_eq c.args.series.now c.args.key c.args.aggregate c.requires

@@ -1,0 +1,18 @@
+//! Tests of exporters and tickers.
+//!
+//! A module has one loop over a table of cases: what no clause says, the public calls through their traits, and that a
+//! call succeeds while memory is there.
+#![tactic(auto)]
+
+#[cfg(test)]
+mod counted_sink;
+#[cfg(test)]
+mod faults;
+#[cfg(test)]
+mod runs;
+#[cfg(test)]
+mod samples;
+#[cfg(test)]
+mod ticks;
+#[cfg(test)]
+mod wavering;
