@@ -1,10 +1,10 @@
 -- the stream among those of its instrument
 use Rattle.std.proofs.Common.{◌++◌, ◌∷◌, [], List, get_or, slice_set, ap, ◌∙◌, arith}
 use Rattle.metric_views.specs.declared.stream.Stream.{Stream}
-use Rattle.metric_history.specs.declared.facts.Facts.{Facts}
+use Rattle.metric_history.specs.declared.facts.FactsFields.{FactsFields as Facts}
 use Rattle.metric_history.specs.declared.facts.NumberedStream.{NumberedStream}
 use Rattle.metric_history.proofs.FactsLaws.{with_stream-at, with_stream-none}
-use Rattle.metric_history.proofs.facts.add_stream.Goals as goal
+use Rattle.metric_history.proofs.instruments.add_stream.Goals as goal
 
 pub returns-then-at-all : goal.returns-then-at-all
 returns-then-at-all c = with_stream-none 0 c.args.number c.args.stream.now c.args.all.now (omega (arith, c.if-at-all.true))

@@ -1,7 +1,7 @@
 -- the facts so far and those that are left
 use Rattle.std.proofs.Common.{◌≡◌, ◌++◌, [], drop}
 use Rattle.metric_history.specs.Facts.{facts_from}
-use Rattle.metric_history.proofs.facts.without_streams.Given as goal
+use Rattle.metric_history.proofs.instruments.without_streams.Given as goal
 
 abbrev pub invariant-loop-number : goal.invariant-loop-number
 invariant-loop-number l =

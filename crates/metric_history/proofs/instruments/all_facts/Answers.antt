@@ -2,10 +2,10 @@
 use Rattle.std.proofs.Common.{List, take, ap, sym, ◌∙◌}
 use Rattle.std.proofs.lemmas.List.{with_items_is}
 use Rattle.metric_views.specs.declared.stream.Stream.{Stream}
-use Rattle.metric_history.specs.declared.facts.Facts.{Facts}
+use Rattle.metric_history.specs.declared.facts.FactsFields.{FactsFields as Facts}
 use Rattle.metric_history.specs.Facts.{facts_from, with_stream}
 use Rattle.metric_history.proofs.FactsLaws.{facts_more}
-use Rattle.metric_history.proofs.facts.all_facts.Goals as goal
+use Rattle.metric_history.proofs.instruments.all_facts.Goals as goal
 
 pub loop-number-preserved : goal.loop-number-preserved
 loop-number-preserved c =

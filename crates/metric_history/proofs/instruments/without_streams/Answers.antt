@@ -1,9 +1,9 @@
 -- one instrument more
 use Rattle.std.proofs.Common.{◌+◌, ◌++◌, [], List, drop, ap, ◌∙◌}
-use Rattle.metric_history.specs.declared.facts.Facts.{Facts}
+use Rattle.metric_history.specs.declared.facts.FactsFields.{FactsFields as Facts}
 use Rattle.metric_history.specs.Facts.{facts_from}
 use Rattle.metric_history.proofs.FactsLaws.{instruments_more}
-use Rattle.metric_history.proofs.facts.without_streams.Goals as goal
+use Rattle.metric_history.proofs.instruments.without_streams.Goals as goal
 
 pub loop-number-preserved : goal.loop-number-preserved
 loop-number-preserved c =
