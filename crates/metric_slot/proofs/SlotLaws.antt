@@ -1,6 +1,6 @@
 -- What the calls of a slot answer.
 use Rattle.std.proofs.Common.{◌≡◌, ◌≢◌, ℕ, ◌+◌, ◌^◌, ◌<◌, ◌≤◌, Bool, true, false, ◌&&◌, List, [], ◌∷◌, ◌++◌, Result, Ok, Err, length, refl, sym, ap, subst, ◌∙◌, arith}
-use Rattle.std.specs.Prelude.{slice_index, sum, if◌then◌else◌}
+use Rattle.std.specs.Prelude.{◌==◌, slice_index, sum, if◌then◌else◌}
 use Rattle.std.proofs.lemmas.List.{length_push}
 use Rattle.std.proofs.lemmas.List.Folds.{list_all-append}
 use Rattle.metric_book.specs.Journals.{Standing}
@@ -79,3 +79,12 @@ recorder_answers stands c own told entry (Err refusals.Budget) law safe k mine n
 recorder_answers stands c own told entry (Err refusals.SumRange) law safe k mine next answer =
     never_out_of_range stands c entry law safe k (subst (λ (f : Facts). IsNext f entry) (sym mine.facts) next) answer
 recorder_answers stands c own told entry (Err refusals.Memory) law safe k mine next answer = (mine, answer)
+
+-- what a reader is told is within the bounds
+pub batch_within : {B : Type 0} (stands : B → Standing) (c : CellValue B) (own : Facts) (reader now : ℕ) (told : Batch)
+    → BoundsReports → IsSafeFacts c.facts → CellKept stands c → c.facts ≡ own → ReportsBatch stands c reader now told
+    → IsReportWithin own told.from told.mark told.streams
+batch_within stands c own reader now told law safe k same reports =
+    subst (λ (f : Facts). IsReportWithin f told.from told.mark told.streams) same
+    (subst (λ (b : Batch). IsReportWithin c.facts b.from b.mark b.streams) (sym (reports k.journal k.known))
+    (law c.facts k.journal reader (slice_index c.marks reader) safe (kept_journal stands c k)))

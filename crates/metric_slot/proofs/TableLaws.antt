@@ -40,8 +40,8 @@ window_length : (delta : Bool) (mark : ℕ) (journal : List Entry) → length (w
 window_length true mark journal = length-drop mark journal
 window_length false mark journal = refl
 
-all_at : {P : NumberedStream → Type 0} (streams : List NumberedStream) (k : ℕ) (s : NumberedStream) → All P streams → slice_get streams k ≡ Some s → P s
-all_at {P} streams k s all found = subst P (get_or_from_slice_get streams k s s found) (all k s (slice_get_within streams k s found))
+all_at : (P : NumberedStream → Type 0) (streams : List NumberedStream) (k : ℕ) (s : NumberedStream) → All P streams → slice_get streams k ≡ Some s → P s
+all_at P streams k s all found = subst P (get_or_from_slice_get streams k s s found) (all k s (slice_get_within streams k s found))
 
 pub tables_bounded : (c : CellValue MarkedValue) → BoundsJournals → IsCertified c.facts → CellKept StandsMarked c → AreTablesBounded c
 tables_bounded c law certified k = record {
@@ -50,7 +50,7 @@ tables_bounded c law certified k = record {
       let reader = s.stream.reader in
       let own : List Entry = windows_of c.facts k.journal c.marks reader in
       let bounded : IsBounded c.facts s.stream own =
-      all_at c.facts.streams at s (law c.facts k.journal (is_delta c.facts reader) (slice_index c.marks reader) certified.safe (kept_journal StandsMarked c k)) here in
+      all_at (λ (r : NumberedStream). IsBounded c.facts r.stream (window (is_delta c.facts reader) (slice_index c.marks reader) k.journal)) c.facts.streams at s (law c.facts k.journal (is_delta c.facts reader) (slice_index c.marks reader) certified.safe (kept_journal StandsMarked c k)) here in
       record {
         window = own;
         counted = window_length (is_delta c.facts reader) (slice_index c.marks reader) k.journal ∙ ap (λ (n : ℕ). if is_delta c.facts reader then n - slice_index c.marks reader else n) (sym k.known.counted);

@@ -6,7 +6,6 @@ use metric_plan::Plan;
 use metric_safety::laws::safe_plans_run_safely;
 
 // The facts of each instrument of a certified plan are certified and safe.
-#[tactic(auto, using(crate::proofs::PlanLaws::are_certified))]
 pub fn certified_facts_are_safe(plan: &Plan)
     requires { IsTrue plan.now.is_certified }
     ensures { AreCertified plan.now.facts.instruments }

@@ -96,7 +96,7 @@ impl<B: Book> Slot<B> {
         journals_are_bounded();
         let _ = self.cell.facts();
         self.cell.record(recorder, set, value)?;
-        told.add(facts.lo, value);
+        told.add(facts, &value);
         Ok(())
     }
 
@@ -163,7 +163,7 @@ fn is_own_recorder<B: Book>(cell: &Cell<B>, facts: &Facts, told: &Told, recorder
 {
     same_facts(cell.facts(), facts)
         && cell.spent(recorder) == told.count
-        && told.is_within(facts.lo, facts.hi)
+        && told.is_within(facts)
 }
 
 // Whether the cell has these facts, and the reader's last batch counted what was seen.

@@ -9,7 +9,6 @@ use metric_safety::laws::journals_are_bounded;
 /// reader's last batch (delta) or since the start (cumulative), no more series than the keys allow and than there are
 /// recordings, none of them the overflow series (Metrics SDK, cardinality limits), counts and sums that add
 /// up, and each number by the range and the number of recordings. The function does nothing.
-#[tactic(auto, using(crate::proofs::TableLaws::tables_bounded))]
 pub fn tables_are_bounded(slot: &Slot<Marked>)
     ensures { AreTablesBounded slot.now }
 {

@@ -4,6 +4,7 @@ ghost use Rattle.metric_bounds.specs.Amounts.{amount_with};
 ghost use Rattle.metric_slot.specs.Tellings.{told_more};
 
 use metric_bounds::amount;
+use metric_history::Facts;
 
 /// What a recorder was told of its accepted recordings on one instrument.
 #[derive(Clone, Copy, Debug, PartialEq, Eq, Drop)]
@@ -15,21 +16,22 @@ pub struct Told {
 }
 
 impl Told {
-    // Whether so many values between these two can be so far above the least.
-    pub fn is_within(&self, lo: i64, hi: i64) -> bool
-        requires { lo ≤ℤ hi }
-        ensures { IsTrue result ↔ (pos self.now.amount ≤ℤ amount_with self.now.count lo hi) }
+    // Whether so many values of the instrument can be so far above its least.
+    pub fn is_within(&self, facts: &Facts) -> bool
+        requires { facts.now.lo ≤ℤ facts.now.hi }
+        ensures { let most = amount_with self.now.count facts.now.lo facts.now.hi in
+            IsTrue result ↔ (pos self.now.amount ≤ℤ most) }
     {
-        u128::from(self.amount) <= amount(self.count, lo, hi)
+        u128::from(self.amount) <= amount(self.count, facts.lo, facts.hi)
     }
 
     // Tells of one recording more.
-    pub fn add(&mut self, lo: i64, value: i64)
+    pub fn add(&mut self, facts: &Facts, value: &i64)
         requires count { self.old.count + 1 < 2 ^ 64 }
-        requires amount { self.old.amount + unsigned_abs (value -ℤ lo) < 2 ^ 64 }
-        ensures { self.new ≡ told_more self.old lo value }
+        requires amount { self.old.amount + unsigned_abs (value.now -ℤ facts.now.lo) < 2 ^ 64 }
+        ensures { self.new ≡ told_more self.old facts.now.lo value.now }
     {
         self.count += 1;
-        self.amount += value.abs_diff(lo);
+        self.amount += value.abs_diff(facts.lo);
     }
 }
