@@ -1,6 +1,6 @@
 -- What the calls of a slot answer.
-use Rattle.std.proofs.Common.{◌≡◌, ◌≢◌, ℕ, ◌+◌, ◌^◌, ◌<◌, ◌≤◌, Bool, true, false, ◌&&◌, List, [], ◌∷◌, ◌++◌, Result, Ok, Err, length, refl, sym, ap, subst, ◌∙◌, arith}
-use Rattle.std.specs.Prelude.{◌==◌, slice_index, sum, if◌then◌else◌}
+use Rattle.std.proofs.Common.{◌≡◌, ◌≢◌, ℕ, ◌+◌, ◌^◌, ◌<◌, ◌≤◌, ℤ, ◌-ℤ◌, Bool, true, false, ◌&&◌, List, [], ◌∷◌, ◌++◌, Result, Ok, Err, length, refl, sym, ap, subst, ◌∙◌, arith}
+use Rattle.std.specs.Prelude.{◌==◌, slice_index, sum, unsigned_abs, if◌then◌else◌}
 use Rattle.std.proofs.lemmas.List.{length_push}
 use Rattle.std.proofs.lemmas.List.Folds.{list_all-append}
 use Rattle.metric_book.specs.Journals.{Standing}
@@ -16,7 +16,7 @@ use Rattle.metric_history.specs.Facts.{in_bounds, is_delta, is_full_set}
 use Rattle.metric_history.specs.Windows.{fits_all}
 use Rattle.metric_safety.specs.SafeFacts.{IsJournal, IsSafeFacts, total}
 use Rattle.metric_safety.specs.WindowBounds.{BoundsReports, FitsJournals, IsReportWithin}
-use Rattle.metric_slot.proofs.BudgetLaws.{element_le, sum_le, sum_less}
+use Rattle.metric_slot.proofs.BudgetLaws.{amount_room, element_le, sum_le, sum_less}
 use Rattle.metric_slot.specs.declared.told.Told.{Told}
 use Rattle.metric_slot.specs.SlotAnswers.{AnswersRecorder, Continues}
 use Rattle.metric_slot.specs.Slots.{IsOwnReader, IsOwnRecorder}
@@ -79,6 +79,15 @@ recorder_answers stands c own told entry (Err refusals.Budget) law safe k mine n
 recorder_answers stands c own told entry (Err refusals.SumRange) law safe k mine next answer =
     never_out_of_range stands c entry law safe k (subst (λ (f : Facts). IsNext f entry) (sym mine.facts) next) answer
 recorder_answers stands c own told entry (Err refusals.Memory) law safe k mine next answer = (mine, answer)
+
+-- what a recorder is told of has room for one recording more
+pub told_room : {B : Type 0} (stands : B → Standing) (c : CellValue B) (own : Facts) (told : Told) (recorder : ℕ) (value : ℤ)
+    → IsSafeFacts c.facts → CellKept stands c → IsOwnRecorder c own told recorder
+    → slice_index c.spent recorder < slice_index c.facts.budgets recorder → in_bounds own value ≡ true
+    → told.amount + unsigned_abs (value -ℤ own.lo) < 2 ^ 64
+told_room stands c own told recorder value safe k mine left within =
+    let counted : told.count + 1 ≤ total c.facts = omega (arith, mine.spent, element_le c.spent recorder, k.counted, kept_room stands c recorder k left) in
+    amount_room own told.count told.amount value (subst IsSafeFacts mine.facts safe) (subst (λ (f : Facts). told.count + 1 ≤ total f) mine.facts counted) mine.amount within
 
 -- what a reader is told is within the bounds
 pub batch_within : {B : Type 0} (stands : B → Standing) (c : CellValue B) (own : Facts) (reader now : ℕ) (told : Batch)

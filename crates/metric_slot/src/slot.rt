@@ -161,9 +161,7 @@ fn is_own_recorder<B: Book>(cell: &Cell<B>, facts: &Facts, told: &Told, recorder
     requires { cell.now.facts.lo ≤ℤ cell.now.facts.hi }
     ensures { IsTrue result ↔ IsOwnRecorder cell.now facts.now told.now recorder }
 {
-    same_facts(cell.facts(), facts)
-        && cell.spent(recorder) == told.count
-        && told.is_within(facts)
+    same_facts(cell.facts(), facts) && cell.spent(recorder) == told.count && told.is_within(facts)
 }
 
 // Whether the cell has these facts, and the reader's last batch counted what was seen.
