@@ -6,7 +6,6 @@
 #![tactic(auto)]
 
 mod safety;
-mod same;
 mod slot;
 mod tables;
 mod told;

@@ -9,12 +9,11 @@ ghost use Rattle.metric_slot.specs.SlotAnswers.{AnswersRecorder, Continues, Refu
 ghost use Rattle.metric_slot.specs.Tellings.{told_more};
 
 use crate::safety::certified_facts_are_safe;
-use crate::same::same_facts;
 use crate::told::Told;
 use metric_book::Book;
 use metric_catalogue::{Refusal, SetKey};
 use metric_core::Cell;
-use metric_history::{Batch, Facts};
+use metric_history::{Batch, Facts, same_facts};
 use metric_plan::Plan;
 use metric_safety::laws::journals_are_bounded;
 use std::alloc::{AllocError, Global};
