@@ -32,7 +32,13 @@ pub fn altered(alloc: Global, text: &str) -> Result<Vec<String>, Fail> {
     add_counts(alloc, text, &mut out)?;
     add_moves(alloc, text, ", ", &numbers_of(alloc, text)?, &mut out)?;
     add_moves(alloc, text, "\n", &pieces_of(alloc, text, "\n")?, &mut out)?;
-    add_moves(alloc, text, "\n\n", &pieces_of(alloc, text, "\n\n")?, &mut out)?;
+    add_moves(
+        alloc,
+        text,
+        "\n\n",
+        &pieces_of(alloc, text, "\n\n")?,
+        &mut out,
+    )?;
     for (old, new) in LISTS {
         add_others(alloc, text, old, new, &mut out)?;
     }

@@ -31,29 +31,84 @@ budget = [{ instrument = 2, amount = 4 }]
 const THREE_VIEWS: &str = r#"
 format = 1
 reader = [{ name = "q", limit = { up_down_counter = 2 } }]
-view = [{ instrument_name = "?", aggregation = "histogram", stream_name = "c" }, { instrument_name = "*p", instrument_unit = "s" }, { meter_version = "2", instrument_name = "U*", aggregation = "drop" }]
+view = [{ instrument_name = "?", aggregation = "explicit_bucket_histogram", stream_name = "c" }, { instrument_name = "*p", instrument_unit = "s" }, { meter_version = "2", instrument_name = "A", aggregation = "drop" }]
 "#;
 
-// How many certificates were accepted, and how many were refused.
+// What came of certificates.
 #[derive(Drop)]
 struct Counts {
-    accepted: u32,
-    refused: u32,
+    // Those that are no certificates.
+    unread: usize,
+    // Those that are valid, and were accepted.
+    accepted: usize,
+    // Those that are not valid, and were refused.
+    refused: usize,
+    // The others.
+    misjudged: usize,
 }
 
-// Whether the check accepts a certificate.
-fn is_accepted(
+// Whether the check accepts a certificate, and whether it is valid.
+fn judged(
     alloc: Global,
     catalogue: &str,
     config: &str,
     certificate: &Certificate,
-) -> Result<bool, Fail> {
-    let (Ok(catalogue), Ok(config)) = (
-        Catalogue::read(alloc, catalogue),
-        Config::read(alloc, config),
-    ) else {
-        return Ok(false);
+) -> Result<(bool, bool), Fail> {
+    let Ok(catalogue) = Catalogue::read(alloc, catalogue) else {
+        return Ok((true, false));
     };
-    Ok(check(alloc, catalogue, config, certificate).is_ok())
+    let Ok(config) = Config::read(alloc, config) else {
+        return Ok((true, false));
+    };
+    let is_valid = is_valid(alloc, &catalogue, &config, certificate)?;
+    let is_accepted = check(alloc, catalogue, config, certificate).is_ok();
+    Ok((is_accepted, is_valid))
 }
 
+// What comes of texts for a catalogue and a config.
+fn counts_of(
+    alloc: Global,
+    catalogue: &str,
+    config: &str,
+    texts: &[String],
+) -> Result<Counts, Fail> {
+    let mut counts = Counts {
+        unread: 0,
+        accepted: 0,
+        refused: 0,
+        misjudged: 0,
+    };
+    for text in texts {
+        let count = match Certificate::read(alloc, text.as_str()) {
+            Ok(certificate) => match judged(alloc, catalogue, config, &certificate)? {
+                (true, true) => &mut counts.accepted,
+                (false, false) => &mut counts.refused,
+                _ => &mut counts.misjudged,
+            },
+            Err(_) => &mut counts.unread,
+        };
+        *count = count.saturating_add(1);
+    }
+    Ok(counts)
+}
+
+// A certificate that differs in one place from one that was made is accepted exactly where it is valid all the same.
+#[test]
+fn what_is_altered_is_accepted_where_valid(rt: HostRuntime) -> Result<(), Fail> {
+    let rows = [
+        (TWO_COUNTERS, A_STAR),
+        (ONE_COUNTER, TWO_READERS),
+        (FOUR_KINDS, THREE_VIEWS),
+        ("format = 1", "format = 1\nreader = [{ name = \"q\" }]"),
+    ];
+    for (catalogue, config) in rows {
+        let text = made(rt.alloc(), catalogue, config)?;
+        let texts = altered(rt.alloc(), text.as_str())?;
+        let counts = counts_of(rt.alloc(), catalogue, config, &texts)?;
+        assert_eq!(rt; counts.misjudged, 0);
+        assert!(rt; counts.accepted > 0 && counts.refused > 0 && counts.unread > 0);
+        let counts = counts_of(rt.alloc(), catalogue, config, &[text])?;
+        assert_eq!(rt; counts.accepted, 1);
+    }
+    Ok(())
+}

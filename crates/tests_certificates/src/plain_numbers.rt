@@ -30,7 +30,13 @@ fn sets_of(catalogue: &Catalogue, stream: &Stream) -> i128 {
         return 0;
     };
     let mut sets: i128 = 1;
-    for (kept, key) in stream.kept.get().as_slice().iter().zip(instrument.keys.as_slice()) {
+    for (kept, key) in stream
+        .kept
+        .get()
+        .as_slice()
+        .iter()
+        .zip(instrument.keys.as_slice())
+    {
         if *kept {
             let values = (key.values.len() as i128).saturating_add(i128::from(key.optional));
             sets = sets.saturating_mul(values);
@@ -60,9 +66,8 @@ pub fn are_bounds(catalogue: &Catalogue, streams: &[Stream], bounds: &[Instrumen
             return false;
         }
         let total = total_of(catalogue, bound.instrument);
-        let is_summed = streams
-            .iter()
-            .any(|stream| stream.instrument == bound.instrument && keeps_sum(stream));
+        let is_summed = streams.iter().any(|stream| stream.instrument == bound.instrument
+            && keeps_sum(stream));
         if !is_bound(total, instrument, is_summed, bound) {
             return false;
         }

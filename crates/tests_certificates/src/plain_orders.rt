@@ -78,6 +78,10 @@ fn identity_order(
     let names = name.as_str().cmp(other_name.as_str());
     let meters = first.1.name.as_str().cmp(second.1.name.as_str());
     let versions = first.1.version.as_str().cmp(second.1.version.as_str());
-    let urls = first.1.schema_url.as_str().cmp(second.1.schema_url.as_str());
+    let urls = first
+        .1
+        .schema_url
+        .as_str()
+        .cmp(second.1.schema_url.as_str());
     Ok(meters.then(versions).then(urls).then(names))
 }

@@ -57,7 +57,9 @@ fn is_shown(
         Evidence::Miss(criterion) => !holds(criteria, meter, instrument, *criterion),
         Evidence::Name(Reason::Takes(takes)) => {
             spells(pattern, name, takes.as_slice())
-                && CRITERIA.iter().all(|criterion| holds(criteria, meter, instrument, *criterion))
+                && CRITERIA
+                    .iter()
+                    .all(|criterion| holds(criteria, meter, instrument, *criterion))
         }
         Evidence::Name(Reason::Rows(rows)) => {
             rows.len() == name.len().saturating_add(1) && shuts_out(pattern, name, rows.as_slice())
@@ -95,23 +97,29 @@ fn is_text(criterion: &Option<Text>, own: &str) -> bool {
 
 // Whether a name is what the pattern's characters take of it, one after the other: each `*` as many as are given.
 fn spells(pattern: &str, name: &str, takes: &[u16]) -> bool {
-    let mut left = name.as_bytes();
-    let mut takes = takes.iter();
+    let mut left = (takes, name.as_bytes());
     for character in pattern.as_bytes() {
-        let count = if *character == b'*' {
-            takes.next().map(|count| usize::from(*count))
-        } else {
-            Some(1)
-        };
-        let Some((piece, rest)) = count.and_then(|count| left.split_at_checked(count)) else {
+        let Some(after) = after_one(*character, left.0, left.1) else {
             return false;
         };
-        if *character != b'*' && !piece.iter().all(|found| takes_one(*character, *found)) {
-            return false;
-        }
-        left = rest;
+        left = after;
     }
-    left.is_empty() && takes.next().is_none()
+    left.0.is_empty() && left.1.is_empty()
+}
+
+// What a pattern character leaves of the takes and of a text, where it takes from both.
+fn after_one<'a>(character: u8, takes: &'a [u16], text: &'a [u8]) -> Option<(&'a [u16], &'a [u8])> {
+    if character == b'*' {
+        let (count, others) = takes.split_first()?;
+        let (_, rest) = text.split_at_checked(usize::from(*count))?;
+        return Some((others, rest));
+    }
+    let (first, rest) = text.split_first()?;
+    if takes_one(character, *first) {
+        Some((takes, rest))
+    } else {
+        None
+    }
 }
 
 // Whether a pattern character other than `*` takes this one.
@@ -140,7 +148,13 @@ fn are_closed(pattern: &str, name: &str, rows: &[Items<u16>]) -> bool {
     for (at, row) in rows.iter().enumerate() {
         let found = name.as_bytes().get(at).copied();
         let next = rows.get(at.saturating_add(1));
-        if !row.as_slice().iter().all(|place| stays(pattern, found, row, next, usize::from(*place))) {
+        if !row.as_slice().iter().all(|place| stays(
+            pattern,
+            found,
+            row,
+            next,
+            usize::from(*place),
+        )) {
             return false;
         }
     }
@@ -158,7 +172,8 @@ fn stays(
 ) -> bool {
     let after = place.saturating_add(1);
     match pattern.as_bytes().get(place) {
-        Some(b'*') => has(row, after) && (found.is_none() || next.is_some_and(|next| has(next, place))),
+        Some(b'*') => has(row, after)
+            && (found.is_none() || next.is_some_and(|next| has(next, place))),
         Some(character) => {
             let taken = found.is_some_and(|found| takes_one(*character, found));
             !taken || next.is_some_and(|next| has(next, after))
