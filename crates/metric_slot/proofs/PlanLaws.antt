@@ -28,5 +28,5 @@ are_certified plan contents p declared sound law vouched number own found = reco
   certified = certified_from plan.is_certified plan.facts.contents.recorders plan.config.readers plan.streams plan.facts.contents.instruments 0 number own
       (ap (λ (run : RunFacts). slice_get run.instruments number) (sym p.facts) ∙ found) ∙ vouched;
   safe =
-      (law plan (record { sound = subst IsSound declared sound; streams = p.streams; facts = p.facts; safe = p.safe vouched })).safe number own found;
+      (law plan (record { sound = subst IsSound declared sound; streams = p.streams; facts = p.facts; safe = p.safe vouched; ranges = p.ranges })).safe number own found;
 }

@@ -1,6 +1,6 @@
 -- What the calls of a slot answer.
 use Rattle.std.proofs.Common.{◌≡◌, ◌≢◌, ℕ, ◌+◌, ◌^◌, ◌<◌, ◌≤◌, ℤ, ◌-ℤ◌, Bool, true, false, ◌&&◌, List, [], ◌∷◌, ◌++◌, Result, Ok, Err, length, refl, sym, ap, subst, ◌∙◌, arith}
-use Rattle.std.specs.Prelude.{◌==◌, slice_index, sum, unsigned_abs, if◌then◌else◌}
+use Rattle.std.specs.Prelude.{◌==◌, OnOk, slice_index, sum, unsigned_abs, if◌then◌else◌}
 use Rattle.std.proofs.lemmas.List.{length_push}
 use Rattle.std.proofs.lemmas.List.Folds.{list_all-append}
 use Rattle.metric_book.specs.Journals.{Standing}
@@ -19,7 +19,8 @@ use Rattle.metric_safety.specs.WindowBounds.{BoundsReports, FitsJournals, IsRepo
 use Rattle.metric_slot.proofs.BudgetLaws.{amount_room, element_le, sum_le, sum_less}
 use Rattle.metric_slot.specs.declared.told.Told.{Told}
 use Rattle.metric_slot.specs.SlotAnswers.{AnswersRecorder, Continues}
-use Rattle.metric_slot.specs.Slots.{IsOwnReader, IsOwnRecorder}
+use Rattle.metric_slot.specs.Slots.{IsOwnRecorder}
+use Rattle.metric_slot.specs.Tellings.{HasRoom}
 
 -- the recordings of a cell are within its budgets
 pub kept_journal : {B : Type 0} (stands : B → Standing) (c : CellValue B) (k : CellKept stands c) → IsJournal c.facts k.journal
@@ -84,10 +85,19 @@ recorder_answers stands c own told entry (Err refusals.Memory) law safe k mine n
 pub told_room : {B : Type 0} (stands : B → Standing) (c : CellValue B) (own : Facts) (told : Told) (recorder : ℕ) (value : ℤ)
     → IsSafeFacts c.facts → CellKept stands c → IsOwnRecorder c own told recorder
     → slice_index c.spent recorder < slice_index c.facts.budgets recorder → in_bounds own value ≡ true
-    → told.amount + unsigned_abs (value -ℤ own.lo) < 2 ^ 64
+    → HasRoom told own.lo value
 told_room stands c own told recorder value safe k mine left within =
     let counted : told.count + 1 ≤ total c.facts = omega (arith, mine.spent, element_le c.spent recorder, k.counted, kept_room stands c recorder k left) in
-    amount_room own told.count told.amount value (subst IsSafeFacts mine.facts safe) (subst (λ (f : Facts). told.count + 1 ≤ total f) mine.facts counted) mine.amount within
+    record {
+      count = omega (arith, k.budgeted);
+      amount = amount_room own told.count told.amount value (subst IsSafeFacts mine.facts safe) (subst (λ (f : Facts). told.count + 1 ≤ total f) mine.facts counted) mine.amount within;
+    }
+
+pub answer_room : {B : Type 0} (stands : B → Standing) (c : CellValue B) (own : Facts) (told : Told) (entry : Entry) (result : Result (Unit {0}) Refusal)
+    → IsSafeFacts c.facts → CellKept stands c → IsOwnRecorder c own told entry.recorder → in_bounds own entry.value ≡ true
+    → AnswersRecording stands c entry result → OnOk result (HasRoom told own.lo entry.value)
+answer_room stands c own told entry (Ok done) safe k mine within judged = told_room stands c own told entry.recorder entry.value safe k mine judged.has_budget within
+answer_room stands c own told entry (Err refusal) safe k mine within judged = tt
 
 -- what a reader is told is within the bounds
 pub batch_within : {B : Type 0} (stands : B → Standing) (c : CellValue B) (own : Facts) (reader now : ℕ) (told : Batch)

@@ -3,10 +3,11 @@ ghost use Rattle.std.specs.Prelude.{◌≡◌, ◌↔◌, ◌<◌, ◌≤◌, �
 ghost use Rattle.metric_core.specs.Cells.{CellKept, CellStands, new_cell};
 ghost use Rattle.metric_core.specs.CellAnswers.{AnswersClose, GainsEntry, KeepsJournal, ReportsBatch, entry_of, with_batch, with_entry};
 ghost use Rattle.metric_history.specs.Facts.{in_bounds, is_full_set};
+ghost use Rattle.metric_safety.specs.SafeFacts.{IsSafeFacts};
 ghost use Rattle.metric_safety.specs.WindowBounds.{IsReportWithin};
 ghost use Rattle.metric_slot.specs.Slots.{IsCertified, IsOwnReader, IsOwnRecorder};
 ghost use Rattle.metric_slot.specs.SlotAnswers.{AnswersRecorder, Continues, RefusesReader};
-ghost use Rattle.metric_slot.specs.Tellings.{told_more};
+ghost use Rattle.metric_slot.specs.Tellings.{HasRoom, told_more};
 
 use crate::safety::certified_facts_are_safe;
 use crate::told::Told;
@@ -89,14 +90,9 @@ impl<B: Book> Slot<B> {
         ensures err { OnErr result (self.new ≡ self.old) }
         ensures told_err { OnErr result (told.new ≡ told.old) }
     {
-        if !is_own_recorder(&self.cell, facts, told, recorder) {
-            return Err(Refusal::Stranger);
-        }
-        journals_are_bounded();
-        let _ = self.cell.facts();
-        self.cell.record(recorder, set, value)?;
-        told.add(facts, &value);
-        Ok(())
+        let answer = record_own(&mut self.cell, facts, told, recorder, set, value);
+        tell(told, facts, &value, &answer);
+        answer
     }
 
     /// What a reader that has seen so many recordings is told at a time in nanoseconds: its points since its last
@@ -152,6 +148,47 @@ impl<B: Book> Slot<B> {
     {
         let _ = self.cell.facts();
         &self.cell
+    }
+}
+
+// Makes a recording for a recorder, where the numbers are its own. There is then room for telling of it.
+fn record_own<B: Book>(
+    cell: &mut Cell<B>,
+    facts: &Facts,
+    told: &Told,
+    recorder: u32,
+    set: SetKey,
+    value: i64,
+) -> Result<(), Refusal>
+    requires safe { IsSafeFacts cell.old.facts }
+    requires recorder { recorder < length facts.now.budgets }
+    requires set { is_full_set facts.now.keys set ≡ true }
+    requires value { in_bounds facts.now value ≡ true }
+    ensures answer { let entry = entry_of recorder set value in
+        AnswersRecorder B.stands cell.old facts.now told.now entry result }
+    ensures room { OnOk result (HasRoom told.now facts.now.lo value) }
+    ensures new { let entry = entry_of recorder set value in
+        OnOk result (cell.new ≡ with_entry cell.old entry cell.new.book) }
+    ensures stands { let entry = entry_of recorder set value in
+        OnOk result (GainsEntry B.stands cell.old cell.new entry) }
+    ensures err { OnErr result (cell.new ≡ cell.old) }
+{
+    if !is_own_recorder(cell, facts, told, recorder) {
+        return Err(Refusal::Stranger);
+    }
+    journals_are_bounded();
+    let _ = cell.facts();
+    cell.record(recorder, set, value)
+}
+
+// Tells a recorder of its recording, where it was accepted.
+fn tell(told: &mut Told, facts: &Facts, value: &i64, answer: &Result<(), Refusal>)
+    requires { OnOk answer.now (HasRoom told.old facts.now.lo value.now) }
+    ensures ok { OnOk answer.now (told.new ≡ told_more told.old facts.now.lo value.now) }
+    ensures err { OnErr answer.now (told.new ≡ told.old) }
+{
+    if answer.is_ok() {
+        told.add(facts, value);
     }
 }
 

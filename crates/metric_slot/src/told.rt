@@ -1,7 +1,7 @@
 //! What a recorder was told.
-ghost use Rattle.std.specs.Prelude.{◌≡◌, ◌↔◌, ◌+◌, ◌^◌, ◌<◌, pos, ◌-ℤ◌, ◌≤ℤ◌, unsigned_abs, IsTrue};
+ghost use Rattle.std.specs.Prelude.{◌≡◌, ◌↔◌, pos, ◌≤ℤ◌, IsTrue};
 ghost use Rattle.metric_bounds.specs.Amounts.{amount_with};
-ghost use Rattle.metric_slot.specs.Tellings.{told_more};
+ghost use Rattle.metric_slot.specs.Tellings.{HasRoom, told_more};
 
 use metric_bounds::amount;
 use metric_history::Facts;
@@ -27,8 +27,7 @@ impl Told {
 
     // Tells of one recording more.
     pub fn add(&mut self, facts: &Facts, value: &i64)
-        requires count { self.old.count + 1 < 2 ^ 64 }
-        requires amount { self.old.amount + unsigned_abs (value.now -ℤ facts.now.lo) < 2 ^ 64 }
+        requires { HasRoom self.old facts.now.lo value.now }
         ensures { self.new ≡ told_more self.old facts.now.lo value.now }
     {
         self.count += 1;
