@@ -117,7 +117,8 @@ impl Collector {
         ensures all { IfOk result (λ batches.
             length batches.items ≡ length provider.now.plan.facts.instruments) }
         ensures seen { IfOk result (λ batches. self.new ≡ with_all_seen self.old batches.items) }
-        ensures refused { IfErr result (λ fault. let instruments = provider.now.plan.facts.instruments in
+        ensures refused { IfErr result (λ fault.
+            let instruments = provider.now.plan.facts.instruments in
             AllRefused instruments self.old fault.done.items fault.instrument fault.refusal) }
         ensures seen_before { IfErr result (λ fault.
             self.new ≡ with_all_seen self.old fault.done.items) }

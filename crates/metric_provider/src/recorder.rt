@@ -91,8 +91,9 @@ impl Recorder {
         ensures answer { let given = map given_by attrs.now in
             let admission = admitted provider.now self.old instrument given value in
             AnswersSeat admission provider.now.plan self.old instrument result }
-        ensures told { OnOk result (IfSome (slice_get provider.now.plan.facts.instruments instrument)
-            (λ own. self.new ≡ with_recording self.old instrument own value)) }
+        ensures told { OnOk result (
+            IfSome (slice_get provider.now.plan.facts.instruments instrument) (λ own.
+            self.new ≡ with_recording self.old instrument own value)) }
         ensures err { OnErr result (self.new ≡ self.old) }
     {
         let set = self.admit(provider.plan(), provider.run(), instrument, attrs, &value)?;
