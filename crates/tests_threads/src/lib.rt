@@ -1,0 +1,24 @@
+//! Tests of instruments behind locks: seats beside a core, threads that proceed at once, strangers, the end of a provider,
+//! and the calls under a lock.
+//!
+//! A module has what no clause says: that a seat's call makes its step, and that a call succeeds while memory is there.
+#![tactic(auto)]
+
+#[cfg(test)]
+mod agreement;
+#[cfg(test)]
+mod endings;
+#[cfg(test)]
+mod gates;
+#[cfg(test)]
+mod lists;
+#[cfg(test)]
+mod samples;
+#[cfg(test)]
+mod seats;
+#[cfg(test)]
+mod slots;
+#[cfg(test)]
+mod strangers;
+#[cfg(test)]
+mod texts;
