@@ -1,9 +1,10 @@
 //! Plans and how a trial makes one.
-ghost use Rattle.std.specs.Prelude.{◌≡◌, ◌↔◌, ◌<◌, Some, IsTrue, true, false, length, slice_get, IfOk, IfErr, OnOk};
+ghost use Rattle.std.specs.Prelude.{◌≡◌, ◌↔◌, ◌<◌, Some, IsTrue, true, false, length, slice_get, FitsSigned, IfOk, IfErr, OnOk};
+ghost use Rattle.std.specs.Int.{w64};
 ghost use Rattle.metric_bounds.specs.Safe.{AreSafe};
 ghost use Rattle.metric_resolve.specs.Resolved.{streams_of};
 ghost use Rattle.metric_plan.specs.Counting.{is_counted};
-ghost use Rattle.metric_plan.specs.Plans.{IsPlan, plan_of, run_facts};
+ghost use Rattle.metric_plan.specs.Plans.{IsPlan, RangesFit, plan_of, run_facts};
 
 use crate::counting::is_counted;
 use crate::fault::CheckFault;
@@ -51,8 +52,8 @@ impl Model for Plan {
 
 impl Plan {
     /// The plan of a catalogue and a config without a certificate, for any readers and views. `CountRange` comes
-    /// exactly where the budgets for some instrument are together above the range of u64. Where there is no plan,
-    /// catalogue and config are handed back.
+    /// exactly where the budgets for some instrument are together above the range of u64; the only other fault is
+    /// `Memory`. Where there is no plan, catalogue and config are handed back.
     pub fn trial(
         alloc: Global,
         catalogue: Catalogue,
@@ -62,6 +63,8 @@ impl Plan {
         ensures counted { OnOk result (is_counted catalogue ≡ true) }
         ensures count_range { IfErr result (λ refused.
             (refused.2 ≡ CheckFault.CountRange) ↔ (is_counted catalogue ≡ false)) }
+        ensures memory { IfErr result (λ refused. is_counted catalogue ≡ true
+            → refused.2 ≡ CheckFault.Memory) }
         ensures back { IfErr result (λ refused. (refused.0 ≡ catalogue) × (refused.1 ≡ config)) }
     {
         if !is_counted(&catalogue) {
@@ -106,13 +109,16 @@ impl Plan {
         ensures back { IfErr result (λ refused. (refused.0 ≡ catalogue) × (refused.1 ≡ config)) }
     {
         match facts_of(alloc, is_certified, &catalogue, &config, &streams) {
-            Ok(facts) => Ok(Plan {
-                catalogue,
-                config,
-                streams,
-                facts,
-                is_certified,
-            }),
+            Ok(facts) => {
+                ranges_fit(facts.as_slice());
+                Ok(Plan {
+                    catalogue,
+                    config,
+                    streams,
+                    facts,
+                    is_certified,
+                })
+            }
             Err(_) => Err((catalogue, config, CheckFault::Memory)),
         }
     }
@@ -200,4 +206,22 @@ fn facts_of(
         config.readers(),
         streams.as_slice(),
     )
+}
+
+// The range of each instrument is one of 64-bit numbers, as who reads it learns.
+#[tactic(auto, using(crate::proofs::PlanLaws::ranges_cons))]
+fn ranges_fit(all: &[Facts])
+    ensures { RangesFit all.now }
+{
+    if let Some((first, rest)) = all.split_first() {
+        range_fits(first);
+        ranges_fit(rest);
+    }
+}
+
+fn range_fits(own: &Facts)
+    ensures low { FitsSigned w64 own.now.lo }
+    ensures high { FitsSigned w64 own.now.hi }
+{
+    let _ = own.lo <= own.hi;
 }
