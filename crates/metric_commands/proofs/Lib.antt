@@ -5,3 +5,4 @@ mod PlanLaws
 mod Replayed
 mod RunLaws
 mod TextLaws
+mod ThreadLaws

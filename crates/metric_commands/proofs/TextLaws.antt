@@ -1,5 +1,5 @@
 -- Texts that are written one after the other.
-use Rattle.std.proofs.Common.{ℕ, List, ◌++◌, Option, sym, ap, ◌∙◌, append_assoc}
+use Rattle.std.proofs.Common.{◌≡◌, ℕ, List, ◌++◌, Option, Result, Ok, Err, OnOk, sym, ap, ◌∙◌, append_assoc}
 use Rattle.std.specs.Io.KnownBytes.{Appends}
 use Rattle.std.proofs.KnownBytes.{Appends-trans}
 use Rattle.metric_io.specs.Prefix.{AppendsPrefix}
@@ -21,5 +21,12 @@ prefix_of_second a b c first second written p = record {
   whole = ap (λ l. first ++ l) p.whole ∙ sym (append_assoc first p.done p.rest);
   appends = Appends-trans a b c first p.done written p.appends;
 }
+
+-- the last of three texts that are pushed
+pub third_pushed : {X E : Type 0} (r : Result X E) (none one two three first second third : List ℕ)
+    → one ≡ none ++ first → two ≡ one ++ second → OnOk r (three ≡ two ++ third) → OnOk r (three ≡ none ++ (first ++ (second ++ third)))
+third_pushed (Ok done) none one two three first second third p q t =
+    t ∙ ap (λ l. l ++ third) (q ∙ ap (λ l. l ++ second) p) ∙ append_assoc (none ++ first) second third ∙ append_assoc none first (second ++ third)
+third_pushed (Err fault) none one two three first second third p q t = tt
 
 pub ruleset two_texts = (prefix_of_first, Appends-trans)

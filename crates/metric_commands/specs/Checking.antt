@@ -15,10 +15,9 @@ use Rattle.metric_commands.specs.Declarations.{IsMisdeclared}
 abbrev pub check_needs : Needs
 check_needs = record { certificate = true; script = false }
 
--- The input has a valid certificate for what it declares.
-pub record IsCertifiedInput (input : List ℕ) : Type 0 where
+-- The input has a valid certificate for what it declares, and this is the plan that it certifies.
+pub record IsCertifiedInput (input : List ℕ) (plan : PlanValue) : Type 0 where
   pub read : Parts
-  pub plan : PlanValue
   pub is_read : IsRead check_needs (lines_of input) read
   pub certified : IsCertifiedPlan read plan
 
@@ -27,8 +26,10 @@ abbrev pub accepted_text : List ℕ
 accepted_text = codes "accepted\n"
 
 -- The text that checking the input writes.
-abbrev pub IsAcceptance : List ℕ → List ℕ → Type 0
-IsAcceptance input text = IsCertifiedInput input × (text ≡ accepted_text)
+pub record IsAcceptance (input text : List ℕ) : Type 0 where
+  pub plan : PlanValue
+  pub certified : IsCertifiedInput input plan
+  pub written : text ≡ accepted_text
 
 -- The fault is the first that the input has.
 abbrev pub IsFirstCheckFault : List ℕ → KitFault → Type 0

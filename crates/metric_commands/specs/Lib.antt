@@ -10,3 +10,4 @@ pub mod Runs
 pub mod Declarations
 pub mod Replaying
 pub mod Showing
+pub mod Threading

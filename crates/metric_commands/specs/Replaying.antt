@@ -16,7 +16,7 @@ use Rattle.metric_history.specs.declared.event.Event.{Event}
 use Rattle.metric_history.specs.declared.event.Reply.{Reply}
 use Rattle.metric_commands.specs.declared.options.ReplayOptions.{ReplayOptions}
 use Rattle.metric_commands.specs.declared.fault.KitFault.{KitFault}
-use Rattle.metric_commands.specs.declared.fault.KitFault.TheVariants.{Read, Input, Catalogue, Config as BadConfig, Certificate as BadCertificate, Check, Make, Write, Memory}
+use Rattle.metric_commands.specs.declared.fault.KitFault.TheVariants.{Read, Input, Catalogue, Config as BadConfig, Certificate as BadCertificate, Check, Make, Finish, Write, Memory}
 use Rattle.metric_commands.specs.Claims.{IsCertifiedPlan, IsFaultyCertificate, IsRefusedCheck}
 use Rattle.metric_commands.specs.Declarations.{IsDeclared, IsDeclaredFault, IsMisdeclared}
 use Rattle.metric_commands.specs.Replies.{replies_text}
@@ -94,6 +94,7 @@ IsFirstFault options input (BadConfig fault) = IsMisdeclared (needs_of options) 
 IsFirstFault options input (BadCertificate fault) = IsMisdeclared (needs_of options) input (IsPlanFault options (BadCertificate fault))
 IsFirstFault options input (Check fault) = IsMisdeclared (needs_of options) input (IsPlanFault options (Check fault))
 IsFirstFault options input (Make fault) = ⊥
+IsFirstFault options input (Finish fault) = ⊥
 IsFirstFault options input Memory = Unit {0}
 IsFirstFault options input Read = ⊥
 IsFirstFault options input Write = ⊥

@@ -60,9 +60,9 @@ impl Command for Check {
     }
 }
 
-// The plan that the certificate of an input shows to be safe.
-fn plan_of(alloc: Global, input: &[u8]) -> Result<Plan, KitFault>
-    ensures ok { OnOk result (IsCertifiedInput input.now) }
+/// The plan that the certificate of an input shows to be safe.
+pub(crate) fn plan_of(alloc: Global, input: &[u8]) -> Result<Plan, KitFault>
+    ensures ok { IfOk result (λ plan. IsCertifiedInput input.now plan) }
     ensures first { IfErr result (IsFirstCheckFault input.now) }
     ensures own { IfErr result IsOfInput }
 {

@@ -7,6 +7,7 @@ use metric_cert::{CertFault, MakeFault};
 use metric_io::{Broken, ReadFault};
 use metric_parts::InputFault;
 use metric_plan::CheckFault;
+use metric_provider::FinishFault;
 use metric_views::ViewFault;
 use std::alloc::{AllocError, Global};
 use thiserror::Error;
@@ -40,6 +41,9 @@ pub enum KitFault {
     /// The catalogue and the config are not safe, so there is no certificate.
     #[error("refused: make {0}")]
     Make(MakeFault),
+    /// What the recorders were told could not be settled.
+    #[error("refused: finish {0}")]
+    Finish(FinishFault),
     /// The sink failed, or took nothing of something.
     #[error("refused: write")]
     Write,
@@ -58,7 +62,8 @@ impl KitFault {
             | KitFault::Config(_)
             | KitFault::Certificate(_)
             | KitFault::Check(_)
-            | KitFault::Make(_) => 1,
+            | KitFault::Make(_)
+            | KitFault::Finish(_) => 1,
             KitFault::Read | KitFault::Input { .. } => 3,
             KitFault::Memory => 4,
             KitFault::Write => 5,

@@ -11,6 +11,13 @@ pub struct ReplayOptions {
     pub trial: bool,
 }
 
+/// How much is recorded by threads.
+#[derive(Clone, Copy, Debug, PartialEq, Eq)]
+pub struct ThreadsOptions {
+    /// How often each recorder records on each instrument.
+    pub each: u32,
+}
+
 impl ReplayOptions {
     /// Which parts of the input the replay needs.
     pub fn needs(self) -> Needs

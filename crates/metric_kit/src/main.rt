@@ -2,19 +2,23 @@
 #![tactic(auto)]
 
 use metric_command::{Line, LineFault, command_of};
-use metric_commands::{KitFault, ReplayOptions, check_run, make_run, replay, show_run};
+use metric_commands::{
+    KitFault, ReplayOptions, ThreadsOptions, check_run, make_run, replay, show_run, threads_run,
+};
 use metric_io::{StdSink, StdSource};
 use std::alloc::{AllocError, Global};
 use std::env;
 use std::io::{BufWriter, ErrorKind};
 use std::process::ExitCode;
+use std::sync::Wait;
+use std::thread::Threads;
 
 // The exit status where the words name no command.
 const USAGE: u8 = 2;
 
 fn main(rt: HostRuntime) -> ExitCode {
     let done = match line_of(&rt) {
-        Ok(line) => run(&rt, line),
+        Ok(line) => run(&rt, &rt, line),
         Err(LineFault::Usage) => return refuse(&rt, "refused: usage", USAGE),
         Err(LineFault::Memory) => Err(KitFault::Memory),
     };
@@ -50,8 +54,12 @@ fn borrowed<'a>(alloc: Global, owned: &'a [String]) -> Result<Vec<&'a str>, Allo
     Ok(words)
 }
 
-// Runs a command on standard input and output.
-fn run(rt: &HostRuntime, line: Line) -> Result<(), KitFault> {
+// Runs a command on standard input and output. Only main's own handle may start threads.
+fn run<T: Threads + Wait + Sync>(
+    threads: &T,
+    rt: &HostRuntime,
+    line: Line,
+) -> Result<(), KitFault> {
     let Ok(output) = BufWriter::new(rt.alloc(), rt.stdout()) else {
         return Err(KitFault::Memory);
     };
@@ -67,6 +75,13 @@ fn run(rt: &HostRuntime, line: Line) -> Result<(), KitFault> {
         Line::Check => check_run(rt.alloc(), &mut source, &mut sink),
         Line::Make => make_run(rt.alloc(), &mut source, &mut sink),
         Line::Show => show_run(rt.alloc(), &mut source, &mut sink),
+        Line::Threads { each } => threads_run(
+            threads,
+            rt.alloc(),
+            ThreadsOptions { each },
+            &mut source,
+            &mut sink,
+        ),
     }
 }
 

@@ -1,0 +1,91 @@
+//! Recordings and collections made by threads at once.
+ghost use Rattle.std.specs.Prelude.{◌≡◌, IfErr, IfOk, IsTrue, length};
+ghost use Rattle.metric_commands.specs.Commands.{RunsCommand, sink_run, source_run};
+ghost use Rattle.metric_commands.specs.Faults.{IsOfInput};
+ghost use Rattle.metric_commands.specs.Threading.{IsAfterThreads, IsCounted, IsFirstThreadsFault, totals_text};
+
+use crate::checks::plan_of;
+use crate::fault::KitFault;
+use crate::options::ThreadsOptions;
+use crate::totals::write_totals;
+use crate::workers::work;
+use metric_io::{Sink, Source, read_all};
+use metric_marked::Marked;
+use metric_plan::Plan;
+use metric_provider::{FinishFault, NoGate, Total, start};
+use std::alloc::Global;
+use std::sync::Wait;
+use std::thread::Threads;
+
+// When the provider starts, before the first collection.
+const START: u64 = 0;
+
+// The number of the run, of which there is one.
+const RUN: u64 = 0;
+
+/// Starts a thread for each recorder of an input, which records on each instrument in order, so many times, the greatest
+/// value of its range with the first declared value of each required key; and one for each reader, which collects all
+/// instruments at the times 1 to 8 (Metrics SDK, concurrency requirements). Recordings beyond a budget are passed over. After
+/// the threads have ended it writes what each instrument comes to. A refused input writes nothing.
+///
+/// # Errors
+///
+/// [`KitFault::Read`] and [`KitFault::Write`] where the source or the sink failed, [`KitFault::Memory`] also where memory
+/// was refused in a thread or a thread could not be started, and else the first fault that the input has. The last of
+/// them are those of the certificate's check; after the threads [`KitFault::Finish`] may come.
+pub fn threads_run<R: Threads + Wait + Sync, S: Source, W: Sink>(
+    rt: &R,
+    alloc: Global,
+    options: ThreadsOptions,
+    source: &mut S,
+    sink: &mut W,
+) -> Result<(), KitFault>
+    ensures { RunsCommand IsCounted IsFirstThreadsFault
+        (source_run S.remaining S.counts source.old source.new)
+        (sink_run W.contents W.failures sink.old sink.new) result }
+{
+    let input = read_all(alloc, source)?;
+    let totals = counted(rt, alloc, options, &input)?;
+    write_totals(alloc, sink, &totals)
+}
+
+// What the instruments of an input come to.
+#[tactic(auto, using(crate::proofs::ThreadLaws::thread_laws))]
+fn counted<R: Threads + Wait + Sync>(
+    rt: &R,
+    alloc: Global,
+    options: ThreadsOptions,
+    input: &[u8],
+) -> Result<Vec<Total>, KitFault>
+    ensures ok { IfOk result (λ totals. IsCounted input.now (totals_text totals.items)) }
+    ensures first { IfErr result (IsFirstThreadsFault input.now) }
+    ensures own { IfErr result IsOfInput }
+{
+    let plan = plan_of(alloc, input)?;
+    let totals = totals_of(rt, alloc, options, plan)?;
+    Ok(totals)
+}
+
+// What the instruments of a certified plan come to after its recorders and readers have run in threads.
+fn totals_of<R: Threads + Wait + Sync>(
+    rt: &R,
+    alloc: Global,
+    options: ThreadsOptions,
+    plan: Plan,
+) -> Result<Vec<Total>, KitFault>
+    requires { IsTrue plan.is_certified }
+    ensures ok { IfOk result (λ totals. length totals.items ≡ length plan.facts.instruments) }
+    ensures err { IfErr result IsAfterThreads }
+{
+    let Ok((provider, recorders, collectors)) = start::<R, Marked, NoGate>(
+        rt, alloc, plan, START, RUN, NoGate,
+    ) else {
+        return Err(KitFault::Memory);
+    };
+    let recorders = work(rt, alloc, &provider, options, recorders, collectors)?;
+    match provider.finish(rt, alloc, recorders) {
+        Ok(totals) => Ok(totals.instruments),
+        Err((_, _, FinishFault::Memory)) => Err(KitFault::Memory),
+        Err((_, _, fault)) => Err(KitFault::Finish(fault)),
+    }
+}
