@@ -1,0 +1,5 @@
+pub mod PlanFacts
+pub mod SeatSums
+pub mod CollectLaws
+pub mod SettleLaws
+pub mod AdmitLaws

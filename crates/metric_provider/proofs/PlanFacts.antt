@@ -1,0 +1,70 @@
+-- What a plan keeps of the facts of one instrument.
+use Rattle.std.proofs.Common.{◌≡◌, ◌<◌, ℕ, ℤ, zero, suc, ◌+◌, Bool, true, List, [], ◌∷◌, Option, Some, Result, Ok, Err, length, map, refl, sym, ap, subst, ◌∙◌, arith}
+use Rattle.std.specs.Prelude.{slice_get}
+use Rattle.std.proofs.lemmas.List.{length-map}
+use Rattle.std.proofs.lemmas.Option.{same_Some}
+use Rattle.metric_base.specs.Steps.{◌>>=◌, require_some}
+use Rattle.metric_catalogue.specs.Budgets.{amount_of}
+use Rattle.metric_catalogue.specs.Encoding.{Given, encode_of, set_of}
+use Rattle.metric_catalogue.specs.declared.contents.Contents.{Contents}
+use Rattle.metric_catalogue.specs.declared.contents.Instrument.{Instrument}
+use Rattle.metric_catalogue.specs.declared.contents.Recorder.{Recorder}
+use Rattle.metric_catalogue.specs.declared.refusal.Refusal.TheVariants.{UnknownInstrument}
+use Rattle.metric_history.specs.declared.facts.Facts.{Facts}
+use Rattle.metric_history.specs.Facts.{EncodesFullSets, RunFacts, facts_from, facts_of, is_delta_reader, is_full_set}
+use Rattle.metric_plan.specs.Plans.{IsPlan, PlanValue}
+use Rattle.metric_views.specs.declared.config.Reader.{Reader}
+use Rattle.metric_views.specs.declared.stream.Stream.{Stream}
+
+-- the declared instrument that facts are of
+record IsOf (certified : Bool) (recorders : List Recorder) (readers : List Reader) (streams : List Stream) (instruments : List Instrument) (number i : ℕ) (own : Facts) : Type 0 where
+  pub declared : Instrument
+  pub found : slice_get instruments i ≡ Some declared
+  pub is : own ≡ facts_of certified recorders readers streams number declared
+
+facts_at : (certified : Bool) (recorders : List Recorder) (readers : List Reader) (streams : List Stream) (instruments : List Instrument) (first i : ℕ) (own : Facts)
+    → slice_get (facts_from certified recorders readers streams first instruments) i ≡ Some own → IsOf certified recorders readers streams instruments (first + i) i own
+facts_at certified recorders readers streams [] first i own found = absurd cc
+facts_at certified recorders readers streams (d ∷ instruments) first zero own found = record {
+  declared = d;
+  found = refl;
+  is = sym (same_Some (facts_of certified recorders readers streams first d) own found) ∙ ap (λ (n : ℕ). facts_of certified recorders readers streams n d) (omega arith);
+}
+facts_at certified recorders readers streams (d ∷ instruments) first (suc i) own found =
+    let rest = facts_at certified recorders readers streams instruments (first + 1) i own found in
+    record {
+      declared = rest.declared;
+      found = rest.found;
+      is = rest.is ∙ ap (λ (n : ℕ). facts_of certified recorders readers streams n rest.declared) (omega arith);
+    }
+
+-- those of a plan
+plan_facts_at : (plan : PlanValue) (i : ℕ) (own : Facts) → IsPlan plan → slice_get plan.facts.instruments i ≡ Some own
+    → IsOf plan.is_certified plan.facts.contents.recorders plan.config.readers plan.streams plan.facts.contents.instruments i i own
+plan_facts_at plan i own p found =
+    let from : IsOf plan.is_certified plan.facts.contents.recorders plan.config.readers plan.streams plan.facts.contents.instruments (0 + i) i own =
+    facts_at plan.is_certified plan.facts.contents.recorders plan.config.readers plan.streams plan.facts.contents.instruments 0 i own
+    (ap (λ (run : RunFacts). slice_get run.instruments i) (sym p.facts) ∙ found) in
+    subst (λ (n : ℕ). IsOf plan.is_certified plan.facts.contents.recorders plan.config.readers plan.streams plan.facts.contents.instruments n i own) (omega arith) from
+
+-- there is a budget for each recorder
+pub budgets_each : (plan : PlanValue) (i : ℕ) (own : Facts) → IsPlan plan → slice_get plan.facts.instruments i ≡ Some own → length own.budgets ≡ length plan.facts.contents.recorders
+budgets_each plan i own p found =
+    let of = plan_facts_at plan i own p found in
+    ap (λ (f : Facts). length f.budgets) of.is ∙ length-map plan.facts.contents.recorders (λ (recorder : Recorder). amount_of recorder i)
+
+-- and it is said of each reader whether it is delta
+pub delta_each : (plan : PlanValue) (i : ℕ) (own : Facts) → IsPlan plan → slice_get plan.facts.instruments i ≡ Some own → length own.delta ≡ length plan.config.readers
+delta_each plan i own p found =
+    let of = plan_facts_at plan i own p found in
+    ap (λ (f : Facts). length f.delta) of.is ∙ length-map plan.config.readers (is_delta_reader of.declared.kind)
+
+-- what attributes are encoded to is a full set of the instrument's keys
+pub full_at : (plan : PlanValue) (i : ℕ) (own : Facts) (attrs : List Given) (set : List ℕ) → IsPlan plan → EncodesFullSets → slice_get plan.facts.instruments i ≡ Some own
+    → encode_of plan.facts.contents.instruments i attrs ≡ Ok set → is_full_set own.keys set ≡ true
+unfolding encode_of
+full_at plan i own attrs set p full found made =
+    let of = plan_facts_at plan i own p found in
+    let named : set_of of.declared.keys attrs ≡ Ok set =
+    sym (ap (λ (o : Option Instrument). require_some o UnknownInstrument >>= λ d. set_of d.keys attrs) of.found) ∙ made in
+    ap (λ (f : Facts). is_full_set f.keys set) of.is ∙ full of.declared.keys attrs set named

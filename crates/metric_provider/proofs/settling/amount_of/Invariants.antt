@@ -1,0 +1,10 @@
+-- the amount so far
+use Rattle.std.proofs.Common.{◌≡◌, ◌≤◌, ◌*◌, ◌^◌, take}
+use Rattle.metric_provider.specs.Totals.{told_amount}
+use Rattle.metric_provider.proofs.settling.amount_of.Given as goal
+
+abbrev pub invariant-loop-seat : goal.invariant-loop-seat
+invariant-loop-seat l = record {
+  sum : l.amount ≡ told_amount (take l.seat-index l.recorders) l.instrument;
+  bound : l.amount ≤ l.seat-index * 2 ^ 64;
+}

@@ -1,0 +1,42 @@
+-- one instrument more
+use Rattle.std.proofs.Common.{◌≡◌, ◌<◌, ◌≤◌, ℕ, Some, length, get_or, rules, sym, ap, subst, ◌∙◌, arith}
+use Rattle.std.specs.Prelude.{slice_get}
+use Rattle.std.proofs.lemmas.Option.{slice_get-get_or, slice_get_within}
+use Rattle.metric_core.specs.Cells.{CellValue}
+use Rattle.metric_provider.specs.Totals.{AreOneEach, IsAsTold}
+use Rattle.metric_provider.proofs.PlanFacts.{budgets_each}
+use Rattle.metric_provider.proofs.SettleLaws.{told_more_cells, totals_more}
+use Rattle.metric_provider.proofs.settling.settle.Goals as goal
+
+pub settled-requires : goal.settled-requires
+settled-requires g c =
+    subst (λ (n : ℕ). AreOneEach n c.args.recorders.now)
+    (sym (budgets_each c.args.plan.now c.loop-instrument.instrument c.facts-facts.result.now c.facts-facts.ensures.kept c.facts-facts.ensures.facts)) c.requires.recorders.one_each
+
+pub returns-in-None-clause-refused : goal.returns-in-None-clause-refused
+returns-in-None-clause-refused g c = λ all.
+    let number = c.loop-instrument.instrument in
+    let below : number < length c.args.slots.now = search rules in
+    let there : slice_get c.args.slots.now number ≡ Some c.cell-cell.result.now =
+    slice_get-get_or c.args.slots.now number c.index-slots-instrument.result below ∙ ap (λ (v : CellValue g.row.B.Denot). Some v) (sym c.index-slots-instrument.is ∙ sym c.cell-cell.ensures.cell) in
+    c.in-None.ensures.other (all number c.facts-facts.result.now c.cell-cell.result.now c.facts-facts.ensures.facts there)
+
+pub loop-instrument-preserved : goal.loop-instrument-preserved
+loop-instrument-preserved g c =
+    let number = c.loop-instrument.instrument in
+    let below : number < length c.args.slots.now = search rules in
+    let there : slice_get c.args.slots.now number ≡ Some c.cell-cell.result.now =
+    slice_get-get_or c.args.slots.now number c.index-slots-instrument.result below ∙ ap (λ (v : CellValue g.row.B.Denot). Some v) (sym c.index-slots-instrument.is ∙ sym c.cell-cell.ensures.cell) in
+    record {
+      count = omega (arith, c.push_reserved.ensures.len, c.loop-instrument.invariant.count);
+      room = omega (arith, c.push_reserved.ensures.capacity, c.loop-instrument.invariant.room);
+      totals = totals_more c.args.recorders.now number c.args.plan.now.facts.instruments c.loop-instrument.totals.items c.push_reserved.new.self.items _ c.facts-facts.result.now c.in-Some.total
+          c.facts-facts.ensures.facts c.in-Some.ensures.total c.push_reserved.ensures.items c.loop-instrument.invariant.totals;
+      told = told_more_cells c.args.plan.now.facts.instruments c.args.slots.now c.args.recorders.now number c.facts-facts.result.now c.cell-cell.result.now
+          c.facts-facts.ensures.facts there c.in-Some.ensures.told c.loop-instrument.invariant.told;
+    }
+
+pub returns-clause-told : goal.returns-clause-told
+returns-clause-told g c = λ i own cell found there.
+    let all : length c.args.plan.now.facts.instruments ≤ c.loop-instrument.instrument = search rules in
+    c.loop-instrument.invariant.told i own cell (omega (arith, all, slice_get_within c.args.plan.now.facts.instruments i own found)) found there

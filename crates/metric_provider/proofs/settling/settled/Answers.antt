@@ -1,0 +1,45 @@
+-- a cell as told, and one that is not
+use Rattle.std.proofs.Common.{◌≡◌, true, false, sym, ◌∙◌}
+use Rattle.std.specs.Prelude.{◌==◌, slice_index, sum}
+use Rattle.std.specs.List.{list_all}
+use Rattle.metric_provider.specs.Recordings.{told_at}
+use Rattle.metric_provider.specs.Seats.{RecorderValue}
+use Rattle.metric_provider.specs.Totals.{told_count, told_sum}
+use Rattle.metric_provider.proofs.SettleLaws.{count_is, sum_with, total_is}
+use Rattle.metric_provider.proofs.settling.settled.Goals as goal
+
+pub returns-then-not-is_sum-clause-other : goal.returns-then-not-is_sum-clause-other
+returns-then-not-is_sum-clause-other g c = λ told.
+    let own = c.args.facts.now in
+    let seats = c.args.recorders.now in
+    let counted : c.total_of-total.result.count ≡ told_count seats c.args.instrument =
+    c.total_of-total.ensures.count ∙ count_is own c.args.cell.now seats c.args.instrument told.facts c.facts.ensures.kept.one_budget_each c.requires told.spent in
+    let is = c.is_sum.ensures.1 (c.total_of-total.ensures.sum ∙ told.sum ∙ sym (sum_with own seats c.args.instrument c.total_of-total.result.count c.amount_of.result counted c.amount_of.ensures)) in
+    let never : true ≡ false = sym is ∙ c.if-not-is_sum.true in
+    absurd cc
+
+pub returns-clause-told : goal.returns-clause-told
+returns-clause-told g c =
+    let own = c.args.facts.now in
+    let seats = c.args.recorders.now in
+    let same : c.args.cell.now.facts ≡ own = sym c.facts.ensures.facts ∙ c.same_facts.ensures.0 c.if-not-same_facts.false in
+    let spent : list_all (λ (seat : RecorderValue). slice_index c.args.cell.now.spent seat.number == (told_at seat c.args.instrument).count) seats ≡ true = sym c.are_spent.ensures ∙ c.if-not-are_spent.false in
+    let counted : c.total_of-total.result.count ≡ told_count seats c.args.instrument =
+    c.total_of-total.ensures.count ∙ count_is own c.args.cell.now seats c.args.instrument same c.facts.ensures.kept.one_budget_each c.requires spent in
+    record {
+      facts = same;
+      spent = spent;
+      sum = sym c.total_of-total.ensures.sum ∙ c.is_sum.ensures.0 c.if-not-is_sum.false
+          ∙ sum_with own seats c.args.instrument c.total_of-total.result.count c.amount_of.result counted c.amount_of.ensures;
+    }
+
+pub returns-clause-total : goal.returns-clause-total
+returns-clause-total g c =
+    let own = c.args.facts.now in
+    let seats = c.args.recorders.now in
+    let same : c.args.cell.now.facts ≡ own = sym c.facts.ensures.facts ∙ c.same_facts.ensures.0 c.if-not-same_facts.false in
+    let spent : list_all (λ (seat : RecorderValue). slice_index c.args.cell.now.spent seat.number == (told_at seat c.args.instrument).count) seats ≡ true = sym c.are_spent.ensures ∙ c.if-not-are_spent.false in
+    let counted : c.total_of-total.result.count ≡ told_count seats c.args.instrument =
+    c.total_of-total.ensures.count ∙ count_is own c.args.cell.now seats c.args.instrument same c.facts.ensures.kept.one_budget_each c.requires spent in
+    total_is own seats c.args.instrument c.total_of-total.result counted
+    (c.is_sum.ensures.0 c.if-not-is_sum.false ∙ sum_with own seats c.args.instrument c.total_of-total.result.count c.amount_of.result counted c.amount_of.ensures)

@@ -1,0 +1,12 @@
+-- What a provider answers a close.
+use Rattle.std.specs.Prelude.{◌≡◌, Option, Some, None, Result, Ok, Err}
+use Rattle.metric_catalogue.specs.declared.refusal.Refusal.{Refusal}
+use Rattle.metric_catalogue.specs.declared.refusal.Refusal.TheVariants.{UnknownInstrument, Closed}
+use Rattle.metric_history.specs.declared.facts.Facts.{Facts}
+
+-- `UnknownInstrument` exactly where there are no facts of the instrument, else nothing but `Closed`
+abbrev pub AnswersClosing : Option Facts → Result (Unit {0}) Refusal → Type 0
+AnswersClosing None (Ok done) = ⊥
+AnswersClosing None (Err refusal) = refusal ≡ UnknownInstrument
+AnswersClosing (Some own) (Ok done) = Unit {0}
+AnswersClosing (Some own) (Err refusal) = refusal ≡ Closed

@@ -1,0 +1,61 @@
+-- What a reader's calls answer.
+use Rattle.std.specs.Prelude.{◌≡◌, ℕ, ◌++◌, List, Result, Ok, Err, Some, drop, length, map, slice_get, slice_index, slice_set}
+use Rattle.metric_base.specs.Steps.{◌>>=◌, require, require_some}
+use Rattle.metric_catalogue.specs.declared.refusal.Refusal.{Refusal}
+use Rattle.metric_catalogue.specs.declared.refusal.Refusal.TheVariants.{Stranger, UnknownInstrument, Memory}
+use Rattle.metric_history.specs.declared.batch.Batch.{Batch}
+use Rattle.metric_history.specs.declared.facts.Facts.{Facts}
+use Rattle.metric_safety.specs.WindowBounds.{IsReportWithin}
+use Rattle.metric_slot.specs.SlotAnswers.{Continues}
+use Rattle.metric_provider.specs.Seats.{CollectorValue, ProviderValue, is_collector_of}
+
+-- the facts of an instrument that a seat may collect of a provider, or the first refusal
+abbrev pub collectable : ProviderValue → CollectorValue → ℕ → Result Facts Refusal
+collectable p seat instrument =
+    require (is_collector_of p seat) Stranger >>= λ _.
+    require_some (slice_get p.plan.facts.instruments instrument) UnknownInstrument
+
+-- A batch goes on where the reader's last one ended, and is within the bounds of the instrument: no overflow point, and each number by
+-- its range and the number of recordings that the batch covers, which are at most the budgets together.
+pub record IsNextBatch (own : Facts) (reader seen : ℕ) (batch : Batch) : Type 0 where
+  pub continues : Continues own reader seen batch
+  pub within : IsReportWithin own batch.from batch.mark batch.streams
+
+-- what refuses a collection under the lock
+abbrev pub RefusesCollection : Refusal → Type 0
+RefusesCollection Stranger = Unit {0}
+RefusesCollection Memory = Unit {0}
+RefusesCollection other = ⊥
+
+-- What a collection of such an instrument is answered: what it is refused for before the lock is taken, else what the lock's call answers.
+abbrev pub AnswersCollector : Result Facts Refusal → CollectorValue → ℕ → Result Batch Refusal → Type 0
+AnswersCollector (Err first) seat instrument (Err refusal) = refusal ≡ first
+AnswersCollector (Err first) seat instrument (Ok batch) = ⊥
+AnswersCollector (Ok own) seat instrument (Ok batch) = IsNextBatch own seat.number (slice_index seat.seen instrument) batch
+AnswersCollector (Ok own) seat instrument (Err refusal) = RefusesCollection refusal
+
+-- the seat that has seen a batch of an instrument
+abbrev pub with_seen : CollectorValue → ℕ → ℕ → CollectorValue
+with_seen seat instrument mark = record seat { seen = slice_set seat.seen instrument mark }
+
+-- the batch is the next one of the instrument of this number
+abbrev pub IsNextAt : List Facts → CollectorValue → ℕ → Batch → Type 0
+IsNextAt instruments seat i batch =
+    (own : Facts) → slice_get instruments i ≡ Some own → IsNextBatch own seat.number (slice_index seat.seen i) batch
+
+-- each batch is that of the instrument of its place
+abbrev pub AreNextBatches : List Facts → CollectorValue → List Batch → Type 0
+AreNextBatches instruments seat batches = (i : ℕ) (batch : Batch) → slice_get batches i ≡ Some batch → IsNextAt instruments seat i batch
+
+-- the seat that has seen a batch of each of the first instruments
+abbrev pub with_all_seen : CollectorValue → List Batch → CollectorValue
+with_all_seen seat batches = record seat {
+  seen = map (λ (batch : Batch). batch.mark) batches ++ drop (length batches) seat.seen;
+}
+
+-- What a collection of all instruments was refused for: there was no memory for the list, or the instrument after those that
+-- have a batch refused.
+pub record AllRefused (instruments : List Facts) (seat : CollectorValue) (done : List Batch) (instrument : ℕ) (refusal : Refusal) : Type 0 where
+  pub before : length done ≡ instrument
+  pub each : AreNextBatches instruments seat done
+  pub why : RefusesCollection refusal

@@ -1,0 +1,7 @@
+pub mod Seats
+pub mod Providers
+pub mod Recordings
+pub mod Collections
+pub mod Closing
+pub mod Totals
+pub mod Faults

@@ -1,0 +1,52 @@
+-- What a recorder's calls answer.
+use Rattle.std.specs.Prelude.{◌≡◌, ◌≤◌, IfSome, ℕ, ℤ, List, Result, Ok, Err, slice_get, slice_index, slice_index_or, slice_set}
+use Rattle.metric_base.specs.Steps.{◌>>=◌, require, require_some}
+use Rattle.metric_catalogue.specs.Encoding.{Given, encode_of}
+use Rattle.metric_catalogue.specs.declared.refusal.Refusal.{Refusal}
+use Rattle.metric_catalogue.specs.declared.refusal.Refusal.TheVariants.{Stranger, UnknownInstrument, ValueRange, Closed, Budget, Memory}
+use Rattle.metric_history.specs.declared.facts.Facts.{Facts}
+use Rattle.metric_history.specs.Facts.{in_bounds}
+use Rattle.metric_plan.specs.Plans.{PlanValue}
+use Rattle.metric_slot.specs.declared.told.Told.{Told}
+use Rattle.metric_slot.specs.Tellings.{told_more}
+use Rattle.metric_provider.specs.Seats.{ProviderValue, RecorderValue, is_recorder_of, nothing_told}
+
+-- the set key of a recording that the plan declares, or the first refusal
+abbrev pub declared_set : PlanValue → ℕ → List Given → ℤ → Result (List ℕ) Refusal
+declared_set plan instrument attrs value =
+    require_some (slice_get plan.facts.instruments instrument) UnknownInstrument >>= λ own.
+    encode_of plan.facts.contents.instruments instrument attrs >>= λ set.
+    require (in_bounds own value) ValueRange >>= λ _.
+    Ok set
+
+-- the set key of a recording that a seat may make of a provider, or the first refusal
+abbrev pub admitted : ProviderValue → RecorderValue → ℕ → List Given → ℤ → Result (List ℕ) Refusal
+admitted p seat instrument attrs value =
+    require (is_recorder_of p seat) Stranger >>= λ _.
+    declared_set p.plan instrument attrs value
+
+-- what a recorder was told of the instrument of a number
+abbrev pub told_at : RecorderValue → ℕ → Told
+told_at seat instrument = slice_index_or seat.told instrument nothing_told
+
+-- what refuses an admitted recording under the lock: `Budget` only where the recorder was told of as many as its budget
+abbrev pub RefusesRecording : Facts → ℕ → Told → Refusal → Type 0
+RefusesRecording own recorder told Stranger = Unit {0}
+RefusesRecording own recorder told Closed = Unit {0}
+RefusesRecording own recorder told Budget = slice_index own.budgets recorder ≤ told.count
+RefusesRecording own recorder told Memory = Unit {0}
+RefusesRecording own recorder told other = ⊥
+
+-- What a recording with this admission is answered: what it is refused for before the lock is taken, else what the lock's call answers.
+abbrev pub AnswersSeat : Result (List ℕ) Refusal → PlanValue → RecorderValue → ℕ → Result (Unit {0}) Refusal → Type 0
+AnswersSeat (Err first) plan seat instrument (Err refusal) = refusal ≡ first
+AnswersSeat (Err first) plan seat instrument (Ok done) = ⊥
+AnswersSeat (Ok set) plan seat instrument (Ok done) = Unit {0}
+AnswersSeat (Ok set) plan seat instrument (Err refusal) =
+    IfSome (slice_get plan.facts.instruments instrument) (λ (own : Facts). RefusesRecording own seat.number (told_at seat instrument) refusal)
+
+-- the seat that was told of one recording more, of this value on an instrument with these facts
+abbrev pub with_recording : RecorderValue → ℕ → Facts → ℤ → RecorderValue
+with_recording seat instrument own value = record seat {
+  told = slice_set seat.told instrument (told_more (told_at seat instrument) own.lo value);
+}

@@ -1,0 +1,46 @@
+-- Providers and their seats.
+use Rattle.std.specs.Prelude.{ℕ, Bool, ◌&&◌, List, length, nat_lt, replicate, ◌==◌}
+use Rattle.metric_plan.specs.Plans.{PlanValue}
+use Rattle.metric_slot.specs.declared.told.Told.{Told}
+
+-- the plan, and the number of the run
+pub record ProviderValue : Type 0 where
+  pub plan : PlanValue
+  pub run : ℕ
+
+-- the number of the run, that of the recorder, and what it was told of each instrument
+pub record RecorderValue : Type 0 where
+  pub run : ℕ
+  pub number : ℕ
+  pub told : List Told
+
+-- the number of the run, that of the reader, and how many recordings of each instrument its last batch counted
+pub record CollectorValue : Type 0 where
+  pub run : ℕ
+  pub number : ℕ
+  pub seen : List ℕ
+
+abbrev pub provider_of : PlanValue → ℕ → ProviderValue
+provider_of plan run = record { plan = plan; run = run }
+
+-- what a recorder without recordings was told
+abbrev pub nothing_told : Told
+nothing_told = record { count = 0; amount = 0 }
+
+-- the seat of a recorder that was told of nothing, of so many instruments
+abbrev pub new_recorder : ℕ → ℕ → ℕ → RecorderValue
+new_recorder run instruments number = record { run = run; number = number; told = replicate instruments nothing_told }
+
+-- the seat of a reader that has seen nothing
+abbrev pub new_collector : ℕ → ℕ → ℕ → CollectorValue
+new_collector run instruments number = record { run = run; number = number; seen = replicate instruments 0 }
+
+-- whether it is of this run, of a recorder of the plan, and made for as many instruments; else it is a stranger
+abbrev pub is_recorder_of : ProviderValue → RecorderValue → Bool
+is_recorder_of p seat =
+    (seat.run == p.run) && (nat_lt seat.number (length p.plan.facts.contents.recorders) && (length seat.told == length p.plan.facts.instruments))
+
+-- the same of a reader's seat
+abbrev pub is_collector_of : ProviderValue → CollectorValue → Bool
+is_collector_of p seat =
+    (seat.run == p.run) && (nat_lt seat.number (length p.plan.config.readers) && (length seat.seen == length p.plan.facts.instruments))

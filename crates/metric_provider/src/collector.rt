@@ -1,0 +1,186 @@
+//! The seat of a reader.
+ghost use Rattle.std.specs.Prelude.{◌≡◌, [], length, slice_get, slice_index, IfOk, IfErr, OnErr};
+ghost use Rattle.metric_provider.specs.Collections.{AllRefused, AnswersCollector, AreNextBatches, collectable, with_all_seen, with_seen};
+ghost use Rattle.metric_provider.specs.Seats.{is_collector_of, new_collector, provider_of};
+
+use crate::fault::AllFault;
+use crate::gate::Gate;
+use crate::provider::Provider;
+use metric_book::Book;
+use metric_catalogue::Refusal;
+use metric_history::Batch;
+use metric_plan::Plan;
+use std::alloc::{AllocError, Global};
+use std::marker::Model;
+use std::sync::Wait;
+
+/// The seat of one reader: with it a thread collects (Metrics SDK, collect). It keeps how many recordings of each
+/// instrument the reader's last batch counted, so that the windows of a delta reader leave no gap and no overlap.
+#[derive(Drop)]
+pub struct Collector {
+    run: u64,
+    number: u32,
+    seen: Vec<u64>,
+}
+
+impl Model for Collector {
+    ghost use Rattle.metric_provider.specs.Seats.{CollectorValue};
+
+    ghost Value = { CollectorValue };
+
+    ghost view = { λ c. record { run = c.run; number = c.number; seen = c.seen.items } };
+}
+
+impl Collector {
+    // The seat of the reader of this number, which has seen nothing.
+    pub(crate) fn new(
+        alloc: Global,
+        run: u64,
+        number: u32,
+        instruments: usize,
+    ) -> Result<Collector, AllocError>
+        ensures { IfOk result (λ seat. seat ≡ new_collector run instruments number) }
+    {
+        let seen = vec![in alloc; 0; instruments]?;
+        Ok(Collector { run, number, seen })
+    }
+
+    /// The number of the reader.
+    pub fn number(&self) -> u32
+        ensures { result ≡ self.now.number }
+    {
+        self.number
+    }
+
+    /// How many recordings of an instrument the reader's last batch counted, 0 before one; nothing for an unknown
+    /// instrument.
+    pub fn seen(&self, instrument: u32) -> Option<u64>
+        ensures { result ≡ slice_get self.now.seen instrument }
+    {
+        self.seen.get(instrument as usize).copied()
+    }
+
+    /// What the reader is told of an instrument at a time in nanoseconds: its points since its last batch (delta) or since
+    /// the start (cumulative) (Metrics SDK, collect).
+    ///
+    /// # Errors
+    ///
+    /// `Stranger` where the seat is not of this provider, `UnknownInstrument`. Then, under the instrument's lock,
+    /// `Stranger` where what is found there is not what the seat has seen, and `Memory`.
+    pub fn collect<R: Wait, B: Book, G: Gate>(
+        &mut self,
+        rt: &R,
+        alloc: Global,
+        provider: &Provider<B, G>,
+        instrument: u32,
+        now: u64,
+    ) -> Result<Batch, Refusal>
+        ensures answer { let allowed = collectable provider.now self.old instrument in
+            AnswersCollector allowed self.old instrument result }
+        ensures seen { IfOk result (λ batch. self.new ≡ with_seen self.old instrument batch.mark) }
+        ensures err { OnErr result (self.new ≡ self.old) }
+    {
+        if !self.is_of(provider.plan(), provider.run()) {
+            return Err(Refusal::Stranger);
+        }
+        let at = instrument as usize;
+        if at >= self.seen.len() {
+            return Err(Refusal::UnknownInstrument);
+        }
+        let batch = provider.collect_inside(
+            rt,
+            alloc,
+            instrument,
+            self.seen[at],
+            self.number,
+            now,
+        )?;
+        self.seen[at] = batch.mark;
+        Ok(batch)
+    }
+
+    /// A batch of each instrument, in order. What was collected before a refusal is handed over with it.
+    ///
+    /// # Errors
+    ///
+    /// The first refusal of [`Collector::collect`], with its instrument. Where there is no memory for the list itself, it is
+    /// `Memory` at instrument 0, and nothing was collected.
+    pub fn collect_all<R: Wait, B: Book, G: Gate>(
+        &mut self,
+        rt: &R,
+        alloc: Global,
+        provider: &Provider<B, G>,
+        now: u64,
+    ) -> Result<Vec<Batch>, AllFault>
+        ensures each { IfOk result (λ batches.
+            AreNextBatches provider.now.plan.facts.instruments self.old batches.items) }
+        ensures all { IfOk result (λ batches.
+            length batches.items ≡ length provider.now.plan.facts.instruments) }
+        ensures seen { IfOk result (λ batches. self.new ≡ with_all_seen self.old batches.items) }
+        ensures refused { IfErr result (λ fault. let instruments = provider.now.plan.facts.instruments in
+            AllRefused instruments self.old fault.done.items fault.instrument fault.refusal) }
+        ensures seen_before { IfErr result (λ fault.
+            self.new ≡ with_all_seen self.old fault.done.items) }
+    {
+        let count = provider.plan().catalogue().instruments().len();
+        let Ok(mut done) = Vec::with_capacity(alloc, count) else {
+            return Err(AllFault {
+                done: Vec::new(alloc),
+                instrument: 0,
+                refusal: Refusal::Memory,
+            });
+        };
+        for instrument in 0..count as u32 {
+            match self.collect(rt, alloc, provider, instrument, now) {
+                Ok(batch) => done.push_reserved(batch),
+                Err(refusal) => {
+                    return Err(AllFault {
+                        done,
+                        instrument,
+                        refusal,
+                    });
+                }
+            }
+        }
+        Ok(done)
+    }
+
+    /// The last collection of all instruments (Metrics SDK, shutdown). Refused, the seat is handed back with what was
+    /// collected.
+    ///
+    /// # Errors
+    ///
+    /// Those of [`Collector::collect_all`].
+    pub fn shutdown<R: Wait, B: Book, G: Gate>(
+        self,
+        rt: &R,
+        alloc: Global,
+        provider: &Provider<B, G>,
+        now: u64,
+    ) -> Result<Vec<Batch>, (Collector, AllFault)>
+        ensures each { IfOk result (λ batches.
+            AreNextBatches provider.now.plan.facts.instruments self batches.items) }
+        ensures all { IfOk result (λ batches.
+            length batches.items ≡ length provider.now.plan.facts.instruments) }
+        ensures refused { IfErr result (λ refused. let fault = refused.1 in
+            let instruments = provider.now.plan.facts.instruments in
+            AllRefused instruments self fault.done.items fault.instrument fault.refusal) }
+        ensures seen_before { IfErr result (λ refused.
+            refused.0 ≡ with_all_seen self refused.1.done.items) }
+    {
+        let mut seat = self;
+        match seat.collect_all(rt, alloc, provider, now) {
+            Ok(batches) => Ok(batches),
+            Err(fault) => Err((seat, fault)),
+        }
+    }
+
+    // Whether the seat is of this run of the plan.
+    fn is_of(&self, plan: &Plan, run: u64) -> bool
+        ensures { result ≡ is_collector_of (provider_of plan.now run) self.now }
+    {
+        self.run == run
+            && (self.number as usize) < plan.config().readers().len()
+            && self.seen.len() == plan.all_facts().len()
+    }
+}

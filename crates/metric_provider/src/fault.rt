@@ -1,0 +1,83 @@
+//! Why a collection of all instruments ends early, and why a provider is not finished.
+ghost use Rattle.std.specs.Prelude.{◌≡◌};
+ghost use Rattle.metric_provider.specs.Faults.{name_of, number_of};
+
+use metric_catalogue::Refusal;
+use metric_history::Batch;
+use std::alloc::AllocError;
+use std::fmt;
+
+/// Where a collection of all instruments ended, and the batches of the instruments before.
+#[derive(Drop)]
+pub struct AllFault {
+    /// A batch of each instrument before the one that refused, in order.
+    pub done: Vec<Batch>,
+    /// The number of the instrument that refused, 0 where there was no memory for the list.
+    pub instrument: u32,
+    /// Why.
+    pub refusal: Refusal,
+}
+
+/// Why a provider is not finished, in the order in which the faults are tried: `Stranger`, `RecorderMissing`,
+/// `AuditMismatch`, `Memory`.
+#[derive(Clone, Copy, Debug, PartialEq, Eq, Drop)]
+pub enum FinishFault {
+    /// The seat of some recorder is not there.
+    RecorderMissing,
+    /// A seat is of another provider, or stands twice.
+    Stranger,
+    /// An instrument's state is not that of the plan and of what its recorders were told.
+    AuditMismatch,
+    /// Memory was refused.
+    Memory,
+}
+
+impl From<AllocError> for FinishFault {
+    ghost use Rattle.std.specs.Prelude.{◌≡◌};
+    ghost use Rattle.metric_provider.specs.declared.fault.FinishFault.TheVariants.{Memory};
+
+    ghost from_gives = { λ _ fault. fault ≡ Memory };
+
+    fn from(_refused: AllocError) -> FinishFault {
+        FinishFault::Memory
+    }
+}
+
+impl FinishFault {
+    /// The fault's number in printed texts.
+    pub fn number(&self) -> u8
+        ensures { result ≡ number_of self.now }
+    {
+        match self {
+            FinishFault::RecorderMissing => 1,
+            FinishFault::Stranger => 2,
+            FinishFault::AuditMismatch => 3,
+            FinishFault::Memory => 4,
+        }
+    }
+
+    /// The fault's name in printed texts.
+    pub fn name(&self) -> &'static str
+        ensures { result.now ≡ name_of self.now }
+    {
+        match self {
+            FinishFault::RecorderMissing => "RecorderMissing",
+            FinishFault::Stranger => "Stranger",
+            FinishFault::AuditMismatch => "AuditMismatch",
+            FinishFault::Memory => "Memory",
+        }
+    }
+}
+
+impl fmt::Display for FinishFault {
+    ghost use Rattle.std.specs.Prelude.{Some};
+    ghost use Rattle.metric_provider.specs.Faults.{finish_fault_text};
+
+    ghost output = { λ fault. Some (finish_fault_text fault) };
+
+    fn fmt<W: fmt::Write>(&self, f: &mut fmt::Formatter<W>) -> fmt::Result {
+        write!(f, "{} {}", self.number(), self.name())
+    }
+}
+
+impl std::error::Error for FinishFault {}

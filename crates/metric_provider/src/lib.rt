@@ -1,0 +1,26 @@
+//! Recording and collecting from many threads: a provider holds each instrument of a certified plan behind a lock of
+//! its own, and its seats, one for each recorder and reader, are what threads take with them.
+//!
+//! A seat keeps what its owner was told. A step under a lock compares it with what it finds there, so that what a seat
+//! was told and what the instruments have counted can't part unseen.
+#![tactic(auto)]
+
+mod collector;
+mod fault;
+mod finish;
+mod gate;
+mod provider;
+mod recorder;
+mod settling;
+mod starting;
+mod totals;
+
+pub use collector::Collector;
+pub use fault::{AllFault, FinishFault};
+pub use gate::{Gate, NoGate};
+pub use metric_slot::{Slot, Told};
+pub use provider::Provider;
+pub use recorder::Recorder;
+pub use settling::settle;
+pub use starting::start;
+pub use totals::{Slip, Total, Totals};

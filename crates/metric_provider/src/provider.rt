@@ -1,0 +1,161 @@
+//! The instruments of a plan behind their locks.
+ghost use Rattle.std.specs.Prelude.{◌≡◌, ◌<◌, Some, length, slice_get, vec_len, IfOk, IfErr, IfSome};
+ghost use Rattle.metric_provider.specs.Closing.{AnswersClosing};
+ghost use Rattle.metric_provider.specs.Collections.{IsNextBatch, RefusesCollection};
+ghost use Rattle.metric_provider.specs.Providers.{IsProvider, KnowsReader, KnowsRecording};
+ghost use Rattle.metric_provider.specs.Recordings.{RefusesRecording};
+ghost use Rattle.metric_provider.specs.Seats.{provider_of};
+ghost use Rattle.metric_slot.specs.Tellings.{told_more};
+
+use crate::gate::Gate;
+use crossbeam_utils::CachePadded;
+use metric_book::Book;
+use metric_catalogue::{Refusal, SetKey};
+use metric_history::Batch;
+use metric_plan::Plan;
+use metric_slot::{Slot, Told};
+use std::alloc::Global;
+use std::marker::Model;
+use std::sync::{Mutex, Wait};
+
+/// An instrument behind its lock, on cache lines of its own.
+pub(crate) type Locked<B> = CachePadded<Mutex<Slot<B>>>;
+
+/// The instruments of a certified plan, each behind a lock of its own (Metrics SDK, meter provider). Threads share it
+/// by reference, and record and collect with their seats, the [`Recorder`](crate::Recorder)s and
+/// [`Collector`](crate::Collector)s.
+///
+/// Contracts see the plan and the number of the run. What is behind a lock is what its type keeps: the instrument of a
+/// certified plan, with its recordings within the budgets.
+#[derive(Drop)]
+pub struct Provider<B: Book, G: Gate> {
+    plan: Plan,
+    run: u64,
+    gate: G,
+    slots: Vec<Locked<B>>,
+}
+
+impl<B: Book, G: Gate> Model for Provider<B, G> {
+    ghost use Rattle.std.specs.Prelude.{vec_len};
+    ghost use Rattle.metric_provider.specs.Providers.{IsProvider};
+    ghost use Rattle.metric_provider.specs.Seats.{ProviderValue};
+
+    ghost Value = { ProviderValue };
+
+    ghost view = { λ p. record { plan = p.plan; run = p.run } };
+
+    ghost invariant = { λ p. IsProvider p.plan (vec_len p.slots) };
+}
+
+impl<B: Book, G: Gate> Provider<B, G> {
+    // The provider of a certified plan with the slots of its instruments.
+    pub(crate) fn from_slots(plan: Plan, run: u64, gate: G, slots: Vec<Locked<B>>) -> Provider<B, G>
+        requires { IsProvider plan (vec_len slots) }
+        ensures { result ≡ provider_of plan run }
+    {
+        Provider {
+            plan,
+            run,
+            gate,
+            slots,
+        }
+    }
+
+    // The plan, the run, the gate and the slots.
+    pub(crate) fn into_slots(self) -> (Plan, u64, G, Vec<Locked<B>>)
+        ensures value { provider_of result.0 result.1 ≡ self }
+        ensures kept { IsProvider result.0 (vec_len result.3) }
+    {
+        let Provider {
+            plan,
+            run,
+            gate,
+            slots,
+        } = self;
+        (plan, run, gate, slots)
+    }
+
+    /// The plan.
+    pub fn plan(&self) -> &Plan
+        ensures { result.now ≡ self.now.plan }
+    {
+        &self.plan
+    }
+
+    // The number of the run.
+    pub(crate) fn run(&self) -> u64
+        ensures { result ≡ self.now.run }
+    {
+        self.run
+    }
+
+    /// Ends the recordings of an instrument. `UnknownInstrument` comes exactly where the plan has no instrument of this
+    /// number, else the only refusal is `Closed`.
+    pub fn close<R: Wait>(&self, rt: &R, instrument: u32) -> Result<(), Refusal>
+        ensures { let known = slice_get self.now.plan.facts.instruments instrument in
+            AnswersClosing known result }
+    {
+        let at = instrument as usize;
+        if at >= self.slots.len() {
+            return Err(Refusal::UnknownInstrument);
+        }
+        let slot: &Mutex<Slot<B>> = &self.slots[at];
+        let mut guard = slot.lock(rt);
+        let answer = guard.close();
+        self.gate.inside(rt, instrument);
+        answer
+    }
+
+    // Makes a recording under the instrument's lock. What its recorder is told then.
+    pub(crate) fn record_inside<R: Wait>(
+        &self,
+        rt: &R,
+        instrument: u32,
+        told: Told,
+        recorder: u32,
+        set: SetKey,
+        value: &i64,
+    ) -> Result<Told, Refusal>
+        requires { KnowsRecording self.now.plan instrument recorder set value.now }
+        ensures told { IfOk result (λ new.
+            IfSome (slice_get self.now.plan.facts.instruments instrument) (λ own.
+            new ≡ told_more told own.lo value.now)) }
+        ensures refused { IfErr result (λ refusal.
+            IfSome (slice_get self.now.plan.facts.instruments instrument) (λ own.
+            RefusesRecording own recorder told refusal)) }
+    {
+        let facts = self.plan.facts(instrument);
+        let slot: &Mutex<Slot<B>> = &self.slots[instrument as usize];
+        let mut told = told;
+        let mut guard = slot.lock(rt);
+        let answer = guard.record(facts, &mut told, recorder, set, *value);
+        self.gate.inside(rt, instrument);
+        answer?;
+        Ok(told)
+    }
+
+    // Makes a collection under the instrument's lock.
+    pub(crate) fn collect_inside<R: Wait>(
+        &self,
+        rt: &R,
+        alloc: Global,
+        instrument: u32,
+        seen: u64,
+        reader: u32,
+        now: u64,
+    ) -> Result<Batch, Refusal>
+        requires { KnowsReader self.now.plan instrument reader }
+        ensures batch { IfOk result (λ batch.
+            IfSome (slice_get self.now.plan.facts.instruments instrument) (λ own.
+            IsNextBatch own reader seen batch)) }
+        ensures refused { IfErr result (λ refusal. RefusesCollection refusal) }
+    {
+        let facts = self.plan.facts(instrument);
+        let slot: &Mutex<Slot<B>> = &self.slots[instrument as usize];
+        let mut seen = seen;
+        let mut guard = slot.lock(rt);
+        let answer = guard.collect(alloc, facts, &mut seen, reader, now);
+        self.gate.inside(rt, instrument);
+        answer
+    }
+}

@@ -1,0 +1,181 @@
+//! The seat of a recorder.
+ghost use Rattle.std.specs.Prelude.{◌≡◌, ◌<◌, Some, None, length, map, slice_get, slice_set, IfOk, IfSome, OnOk, OnErr};
+ghost use Rattle.metric_catalogue.specs.Attributes.{given_by};
+ghost use Rattle.metric_provider.specs.Providers.{KnowsRecording};
+ghost use Rattle.metric_provider.specs.Recordings.{AnswersSeat, admitted, declared_set, told_at, with_recording};
+ghost use Rattle.metric_provider.specs.Seats.{is_recorder_of, new_recorder, provider_of};
+
+use crate::gate::Gate;
+use crate::provider::Provider;
+use metric_book::Book;
+use metric_catalogue::{Attr, Refusal, SetKey};
+use metric_history::laws::attributes_name_full_sets;
+use metric_plan::Plan;
+use metric_slot::Told;
+use std::alloc::{AllocError, Global};
+use std::marker::Model;
+use std::sync::Wait;
+
+/// The seat of one recorder: with it a thread records (Metrics API, synchronous instruments). It keeps what the
+/// recorder was told of its accepted recordings.
+#[derive(Drop)]
+pub struct Recorder {
+    run: u64,
+    number: u32,
+    told: Vec<Told>,
+}
+
+impl Model for Recorder {
+    ghost use Rattle.metric_provider.specs.Seats.{RecorderValue};
+
+    ghost Value = { RecorderValue };
+
+    ghost view = { λ r. record { run = r.run; number = r.number; told = r.told.items } };
+}
+
+impl Recorder {
+    // The seat of the recorder of this number, which was told of nothing.
+    pub(crate) fn new(
+        alloc: Global,
+        run: u64,
+        number: u32,
+        instruments: usize,
+    ) -> Result<Recorder, AllocError>
+        ensures { IfOk result (λ seat. seat ≡ new_recorder run instruments number) }
+    {
+        let nothing = Told {
+            count: 0,
+            amount: 0,
+        };
+        let told = vec![in alloc; nothing; instruments]?;
+        Ok(Recorder { run, number, told })
+    }
+
+    /// The number of the recorder.
+    pub fn number(&self) -> u32
+        ensures { result ≡ self.now.number }
+    {
+        self.number
+    }
+
+    /// The set key of a recording of this value on the instrument of this number that the seat may make, or the first
+    /// refusal: `Stranger` where the seat is not of this provider, `UnknownInstrument`, those of the
+    /// attributes in their order, `ValueRange`. Takes no memory and no lock.
+    pub fn admits<B: Book, G: Gate>(
+        &self,
+        provider: &Provider<B, G>,
+        instrument: u32,
+        attrs: &[Attr<'_>],
+        value: i64,
+    ) -> Result<SetKey, Refusal>
+        ensures { let given = map given_by attrs.now in
+            result ≡ admitted provider.now self.now instrument given value }
+    {
+        self.admit(provider.plan(), provider.run(), instrument, attrs, &value)
+    }
+
+    /// Makes a recording (Metrics API, synchronous instruments), and tells the seat of it.
+    ///
+    /// # Errors
+    ///
+    /// Those of [`Recorder::admits`]. Then, under the instrument's lock, `Stranger` where what is found there is not what the
+    /// seat was told, `Closed`, `Budget`, and `Memory`. No recording is refused for a sum.
+    pub fn record<R: Wait, B: Book, G: Gate>(
+        &mut self,
+        rt: &R,
+        provider: &Provider<B, G>,
+        instrument: u32,
+        attrs: &[Attr<'_>],
+        value: i64,
+    ) -> Result<(), Refusal>
+        ensures answer { let given = map given_by attrs.now in
+            let admission = admitted provider.now self.old instrument given value in
+            AnswersSeat admission provider.now.plan self.old instrument result }
+        ensures told { OnOk result (IfSome (slice_get provider.now.plan.facts.instruments instrument)
+            (λ own. self.new ≡ with_recording self.old instrument own value)) }
+        ensures err { OnErr result (self.new ≡ self.old) }
+    {
+        let set = self.admit(provider.plan(), provider.run(), instrument, attrs, &value)?;
+        let told = self.told_at(instrument);
+        match provider.record_inside(rt, instrument, told, self.number, set, &value) {
+            Ok(told) => {
+                self.told[instrument as usize] = told;
+                Ok(())
+            }
+            Err(refusal) => Err(refusal),
+        }
+    }
+
+    /// What the recorder was told of its accepted recordings on an instrument; nothing for an unknown one.
+    pub fn accepted(&self, instrument: u32) -> Option<Told>
+        ensures { result ≡ slice_get self.now.told instrument }
+    {
+        self.told.get(instrument as usize).copied()
+    }
+
+    // What it was told of an instrument, nothing for an unknown one.
+    pub(crate) fn told_at(&self, instrument: u32) -> Told
+        ensures { result ≡ told_at self.now instrument }
+    {
+        let nothing = Told {
+            count: 0,
+            amount: 0,
+        };
+        self.told
+            .get(instrument as usize)
+            .copied()
+            .unwrap_or(nothing)
+    }
+
+    // Whether the seat is of this run of the plan.
+    pub(crate) fn is_of(&self, plan: &Plan, run: u64) -> bool
+        ensures { result ≡ is_recorder_of (provider_of plan.now run) self.now }
+    {
+        self.run == run
+            && (self.number as usize) < plan.catalogue().recorders().len()
+            && self.told.len() == plan.all_facts().len()
+    }
+
+    // The set key of a recording that the seat may make of this run of the plan, or the first refusal.
+    fn admit(
+        &self,
+        plan: &Plan,
+        run: u64,
+        instrument: u32,
+        attrs: &[Attr<'_>],
+        value: &i64,
+    ) -> Result<SetKey, Refusal>
+        ensures exact { let given = map given_by attrs.now in
+            result ≡ admitted (provider_of plan.now run) self.now instrument given value.now }
+        ensures known { IfOk result (λ set.
+            KnowsRecording plan.now instrument self.now.number set value.now) }
+        ensures long { OnOk result (instrument < length self.now.told) }
+    {
+        attributes_name_full_sets();
+        let _ = plan.all_facts();
+        if !self.is_of(plan, run) {
+            return Err(Refusal::Stranger);
+        }
+        declared_set(plan, instrument, attrs, value)
+    }
+}
+
+// The set key of a recording that the plan declares, or the first refusal.
+fn declared_set(
+    plan: &Plan,
+    instrument: u32,
+    attrs: &[Attr<'_>],
+    value: &i64,
+) -> Result<SetKey, Refusal>
+    ensures { let given = map given_by attrs.now in
+        result ≡ declared_set plan.now instrument given value.now }
+{
+    if instrument as usize >= plan.all_facts().len() {
+        return Err(Refusal::UnknownInstrument);
+    }
+    let set = plan.catalogue().encode(instrument, attrs)?;
+    if !plan.facts(instrument).admits(value) {
+        return Err(Refusal::ValueRange);
+    }
+    Ok(set)
+}

@@ -1,0 +1,112 @@
+//! A provider with its seats.
+ghost use Rattle.std.specs.Prelude.{◌≡◌, IsTrue, length, map, vec_len, IfOk, IfErr};
+ghost use Rattle.std.specs.List.{range_with_len};
+ghost use Rattle.metric_provider.specs.Seats.{new_collector, new_recorder, provider_of};
+
+use crate::collector::Collector;
+use crate::gate::Gate;
+use crate::provider::{Locked, Provider};
+use crate::recorder::Recorder;
+use crossbeam_utils::CachePadded;
+use metric_book::Book;
+use metric_plan::Plan;
+use metric_slot::Slot;
+use std::alloc::{AllocError, Global};
+use std::sync::{Mutex, Wait};
+
+/// A provider of a certified plan without recordings, since a start in nanoseconds, with a seat for each recorder and
+/// each reader, in order. Seats serve the run that they were made for, so no two providers at a time may have the same
+/// number of the run. The start is also the seed of books that hash. Where memory is refused, the plan and the gate
+/// are handed back.
+pub fn start<R: Wait, B: Book, G: Gate>(
+    _rt: &R,
+    alloc: Global,
+    plan: Plan,
+    start: u64,
+    run: u64,
+    gate: G,
+) -> Result<(Provider<B, G>, Vec<Recorder>, Vec<Collector>), (Plan, G, AllocError)>
+    requires { IsTrue plan.is_certified }
+    ensures provider { IfOk result (λ made. made.0 ≡ provider_of plan run) }
+    ensures recorders { IfOk result (λ made. made.1.items
+        ≡ map (new_recorder run (length plan.facts.instruments))
+        (range_with_len 0 (length plan.facts.contents.recorders))) }
+    ensures collectors { IfOk result (λ made. made.2.items
+        ≡ map (new_collector run (length plan.facts.instruments))
+        (range_with_len 0 (length plan.config.readers))) }
+    ensures back { IfErr result (λ refused. (refused.0 ≡ plan) × (refused.1 ≡ gate)) }
+{
+    match new_parts(alloc, &plan, start, run) {
+        Ok((slots, recorders, collectors)) => {
+            let provider = Provider::from_slots(plan, run, gate, slots);
+            Ok((provider, recorders, collectors))
+        }
+        Err(error) => Err((plan, gate, error)),
+    }
+}
+
+// The slots, and the seats of the recorders and the readers.
+fn new_parts<B: Book>(
+    alloc: Global,
+    plan: &Plan,
+    start: u64,
+    run: u64,
+) -> Result<(Vec<Locked<B>>, Vec<Recorder>, Vec<Collector>), AllocError>
+    requires { IsTrue plan.now.is_certified }
+    ensures slots { IfOk result (λ made. vec_len made.0 ≡ length plan.now.facts.instruments) }
+    ensures recorders { IfOk result (λ made. made.1.items
+        ≡ map (new_recorder run (length plan.now.facts.instruments))
+        (range_with_len 0 (length plan.now.facts.contents.recorders))) }
+    ensures collectors { IfOk result (λ made. made.2.items
+        ≡ map (new_collector run (length plan.now.facts.instruments))
+        (range_with_len 0 (length plan.now.config.readers))) }
+{
+    let slots = new_slots(alloc, plan, start)?;
+    let recorders = new_recorders(alloc, plan, run)?;
+    let collectors = new_collectors(alloc, plan, run)?;
+    Ok((slots, recorders, collectors))
+}
+
+// The slot of each instrument, without recordings.
+fn new_slots<B: Book>(alloc: Global, plan: &Plan, start: u64) -> Result<Vec<Locked<B>>, AllocError>
+    requires { IsTrue plan.now.is_certified }
+    ensures { IfOk result (λ slots. vec_len slots ≡ length plan.now.facts.instruments) }
+{
+    let count = plan.catalogue().instruments().len() as u32;
+    let mut slots = Vec::new(alloc);
+    for instrument in 0..count {
+        let slot = Slot::new(alloc, plan, instrument, start)?;
+        slots.push(CachePadded::new(Mutex::new(slot)))?;
+    }
+    Ok(slots)
+}
+
+// The seat of each recorder, told of nothing.
+fn new_recorders(alloc: Global, plan: &Plan, run: u64) -> Result<Vec<Recorder>, AllocError>
+    ensures { IfOk result (λ seats. seats.items
+        ≡ map (new_recorder run (length plan.now.facts.instruments))
+        (range_with_len 0 (length plan.now.facts.contents.recorders))) }
+{
+    let instruments = plan.all_facts().len();
+    let count = plan.catalogue().recorders().len() as u32;
+    let mut seats = Vec::new(alloc);
+    for number in 0..count {
+        seats.push(Recorder::new(alloc, run, number, instruments)?)?;
+    }
+    Ok(seats)
+}
+
+// The seat of each reader, which has seen nothing.
+fn new_collectors(alloc: Global, plan: &Plan, run: u64) -> Result<Vec<Collector>, AllocError>
+    ensures { IfOk result (λ seats. seats.items
+        ≡ map (new_collector run (length plan.now.facts.instruments))
+        (range_with_len 0 (length plan.now.config.readers))) }
+{
+    let instruments = plan.all_facts().len();
+    let count = plan.config().readers().len() as u32;
+    let mut seats = Vec::new(alloc);
+    for number in 0..count {
+        seats.push(Collector::new(alloc, run, number, instruments)?)?;
+    }
+    Ok(seats)
+}
