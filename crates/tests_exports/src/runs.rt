@@ -161,7 +161,7 @@ fn what_was_written_is_the_front_of_the_text(rt: HostRuntime) -> Result<(), Fail
 
 #[test]
 fn an_exporter_may_go_on(rt: HostRuntime) -> Result<(), Fail> {
-    let mut exporter = WaveringExporter::new(2);
+    let mut exporter = WaveringExporter::new(rt.alloc(), 2);
     let calls = [
         Call::Export,
         Call::Export,

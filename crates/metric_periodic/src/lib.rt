@@ -1,0 +1,8 @@
+//! The periodic reader: collects at each tick of a ticker, and hands what it collected on to an exporter
+//! (Metrics SDK, periodic exporting metric reader).
+#![tactic(auto)]
+
+mod exports;
+mod periodic;
+
+pub use periodic::{Periodic, PeriodicEnd};
