@@ -7,9 +7,9 @@ ghost use Rattle.metric_history.specs.Facts.{is_delta};
 ghost use Rattle.metric_history.specs.Windows.{fits_all, fits_stream as stays_in_range, window};
 
 use crate::book::{Book, Window};
-use crate::copies::copy_facts;
 use crate::points::stream_points;
 use crate::sums::fits_stream;
+use metric_base::Copied;
 use metric_catalogue::Refusal;
 use metric_history::{Entry, Facts};
 use metric_plan::Plan;
@@ -166,7 +166,7 @@ impl Book for JournalBook {
         instrument: u32,
         _seed: u64,
     ) -> Result<JournalBook, AllocError> {
-        let facts = copy_facts(alloc, plan.facts(instrument))?;
+        let facts = plan.facts(instrument).copy(alloc)?;
         JournalBook::without_recordings(alloc, facts)
     }
 

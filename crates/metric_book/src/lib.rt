@@ -4,7 +4,6 @@
 #![tactic(auto)]
 
 mod book;
-mod copies;
 mod journal_book;
 mod points;
 mod series;

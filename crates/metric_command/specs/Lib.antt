@@ -1,3 +1,4 @@
 pub mod Kit
 pub mod Lines
+pub mod Numbers
 pub mod LineFaults

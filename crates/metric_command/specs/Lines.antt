@@ -2,10 +2,11 @@
 use Rattle.std.specs.Prelude.{◌≡◌, ◌≢◌, Bool, true, false, List, [], Option, Some, None, codes, if◌then◌else◌}
 use Rattle.std.specs.Option.{option_map_or}
 use Rattle.std.specs.Str.{bytes_eq}
+use Rattle.metric_command.specs.Numbers.{number_in}
 use Rattle.clap.specs.Words.{Row, Text, fault_of, first_of, subcommand_of, takes}
 use Rattle.metric_command.specs.Kit.{kit_app}
 use Rattle.metric_command.specs.declared.line.Line.{Line}
-use Rattle.metric_command.specs.declared.line.Line.TheVariants.{Make, Check, Show, Replay}
+use Rattle.metric_command.specs.declared.line.Line.TheVariants.{Make, Check, Show, Replay, Threads}
 
 -- whether a flag was given: clap keeps the text "true" of it then
 abbrev pub has_flag : Text → List Row → Bool
@@ -18,6 +19,7 @@ line_in (Some (name, rows)) =
     if bytes_eq name (codes "make") then Make
     else if bytes_eq name (codes "check") then Check
     else if bytes_eq name (codes "show") then Show
+    else if bytes_eq name (codes "threads") then Threads (number_in (first_of (codes "each") rows))
     else Replay (has_flag (codes "trial") rows)
 
 -- clap has a fault of some kind to tell

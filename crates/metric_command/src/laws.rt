@@ -1,7 +1,7 @@
 // Which command lines the program has, as its definitions tell clap of them.
 ghost use Rattle.std.specs.Prelude.{List, ℕ, [], ◌∷◌, codes, true, false};
 ghost use Rattle.metric_command.specs.Lines.{IsRefused, Means};
-ghost use Rattle.metric_command.specs.declared.line.Line.TheVariants.{Make, Check, Show, Replay};
+ghost use Rattle.metric_command.specs.declared.line.Line.TheVariants.{Make, Check, Show, Replay, Threads};
 
 /// Clap takes each line of the program, whatever the first word is, and this is what it means. Does
 /// nothing.
@@ -13,10 +13,17 @@ pub fn lines_are_taken()
     ensures replay { (name : List ℕ) → Means (name ∷ codes "replay" ∷ []) (Replay false) }
     ensures trial { (name : List ℕ) →
         Means (name ∷ codes "replay" ∷ codes "--trial" ∷ []) (Replay true) }
+    ensures none_each { (name : List ℕ) →
+        Means (name ∷ codes "threads" ∷ codes "--each" ∷ codes "0" ∷ []) (Threads 0) }
+    ensures some_each { (name : List ℕ) →
+        Means (name ∷ codes "threads" ∷ codes "--each=12" ∷ []) (Threads 12) }
+    ensures most_each { (name : List ℕ) →
+        Means (name ∷ codes "threads" ∷ codes "--each" ∷ codes "1000000" ∷ []) (Threads 1000000) }
 {}
 
-/// Clap refuses each call for help and for the version, what is no command, and a flag that is
-/// given twice, has a value or belongs to another command. Does nothing.
+/// Clap refuses each call for help and for the version, what is no command, a flag that is given twice,
+/// has a value or belongs to another command, and `threads` without its number or with one that is not in
+/// its range. Does nothing.
 pub fn others_are_refused()
     ensures help { (name : List ℕ) → IsRefused (name ∷ codes "help" ∷ []) }
     ensures help_flag { (name : List ℕ) → IsRefused (name ∷ codes "--help" ∷ []) }
@@ -32,4 +39,11 @@ pub fn others_are_refused()
         IsRefused (name ∷ codes "replay" ∷ codes "--trial=true" ∷ []) }
     ensures more { (name : List ℕ) →
         IsRefused (name ∷ codes "show" ∷ codes "--trial" ∷ []) }
+    ensures no_each { (name : List ℕ) → IsRefused (name ∷ codes "threads" ∷ []) }
+    ensures no_number { (name : List ℕ) →
+        IsRefused (name ∷ codes "threads" ∷ codes "--each" ∷ []) }
+    ensures above { (name : List ℕ) →
+        IsRefused (name ∷ codes "threads" ∷ codes "--each" ∷ codes "1000001" ∷ []) }
+    ensures below { (name : List ℕ) →
+        IsRefused (name ∷ codes "threads" ∷ codes "--each=-1" ∷ []) }
 {}

@@ -8,6 +8,9 @@ use clap::error::ErrorKind;
 use std::alloc::AllocError;
 use thiserror::Error;
 
+/// How often `threads` records at most, by each recorder on each instrument.
+pub const MOST_EACH: u64 = 1_000_000;
+
 /// A command of the program, with its flags.
 #[derive(Clone, Copy, Debug, PartialEq, Eq)]
 pub enum Line {
@@ -21,6 +24,11 @@ pub enum Line {
     Replay {
         /// Whether the plan is made as a trial, without a certificate.
         trial: bool,
+    },
+    /// Record and collect in threads, and print what was recorded.
+    Threads {
+        /// How often each recorder records on each instrument.
+        each: u32,
     },
 }
 

@@ -1,16 +1,19 @@
 // The reading of a command line.
-ghost use Rattle.std.specs.Prelude.{◌≡◌, [], IfOk, IsErrOf, OnOk, Some, map, true};
-ghost use Rattle.clap.specs.Words.{app_of, fault_of, found_of, rows_of, subcommand_of, subcommand_rows_of, takes};
-ghost use Rattle.metric_command.specs.Kit.{kit_app, plain_app};
+ghost use Rattle.std.specs.Prelude.{◌≡◌, [], IfOk, IsErrOf, OnOk, Some, map, false, true};
+ghost use Rattle.clap.specs.Words.{app_of, fault_of, first_of, found_of, rows_of, rule_of, subcommand_of, subcommand_rows_of, takes};
+ghost use Rattle.metric_command.specs.Kit.{each_option, kit_app, plain_app, trial_flag};
 ghost use Rattle.metric_command.specs.Lines.{IsRefused, has_flag, line_in};
+ghost use Rattle.metric_command.specs.Numbers.{number_in, number_of};
 
-use crate::line::{Line, LineFault};
+use crate::line::{Line, LineFault, MOST_EACH};
+use clap::builder::ValueParser;
 use clap::{Arg, ArgAction, ArgMatches, Command};
 use std::alloc::{AllocError, Global};
 
-/// The command that the words of a command line ask for: `make`, `check`, `show`, `replay` or
-/// `replay --trial`. The first word is the program's name, whatever it is. No further word asks for a
-/// trial, and so does the word `--` alone, which clap takes as the end of the flags.
+/// The command that the words of a command line ask for: `make`, `check`, `show`, `replay`,
+/// `replay --trial` or `threads --each N`, with `N` from 0 to [`MOST_EACH`]. The first word is the program's
+/// name, whatever it is. No further word asks for a trial, and so does the word `--` alone, which clap
+/// takes as the end of the flags.
 ///
 /// # Errors
 ///
@@ -35,11 +38,31 @@ pub fn command_of<'a>(alloc: Global, words: &'a [&'a str]) -> Result<Line, LineF
 fn kit_command<'a>(alloc: Global) -> Result<Command<'a>, AllocError>
     ensures { IfOk result (λ command. app_of command ≡ kit_app) }
 {
-    let trial = Arg::new(alloc, "trial")
+    let replay = Command::new(alloc, "replay").arg(trial_flag(alloc))?;
+    let threads = Command::new(alloc, "threads").arg(each_option(alloc))?;
+    plain_command(alloc)?
+        .subcommand(replay)?
+        .subcommand(threads)
+}
+
+fn trial_flag<'a>(alloc: Global) -> Arg<'a>
+    ensures rule { rule_of result ≡ trial_flag }
+    ensures own { result.global ≡ false }
+{
+    Arg::new(alloc, "trial")
         .long("trial")
-        .action(ArgAction::SetTrue);
-    let replay = Command::new(alloc, "replay").arg(trial)?;
-    plain_command(alloc)?.subcommand(replay)
+        .action(ArgAction::SetTrue)
+}
+
+fn each_option<'a>(alloc: Global) -> Arg<'a>
+    ensures rule { rule_of result ≡ each_option }
+    ensures own { result.global ≡ false }
+{
+    Arg::new(alloc, "each")
+        .long("each")
+        .required(true)
+        .action(ArgAction::Set)
+        .value_parser(ValueParser::unsigned(0, MOST_EACH))
 }
 
 // The program with the commands that have no flags.
@@ -68,6 +91,9 @@ fn named_line(command: &str, flags: &ArgMatches<'_>) -> Line
         "make" => Line::Make,
         "check" => Line::Check,
         "show" => Line::Show,
+        "threads" => Line::Threads {
+            each: number_of(flags, "each"),
+        },
         _ => Line::Replay {
             trial: is_given(flags, "trial"),
         },
@@ -78,4 +104,21 @@ fn is_given(flags: &ArgMatches<'_>, flag: &str) -> bool
     ensures { result ≡ has_flag flag.now (rows_of (found_of flags.now)) }
 {
     flags.get_str(flag) == Some("true")
+}
+
+// The number that an option has, and 0 without one.
+fn number_of(flags: &ArgMatches<'_>, option: &str) -> u32
+    ensures { result ≡ number_in (first_of option.now (rows_of (found_of flags.now))) }
+{
+    match flags.get_str(option) {
+        Some(text) => number_from(text),
+        None => 0,
+    }
+}
+
+// The number that a text is, and 0 where it is none.
+fn number_from(text: &str) -> u32
+    ensures { result ≡ number_of text.now }
+{
+    text.parse().unwrap_or(0)
 }

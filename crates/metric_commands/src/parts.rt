@@ -1,12 +1,12 @@
 //! Texts written part by part, so that memory holds one part at a time.
-ghost use Rattle.std.specs.Prelude.{◌≡◌, ◌++◌, OnOk, IfErr};
+ghost use Rattle.std.specs.Prelude.{◌≡◌, OnOk, IfErr};
 ghost use Rattle.std.specs.Io.KnownBytes.{Appends};
 ghost use Rattle.metric_io.specs.Prefix.{AppendsPrefix};
 ghost use Rattle.metric_commands.specs.Written.{IsSinkFault, parts_text};
 
 use crate::fault::KitFault;
 use metric_io::{Sink, write_all};
-use std::alloc::{AllocError, Global};
+use std::alloc::Global;
 
 /// How the parts of a text are written, each with its number, counted from 0.
 pub(crate) trait Parts<T> {
@@ -14,9 +14,21 @@ pub(crate) trait Parts<T> {
 
     ghost text: { Self → ℕ → T → List ℕ };
 
-    /// Writes a part at the end of a buffer.
-    fn push(&self, out: &mut Vec<u8>, number: u64, part: &T) -> Result<(), AllocError>
-        ensures { OnOk result (out.new.items ≡ out.old.items ++ text self.now number part.now) };
+    /// Writes a part to a sink, where it likes by way of a buffer that may hold an earlier one.
+    fn write_part<W: Sink>(
+        &self,
+        buffer: &mut Vec<u8>,
+        sink: &mut W,
+        number: u64,
+        part: &T,
+    ) -> Result<(), KitFault>
+        ensures ok { OnOk result (Appends (W.contents sink.old) (W.contents sink.new)
+            (text self.now number part.now)) }
+        ensures prefix { AppendsPrefix (W.contents sink.old) (W.contents sink.new)
+            (text self.now number part.now) }
+        ensures broken { IfErr result
+            (IsSinkFault (W.failures sink.old) (W.failures sink.new)) }
+        ensures counted { OnOk result (W.failures sink.new ≡ W.failures sink.old) };
 }
 
 /// Writes each part to a sink.
@@ -35,29 +47,18 @@ pub(crate) fn write_parts<T, P: Parts<T>, W: Sink>(
 {
     let mut buffer = Vec::new(alloc);
     for (number, part) in parts.iter().enumerate() {
-        write_part(&mut buffer, sink, writer, number as u64, part)?;
+        writer.write_part(&mut buffer, sink, number as u64, part)?;
     }
     Ok(())
 }
 
-// Writes a part to a sink, by way of a buffer that may hold an earlier one.
-#[tactic(auto, using(metric_io::specs::Prefix::prefixes))]
-fn write_part<T, P: Parts<T>, W: Sink>(
-    buffer: &mut Vec<u8>,
-    sink: &mut W,
-    writer: &P,
-    number: u64,
-    part: &T,
-) -> Result<(), KitFault>
-    ensures ok { OnOk result (Appends (W.contents sink.old) (W.contents sink.new)
-        (P.text writer.now number part.now)) }
-    ensures prefix { AppendsPrefix (W.contents sink.old) (W.contents sink.new)
-        (P.text writer.now number part.now) }
+/// Writes a text to a sink.
+pub(crate) fn write_text<W: Sink>(sink: &mut W, text: &[u8]) -> Result<(), KitFault>
+    ensures ok { OnOk result (Appends (W.contents sink.old) (W.contents sink.new) text.now) }
+    ensures prefix { AppendsPrefix (W.contents sink.old) (W.contents sink.new) text.now }
     ensures broken { IfErr result (IsSinkFault (W.failures sink.old) (W.failures sink.new)) }
     ensures counted { OnOk result (W.failures sink.new ≡ W.failures sink.old) }
 {
-    buffer.clear();
-    writer.push(buffer, number, part)?;
-    write_all(sink, buffer)?;
+    write_all(sink, text)?;
     Ok(())
 }

@@ -3,15 +3,16 @@ ghost use Rattle.std.specs.Prelude.{◌≡◌, ◌++◌, OnOk, IfErr};
 ghost use Rattle.std.specs.Io.KnownBytes.{Appends};
 ghost use Rattle.metric_io.specs.Prefix.{AppendsPrefix};
 ghost use Rattle.metric_catalogue.specs.Refusals.{refusal_text};
-ghost use Rattle.metric_commands.specs.Replies.{refused_text, replies_text, reply_text};
+ghost use Rattle.metric_export.specs.Exports.{plan_text};
+ghost use Rattle.metric_commands.specs.Replies.{refused_text, replies_text};
 ghost use Rattle.metric_commands.specs.Written.{IsSinkFault};
 
 use crate::fault::KitFault;
-use crate::parts::{Parts, write_parts};
+use crate::parts::{Parts, write_parts, write_text};
 use metric_catalogue::Refusal;
-use metric_history::Reply;
+use metric_export::{ExportFault, write_batch};
+use metric_history::{Batch, Reply};
 use metric_io::Sink;
-use metric_lines::push_batch;
 use metric_plan::Plan;
 use metric_text::{push_byte, push_number, push_text};
 use std::alloc::{AllocError, Global};
@@ -34,21 +35,25 @@ fn push_refusal(out: &mut Vec<u8>, refusal: &Refusal) -> Result<(), AllocError>
     push_byte(out, b'\n')
 }
 
-// Writes a reply.
-fn push_reply(out: &mut Vec<u8>, plan: &Plan, reply: &Reply) -> Result<(), AllocError>
-    ensures { OnOk result (out.new.items ≡ out.old.items ++ reply_text plan.now reply.now) }
+// Writes a batch as an exporter writes it.
+#[tactic(auto, using(metric_io::specs::Prefix::prefixes))]
+fn write_collected<W: Sink>(
+    alloc: Global,
+    sink: &mut W,
+    plan: &Plan,
+    batch: &Batch,
+) -> Result<(), KitFault>
+    ensures ok { OnOk result (Appends (W.contents sink.old) (W.contents sink.new)
+        (plan_text plan.now batch.now)) }
+    ensures prefix { AppendsPrefix (W.contents sink.old) (W.contents sink.new)
+        (plan_text plan.now batch.now) }
+    ensures broken { IfErr result (IsSinkFault (W.failures sink.old) (W.failures sink.new)) }
+    ensures counted { OnOk result (W.failures sink.new ≡ W.failures sink.old) }
 {
-    match reply {
-        Reply::Accepted => push_text(out, "accepted\n"),
-        Reply::Collected(batch) => push_batch(
-            out,
-            plan.catalogue(),
-            plan.config(),
-            plan.streams(),
-            batch,
-        ),
-        Reply::Done => push_text(out, "closed\n"),
-        Reply::Refused(refusal) => push_refusal(out, refusal),
+    match write_batch(alloc, sink, plan, batch) {
+        Ok(()) => Ok(()),
+        Err(ExportFault::Memory) => Err(KitFault::Memory),
+        Err(ExportFault::Write | ExportFault::ShutDown) => Err(KitFault::Write),
     }
 }
 
@@ -66,17 +71,40 @@ pub(crate) fn write_replies<W: Sink>(
         (replies_text plan.now replies.now) }
     ensures broken { IfErr result (IsSinkFault (W.failures sink.old) (W.failures sink.new)) }
 {
-    write_parts(alloc, sink, plan, replies)?;
+    write_parts(alloc, sink, &UnderPlan { alloc, plan }, replies)?;
     sink.flush()?;
     Ok(())
 }
 
-impl Parts<Reply> for Plan {
-    ghost use Rattle.metric_commands.specs.Replies.{reply_text as text_of};
+// How replies are written under a plan.
+#[derive(Drop)]
+struct UnderPlan<'a> {
+    alloc: Global,
+    plan: &'a Plan,
+}
 
-    ghost text = { λ plan _ reply. text_of plan reply };
+impl Parts<Reply> for UnderPlan<'_> {
+    ghost use Rattle.metric_commands.specs.Replies.{reply_text};
 
-    fn push(&self, out: &mut Vec<u8>, _number: u64, reply: &Reply) -> Result<(), AllocError> {
-        push_reply(out, self, reply)
+    ghost text = { λ u _ reply. reply_text u.plan.now reply };
+
+    #[tactic(auto, using(metric_io::specs::Prefix::prefixes))]
+    fn write_part<W: Sink>(
+        &self,
+        buffer: &mut Vec<u8>,
+        sink: &mut W,
+        _number: u64,
+        reply: &Reply,
+    ) -> Result<(), KitFault> {
+        match reply {
+            Reply::Accepted => write_text(sink, b"accepted\n"),
+            Reply::Collected(batch) => write_collected(self.alloc, sink, self.plan, batch),
+            Reply::Done => write_text(sink, b"closed\n"),
+            Reply::Refused(refusal) => {
+                buffer.clear();
+                push_refusal(buffer, refusal)?;
+                write_text(sink, buffer)
+            }
+        }
     }
 }

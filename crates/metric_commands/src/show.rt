@@ -10,7 +10,7 @@ ghost use Rattle.metric_commands.specs.Written.{IsSinkFault};
 
 use crate::command::{Command, run};
 use crate::fault::KitFault;
-use crate::parts::{Parts, write_parts};
+use crate::parts::{Parts, write_parts, write_text};
 use crate::planning::{catalogue_of, config_of};
 use metric_catalogue::Catalogue;
 use metric_io::{Sink, Source};
@@ -19,7 +19,7 @@ use metric_parts::{Needs, Parts as InputParts, parts_of};
 use metric_resolve::{Streams, Warning, resolve};
 use metric_text::lines;
 use metric_views::{Config, Stream};
-use std::alloc::{AllocError, Global};
+use std::alloc::Global;
 
 /// Writes a line for each stream that the config of an input gives for its catalogue, and one for each
 /// warning (Metrics SDK, View). A refused input writes nothing.
@@ -83,8 +83,17 @@ impl Parts<Stream> for Listing {
 
     ghost text = { λ l number stream. shown_text l.catalogue l.config number stream };
 
-    fn push(&self, out: &mut Vec<u8>, number: u64, stream: &Stream) -> Result<(), AllocError> {
-        push_shown(out, &self.catalogue, &self.config, number, stream)
+    #[tactic(auto, using(metric_io::specs::Prefix::prefixes))]
+    fn write_part<W: Sink>(
+        &self,
+        buffer: &mut Vec<u8>,
+        sink: &mut W,
+        number: u64,
+        stream: &Stream,
+    ) -> Result<(), KitFault> {
+        buffer.clear();
+        push_shown(buffer, &self.catalogue, &self.config, number, stream)?;
+        write_text(sink, buffer)
     }
 }
 
@@ -93,8 +102,17 @@ impl Parts<Warning> for Listing {
 
     ghost text = { λ _ _ warning. warning_text warning };
 
-    fn push(&self, out: &mut Vec<u8>, _number: u64, warning: &Warning) -> Result<(), AllocError> {
-        push_warning(out, *warning)
+    #[tactic(auto, using(metric_io::specs::Prefix::prefixes))]
+    fn write_part<W: Sink>(
+        &self,
+        buffer: &mut Vec<u8>,
+        sink: &mut W,
+        _number: u64,
+        warning: &Warning,
+    ) -> Result<(), KitFault> {
+        buffer.clear();
+        push_warning(buffer, *warning)?;
+        write_text(sink, buffer)
     }
 }
 

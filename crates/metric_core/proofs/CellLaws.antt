@@ -1,13 +1,13 @@
 -- What a recording and a collection make of the numbers that a cell keeps.
 use Rattle.std.proofs.Common.{◌≡◌, ◌≢◌, ℕ, zero, suc, ◌+◌, ◌^◌, ◌<◌, ◌≤◌, Bool, true, false, ◌&&◌, cond, ℤ, pos, neg_ℤ, ◌+ℤ◌, ◌≤ℤ◌, List, [], ◌∷◌, ◌++◌, length, refl, sym, ap, subst, ◌∙◌, arith}
-use Rattle.std.specs.Prelude.{◌==◌, nat_lt, replicate, slice_index, slice_index_or, slice_set, sum}
+use Rattle.std.specs.Prelude.{◌==◌, Ok, nat_lt, replicate, slice_index, slice_index_or, slice_set, sum}
 use Rattle.std.proofs.lemmas.Bool.{ltb-true}
 use Rattle.std.proofs.lemmas.Bool.Decides.{nat_tests}
 use Rattle.std.proofs.lemmas.Int.{ints}
 use Rattle.std.proofs.lemmas.List.{length-set, length-replicate, length_push, get_or-set_same, get_or-set_other}
 use Rattle.std.proofs.lemmas.List.Folds.{list_all-append, sum_by-replicate}
 use Rattle.std.proofs.lemmas.List.Sums.{sum_by_push}
-use Rattle.metric_book.specs.Journals.{MayTake, Standing, no_marks}
+use Rattle.metric_book.specs.Journals.{MayAnswer, MayTake, Standing, no_marks}
 use Rattle.metric_history.specs.declared.entry.Entry.{Entry}
 use Rattle.metric_history.specs.declared.facts.Facts.{Facts}
 use Rattle.metric_history.specs.Answers.{spent}
@@ -175,6 +175,11 @@ has_left made budgets recorder b given allowed is_made is_budget is holds =
     ltb-true (slice_index made recorder) (slice_index budgets recorder)
     (subst (λ (xs : List ℕ). nat_lt (slice_index xs recorder) (slice_index budgets recorder) ≡ true) is_made
     (subst (λ (ys : List ℕ). nat_lt (slice_index given recorder) (slice_index ys recorder) ≡ true) is_budget before))
+
+-- what was taken keeps each series in range
+pub fits_taken : (fits : Bool) → MayAnswer fits (Ok tt) → fits ≡ true
+fits_taken true taken = refl
+fits_taken false taken = absurd taken
 
 pub sound_entry : (facts : Facts) (entry : Entry) → length entry.set ≡ 8 → is_full_set facts.keys entry.set ≡ true → in_bounds facts entry.value ≡ true → is_sound facts entry ≡ true
 sound_entry facts entry eight full within =

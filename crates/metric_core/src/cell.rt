@@ -4,7 +4,7 @@ ghost use Rattle.metric_core.specs.Cells.{CellKept, CellStands, new_cell};
 ghost use Rattle.metric_core.specs.CellAnswers.{AnswersClose, AnswersRecording, GainsEntry, KeepsJournal, ReportsBatch, entry_of, with_batch, with_entry};
 ghost use Rattle.metric_history.specs.Facts.{in_bounds, is_full_set};
 
-use crate::copies::copy_facts;
+use metric_base::Copied;
 use metric_book::Book;
 use metric_catalogue::{Refusal, SetKey};
 use metric_history::{Batch, Entry, Facts};
@@ -74,7 +74,7 @@ impl<B: Book> Cell<B> {
         ensures new { IfOk result (λ cell. cell ≡ new_cell cell.facts start cell.book) }
         ensures stands { IfOk result (λ cell. CellStands B.stands cell []) }
     {
-        let facts = copy_facts(alloc, plan.facts(instrument))?;
+        let facts = plan.facts(instrument).copy(alloc)?;
         let book = B::new(alloc, plan, instrument, start)?;
         let marks = vec![in alloc; 0; facts.delta.len()]?;
         let times = vec![in alloc; start; facts.delta.len()]?;

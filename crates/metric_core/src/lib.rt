@@ -3,7 +3,6 @@
 #![tactic(auto)]
 
 mod cell;
-mod copies;
 mod run;
 mod steps;
 

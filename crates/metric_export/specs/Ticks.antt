@@ -1,12 +1,14 @@
 -- The ticks that a list gives.
 use Rattle.std.specs.Prelude.{◌≡◌, ℕ, ◌+◌, ◌≤◌, ◌==◌, max, Bool, ◌||◌, if◌then◌else◌, List, [], ◌∷◌, Option, Some, None}
+use Rattle.metric_io.specs.Counts.{next_count}
 use Rattle.metric_export.specs.declared.tick.Tick.{Tick}
 use Rattle.metric_export.specs.declared.tick.Tick.TheVariants.{At, Stop}
 
--- the ticks that are left, and the moment of the last one that was given
+-- the ticks that are left, the moment of the last one that was given, and how often the ticker was asked
 pub record TicksLeft : Type 0 where
   pub ticks : List Tick
   pub last : ℕ
+  pub asked : ℕ
 
 -- the moment of a tick
 abbrev pub moment_of : Tick → ℕ
@@ -32,13 +34,16 @@ abbrev pub after_tick : TicksLeft → TicksLeft
 after_tick left = record {
   ticks = later_ticks left.ticks;
   last = moment_of (next_tick left);
+  asked = next_count left.asked;
 }
 
--- a clock's ticker: how many nanoseconds it waits for a tick, how many ticks are left at most, and the moment of the last one
+-- a clock's ticker: how many nanoseconds it waits for a tick, how many ticks are left at most, the moment of the last one, and
+-- how often the ticker was asked
 pub record ClockTicksLeft : Type 0 where
   pub period : ℕ
   pub left : ℕ
   pub last : ℕ
+  pub asked : ℕ
 
 -- The tick after a wait: none is before the last one. The ticker stops where no tick is left or the flag is set, and where the
 -- clock has no moment.
@@ -49,5 +54,7 @@ clock_tick old is_set (Some moment) =
 
 -- one tick of a clock's ticker: it gives at most so many ticks, none of an earlier moment than the last, and then stops for good
 abbrev pub ClockTicks : ClockTicksLeft → ClockTicksLeft → Tick → Type 0
-ClockTicks old new (At moment) = (old.last ≤ moment) × (new ≡ record old { left = new.left; last = moment }) × (old.left ≡ new.left + 1)
-ClockTicks old new (Stop moment) = (old.last ≤ moment) × (new ≡ record old { left = 0; last = moment })
+ClockTicks old new (At moment) =
+    (old.last ≤ moment) × (new ≡ record old { left = new.left; last = moment; asked = next_count old.asked }) × (old.left ≡ new.left + 1)
+ClockTicks old new (Stop moment) =
+    (old.last ≤ moment) × (new ≡ record old { left = 0; last = moment; asked = next_count old.asked })

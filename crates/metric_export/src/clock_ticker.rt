@@ -1,5 +1,6 @@
 //! The ticks of a clock.
 ghost use Rattle.std.specs.Prelude.{◌≡◌, ◌*◌, max};
+ghost use Rattle.metric_io.specs.Counts.{next_count};
 ghost use Rattle.metric_export.specs.Ticks.{ClockTicks, clock_tick};
 
 use crate::tick::{Tick, Ticker};
@@ -44,12 +45,14 @@ impl StopFlag {
 ///
 /// No moment is before the one that was given last: where the clock went back, that one is given
 /// again. Nothing is promised of how long a wait takes. Contracts see the nanoseconds of a wait, the
-/// number of ticks that are left at most, and the moment of the last one, 0 before the first.
+/// number of ticks that are left at most, the moment of the last one, 0 before the first, and how often
+/// the ticker was asked.
 #[derive(Drop)]
 pub struct ClockTicker<'a> {
     period: Duration,
     left: u64,
     last: u64,
+    asked: u64,
     flag: &'a StopFlag,
 }
 
@@ -63,6 +66,7 @@ impl<'a> Model for ClockTicker<'a> {
       period = as_nanos t.period;
       left = t.left;
       last = t.last;
+      asked = t.asked;
     } };
 }
 
@@ -73,12 +77,14 @@ impl<'a> ClockTicker<'a> {
           period = milliseconds * 1_000_000;
           left = ticks;
           last = 0;
+          asked = 0;
         } }
     {
         ClockTicker {
             period: Duration::from_millis(milliseconds),
             left: ticks,
             last: 0,
+            asked: 0,
             flag,
         }
     }
@@ -86,7 +92,10 @@ impl<'a> ClockTicker<'a> {
     // Stops, at this moment or where the clock went back at the last one.
     fn stop(&mut self, moment: u64) -> Tick
         ensures tick { result ≡ Tick.Stop (max self.old.last moment) }
-        ensures after { ClockTicks self.old self.new result }
+        ensures after { self.new ≡ record self.old {
+          left = 0;
+          last = max self.old.last moment;
+        } }
     {
         self.left = 0;
         self.last = self.last.max(moment);
@@ -97,7 +106,9 @@ impl<'a> ClockTicker<'a> {
     fn tick(&mut self, is_set: bool, moment: Option<u64>) -> Tick
         ensures tick { result ≡ clock_tick self.old is_set moment }
         ensures after { ClockTicks self.old self.new result }
+        ensures asked { self.new.asked ≡ next_count self.old.asked }
     {
+        self.asked = self.asked.saturating_add(1);
         let Some(moment) = moment else {
             return self.stop(self.last);
         };
@@ -111,8 +122,11 @@ impl<'a> ClockTicker<'a> {
 }
 
 impl<R: Wait + Clock> Ticker<R> for ClockTicker<'_> {
+    ghost asked = { λ t. t.asked };
+
     fn next(&mut self, rt: &R) -> Tick
-        ensures { ClockTicks self.old self.new result }
+        ensures tick { ClockTicks self.old self.new result }
+        ensures asked { self.new.asked ≡ next_count self.old.asked }
     {
         let is_set = self.left == 0 || self.flag.is_set_within(rt, self.period);
         self.tick(is_set, moment_of(rt))

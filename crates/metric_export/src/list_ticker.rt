@@ -8,11 +8,13 @@ use std::marker::Model;
 /// A ticker that gives the ticks of a list in order and waits for nothing. After them it stops at the
 /// moment of the last one, at 0 where there was none.
 ///
-/// Contracts see the ticks that are left, and the moment of the last one that was given.
+/// Contracts see the ticks that are left, the moment of the last one that was given, and how often the
+/// ticker was asked.
 #[derive(Drop)]
 pub struct ListTicker<'a> {
     ticks: &'a [Tick],
     last: u64,
+    asked: u64,
 }
 
 impl<'a> Model for ListTicker<'a> {
@@ -20,23 +22,30 @@ impl<'a> Model for ListTicker<'a> {
 
     ghost Value = { TicksLeft };
 
-    ghost view = { λ t. record { ticks = t.ticks.now; last = t.last } };
+    ghost view = { λ t. record { ticks = t.ticks.now; last = t.last; asked = t.asked } };
 }
 
 impl<'a> ListTicker<'a> {
     /// A ticker of these ticks.
     pub fn new(ticks: &'a [Tick]) -> Self
-        ensures { result ≡ record { ticks = ticks.entry.now; last = 0 } }
+        ensures { result ≡ record { ticks = ticks.entry.now; last = 0; asked = 0 } }
     {
-        ListTicker { ticks, last: 0 }
+        ListTicker {
+            ticks,
+            last: 0,
+            asked: 0,
+        }
     }
 }
 
 impl<R> Ticker<R> for ListTicker<'_> {
+    ghost asked = { λ t. t.asked };
+
     fn next(&mut self, _rt: &R) -> Tick
         ensures tick { result ≡ next_tick self.old }
         ensures after { self.new ≡ after_tick self.old }
     {
+        self.asked = self.asked.saturating_add(1);
         let Some((tick, later)) = self.ticks.split_first() else {
             return Tick::Stop(self.last);
         };

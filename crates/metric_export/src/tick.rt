@@ -1,5 +1,6 @@
 //! When a periodic reader collects.
-ghost use Rattle.std.specs.Prelude.{◌≡◌};
+ghost use Rattle.std.specs.Prelude.{◌≡◌, ℕ};
+ghost use Rattle.metric_io.specs.Counts.{next_count};
 ghost use Rattle.metric_export.specs.Ticks.{moment_of};
 
 /// The next moment of a periodic reader.
@@ -25,8 +26,13 @@ impl Tick {
 /// What gives a periodic reader its moments (Metrics SDK, periodic exporting metric reader), in
 /// nanoseconds since 1970 where a clock gives them.
 ///
-/// `R` is the runtime by which a ticker may wait for a moment to come.
+/// `R` is the runtime by which a ticker may wait for a moment to come. Contracts see how often the
+/// ticker was asked, which stops at 2^64 - 1.
 pub trait Ticker<R> {
+    // How often the ticker was asked.
+    ghost asked: { Self → ℕ };
+
     /// The next moment, once it has come. After [`Tick::Stop`] it is not asked again.
-    fn next(&mut self, rt: &R) -> Tick;
+    fn next(&mut self, rt: &R) -> Tick
+        ensures { asked self.new ≡ next_count (asked self.old) };
 }

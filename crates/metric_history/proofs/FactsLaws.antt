@@ -7,7 +7,7 @@ use Rattle.metric_catalogue.specs.declared.contents.Instrument.{Instrument}
 use Rattle.metric_catalogue.specs.declared.contents.Recorder.{Recorder}
 use Rattle.metric_views.specs.declared.config.Reader.{Reader}
 use Rattle.metric_views.specs.declared.stream.Stream.{Stream}
-use Rattle.metric_history.specs.declared.facts.Facts.{Facts}
+use Rattle.metric_history.specs.declared.facts.FactsFields.{FactsFields as Facts}
 use Rattle.metric_history.specs.declared.facts.NumberedStream.{NumberedStream}
 use Rattle.metric_history.specs.Facts.{numbered, numbered_from, facts_of, facts_from, with_stream}
 

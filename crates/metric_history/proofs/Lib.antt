@@ -1,5 +1,6 @@
 pub mod CountedOnce
 pub mod FactsLaws
+pub mod FlatLaws
 pub mod LegalLaws
 pub mod FullSets
 pub mod Distinct

@@ -17,7 +17,7 @@ use Rattle.metric_views.specs.declared.config.Reader.{Reader}
 use Rattle.metric_views.specs.declared.stream.Stream.{Stream}
 use Rattle.metric_views.specs.declared.stream.StreamAggregation.{StreamAggregation}
 use Rattle.metric_views.specs.declared.stream.StreamAggregation.TheVariants.{Sum, LastValue, Histogram}
-use Rattle.metric_history.specs.declared.facts.Facts.{Facts}
+use Rattle.metric_history.specs.declared.facts.FactsFields.{FactsFields as Facts}
 use Rattle.metric_history.specs.declared.facts.KeyFacts.{KeyFacts}
 use Rattle.metric_history.specs.declared.facts.NumberedStream.{NumberedStream}
 

@@ -1,5 +1,6 @@
 pub mod Events
 pub mod Facts
+pub mod Flat
 pub mod Encoded
 pub mod Series
 pub mod Points

@@ -8,7 +8,7 @@ use Rattle.metric_history.specs.declared.entry.Entry.{Entry}
 use Rattle.metric_history.specs.declared.batch.Point.{Point}
 use Rattle.metric_history.specs.declared.batch.StreamPoints.{StreamPoints}
 use Rattle.metric_views.specs.declared.stream.Stream.{Stream}
-use Rattle.metric_history.specs.declared.facts.Facts.{Facts}
+use Rattle.metric_history.specs.declared.facts.FactsFields.{FactsFields as Facts}
 use Rattle.metric_history.specs.declared.facts.NumberedStream.{NumberedStream}
 use Rattle.metric_history.specs.Facts.{stream_aggregation, is_of_reader}
 use Rattle.metric_history.specs.Series.{held, belongs, rows}

@@ -1,12 +1,12 @@
 //! What the run of an instrument depends on.
-ghost use Rattle.std.specs.Prelude.{◌≡◌, ◌≤◌, ◌<◌, ◌^◌, [], map, length, IfOk, OnOk};
-ghost use Rattle.metric_catalogue.specs.Budgets.{amount_of};
-ghost use Rattle.metric_history.specs.Facts.{facts_from, facts_of, is_delta_reader, is_delta_temporality, key_facts, with_stream};
+ghost use Rattle.std.specs.Prelude.{◌≡◌, ◌↔◌, IfOk, IsTrue};
 
+use crate::flat::flat_facts;
 use metric_base::{Copied, Items};
-use metric_catalogue::{Catalogue, Instrument, Key, Kind, Recorder};
-use metric_views::{Reader, Stream, Temporality};
+use metric_views::Stream;
 use std::alloc::{AllocError, Global};
+use std::marker::Model;
+use std::ops::Deref;
 
 /// A declared key, as far as set keys depend on it.
 #[derive(Clone, Copy, Debug, PartialEq, Eq, Drop)]
@@ -26,9 +26,9 @@ pub struct NumberedStream {
     pub stream: Stream,
 }
 
-/// What the run of one instrument depends on: of the catalogue, the config and the streams that they give.
+/// What facts say: of the catalogue, the config and the streams that they give.
 #[derive(Drop)]
-pub struct Facts {
+pub struct FactsFields {
     /// Whether a certificate vouches for the instrument's limits and numbers.
     pub certified: bool,
     /// The number of the instrument.
@@ -47,7 +47,71 @@ pub struct Facts {
     pub streams: Items<NumberedStream>,
 }
 
+/// What the run of one instrument depends on. Beside the fields stand their bytes, made once, so that facts are
+/// compared without a walk through lists and texts. A clause sees the fields.
+#[derive(Drop)]
+pub struct Facts {
+    fields: FactsFields,
+    bytes: Vec<u8>,
+}
+
+impl Model for Facts {
+    ghost use Rattle.std.specs.Prelude.{◌≡◌};
+    ghost use Rattle.metric_history.specs.declared.facts.FactsFields.{FactsFields};
+    ghost use Rattle.metric_history.specs.Flat.{flat_facts};
+
+    ghost Value = { FactsFields };
+
+    ghost view = { λ f. f.fields };
+
+    ghost invariant = { λ f. f.bytes.items ≡ flat_facts f.fields };
+}
+
 impl Facts {
+    /// The facts that fields say. Fails only where memory is refused.
+    pub fn new(alloc: Global, fields: FactsFields) -> Result<Facts, AllocError>
+        ensures { IfOk result (λ facts. facts ≡ fields) }
+    {
+        let bytes = flat_facts(alloc, &fields)?;
+        Ok(Facts { fields, bytes })
+    }
+}
+
+impl Deref for Facts {
+    type Target = FactsFields;
+
+    ghost use Rattle.std.specs.Prelude.{◌≡◌};
+
+    ghost deref_gives = { λ facts fields. fields ≡ facts };
+
+    fn deref(&self) -> &FactsFields {
+        &self.fields
+    }
+}
+
+impl PartialEq for Facts {
+    ghost use Rattle.std.specs.Cmp.{partial_equiv_from_equiv};
+    ghost use Rattle.std.specs.Cmp.Lexicographic.{on_texts_equal};
+    ghost use Rattle.metric_history.specs.Flat.{facts_eq, flat_facts};
+
+    ghost eq = { facts_eq };
+
+    ghost laws = { partial_equiv_from_equiv (on_texts_equal flat_facts) };
+
+    fn eq(&self, other: &Facts) -> bool {
+        self.bytes.as_slice() == other.bytes.as_slice()
+    }
+}
+
+/// Whether two facts are the same. It compares their bytes alone.
+#[tactic(auto, using(crate::proofs::FlatLaws::facts_eq_decides))]
+pub fn same_facts(a: &Facts, b: &Facts) -> bool
+    ensures { IsTrue result ↔ (a.now ≡ b.now) }
+{
+    *a == *b
+}
+
+impl FactsFields {
     ghost use Rattle.metric_history.specs.Facts.{in_bounds, is_delta};
 
     /// Whether a value is in the instrument's range.
@@ -69,146 +133,39 @@ impl Facts {
     }
 }
 
-// Whether a temporality is delta.
-fn is_delta(temporality: Temporality) -> bool
-    ensures { result ≡ is_delta_temporality temporality }
-{
-    matches!(temporality, Temporality::Delta)
-}
-
-// The facts of each key.
-fn key_facts_of(alloc: Global, keys: &[Key]) -> Result<Items<KeyFacts>, AllocError>
-    ensures { IfOk result (λ all. all ≡ map key_facts keys.now) }
-{
-    let mut all = Items::new(alloc);
-    for key in keys {
-        all.push(KeyFacts {
-            values: key.values.len() as u16,
-            optional: key.optional,
-        })?;
+impl Copied for NumberedStream {
+    fn copy(&self, alloc: Global) -> Result<NumberedStream, AllocError> {
+        let stream = self.stream.copy(alloc)?;
+        Ok(NumberedStream {
+            number: self.number,
+            stream,
+        })
     }
-    Ok(all)
 }
 
-// The budget of each recorder for the instrument of this number.
-fn budgets_of(alloc: Global, recorders: &[Recorder], number: u32) -> Result<Items<u64>, AllocError>
-    ensures { IfOk result (λ budgets.
-        budgets ≡ map (λ recorder. amount_of recorder number) recorders.now) }
-{
-    let mut budgets = Items::new(alloc);
-    for recorder in recorders {
-        budgets.push(recorder.budget(number))?;
+impl Copied for FactsFields {
+    fn copy(&self, alloc: Global) -> Result<FactsFields, AllocError> {
+        let keys = Items::from_vec(self.keys.as_slice().to_vec(alloc)?);
+        let budgets = self.budgets.copy(alloc)?;
+        let delta = Items::from_vec(self.delta.as_slice().to_vec(alloc)?);
+        let streams = self.streams.copy(alloc)?;
+        Ok(FactsFields {
+            certified: self.certified,
+            instrument: self.instrument,
+            keys,
+            lo: self.lo,
+            hi: self.hi,
+            budgets,
+            delta,
+            streams,
+        })
     }
-    Ok(budgets)
 }
 
-// Whether each reader is delta for the kind.
-fn delta_flags(alloc: Global, readers: &[Reader], kind: Kind) -> Result<Items<bool>, AllocError>
-    ensures { IfOk result (λ flags. flags ≡ map (is_delta_reader kind) readers.now) }
-{
-    let mut flags = Items::new(alloc);
-    for reader in readers {
-        flags.push(is_delta(reader.temporality.of(kind)))?;
+impl Copied for Facts {
+    fn copy(&self, alloc: Global) -> Result<Facts, AllocError> {
+        let fields = self.fields.copy(alloc)?;
+        let bytes = self.bytes.as_slice().to_vec(alloc)?;
+        Ok(Facts { fields, bytes })
     }
-    Ok(flags)
-}
-
-// The facts of the instrument of this number, before its streams.
-fn instrument_facts(
-    alloc: Global,
-    certified: bool,
-    recorders: &[Recorder],
-    readers: &[Reader],
-    number: u32,
-    instrument: &Instrument,
-) -> Result<Facts, AllocError>
-    ensures { IfOk result (λ facts.
-        facts ≡ facts_of certified recorders.now readers.now [] number instrument.now) }
-{
-    let keys = key_facts_of(alloc, instrument.keys.as_slice())?;
-    let budgets = budgets_of(alloc, recorders, number)?;
-    let delta = delta_flags(alloc, readers, instrument.kind)?;
-    Ok(Facts {
-        certified,
-        instrument: number,
-        keys,
-        lo: instrument.lo,
-        hi: instrument.hi,
-        budgets,
-        delta,
-        streams: Items::new(alloc),
-    })
-}
-
-// Those of each instrument.
-fn without_streams(
-    alloc: Global,
-    certified: bool,
-    recorders: &[Recorder],
-    readers: &[Reader],
-    instruments: &[Instrument],
-) -> Result<Vec<Facts>, AllocError>
-    requires { length instruments.now ≤ 512 }
-    ensures { IfOk result (λ all.
-        all.items ≡ facts_from certified recorders.now readers.now [] 0 instruments.now) }
-{
-    let mut all = Vec::new(alloc);
-    for (number, instrument) in instruments.iter().enumerate() {
-        let facts = instrument_facts(
-            alloc,
-            certified,
-            recorders,
-            readers,
-            number as u32,
-            instrument,
-        )?;
-        all.push(facts)?;
-    }
-    Ok(all)
-}
-
-// Gives a stream to its instrument.
-fn add_stream(
-    alloc: Global,
-    all: &mut [Facts],
-    number: u32,
-    stream: &Stream,
-) -> Result<(), AllocError>
-    ensures { OnOk result (all.new ≡ with_stream 0 number stream.now all.old) }
-{
-    let at = stream.instrument as usize;
-    if at >= all.len() {
-        return Ok(());
-    }
-    let stream = stream.copy(alloc)?;
-    let own = &mut all[at];
-    own.streams.push(NumberedStream { number, stream })?;
-    Ok(())
-}
-
-/// The facts of each instrument of a catalogue, for the readers of a config and all their streams, of which
-/// each has its place among them as its number. Fails only where memory is refused.
-pub fn all_facts(
-    alloc: Global,
-    certified: bool,
-    catalogue: &Catalogue,
-    readers: &[Reader],
-    streams: &[Stream],
-) -> Result<Items<Facts>, AllocError>
-    requires { length streams.now < 2 ^ 32 }
-    ensures { IfOk result (λ all. let declared = catalogue.now in
-        let recorders = declared.recorders in
-        all ≡ facts_from certified recorders readers.now streams.now 0 declared.instruments) }
-{
-    let mut all = without_streams(
-        alloc,
-        certified,
-        catalogue.recorders(),
-        readers,
-        catalogue.instruments(),
-    )?;
-    for (number, stream) in streams.iter().enumerate() {
-        add_stream(alloc, all.as_mut_slice(), number as u32, stream)?;
-    }
-    Ok(Items::from_vec(all))
 }

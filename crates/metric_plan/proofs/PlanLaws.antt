@@ -1,6 +1,10 @@
--- There are facts for each instrument, and safe streams are of instruments whose recordings can be counted.
-use Rattle.std.proofs.Common.{◌≡◌, ◌<◌, ℕ, suc, ◌+◌, ◌^◌, Bool, true, List, [], ◌∷◌, length, Some, slice_get, nat_lt, refl, ap, subst, arith}
+-- There are facts for each instrument, safe streams are of instruments whose recordings can be counted, and ranges fit one after the
+-- other.
+use Rattle.std.proofs.Common.{◌≡◌, ◌<◌, ℕ, zero, suc, ◌+◌, ◌^◌, Bool, true, List, [], ◌∷◌, length, Some, slice_get, nat_lt, refl, ap, subst, arith}
+use Rattle.std.specs.Prelude.{FitsSigned}
+use Rattle.std.specs.Int.{w64}
 use Rattle.std.proofs.lemmas.Bool.{and_from, lt-ltb}
+use Rattle.std.proofs.lemmas.Option.{same_Some}
 use Rattle.metric_catalogue.specs.declared.contents.Contents.{Contents}
 use Rattle.metric_catalogue.specs.declared.contents.Instrument.{Instrument}
 use Rattle.metric_catalogue.specs.declared.contents.Recorder.{Recorder}
@@ -8,8 +12,10 @@ use Rattle.metric_views.specs.declared.config.Reader.{Reader}
 use Rattle.metric_views.specs.declared.stream.Stream.{Stream}
 use Rattle.metric_bounds.specs.Amounts.{total_of}
 use Rattle.metric_bounds.specs.Safe.{AreSafe}
+use Rattle.metric_history.specs.declared.facts.Facts.{Facts}
 use Rattle.metric_history.specs.Facts.{facts_from}
 use Rattle.metric_plan.specs.Counting.{counts_fit, is_counted}
+use Rattle.metric_plan.specs.Plans.{RangesFit}
 
 pub length-facts_from : (certified : Bool) (recorders : List Recorder) (readers : List Reader) (streams : List Stream) (number : ℕ) (instruments : List Instrument)
     → length (facts_from certified recorders readers streams number instruments) ≡ length instruments
@@ -34,3 +40,8 @@ safe_is_counted contents streams safe =
     counted_from contents 0 contents.instruments (λ k instrument at.
     let here : k ≡ 0 + k = omega arith in
     subst (λ (n : ℕ). total_of contents n < 2 ^ 64) here ((safe.instruments k instrument at).counts))
+
+pub ranges_cons : (first : Facts) (rest : List Facts) → FitsSigned w64 first.lo → FitsSigned w64 first.hi → RangesFit rest → RangesFit (first ∷ rest)
+ranges_cons first rest low high fit zero own at =
+    subst (λ (facts : Facts). FitsSigned w64 facts.lo × FitsSigned w64 facts.hi) (same_Some first own at) (low, high)
+ranges_cons first rest low high fit (suc number) own at = fit number own at

@@ -1,10 +1,12 @@
 -- What a plan is.
-use Rattle.std.specs.Prelude.{◌≡◌, Bool, true, IsTrue, List, length}
+use Rattle.std.specs.Prelude.{◌≡◌, ℕ, Bool, true, IsTrue, List, Some, length, slice_get, FitsSigned}
+use Rattle.std.specs.Int.{w64}
 use Rattle.metric_bounds.specs.Safe.{AreSafe}
 use Rattle.metric_catalogue.specs.declared.contents.Contents.{Contents}
 use Rattle.metric_views.specs.declared.config.Config.{Config}
 use Rattle.metric_views.specs.declared.stream.Stream.{Stream}
 use Rattle.metric_resolve.specs.Resolved.{streams_of}
+use Rattle.metric_history.specs.declared.facts.Facts.{Facts}
 use Rattle.metric_history.specs.Facts.{RunFacts, facts_from}
 use Rattle.metric_plan.specs.Counting.{is_counted}
 
@@ -31,11 +33,16 @@ plan_of is_certified contents config = record {
   facts = run_facts is_certified contents config (streams_of contents config);
 }
 
+-- the ranges of the instruments are of 64-bit numbers
+abbrev pub RangesFit : List Facts → Type 0
+RangesFit all = (number : ℕ) (own : Facts) → slice_get all number ≡ Some own → FitsSigned w64 own.lo × FitsSigned w64 own.hi
+
 -- What each plan keeps: the streams are those that the config gives for the catalogue, and the facts are theirs, one of each
--- instrument. The budgets of each instrument are together a u64. A certified plan can overflow neither a limit nor a number.
+-- instrument. The budgets of each instrument are together a u64, and its range is one of 64-bit numbers. A certified plan can overflow neither a limit nor a number.
 pub record IsPlan (plan : PlanValue) : Type 0 where
   pub one_each : length plan.facts.instruments ≡ length plan.facts.contents.instruments
   pub streams : plan.streams ≡ streams_of plan.facts.contents plan.config
   pub facts : plan.facts ≡ run_facts plan.is_certified plan.facts.contents plan.config plan.streams
   pub counted : is_counted plan.facts.contents ≡ true
+  pub ranges : RangesFit plan.facts.instruments
   pub safe : IsTrue plan.is_certified → AreSafe plan.facts.contents plan.streams

@@ -1,9 +1,10 @@
 //! Plans and how a trial makes one.
-ghost use Rattle.std.specs.Prelude.{◌≡◌, ◌↔◌, ◌<◌, Some, IsTrue, true, false, length, slice_get, IfOk, IfErr, OnOk};
+ghost use Rattle.std.specs.Prelude.{◌≡◌, ◌↔◌, ◌<◌, Some, IsTrue, true, false, length, slice_get, FitsSigned, IfOk, IfErr, OnOk};
+ghost use Rattle.std.specs.Int.{w64};
 ghost use Rattle.metric_bounds.specs.Safe.{AreSafe};
 ghost use Rattle.metric_resolve.specs.Resolved.{streams_of};
 ghost use Rattle.metric_plan.specs.Counting.{is_counted};
-ghost use Rattle.metric_plan.specs.Plans.{IsPlan, plan_of, run_facts};
+ghost use Rattle.metric_plan.specs.Plans.{IsPlan, RangesFit, plan_of, run_facts};
 
 use crate::counting::is_counted;
 use crate::fault::CheckFault;
@@ -106,13 +107,16 @@ impl Plan {
         ensures back { IfErr result (λ refused. (refused.0 ≡ catalogue) × (refused.1 ≡ config)) }
     {
         match facts_of(alloc, is_certified, &catalogue, &config, &streams) {
-            Ok(facts) => Ok(Plan {
-                catalogue,
-                config,
-                streams,
-                facts,
-                is_certified,
-            }),
+            Ok(facts) => {
+                ranges_fit(facts.as_slice());
+                Ok(Plan {
+                    catalogue,
+                    config,
+                    streams,
+                    facts,
+                    is_certified,
+                })
+            }
             Err(_) => Err((catalogue, config, CheckFault::Memory)),
         }
     }
@@ -200,4 +204,22 @@ fn facts_of(
         config.readers(),
         streams.as_slice(),
     )
+}
+
+// The range of each instrument is one of 64-bit numbers, as who reads it learns.
+#[tactic(auto, using(crate::proofs::PlanLaws::ranges_cons))]
+fn ranges_fit(all: &[Facts])
+    ensures { RangesFit all.now }
+{
+    if let Some((first, rest)) = all.split_first() {
+        range_fits(first);
+        ranges_fit(rest);
+    }
+}
+
+fn range_fits(own: &Facts)
+    ensures low { FitsSigned w64 own.now.lo }
+    ensures high { FitsSigned w64 own.now.hi }
+{
+    let _ = own.lo <= own.hi;
 }

@@ -30,7 +30,7 @@ use Rattle.metric_history.specs.Points.{stream_points, points}
 use Rattle.metric_history.specs.Series.{rows}
 use Rattle.metric_safety.specs.SafeFacts.{IsSafeStream}
 use Rattle.metric_safety.specs.WindowBounds.{IsBounded, IsValueInRange}
-use Rattle.metric_safety.specs.SafeRuns.{IsSafeRun, RangesFit, reported_in, exported, AreIdentified, AreWindowsBounded, NothingOverflows, NumbersFit, AreInRange}
+use Rattle.metric_safety.specs.SafeRuns.{IsSafeRun, reported_in, exported, AreIdentified, AreWindowsBounded, NothingOverflows, NumbersFit, AreInRange}
 use Rattle.metric_safety.proofs.WindowLaws.{admitted_window, all_reported, journal_bounded, length-window}
 use Rattle.metric_safety.proofs.RangeLaws.{window_in_range}
 use Rattle.metric_safety.proofs.HistoryLaws.{accepted_within, known_own}
@@ -123,11 +123,11 @@ nothing_overflows full streams facts start h run legal = record {
 
 -- ---- numbers
 
-answers_in_range : EncodesFullSets → (streams : List Stream) (facts : RunFacts) (start : ℕ) → IsSafeRun streams facts → RangesFit facts → (h : History) → IsLegal facts start h
+answers_in_range : EncodesFullSets → (streams : List Stream) (facts : RunFacts) (start : ℕ) → IsSafeRun streams facts → (h : History) → IsLegal facts start h
     → (number reader now : ℕ) (own : Facts) → slice_get facts.instruments number ≡ Some own → AreInRange (batch own start (told_of facts start h number) reader now).streams
-answers_in_range full streams facts start run ranges h legal number reader now own at =
+answers_in_range full streams facts start run h legal number reader now own at =
     let safe = run.safe number own at in
-    let range = ranges number own at in
+    let range = run.ranges number own at in
     let journal = (accepted_within full streams facts start h run legal number own at).admitted in
     let few = length-window (is_delta own reader) (mark_of facts h number reader) (accepted facts h number) in
     all_reported (λ (s : StreamPoints). All (λ (p : Point). IsValueInRange p.value) s.points) own reader (covered own (told_of facts start h number) reader)
@@ -137,10 +137,10 @@ answers_in_range full streams facts start run ranges h legal number reader now o
     (admitted_window own (is_delta own reader) (mark_of facts h number reader) (accepted facts h number) journal.admitted) (omega (arith, few, journal.budgeted)))
     own.streams safe.streams)
 
-pub numbers_fit : EncodesFullSets → (streams : List Stream) (facts : RunFacts) (start : ℕ) (h : History) → IsSafeRun streams facts → IsLegal facts start h → RangesFit facts → NumbersFit facts start h
-numbers_fit full streams facts start h run legal ranges = record {
-  answers = answers_in_range full streams facts start run ranges h legal;
-  batches = all_exported (λ (s : StreamPoints). All (λ (p : Point). IsValueInRange p.value) s.points) facts start (answers_in_range full streams facts start run ranges) h legal;
+pub numbers_fit : EncodesFullSets → (streams : List Stream) (facts : RunFacts) (start : ℕ) (h : History) → IsSafeRun streams facts → IsLegal facts start h → NumbersFit facts start h
+numbers_fit full streams facts start h run legal = record {
+  answers = answers_in_range full streams facts start run h legal;
+  batches = all_exported (λ (s : StreamPoints). All (λ (p : Point). IsValueInRange p.value) s.points) facts start (answers_in_range full streams facts start run) h legal;
 }
 
 -- ---- identities

@@ -31,8 +31,8 @@ use Rattle.metric_bounds.specs.Sets.{sets_of, sets_within, sets_over, factor_of}
 use Rattle.metric_bounds.specs.Sums.{is_summed, keeps_sum, sums_instrument}
 use Rattle.metric_history.specs.declared.facts.Facts.{Facts}
 use Rattle.metric_history.specs.declared.facts.NumberedStream.{NumberedStream}
-use Rattle.metric_history.specs.Facts.{facts_from, facts_of, key_facts, numbered, numbered_from}
-use Rattle.metric_plan.specs.Plans.{PlanValue, plan_of, run_facts}
+use Rattle.metric_history.specs.Facts.{RunFacts, facts_from, facts_of, key_facts, numbered, numbered_from}
+use Rattle.metric_plan.specs.Plans.{PlanValue, RangesFit, plan_of, run_facts}
 use Rattle.metric_safety.specs.SafeFacts.{product_of, key_factor, IsSafeStream, IsSafeFacts}
 use Rattle.metric_safety.specs.SafeRuns.{GivesSafePlan, IsSafePlan, IsSafeRun}
 
@@ -209,8 +209,9 @@ one_instrument a b o p q = cc
 
 -- the facts of a safe catalogue and config
 safe_run : ((contents : Contents) (config : Config) (s : Stream) → Contains (streams_of contents config) s ↔ IsOwn contents config s)
-    → (contents : Contents) (config : Config) (certified : Bool) → IsSound contents → IsSafe contents config → IsSafeRun (streams_of contents config) (plan_of certified contents config).facts
-safe_run exact contents config certified sound safe = record {
+    → (contents : Contents) (config : Config) (certified : Bool) → IsSound contents → IsSafe contents config
+    → RangesFit (plan_of certified contents config).facts.instruments → IsSafeRun (streams_of contents config) (plan_of certified contents config).facts
+safe_run exact contents config certified sound safe ranges = record {
   safe = λ number own e.
       let here = at number own e in
       subst IsSafeFacts (sym here.is) (facts_safe certified contents config.readers (streams_of contents config) number here.instrument safe flags here.at (in_order contents number here.instrument sound here.at));
@@ -226,6 +227,7 @@ safe_run exact contents config certified sound safe = record {
       subst (λ (x : Facts). All (λ (n : NumberedStream). slice_get (streams_of contents config) n.number ≡ Some n.stream) x.streams) (sym here.is)
       (numbered_places (streams_of contents config) number 0 (streams_of contents config) (λ k s f. ap (slice_get (streams_of contents config)) (none_before k) ∙ f));
   distinct = safe.identities;
+  ranges = ranges;
 }
   where
     none_before : (k : ℕ) → 0 + k ≡ k
@@ -244,7 +246,12 @@ pub plan_runs : ((contents : Contents) (config : Config) (s : Stream) → Contai
 plan_runs exact plan own =
     subst (IsSafeRun plan.streams) (sym own.facts)
     (subst (λ (streams : List Stream). IsSafeRun streams (run_facts plan.is_certified plan.facts.contents plan.config streams)) (sym own.streams)
-    (safe_run exact plan.facts.contents plan.config plan.is_certified own.sound (subst (AreSafe plan.facts.contents) own.streams own.safe)))
+    (safe_run exact plan.facts.contents plan.config plan.is_certified own.sound (subst (AreSafe plan.facts.contents) own.streams own.safe) ranges))
+  where
+    ranges : RangesFit (plan_of plan.is_certified plan.facts.contents plan.config).facts.instruments
+    ranges =
+        subst (λ (streams : List Stream). RangesFit (run_facts plan.is_certified plan.facts.contents plan.config streams).instruments) own.streams
+        (subst (λ (run : RunFacts). RangesFit run.instruments) own.facts own.ranges)
 
 pub plan_of_safe : (is_certified : Bool) (contents : Contents) (config : Config) → GivesSafePlan is_certified contents config
-plan_of_safe is_certified contents config sound safe = record { sound = sound; streams = refl; facts = refl; safe = safe }
+plan_of_safe is_certified contents config sound safe ranges = record { sound = sound; streams = refl; facts = refl; safe = safe; ranges = ranges }

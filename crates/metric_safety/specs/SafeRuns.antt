@@ -1,6 +1,5 @@
 -- What holds of every legal history of a safe plan.
-use Rattle.std.specs.Prelude.{◌≡◌, ◌≢◌, ℕ, ℤ, ◌<◌, ◌≤◌, ◌⊎◌, Bool, true, false, All, Contains, IsSome, List, [], ◌∷◌, ◌++◌, Ok, Err, Some, None, length, map, slice_get, slice_index, FitsSigned}
-use Rattle.std.specs.Int.{w64}
+use Rattle.std.specs.Prelude.{◌≡◌, ◌≢◌, ℕ, ℤ, ◌<◌, ◌≤◌, ◌⊎◌, Bool, true, false, All, Contains, IsSome, List, [], ◌∷◌, ◌++◌, Ok, Err, Some, None, length, map, slice_get, slice_index}
 use Rattle.metric_catalogue.specs.declared.attributes.OwnedAttr.{OwnedAttr}
 use Rattle.metric_catalogue.specs.declared.contents.Contents.{Contents}
 use Rattle.metric_catalogue.specs.declared.contents.Instrument.{Instrument}
@@ -11,7 +10,7 @@ use Rattle.metric_catalogue.specs.Sound.{IsSound}
 use Rattle.metric_views.specs.declared.config.Config.{Config}
 use Rattle.metric_resolve.specs.Resolved.{streams_of}
 use Rattle.metric_bounds.specs.Safe.{AreDistinct, AreSafe, IsSafe}
-use Rattle.metric_plan.specs.Plans.{PlanValue, plan_of, run_facts}
+use Rattle.metric_plan.specs.Plans.{PlanValue, RangesFit, plan_of, run_facts}
 use Rattle.metric_history.specs.declared.batch.Point.{Point}
 use Rattle.metric_history.specs.declared.batch.StreamPoints.{StreamPoints}
 use Rattle.metric_history.specs.declared.entry.Entry.{Entry}
@@ -30,7 +29,7 @@ use Rattle.metric_safety.specs.SafeFacts.{IsSafeFacts, IsJournal}
 use Rattle.metric_safety.specs.WindowBounds.{IsBounded, IsValueInRange}
 
 -- The facts of a run are safe and of its catalogue, which declares at most 8 keys for each instrument; the numbers of their streams
--- are those of the streams, and no two of these have one identity.
+-- are those of the streams, and no two of these have one identity. Ranges are of 64-bit numbers.
 pub record IsSafeRun (streams : List Stream) (facts : RunFacts) : Type 0 where
   pub safe : (number : ℕ) (own : Facts) → slice_get facts.instruments number ≡ Some own → IsSafeFacts own
   pub keys : (number : ℕ) (own : Facts) (instrument : Instrument) → slice_get facts.instruments number ≡ Some own
@@ -39,10 +38,7 @@ pub record IsSafeRun (streams : List Stream) (facts : RunFacts) : Type 0 where
   pub numbers : (number : ℕ) (own : Facts) → slice_get facts.instruments number ≡ Some own
       → All (λ (s : NumberedStream). slice_get streams s.number ≡ Some s.stream) own.streams
   pub distinct : AreDistinct facts.contents streams
-
--- the ranges of the instruments are of 64-bit numbers, as their type keeps them
-abbrev pub RangesFit : RunFacts → Type 0
-RangesFit facts = (number : ℕ) (own : Facts) → slice_get facts.instruments number ≡ Some own → FitsSigned w64 own.lo × FitsSigned w64 own.hi
+  pub ranges : RangesFit facts.instruments
 
 -- what a reply reports of streams
 abbrev pub reported_in : Reply → List StreamPoints
@@ -113,16 +109,20 @@ pub record NoSumRefuses (facts : RunFacts) (start : ℕ) (h : History) : Type 0 
 abbrev pub OfSafeRuns : (List Stream → RunFacts → ℕ → History → Type 0) → Type 0
 OfSafeRuns P = (streams : List Stream) (facts : RunFacts) (start : ℕ) (h : History) → IsSafeRun streams facts → IsLegal facts start h → P streams facts start h
 
--- A plan has the streams of the definition and the facts that they give, of a sound catalogue, and is safe.
+-- A plan has the streams of the definition and the facts that they give, of a sound catalogue, and is safe; its ranges are of 64-bit
+-- numbers.
 pub record IsSafePlan (plan : PlanValue) : Type 0 where
   pub sound : IsSound plan.facts.contents
   pub streams : plan.streams ≡ streams_of plan.facts.contents plan.config
   pub facts : plan.facts ≡ run_facts plan.is_certified plan.facts.contents plan.config plan.streams
   pub safe : AreSafe plan.facts.contents plan.streams
+  pub ranges : RangesFit plan.facts.instruments
 
--- such is the plan of a sound catalogue and a config that are safe
+-- such is the plan of a sound catalogue and a config that are safe, where ranges are of 64-bit numbers, as each plan keeps
 abbrev pub GivesSafePlan : Bool → Contents → Config → Type 0
-GivesSafePlan is_certified contents config = IsSound contents → IsSafe contents config → IsSafePlan (plan_of is_certified contents config)
+GivesSafePlan is_certified contents config =
+    IsSound contents → IsSafe contents config → RangesFit (plan_of is_certified contents config).facts.instruments
+    → IsSafePlan (plan_of is_certified contents config)
 
 -- What every legal history of a safe plan is: its exported streams differ in identity, its windows are bounded, no series and no sum
 -- overflows, and its numbers are 64-bit numbers.
@@ -131,4 +131,4 @@ pub record IsSafeHistory (plan : PlanValue) (start : ℕ) (h : History) : Type 0
   pub bounded : AreWindowsBounded plan.facts start h
   pub overflow : NothingOverflows plan.facts start h
   pub sums : NoSumRefuses plan.facts start h
-  pub numbers : RangesFit plan.facts → NumbersFit plan.facts start h
+  pub numbers : NumbersFit plan.facts start h

@@ -5,7 +5,7 @@ ghost use Rattle.metric_views.specs.declared.config.Config.{Config};
 ghost use Rattle.metric_history.specs.History.{History};
 ghost use Rattle.metric_history.specs.Legal.{IsLegal};
 ghost use Rattle.metric_plan.specs.Plans.{PlanValue};
-ghost use Rattle.metric_safety.specs.SafeRuns.{AreIdentified, AreWindowsBounded, AllKeepBudgets, GivesSafePlan, IsSafeHistory, IsSafePlan, IsSafeRun, NoSumRefuses, NothingOverflows, NumbersFit, OfSafeRuns, RangesFit};
+ghost use Rattle.metric_safety.specs.SafeRuns.{AreIdentified, AreWindowsBounded, AllKeepBudgets, GivesSafePlan, IsSafeHistory, IsSafePlan, IsSafeRun, NoSumRefuses, NothingOverflows, NumbersFit, OfSafeRuns};
 ghost use Rattle.metric_safety.specs.WindowBounds.{BoundsJournals, BoundsReports, FitsJournals};
 
 use metric_history::laws::attributes_name_full_sets;
@@ -72,9 +72,9 @@ pub fn no_sum_refuses_a_recording()
 }
 
 /// Each sum, least, greatest and last value of a batch is an `i64` and each count a `u64`, in every batch that
-/// was answered or could be, where the ranges of the instruments are of `i64`.
+/// was answered or could be.
 pub fn numbers_are_in_range()
-    ensures { OfSafeRuns (λ _ facts start h. RangesFit facts → NumbersFit facts start h) }
+    ensures { OfSafeRuns (λ _ facts start h. NumbersFit facts start h) }
 {
     attributes_name_full_sets();
 }

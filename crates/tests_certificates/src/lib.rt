@@ -4,9 +4,21 @@
 #![tactic(auto)]
 
 #[cfg(test)]
+mod altering;
+#[cfg(test)]
 mod fields;
 #[cfg(test)]
+mod judging;
+#[cfg(test)]
 mod made;
+#[cfg(test)]
+mod plain;
+#[cfg(test)]
+mod plain_numbers;
+#[cfg(test)]
+mod plain_orders;
+#[cfg(test)]
+mod plain_reasons;
 #[cfg(test)]
 mod reasons;
 #[cfg(test)]

@@ -2,7 +2,7 @@
 use crate::telling::{made, read};
 use std::test::Fail;
 
-const TWO_COUNTERS: &str = r#"
+pub const TWO_COUNTERS: &str = r#"
 format = 1
 [[meter]]
 name = "m"
@@ -12,7 +12,7 @@ name = "r"
 budget = [{ instrument = 0, amount = 3 }, { instrument = 1, amount = 3 }]
 "#;
 
-const A_STAR: &str = r#"
+pub const A_STAR: &str = r#"
 format = 1
 reader = [{ name = "main" }]
 view = [{ instrument_name = "a*" }]
@@ -28,7 +28,7 @@ bound 1 3 15 0 15
 order 0 [1, 0]
 ";
 
-const ONE_COUNTER: &str = r#"
+pub const ONE_COUNTER: &str = r#"
 format = 1
 [[meter]]
 name = "m"
@@ -41,7 +41,7 @@ name = "s"
 budget = [{ instrument = 0, amount = 4 }]
 "#;
 
-const TWO_READERS: &str = r#"
+pub const TWO_READERS: &str = r#"
 format = 1
 reader = [{ name = "main", limit = { counter = 3 } }, { name = "other" }]
 view = [{ instrument_type = "gauge", meter_name = "n" }, { meter_version = "", keep = [], stream_name = "few" }, { meter_name = "n" }]

@@ -8,6 +8,12 @@ const REPLAY: Result<Line, LineFault> = Ok(Line::Replay { trial: false });
 
 const SHOW: Result<Line, LineFault> = Ok(Line::Show);
 
+const NONE_EACH: Result<Line, LineFault> = Ok(Line::Threads { each: 0 });
+
+const TWELVE_EACH: Result<Line, LineFault> = Ok(Line::Threads { each: 12 });
+
+const MOST: Result<Line, LineFault> = Ok(Line::Threads { each: 1_000_000 });
+
 const MISUSE: Result<Line, LineFault> = Err(LineFault::Usage);
 
 // Command lines, with words that are divided by single spaces.
@@ -19,6 +25,10 @@ const LINES: &[(&str, Result<Line, LineFault>)] = &[
     ("./kit replay --trial", TRIAL),
     ("metric_kit --", TRIAL),
     ("metric_kit replay --", REPLAY),
+    ("metric_kit threads --each 0", NONE_EACH),
+    ("metric_kit threads --each 12", TWELVE_EACH),
+    ("metric_kit threads --each=012", TWELVE_EACH),
+    ("metric_kit threads --each 1000000", MOST),
     // Help and version are a misuse.
     ("metric_kit help", MISUSE),
     ("metric_kit help show", MISUSE),
@@ -45,6 +55,18 @@ const LINES: &[(&str, Result<Line, LineFault>)] = &[
     ("metric_kit replay trial", MISUSE),
     ("metric_kit -- show", MISUSE),
     ("metric_kit replay --trial input", MISUSE),
+    // So is `threads` without a number from 0 to 1,000,000, given once.
+    ("metric_kit threads", MISUSE),
+    ("metric_kit threads 12", MISUSE),
+    ("metric_kit threads --each", MISUSE),
+    ("metric_kit threads --each=", MISUSE),
+    ("metric_kit threads --each twelve", MISUSE),
+    ("metric_kit threads --each 1000001", MISUSE),
+    ("metric_kit threads --each -1", MISUSE),
+    ("metric_kit threads --each=-1", MISUSE),
+    ("metric_kit threads --each 18446744073709551616", MISUSE),
+    ("metric_kit threads --each 1 --each 1", MISUSE),
+    ("metric_kit replay --each 1", MISUSE),
 ];
 
 #[test]

@@ -26,3 +26,15 @@ returns-clause-replay c = λ name. (refl, refl)
 pub returns-clause-trial : goal.returns-clause-trial
 unfolding clap_on_literals
 returns-clause-trial c = λ name. (refl, refl)
+
+pub returns-clause-none_each : goal.returns-clause-none_each
+unfolding clap_on_literals
+returns-clause-none_each c = λ name. (refl, refl)
+
+pub returns-clause-some_each : goal.returns-clause-some_each
+unfolding clap_on_literals
+returns-clause-some_each c = λ name. (refl, refl)
+
+pub returns-clause-most_each : goal.returns-clause-most_each
+unfolding clap_on_literals
+returns-clause-most_each c = λ name. (refl, refl)

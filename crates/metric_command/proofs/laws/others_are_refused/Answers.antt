@@ -41,3 +41,19 @@ returns-clause-value c = λ name none. cc
 pub returns-clause-more : goal.returns-clause-more
 unfolding clap_on_literals
 returns-clause-more c = λ name none. cc
+
+pub returns-clause-no_each : goal.returns-clause-no_each
+unfolding clap_on_literals
+returns-clause-no_each c = λ name none. cc
+
+pub returns-clause-no_number : goal.returns-clause-no_number
+unfolding clap_on_literals
+returns-clause-no_number c = λ name none. cc
+
+pub returns-clause-above : goal.returns-clause-above
+unfolding clap_on_literals
+returns-clause-above c = λ name none. cc
+
+pub returns-clause-below : goal.returns-clause-below
+unfolding clap_on_literals
+returns-clause-below c = λ name none. cc

@@ -36,6 +36,11 @@ loop-event-preserved g c =
           (c.step-reply.ensures.steps.follows since (grown h front done) (c.loop-event.invariant.stands since h s))));
     }
 
+pub returns-clause-legal : goal.returns-clause-legal
+returns-clause-legal g c = λ since h s.
+    let whole : take c.loop-event.event-index c.args.events.now ≡ c.args.events.now = take_all c.loop-event.event-index c.args.events.now (omega arith) in
+    subst (λ (es : List Event). AllLegal c.args.plan.now.facts since h es c.loop-event.replies.items) whole (c.loop-event.invariant.legal since h s)
+
 pub returns-clause-stands : goal.returns-clause-stands
 returns-clause-stands g c = λ since h s.
     let whole : take c.loop-event.event-index c.args.events.now ≡ c.args.events.now = take_all c.loop-event.event-index c.args.events.now (omega arith) in

@@ -1,13 +1,15 @@
 -- one recording more
-use Rattle.std.proofs.Common.{◌≡◌, ◌<◌, ◌^◌, ◌≤ℤ◌, ℤ, pos, neg_ℤ, to_z, of_z, w64, true, [], ◌∷◌, ◌++◌, length, rules, sym, subst, arith}
+use Rattle.std.proofs.Common.{◌≡◌, ◌<◌, ◌^◌, ◌≤ℤ◌, ℤ, pos, neg_ℤ, to_z, of_z, w64, true, [], ◌∷◌, ◌++◌, length, slice_index, rules, sym, ap, subst, ◌∙◌, arith}
 use Rattle.std.proofs.lemmas.Int.{ints, to_z-of_z}
 use Rattle.metric_book.specs.Journals.{MayTake}
 use Rattle.metric_history.specs.declared.entry.Entry.{Entry}
+use Rattle.metric_history.specs.declared.facts.Facts.{Facts}
+use Rattle.metric_history.specs.Windows.{fits_all}
 use Rattle.metric_history.specs.Facts.{in_bounds, is_full_set}
 use Rattle.metric_core.proofs.BudgetLaws.{has_room}
 use Rattle.metric_core.specs.Cells.{CellStands, CellValue}
-use Rattle.metric_core.specs.CellAnswers.{entry_of}
-use Rattle.metric_core.proofs.CellLaws.{has_left, kept_recorded, may_take, sound_entry, stands_recorded}
+use Rattle.metric_core.specs.CellAnswers.{IsJudged, entry_of}
+use Rattle.metric_core.proofs.CellLaws.{fits_taken, has_left, kept_recorded, may_take, sound_entry, stands_recorded}
 use Rattle.metric_core.proofs.cell.Cell.record.Goals as goal
 
 pub push-requires : goal.push-requires
@@ -16,14 +18,14 @@ push-requires g c =
     let known : c.args.recorder < length c.self.inside.facts.budgets = subst (λ (v : CellValue g.row.B.Denot). c.args.recorder < length v.facts.budgets) (sym c.self.view_is) c.requires.recorder in
     let full : is_full_set c.self.inside.facts.keys c.args.set ≡ true = subst (λ (v : CellValue g.row.B.Denot). is_full_set v.facts.keys c.args.set ≡ true) (sym c.self.view_is) c.requires.set in
     let within : in_bounds c.self.inside.facts c.args.value ≡ true = subst (λ (v : CellValue g.row.B.Denot). in_bounds v.facts c.args.value ≡ true) (sym c.self.view_is) c.requires.value in
-    let left = has_left c.self.inside.spent.items c.self.inside.facts.budgets c.args.recorder c.has_budget.result _ _ c.deref.ensures.value c.as_slice.ensures c.has_budget.ensures c.if-not-has_budget.false in
+    let left = has_left c.self.inside.spent.items c.self.inside.facts.budgets c.args.recorder c.has_budget.result _ _ c.deref.ensures.value (c.as_slice.ensures ∙ ap (λ (f : Facts). f.budgets) c.deref-2.ensures) c.has_budget.ensures c.if-not-has_budget.false in
     subst (λ (v : ℤ). MayTake (g.B.Book.stands c.self.inside.book) (entry_of c.args.recorder c.args.set v)) (sym same)
     (may_take g.B.Book.stands _ (entry_of c.args.recorder c.args.set c.args.value) c.self.invariant known left full within)
 
 pub overflow_add-self : goal.overflow_add-self
 overflow_add-self g c =
     let known : c.args.recorder < length c.self.inside.facts.budgets = subst (λ (v : CellValue g.row.B.Denot). c.args.recorder < length v.facts.budgets) (sym c.self.view_is) c.requires.recorder in
-    let left = has_left c.self.inside.spent.items c.self.inside.facts.budgets c.args.recorder c.has_budget.result _ _ c.deref.ensures.value c.as_slice.ensures c.has_budget.ensures c.if-not-has_budget.false in
+    let left = has_left c.self.inside.spent.items c.self.inside.facts.budgets c.args.recorder c.has_budget.result _ _ c.deref.ensures.value (c.as_slice.ensures ∙ ap (λ (f : Facts). f.budgets) c.deref-2.ensures) c.has_budget.ensures c.if-not-has_budget.false in
     record { fits = omega (arith, c.self.invariant.budgeted, has_room g.B.Book.stands _ c.args.recorder c.self.invariant known left) }
 
 pub invariant_of-self-2 : goal.invariant_of-self-2
@@ -33,13 +35,26 @@ invariant_of-self-2 g c =
     let known : c.args.recorder < length c.self.inside.facts.budgets = subst (λ (v : CellValue g.row.B.Denot). c.args.recorder < length v.facts.budgets) (sym c.self.view_is) c.requires.recorder in
     let full : is_full_set c.self.inside.facts.keys c.args.set ≡ true = subst (λ (v : CellValue g.row.B.Denot). is_full_set v.facts.keys c.args.set ≡ true) (sym c.self.view_is) c.requires.set in
     let within : in_bounds c.self.inside.facts c.args.value ≡ true = subst (λ (v : CellValue g.row.B.Denot). in_bounds v.facts c.args.value ≡ true) (sym c.self.view_is) c.requires.value in
-    let left = has_left c.self.inside.spent.items c.self.inside.facts.budgets c.args.recorder c.has_budget.result _ _ c.deref.ensures.value c.as_slice.ensures c.has_budget.ensures c.if-not-has_budget.false in
+    let left = has_left c.self.inside.spent.items c.self.inside.facts.budgets c.args.recorder c.has_budget.result _ _ c.deref.ensures.value (c.as_slice.ensures ∙ ap (λ (f : Facts). f.budgets) c.deref-2.ensures) c.has_budget.ensures c.if-not-has_budget.false in
     let eight : length c.args.set ≡ 8 = search rules in
     let low : neg_ℤ (pos (2 ^ 63)) ≤ℤ c.args.value = omega (arith, ints) in
     let high : c.args.value ≤ℤ pos (2 ^ 63) = omega (arith, ints) in
     kept_recorded g.B.Book.stands _ _ entry (search rules) c.self.invariant known left (sound_entry c.self.inside.facts entry eight full within) low high
     (λ journal s. subst (λ (v : ℤ). g.B.Book.stands c.push.new.self c.self.inside.facts (journal ++ entry_of c.args.recorder c.args.set v ∷ []) c.self.inside.marks.items) same
     (c.in_ok-push.ensures.stands c.self.inside.facts journal c.self.inside.marks.items s))
+
+pub returns-clause-answer : goal.returns-clause-answer
+returns-clause-answer g c =
+    let entry : Entry = entry_of c.args.recorder c.args.set c.args.value in
+    let same : to_z w64 (of_z w64 c.args.value) ≡ c.args.value = to_z-of_z w64 c.args.value c.ranges.value in
+    let left = has_left c.self.inside.spent.items c.self.inside.facts.budgets c.args.recorder c.has_budget.result _ _ c.deref.ensures.value (c.as_slice.ensures ∙ ap (λ (f : Facts). f.budgets) c.deref-2.ensures) c.has_budget.ensures c.if-not-has_budget.false in
+    subst (λ (v : CellValue g.row.B.Denot). IsJudged g.B.Book.stands v entry true) c.self.view_is (record {
+      is_open = c.if-self.false;
+      has_budget = left;
+      fitting = λ journal s.
+          subst (λ (v : ℤ). fits_all c.self.inside.facts (slice_index c.self.inside.marks.items) journal (entry_of c.args.recorder c.args.set v) ≡ true) same
+          (fits_taken _ (c.in_ok-push.ensures.answer c.self.inside.facts journal c.self.inside.marks.items s.book));
+    })
 
 pub returns-clause-stands : goal.returns-clause-stands
 returns-clause-stands g c = λ journal s.

@@ -1,6 +1,7 @@
 -- the streams are those of the definition, and the facts are theirs, one for each instrument
-use Rattle.std.proofs.Common.{length, ap, refl, ◌∙◌}
+use Rattle.std.proofs.Common.{length, ap, refl, subst, ◌∙◌}
 use Rattle.metric_plan.proofs.PlanLaws.{length-facts_from}
+use Rattle.metric_plan.specs.Plans.{RangesFit}
 use Rattle.metric_plan.proofs.plan.Plan.new.Goals as goal
 
 pub invariant_of-result : goal.invariant_of-result
@@ -13,4 +14,5 @@ invariant_of-result c =
       facts = rw (c.in-Ok.ensures) refl;
       counted = c.requires.counted;
       safe = c.requires.safe;
+      ranges = subst RangesFit c.as_slice.ensures c.ranges_fit.ensures;
     }

@@ -1,0 +1,4 @@
+pub mod PlanLaws
+pub mod BudgetLaws
+pub mod SlotLaws
+pub mod TableLaws

@@ -1,0 +1,99 @@
+-- What the calls of a slot answer.
+use Rattle.std.proofs.Common.{◌≡◌, ◌≢◌, ℕ, ◌+◌, ◌^◌, ◌<◌, ◌≤◌, ℤ, ◌-ℤ◌, Bool, true, false, ◌&&◌, List, [], ◌∷◌, ◌++◌, Result, Ok, Err, length, refl, sym, ap, subst, ◌∙◌, arith}
+use Rattle.std.specs.Prelude.{◌==◌, slice_index, sum, unsigned_abs, if◌then◌else◌}
+use Rattle.std.proofs.lemmas.List.{length_push}
+use Rattle.std.proofs.lemmas.List.Folds.{list_all-append}
+use Rattle.metric_book.specs.Journals.{Standing}
+use Rattle.metric_catalogue.specs.declared.refusal.Refusal.{Refusal}
+use Rattle.metric_catalogue.specs.declared.refusal.Refusal.TheVariants as refusals
+use Rattle.metric_core.specs.Cells.{CellKept, CellStands, CellValue, is_sound, told_by}
+use Rattle.metric_core.specs.CellAnswers.{AnswersRecording, IsJudged, ReportsBatch}
+use Rattle.metric_history.specs.declared.batch.Batch.{Batch}
+use Rattle.metric_history.specs.declared.entry.Entry.{Entry}
+use Rattle.metric_history.specs.declared.facts.Facts.{Facts}
+use Rattle.metric_history.specs.Answers.{batch}
+use Rattle.metric_history.specs.Facts.{in_bounds, is_delta, is_full_set}
+use Rattle.metric_history.specs.Windows.{fits_all}
+use Rattle.metric_safety.specs.SafeFacts.{IsJournal, IsSafeFacts, total}
+use Rattle.metric_safety.specs.WindowBounds.{BoundsReports, FitsJournals, IsReportWithin}
+use Rattle.metric_slot.proofs.BudgetLaws.{amount_room, element_le, sum_le, sum_less}
+use Rattle.metric_slot.specs.declared.told.Told.{Told}
+use Rattle.metric_slot.specs.SlotAnswers.{AnswersRecorder, Continues}
+use Rattle.metric_slot.specs.Slots.{IsOwnReader, IsOwnRecorder}
+
+-- the recordings of a cell are within its budgets
+pub kept_journal : {B : Type 0} (stands : B → Standing) (c : CellValue B) (k : CellKept stands c) → IsJournal c.facts k.journal
+kept_journal stands c k = record {
+  admitted = k.sound;
+  budgeted = omega (arith, k.known.counted, k.counted, sum_le c.spent c.facts.budgets k.one_budget_each k.within);
+}
+
+-- a recorder with recordings left leaves room for one more
+pub kept_room : {B : Type 0} (stands : B → Standing) (c : CellValue B) (recorder : ℕ) → CellKept stands c
+    → slice_index c.spent recorder < slice_index c.facts.budgets recorder → c.count + 1 ≤ total c.facts
+kept_room stands c recorder k left = omega (arith, k.counted, sum_less c.spent c.facts.budgets recorder k.one_budget_each k.within left)
+
+-- what the next recording is to the facts of an instrument
+pub record IsNext (facts : Facts) (entry : Entry) : Type 0 where
+  pub eight : length entry.set ≡ 8
+  pub full : is_full_set facts.keys entry.set ≡ true
+  pub value : in_bounds facts entry.value ≡ true
+
+next_sound : (facts : Facts) (entry : Entry) → IsNext facts entry → is_sound facts entry ≡ true
+next_sound facts entry n =
+    ap (λ (m : ℕ). (m == 8) && (is_full_set facts.keys entry.set && in_bounds facts entry.value)) n.eight
+    ∙ ap (λ (b : Bool). b && in_bounds facts entry.value) n.full
+    ∙ n.value
+
+-- the recordings of a cell with one more
+journal_more : {B : Type 0} (stands : B → Standing) (c : CellValue B) (k : CellKept stands c) (entry : Entry)
+    → slice_index c.spent entry.recorder < slice_index c.facts.budgets entry.recorder → IsNext c.facts entry → IsJournal c.facts (k.journal ++ entry ∷ [])
+journal_more stands c k entry left next = record {
+  admitted = list_all-append (is_sound c.facts) k.journal (entry ∷ []) ∙ ap (λ (b : Bool). b && (is_sound c.facts entry && true)) k.sound ∙ ap (λ (b : Bool). b && true) (next_sound c.facts entry next);
+  budgeted = omega (arith, length_push k.journal entry, k.known.counted, kept_room stands c entry.recorder k left);
+}
+
+-- no recording takes a sum out of range
+never_out_of_range : {B : Type 0} (stands : B → Standing) (c : CellValue B) (entry : Entry) → FitsJournals → IsSafeFacts c.facts → CellKept stands c
+    → IsNext c.facts entry → IsJudged stands c entry false → ⊥
+never_out_of_range stands c entry law safe k next judged =
+    let fits : fits_all c.facts (slice_index c.marks) k.journal entry ≡ true = law c.facts k.journal entry (slice_index c.marks) safe (journal_more stands c k entry judged.has_budget next) in
+    let out : fits_all c.facts (slice_index c.marks) k.journal entry ≡ false = judged.fitting k.journal k.known in
+    absurd cc
+
+pub recorder_answers : {B : Type 0} (stands : B → Standing) (c : CellValue B) (own : Facts) (told : Told) (entry : Entry) (result : Result (Unit {0}) Refusal)
+    → FitsJournals → IsSafeFacts c.facts → CellKept stands c → IsOwnRecorder c own told entry.recorder → IsNext own entry
+    → AnswersRecording stands c entry result → AnswersRecorder stands c own told entry result
+recorder_answers stands c own told entry (Ok done) law safe k mine next answer = (mine, answer)
+recorder_answers stands c own told entry (Err refusals.Stranger) law safe k mine next answer = absurd answer
+recorder_answers stands c own told entry (Err refusals.UnknownInstrument) law safe k mine next answer = absurd answer
+recorder_answers stands c own told entry (Err refusals.UnknownRecorder) law safe k mine next answer = absurd answer
+recorder_answers stands c own told entry (Err refusals.UnknownReader) law safe k mine next answer = absurd answer
+recorder_answers stands c own told entry (Err refusals.DuplicateKey) law safe k mine next answer = absurd answer
+recorder_answers stands c own told entry (Err refusals.UnknownKey) law safe k mine next answer = absurd answer
+recorder_answers stands c own told entry (Err refusals.UnknownValue) law safe k mine next answer = absurd answer
+recorder_answers stands c own told entry (Err refusals.MissingKey) law safe k mine next answer = absurd answer
+recorder_answers stands c own told entry (Err refusals.ValueRange) law safe k mine next answer = absurd answer
+recorder_answers stands c own told entry (Err refusals.Closed) law safe k mine next answer = (mine, answer)
+recorder_answers stands c own told entry (Err refusals.Budget) law safe k mine next answer = (mine, answer)
+recorder_answers stands c own told entry (Err refusals.SumRange) law safe k mine next answer =
+    never_out_of_range stands c entry law safe k (subst (λ (f : Facts). IsNext f entry) (sym mine.facts) next) answer
+recorder_answers stands c own told entry (Err refusals.Memory) law safe k mine next answer = (mine, answer)
+
+-- what a recorder is told of has room for one recording more
+pub told_room : {B : Type 0} (stands : B → Standing) (c : CellValue B) (own : Facts) (told : Told) (recorder : ℕ) (value : ℤ)
+    → IsSafeFacts c.facts → CellKept stands c → IsOwnRecorder c own told recorder
+    → slice_index c.spent recorder < slice_index c.facts.budgets recorder → in_bounds own value ≡ true
+    → told.amount + unsigned_abs (value -ℤ own.lo) < 2 ^ 64
+told_room stands c own told recorder value safe k mine left within =
+    let counted : told.count + 1 ≤ total c.facts = omega (arith, mine.spent, element_le c.spent recorder, k.counted, kept_room stands c recorder k left) in
+    amount_room own told.count told.amount value (subst IsSafeFacts mine.facts safe) (subst (λ (f : Facts). told.count + 1 ≤ total f) mine.facts counted) mine.amount within
+
+-- what a reader is told is within the bounds
+pub batch_within : {B : Type 0} (stands : B → Standing) (c : CellValue B) (own : Facts) (reader now : ℕ) (told : Batch)
+    → BoundsReports → IsSafeFacts c.facts → CellKept stands c → c.facts ≡ own → ReportsBatch stands c reader now told
+    → IsReportWithin own told.from told.mark told.streams
+batch_within stands c own reader now told law safe k same reports =
+    subst (λ (f : Facts). IsReportWithin f told.from told.mark told.streams) same
+    (subst (λ (b : Batch). IsReportWithin c.facts b.from b.mark b.streams) (sym (reports k.journal k.known))
+    (law c.facts k.journal reader (slice_index c.marks reader) safe (kept_journal stands c k)))

@@ -1,0 +1,4 @@
+pub mod Tellings
+pub mod Slots
+pub mod SlotAnswers
+pub mod Tables

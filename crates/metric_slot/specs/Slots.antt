@@ -1,0 +1,29 @@
+-- What stands behind a lock, and whose a call may be.
+use Rattle.std.specs.Prelude.{◌≡◌, ℕ, List, Some, pos, ◌≤ℤ◌, true, slice_get, slice_index}
+use Rattle.metric_bounds.specs.Amounts.{amount_with}
+use Rattle.metric_core.specs.Cells.{CellValue}
+use Rattle.metric_history.specs.declared.facts.Facts.{Facts}
+use Rattle.metric_safety.specs.SafeFacts.{IsSafeFacts}
+use Rattle.metric_slot.specs.declared.told.Told.{Told}
+
+-- A certificate vouches for the facts of an instrument, and no limit and no number overflows. What each slot keeps of its cell; that
+-- the cell's recordings are within the budgets, and what they come to, is what each cell keeps.
+pub record IsCertified (facts : Facts) : Type 0 where
+  pub certified : facts.certified ≡ true
+  pub safe : IsSafeFacts facts
+
+-- those of each instrument are certified
+abbrev pub AreCertified : List Facts → Type 0
+AreCertified all = (number : ℕ) (own : Facts) → slice_get all number ≡ Some own → IsCertified own
+
+-- The cell is of the instrument that a recorder takes it for, and has as many of its recordings as it was told of; their values are
+-- not further above the least than so many can be.
+pub record IsOwnRecorder {B : Type 0} (c : CellValue B) (own : Facts) (told : Told) (recorder : ℕ) : Type 0 where
+  pub facts : c.facts ≡ own
+  pub spent : slice_index c.spent recorder ≡ told.count
+  pub amount : pos told.amount ≤ℤ amount_with told.count own.lo own.hi
+
+-- The cell is of the instrument that a reader takes it for, and the reader's last batch counted as many recordings as it has seen.
+pub record IsOwnReader {B : Type 0} (c : CellValue B) (own : Facts) (seen reader : ℕ) : Type 0 where
+  pub facts : c.facts ≡ own
+  pub mark : slice_index c.marks reader ≡ seen

@@ -1,0 +1,171 @@
+//! The cell of one instrument as it stands behind a lock.
+ghost use Rattle.std.specs.Prelude.{◌≡◌, ◌↔◌, ◌<◌, ◌≤◌, ◌≤ℤ◌, Some, IsTrue, [], true, length, slice_get, slice_index, IfOk, IfErr, OnOk, OnErr};
+ghost use Rattle.metric_core.specs.Cells.{CellKept, CellStands, new_cell};
+ghost use Rattle.metric_core.specs.CellAnswers.{AnswersClose, GainsEntry, KeepsJournal, ReportsBatch, entry_of, with_batch, with_entry};
+ghost use Rattle.metric_history.specs.Facts.{in_bounds, is_full_set};
+ghost use Rattle.metric_safety.specs.WindowBounds.{IsReportWithin};
+ghost use Rattle.metric_slot.specs.Slots.{IsCertified, IsOwnReader, IsOwnRecorder};
+ghost use Rattle.metric_slot.specs.SlotAnswers.{AnswersRecorder, Continues, RefusesReader};
+ghost use Rattle.metric_slot.specs.Tellings.{told_more};
+
+use crate::safety::certified_facts_are_safe;
+use crate::told::Told;
+use metric_book::Book;
+use metric_catalogue::{Refusal, SetKey};
+use metric_core::Cell;
+use metric_history::{Batch, Facts, same_facts};
+use metric_plan::Plan;
+use metric_safety::laws::journals_are_bounded;
+use std::alloc::{AllocError, Global};
+use std::marker::Model;
+
+/// The cell of an instrument of a certified plan, as it stands behind a lock.
+///
+/// Its type keeps that a certificate vouches for the instrument's limits and numbers. A seat's call brings the facts of the
+/// seat's plan and the number that the seat was told last; where the cell's are others, the seat is a `Stranger` and
+/// nothing changes.
+#[derive(Drop)]
+pub struct Slot<B: Book> {
+    cell: Cell<B>,
+}
+
+impl<B: Book> Model for Slot<B> {
+    ghost use Rattle.metric_core.specs.Cells.{CellValue};
+    ghost use Rattle.metric_slot.specs.Slots.{IsCertified};
+
+    ghost Value = { CellValue B };
+
+    ghost view = { λ s. s.cell };
+
+    ghost invariant = { λ s. IsCertified s.cell.facts };
+}
+
+impl<B: Book> Slot<B> {
+    /// The instrument of this number without recordings, since a start in nanoseconds. The start is also the seed
+    /// of a book that hashes. Fails only where memory is refused.
+    pub fn new(
+        alloc: Global,
+        plan: &Plan,
+        instrument: u32,
+        start: u64,
+    ) -> Result<Slot<B>, AllocError>
+        requires certified { IsTrue plan.now.is_certified }
+        requires known { instrument < length plan.now.facts.instruments }
+        ensures facts { IfOk result (λ slot.
+            slice_get plan.now.facts.instruments instrument ≡ Some slot.facts) }
+        ensures new { IfOk result (λ slot. slot ≡ new_cell slot.facts start slot.book) }
+        ensures stands { IfOk result (λ slot. CellStands B.stands slot []) }
+    {
+        certified_facts_are_safe(plan);
+        let cell = Cell::new(alloc, plan, instrument, start)?;
+        Ok(Slot { cell })
+    }
+
+    /// Makes a recording for a recorder that was told of its earlier ones (Metrics API, synchronous instruments), and tells it
+    /// of this one too. `Stranger` comes exactly where the cell's facts are not these, or its number of the recorder's
+    /// recordings is not the one told, or so many values can not be as far above the least as was told. Else `Closed`
+    /// comes exactly where the instrument is closed, else `Budget` exactly where the recorder has made as many recordings as its budget;
+    /// the only other refusal is `Memory`.
+    pub fn record(
+        &mut self,
+        facts: &Facts,
+        told: &mut Told,
+        recorder: u32,
+        set: SetKey,
+        value: i64,
+    ) -> Result<(), Refusal>
+        requires recorder { recorder < length facts.now.budgets }
+        requires set { is_full_set facts.now.keys set ≡ true }
+        requires value { in_bounds facts.now value ≡ true }
+        ensures answer { let entry = entry_of recorder set value in
+            AnswersRecorder B.stands self.old facts.now told.old entry result }
+        ensures budget { IfErr result (λ refusal. refusal ≡ Refusal.Budget
+            → slice_index facts.now.budgets recorder ≤ told.old.count) }
+        ensures new { let entry = entry_of recorder set value in
+            OnOk result (self.new ≡ with_entry self.old entry self.new.book) }
+        ensures stands { let entry = entry_of recorder set value in
+            OnOk result (GainsEntry B.stands self.old self.new entry) }
+        ensures told { OnOk result (told.new ≡ told_more told.old facts.now.lo value) }
+        ensures err { OnErr result (self.new ≡ self.old) }
+        ensures told_err { OnErr result (told.new ≡ told.old) }
+    {
+        if !is_own_recorder(&self.cell, facts, told, recorder) {
+            return Err(Refusal::Stranger);
+        }
+        journals_are_bounded();
+        let _ = self.cell.facts();
+        self.cell.record(recorder, set, value)?;
+        told.add(facts, &value);
+        Ok(())
+    }
+
+    /// What a reader that has seen so many recordings is told at a time in nanoseconds: its points since its last
+    /// collection (delta) or since the start (cumulative) (Metrics SDK, collect). It has then seen as many as the batch counts. `Stranger`
+    /// comes exactly where the cell's facts are not these, or the reader's last batch did not count what was seen; the
+    /// only other refusal is `Memory`.
+    pub fn collect(
+        &mut self,
+        alloc: Global,
+        facts: &Facts,
+        seen: &mut u64,
+        reader: u32,
+        now: u64,
+    ) -> Result<Batch, Refusal>
+        requires { reader < length facts.now.delta }
+        ensures batch { IfOk result (λ batch. ReportsBatch B.stands self.old reader now batch) }
+        ensures new { IfOk result (λ batch.
+            self.new ≡ with_batch self.old reader batch.time self.new.book) }
+        ensures stands { OnOk result (KeepsJournal B.stands self.old self.new) }
+        ensures continues { IfOk result (λ batch. Continues facts.now reader seen.old batch) }
+        ensures within { IfOk result (λ batch.
+            IsReportWithin facts.now batch.from batch.mark batch.streams) }
+        ensures seen { IfOk result (λ batch. seen.new ≡ batch.mark) }
+        ensures refused { IfErr result (RefusesReader self.old facts.now seen.old reader) }
+        ensures err { OnErr result (self.new ≡ self.old) }
+        ensures seen_err { OnErr result (seen.new ≡ seen.old) }
+    {
+        if !is_own_reader(&self.cell, facts, *seen, reader) {
+            return Err(Refusal::Stranger);
+        }
+        journals_are_bounded();
+        let _ = self.cell.facts();
+        let batch = self.cell.collect(alloc, reader, now)?;
+        *seen = batch.mark;
+        Ok(batch)
+    }
+
+    /// Ends the recordings. `Closed` comes exactly where the instrument is closed.
+    pub fn close(&mut self) -> Result<(), Refusal>
+        ensures answer { AnswersClose self.old result }
+        ensures new { OnOk result (self.new ≡ record self.old { is_closed = true }) }
+        ensures stands { KeepsJournal B.stands self.old self.new }
+        ensures err { OnErr result (self.new ≡ self.old) }
+    {
+        self.cell.close()
+    }
+
+    /// The instrument's state: its facts, its recorders' numbers, how many recordings there are and their sum.
+    pub fn cell(&self) -> &Cell<B>
+        ensures cell { result.now ≡ self.now }
+        ensures certified { IsCertified self.now.facts }
+        ensures kept { CellKept B.stands self.now }
+    {
+        let _ = self.cell.facts();
+        &self.cell
+    }
+}
+
+// Whether the cell has these facts, and as many of the recorder's recordings as it was told of.
+fn is_own_recorder<B: Book>(cell: &Cell<B>, facts: &Facts, told: &Told, recorder: u32) -> bool
+    requires { cell.now.facts.lo ≤ℤ cell.now.facts.hi }
+    ensures { IsTrue result ↔ IsOwnRecorder cell.now facts.now told.now recorder }
+{
+    same_facts(cell.facts(), facts) && cell.spent(recorder) == told.count && told.is_within(facts)
+}
+
+// Whether the cell has these facts, and the reader's last batch counted what was seen.
+fn is_own_reader<B: Book>(cell: &Cell<B>, facts: &Facts, seen: u64, reader: u32) -> bool
+    ensures { IsTrue result ↔ IsOwnReader cell.now facts.now seen reader }
+{
+    same_facts(cell.facts(), facts) && cell.mark_of(reader) == seen
+}
