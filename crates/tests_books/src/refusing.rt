@@ -1,0 +1,125 @@
+//! Memory that is refused in the middle of a run.
+//!
+//! No test can have one allocation of its process refused, so a book refuses in its place, as it would where a
+//! table can not grow.
+use crate::input::{core_of, plan_of, read_script};
+use crate::words::shown;
+use metric_book::{Book, Window};
+use metric_catalogue::Refusal;
+use metric_core::Core;
+use metric_history::Entry;
+use metric_marked::Marked;
+use metric_plan::Plan;
+use std::alloc::{AllocError, Global};
+use std::marker::Model;
+use std::test::Fail;
+
+/// A book of running tables that says `Memory` to the first recording and to the first collection, each once.
+#[derive(Drop)]
+struct Refusing {
+    book: Marked,
+    is_new: bool,
+    refuses_recording: bool,
+    refuses_collection: bool,
+}
+
+impl Model for Refusing {
+    ghost use Rattle.tests_books.specs.Refusing.{RefusingValue};
+
+    ghost Value = { RefusingValue };
+
+    ghost view = { λ r. record { book = r.book; is_new = r.is_new } };
+}
+
+impl Book for Refusing {
+    ghost use Rattle.tests_books.specs.Refusing.{StandsRefusing};
+
+    ghost stands = { StandsRefusing };
+
+    fn new(alloc: Global, plan: &Plan, instrument: u32, seed: u64) -> Result<Refusing, AllocError> {
+        Ok(Refusing {
+            book: Marked::new(alloc, plan, instrument, seed)?,
+            is_new: true,
+            refuses_recording: true,
+            refuses_collection: true,
+        })
+    }
+
+    fn push(&mut self, entry: Entry) -> Result<(), Refusal> {
+        if self.is_new && self.refuses_recording {
+            self.refuses_recording = false;
+            return Err(Refusal::Memory);
+        }
+        self.book.push(entry)?;
+        self.is_new = false;
+        Ok(())
+    }
+
+    fn window(&mut self, alloc: Global, reader: u32) -> Result<Window, AllocError> {
+        if self.refuses_collection {
+            self.refuses_collection = false;
+            return Err(AllocError);
+        }
+        self.book.window(alloc, reader)
+    }
+}
+
+const ROUTES: &str = "format = 1
+[[meter]]
+name = 'm'
+[[meter.instrument]]
+name = 'hits'
+kind = 'counter'
+range = [0, 9]
+key = [{ name = 'k', values = ['x', 'y', 'z'] }]
+[[recorder]]
+name = 'r'
+budget = [{ instrument = 0, amount = 2 }]
+";
+
+// Two series are held: fewer than the key has values, as many as the budget allows.
+const DELTA: &str = "format = 1
+[[reader]]
+name = 'main'
+temporality = { counter = 'delta' }
+[[view]]
+instrument_name = 'hits'
+limit = 2
+";
+
+const SCRIPT: &str = "start 0
+record 0 0 1 \"k\"=\"x\"
+record 0 0 1 \"k\"=\"x\"
+collect 0 0 10
+collect 0 0 10
+record 0 0 1 \"k\"=\"y\"
+record 0 0 1 \"k\"=\"z\"
+collect 0 0 20
+";
+
+const REPLIES: &str = "Memory
+accepted
+Memory
+from 0 to 1: collected 10 1
+stream reader=\"main\" meter=\"m\" version=\"\" schema=\"\" name=\"hits\" unit=\"\" description=\"\" kind=sum monotonic=yes temporality=delta
+point {\"k\"=\"x\"} start=0 time=10 value=1
+accepted
+Budget
+from 1 to 2: collected 20 1
+stream reader=\"main\" meter=\"m\" version=\"\" schema=\"\" name=\"hits\" unit=\"\" description=\"\" kind=sum monotonic=yes temporality=delta
+point {\"k\"=\"y\"} start=10 time=20 value=1
+";
+
+fn told(alloc: Global) -> Result<String, Fail> {
+    let script = read_script(alloc, SCRIPT)?;
+    let plan = plan_of(alloc, ROUTES, DELTA)?;
+    let mut core: Core<Refusing> = core_of(alloc, plan, script.start)?;
+    let replies = core.run(alloc, script.events.as_slice())?;
+    shown(alloc, core.plan(), &replies)
+}
+
+#[test]
+fn what_memory_refused_changes_nothing(rt: HostRuntime) -> Result<(), Fail> {
+    assert_eq!(rt; told(rt.alloc())?.as_str(), REPLIES);
+    Ok(())
+}
