@@ -6,7 +6,7 @@ ghost use Rattle.metric_commands.specs.Threading.{sum_text, total_text, totals_t
 ghost use Rattle.metric_commands.specs.Written.{IsSinkFault};
 
 use crate::fault::KitFault;
-use crate::parts::{Parts, write_parts};
+use crate::parts::{Parts, write_parts, write_text};
 use itoa::Buffer;
 use metric_io::Sink;
 use metric_provider::Total;
@@ -58,7 +58,16 @@ impl Parts<Total> for TotalLines {
 
     ghost text = { λ _. text_of };
 
-    fn push(&self, out: &mut Vec<u8>, number: u64, total: &Total) -> Result<(), AllocError> {
-        push_total(out, number, total)
+    #[tactic(auto, using(metric_io::specs::Prefix::prefixes))]
+    fn write_part<W: Sink>(
+        &self,
+        buffer: &mut Vec<u8>,
+        sink: &mut W,
+        number: u64,
+        total: &Total,
+    ) -> Result<(), KitFault> {
+        buffer.clear();
+        push_total(buffer, number, total)?;
+        write_text(sink, buffer)
     }
 }
