@@ -1,6 +1,5 @@
 //! Runs of a periodic reader: what is exported, and how the run is counted.
 use crate::counted_sink::CountedSink;
-use crate::samples::TEXT;
 use crate::started::{Started, start_hits};
 use crate::wavering::WaveringExporter;
 use metric_export::{ExporterState, ListTicker, MetricExporter, TextExporter, Tick};
@@ -59,17 +58,22 @@ fn batches_are_exported(rt: HostRuntime) -> Result<(), Fail> {
     Ok(())
 }
 
-// How many bytes there is room for and whether flushes work, the counts of the end, and how many bytes of all the text
-// are held.
-const WRITTEN: &[(Option<usize>, bool, &str, usize)] = &[
-    (None, true, "3 0 0 true false", TEXT.len() + 30),
-    (None, false, "3 1 0 true false", TEXT.len() + 30),
-    (Some(20), true, "0 4 0 true false", 20),
+const ALL: &str = "collected 10 1
+stream reader=\"D\" meter=\"m\" version=\"\" schema=\"\" name=\"hits\" unit=\"\" description=\"\" kind=sum monotonic=yes temporality=delta
+point {} start=0 time=10 value=5
+collected 20 0
+collected 30 0
+";
+
+// How many bytes there is room for and whether flushes work, the counts of the end, and what is held.
+const WRITTEN: &[(Option<usize>, bool, &str, &str)] = &[
+    (None, true, "3 0 0 true false", ALL),
+    (None, false, "3 1 0 true false", ALL),
+    (Some(20), true, "0 4 0 true false", "collected 10 1\nstrea"),
 ];
 
 #[test]
 fn texts_are_written(rt: HostRuntime) -> Result<(), Fail> {
-    let all = format!(in rt.alloc(); "{TEXT}collected 20 0\ncollected 30 0\n")?;
     for (room, flushes, wanted, held) in WRITTEN {
         let sink = CutSink::new(rt.alloc(), *room);
         let sink = if *flushes {
@@ -82,7 +86,7 @@ fn texts_are_written(rt: HostRuntime) -> Result<(), Fail> {
         let end = end_of(&rt, rt.alloc(), exporter, 9, from);
         assert_eq!(rt; counts(rt.alloc(), &end)?.as_str(), *wanted);
         assert_eq!(rt; end.exporter.state(), ExporterState::ShutDown);
-        assert_eq!(rt; end.exporter.sink().taken(), &all.as_bytes()[..*held]);
+        assert_eq!(rt; end.exporter.sink().taken(), held.as_bytes());
     }
     Ok(())
 }
