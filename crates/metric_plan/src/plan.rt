@@ -52,8 +52,8 @@ impl Model for Plan {
 
 impl Plan {
     /// The plan of a catalogue and a config without a certificate, for any readers and views. `CountRange` comes
-    /// exactly where the budgets for some instrument are together above the range of u64. Where there is no plan,
-    /// catalogue and config are handed back.
+    /// exactly where the budgets for some instrument are together above the range of u64; the only other fault is
+    /// `Memory`. Where there is no plan, catalogue and config are handed back.
     pub fn trial(
         alloc: Global,
         catalogue: Catalogue,
@@ -63,6 +63,8 @@ impl Plan {
         ensures counted { OnOk result (is_counted catalogue ≡ true) }
         ensures count_range { IfErr result (λ refused.
             (refused.2 ≡ CheckFault.CountRange) ↔ (is_counted catalogue ≡ false)) }
+        ensures memory { IfErr result (λ refused. is_counted catalogue ≡ true
+            → refused.2 ≡ CheckFault.Memory) }
         ensures back { IfErr result (λ refused. (refused.0 ≡ catalogue) × (refused.1 ≡ config)) }
     {
         if !is_counted(&catalogue) {

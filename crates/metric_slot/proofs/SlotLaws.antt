@@ -1,24 +1,23 @@
 -- What the calls of a slot answer.
-use Rattle.std.proofs.Common.{◌≡◌, ◌≢◌, ℕ, ◌+◌, ◌^◌, ◌<◌, ◌≤◌, ℤ, ◌-ℤ◌, Bool, true, false, ◌&&◌, List, [], ◌∷◌, ◌++◌, Result, Ok, Err, length, refl, sym, ap, subst, ◌∙◌, arith}
-use Rattle.std.specs.Prelude.{◌==◌, OnOk, slice_index, sum, unsigned_abs, if◌then◌else◌}
+use Rattle.std.proofs.Common.{◌≡◌, ℕ, ◌+◌, ◌<◌, ◌≤◌, ℤ, Bool, true, false, ◌&&◌, [], ◌∷◌, ◌++◌, Result, Ok, Err, length, sym, ap, subst, ◌∙◌, arith}
+use Rattle.std.specs.Prelude.{◌==◌, OnOk, slice_index}
 use Rattle.std.proofs.lemmas.List.{length_push}
 use Rattle.std.proofs.lemmas.List.Folds.{list_all-append}
 use Rattle.metric_book.specs.Journals.{Standing}
 use Rattle.metric_catalogue.specs.declared.refusal.Refusal.{Refusal}
 use Rattle.metric_catalogue.specs.declared.refusal.Refusal.TheVariants as refusals
-use Rattle.metric_core.specs.Cells.{CellKept, CellStands, CellValue, is_sound, told_by}
+use Rattle.metric_core.specs.Cells.{CellKept, CellValue, is_sound}
 use Rattle.metric_core.specs.CellAnswers.{AnswersRecording, IsJudged, ReportsBatch}
 use Rattle.metric_history.specs.declared.batch.Batch.{Batch}
 use Rattle.metric_history.specs.declared.entry.Entry.{Entry}
 use Rattle.metric_history.specs.declared.facts.Facts.{Facts}
-use Rattle.metric_history.specs.Answers.{batch}
-use Rattle.metric_history.specs.Facts.{in_bounds, is_delta, is_full_set}
+use Rattle.metric_history.specs.Facts.{in_bounds, is_full_set}
 use Rattle.metric_history.specs.Windows.{fits_all}
 use Rattle.metric_safety.specs.SafeFacts.{IsJournal, IsSafeFacts, total}
 use Rattle.metric_safety.specs.WindowBounds.{BoundsReports, FitsJournals, IsReportWithin}
 use Rattle.metric_slot.proofs.BudgetLaws.{amount_room, element_le, sum_le, sum_less}
 use Rattle.metric_slot.specs.declared.told.Told.{Told}
-use Rattle.metric_slot.specs.SlotAnswers.{AnswersRecorder, Continues}
+use Rattle.metric_slot.specs.SlotAnswers.{AnswersRecorder}
 use Rattle.metric_slot.specs.Slots.{IsOwnRecorder}
 use Rattle.metric_slot.specs.Tellings.{HasRoom}
 

@@ -1,5 +1,5 @@
 -- What the calls of a slot answer.
-use Rattle.std.specs.Prelude.{◌≡◌, ◌≤◌, ℕ, Result, Ok, Err, if◌then◌else◌}
+use Rattle.std.specs.Prelude.{◌≡◌, ◌≤◌, ℕ, Result, Err, if◌then◌else◌}
 use Rattle.metric_book.specs.Journals.{Standing}
 use Rattle.metric_catalogue.specs.declared.refusal.Refusal.{Refusal}
 use Rattle.metric_catalogue.specs.declared.refusal.Refusal.TheVariants.{Stranger, SumRange, Memory}
