@@ -20,4 +20,6 @@ mod runs;
 #[cfg(test)]
 mod script;
 #[cfg(test)]
+mod tables;
+#[cfg(test)]
 mod words;

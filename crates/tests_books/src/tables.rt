@@ -1,0 +1,226 @@
+//! Tables of series that are made ready, put back and emptied, for each aggregation.
+use metric_aggregate::PointValue;
+use metric_catalogue::{Catalogue, SetKey};
+use metric_history::Point;
+use metric_series::{Place, SeriesFault, SeriesTable};
+use metric_views::{Config, Fill, Stream, fill};
+use std::alloc::Global;
+use std::test::Fail;
+
+const CATALOGUE: &str = "format = 1
+[[meter]]
+name = 'm'
+[[meter.instrument]]
+name = 'hits'
+kind = 'counter'
+range = [0, 9]
+boundaries = [3]
+key = [{ name = 'route', values = ['/a', '/b', '/c'] }]
+";
+
+// A config of one reader that holds two series, with this aggregation.
+fn config_of(alloc: Global, aggregation: &str) -> Result<Config, Fail> {
+    let text = format!(in alloc;
+        "format = 1\n[[reader]]\nname = 'main'\naggregation.counter = '{aggregation}'\nlimit.counter = 2\n"
+    )?;
+    Ok(Config::read(alloc, &text)?)
+}
+
+fn default_of(alloc: Global, catalogue: &Catalogue, config: &Config) -> Result<Stream, Fail> {
+    if catalogue.instruments().is_empty() || config.readers().is_empty() {
+        return Err("nothing declared".into());
+    }
+    match fill(alloc, catalogue, config, 0, 0, None)? {
+        Fill::Kept(stream) => Ok(stream),
+        Fill::Unfit | Fill::Dropped => Err("no stream".into()),
+    }
+}
+
+// The default stream of the counter.
+fn stream(alloc: Global, aggregation: &str) -> Result<Stream, Fail> {
+    let catalogue = Catalogue::read(alloc, CATALOGUE)?;
+    let config = config_of(alloc, aggregation)?;
+    default_of(alloc, &catalogue, &config)
+}
+
+fn set_of(entry: u16) -> SetKey {
+    [entry, 0, 0, 0, 0, 0, 0, 0]
+}
+
+fn write_value(out: &mut String, value: &PointValue) -> Result<(), Fail> {
+    match value {
+        PointValue::Sum(sum) => Ok(write!(out, "sum {sum}; ")?),
+        PointValue::Last(last) => Ok(write!(out, "last {last}; ")?),
+        PointValue::Buckets {
+            count,
+            counts,
+            sum,
+            min,
+            max,
+        } => {
+            let counts = counts.as_slice();
+            Ok(write!(out, "{count} {counts:?} {sum:?} from {min} to {max}; ")?)
+        }
+    }
+}
+
+fn write_point(out: &mut String, point: &Point) -> Result<(), Fail> {
+    match &point.set {
+        Some(set) => write!(out, "{}: ", set[0])?,
+        None => out.push_str("overflow: ")?,
+    }
+    write_value(out, &point.value)
+}
+
+fn write_points(out: &mut String, points: &[Point]) -> Result<(), Fail> {
+    for point in points {
+        write_point(out, point)?;
+    }
+    Ok(())
+}
+
+#[derive(Clone, Copy)]
+enum Step {
+    // The table takes a value of an entry.
+    Put(u16, i64),
+    // It is made ready for one, and put back.
+    PutBack(u16, i64),
+    Reset,
+}
+
+fn write_place(out: &mut String, place: Place) -> Result<(), Fail> {
+    match place {
+        Place::Held(index) => write!(out, "held {index}: ")?,
+        Place::New(index) => write!(out, "new {index}: ")?,
+        Place::Overflow => out.push_str("overflow: ")?,
+    }
+    Ok(())
+}
+
+fn write_answer(out: &mut String, answer: Result<(), SeriesFault>) -> Result<(), Fail> {
+    match answer {
+        Ok(()) => Ok(out.push_str("taken: ")?),
+        Err(SeriesFault::SumRange) => Ok(out.push_str("refused: ")?),
+        Err(SeriesFault::Memory) => Err("memory".into()),
+    }
+}
+
+// Makes a table ready for a value, tells its points, and puts it back.
+fn put_back(
+    out: &mut String,
+    alloc: Global,
+    table: &mut SeriesTable,
+    entry: u16,
+    value: i64,
+) -> Result<(), Fail> {
+    let place = table.ready(set_of(entry), value)?;
+    write_place(out, place)?;
+    write_points(out, &table.points(alloc)?)?;
+    table.unready(place);
+    Ok(out.push_str("back: ")?)
+}
+
+fn write_step(
+    out: &mut String,
+    alloc: Global,
+    table: &mut SeriesTable,
+    step: Step,
+) -> Result<(), Fail> {
+    match step {
+        Step::Put(entry, value) => write_answer(out, table.add(set_of(entry), value)),
+        Step::PutBack(entry, value) => put_back(out, alloc, table, entry, value),
+        Step::Reset => {
+            table.reset();
+            Ok(out.push_str("reset: ")?)
+        }
+    }
+}
+
+fn write_steps(
+    out: &mut String,
+    alloc: Global,
+    table: &mut SeriesTable,
+    steps: &[Step],
+) -> Result<(), Fail> {
+    for step in steps {
+        write_step(out, alloc, table, *step)?;
+        write_points(out, &table.points(alloc)?)?;
+        out.push_str("|\n")?;
+    }
+    Ok(())
+}
+
+// The points after each step, where two series are held.
+fn told_by_steps(alloc: Global, aggregation: &str) -> Result<String, Fail> {
+    let mut table = SeriesTable::new(alloc, &stream(alloc, aggregation)?)?;
+    let mut out = String::new(alloc);
+    write_steps(&mut out, alloc, &mut table, STEPS)?;
+    Ok(out)
+}
+
+const STEPS: &[Step] = &[
+    Step::PutBack(2, 5),
+    Step::Put(2, 5),
+    Step::PutBack(1, 3),
+    Step::PutBack(2, 4),
+    Step::Put(1, 1),
+    Step::PutBack(3, 7),
+    Step::Put(3, 7),
+    Step::Put(2, i64::MAX),
+    Step::Reset,
+    Step::Put(3, 2),
+];
+
+const SUMS: &str = "\
+new 0: back: |
+taken: 2: sum 5; |
+new 1: 2: sum 5; back: 2: sum 5; |
+held 0: 2: sum 5; back: 2: sum 5; |
+taken: 1: sum 1; 2: sum 5; |
+overflow: 1: sum 1; 2: sum 5; back: 1: sum 1; 2: sum 5; |
+taken: 1: sum 1; 2: sum 5; overflow: sum 7; |
+refused: 1: sum 1; 2: sum 5; overflow: sum 7; |
+reset: |
+taken: 3: sum 2; |
+";
+
+const LAST_VALUES: &str = "\
+new 0: back: |
+taken: 2: last 5; |
+new 1: 2: last 5; back: 2: last 5; |
+held 0: 2: last 5; back: 2: last 5; |
+taken: 1: last 1; 2: last 5; |
+overflow: 1: last 1; 2: last 5; back: 1: last 1; 2: last 5; |
+taken: 1: last 1; 2: last 5; overflow: last 7; |
+taken: 1: last 1; 2: last 9223372036854775807; overflow: last 7; |
+reset: |
+taken: 3: last 2; |
+";
+
+const HISTOGRAMS: &str = "\
+new 0: back: |
+taken: 2: 1 [0, 1] Some(5) from 5 to 5; |
+new 1: 2: 1 [0, 1] Some(5) from 5 to 5; back: 2: 1 [0, 1] Some(5) from 5 to 5; |
+held 0: 2: 1 [0, 1] Some(5) from 5 to 5; back: 2: 1 [0, 1] Some(5) from 5 to 5; |
+taken: 1: 1 [1, 0] Some(1) from 1 to 1; 2: 1 [0, 1] Some(5) from 5 to 5; |
+overflow: 1: 1 [1, 0] Some(1) from 1 to 1; 2: 1 [0, 1] Some(5) from 5 to 5; back: 1: 1 [1, 0] Some(1) from 1 to 1; 2: 1 [0, 1] Some(5) from 5 to 5; |
+taken: 1: 1 [1, 0] Some(1) from 1 to 1; 2: 1 [0, 1] Some(5) from 5 to 5; overflow: 1 [0, 1] Some(7) from 7 to 7; |
+refused: 1: 1 [1, 0] Some(1) from 1 to 1; 2: 1 [0, 1] Some(5) from 5 to 5; overflow: 1 [0, 1] Some(7) from 7 to 7; |
+reset: |
+taken: 3: 1 [1, 0] Some(2) from 2 to 2; |
+";
+
+const AGGREGATIONS: &[(&str, &str)] = &[
+    ("sum", SUMS),
+    ("last_value", LAST_VALUES),
+    ("explicit_bucket_histogram", HISTOGRAMS),
+];
+
+#[test]
+fn a_table_made_ready_takes_or_forgets_a_value(rt: HostRuntime) -> Result<(), Fail> {
+    for (aggregation, wanted) in AGGREGATIONS {
+        let told = told_by_steps(rt.alloc(), aggregation)?;
+        assert_eq!(rt; told.as_str(), *wanted);
+    }
+    Ok(())
+}
