@@ -1,7 +1,29 @@
 //! Works measured one after the other, and the table that tells of them.
+use crate::floors::Floor;
 use crate::work::{Work, least};
 use std::alloc::Global;
 use std::time::Clock;
+
+/// What a figure counts.
+#[derive(Clone, Copy)]
+pub(crate) enum Unit {
+    /// Nanoseconds for one of these.
+    Nanoseconds(&'static str),
+    /// Megabytes in a second, where each operation is a byte.
+    Speed,
+    /// Bytes of memory for one of these.
+    Bytes(&'static str),
+}
+
+/// What a line tells: a name, a size, how many operations the work has, and what a figure counts.
+#[derive(Clone, Copy)]
+pub(crate) struct Row<'a> {
+    pub name: &'a str,
+    pub size: u64,
+    pub operations: u64,
+    pub unit: Unit,
+    pub floor: Floor,
+}
 
 /// Works measured one after the other, and the text of their table.
 #[derive(Drop)]
@@ -27,31 +49,51 @@ impl<'a, R: Clock> Bench<'a, R> {
     pub(crate) fn begin(&mut self, title: &str, size: &str) -> anyhow::Result<()> {
         writeln!(
             self.text,
-            "{title:<30}{size:>12}       ns in all     ns each"
+            "\n{title:<36}{size:>12}    in all, ns        least  unit                  floor    times  beside"
         )?;
         Ok(())
     }
 
-    /// Measures a work of so many operations, and adds its line to the table.
-    pub(crate) fn measure<W: Work>(
-        &mut self,
-        name: &str,
-        size: u64,
-        operations: u64,
-        work: &mut W,
-    ) -> anyhow::Result<()> {
+    /// Measures a work, and adds its line to the table.
+    pub(crate) fn measure<W: Work>(&mut self, row: Row<'_>, work: &mut W) -> anyhow::Result<()> {
         let measured = least(self.rt, work)?;
         self.tally = self.tally.wrapping_add(measured.number);
-        self.line(name, size, operations, measured.nanoseconds)
+        self.add(row, measured.nanoseconds)
     }
 
-    fn line(&mut self, name: &str, size: u64, operations: u64, all: u64) -> anyhow::Result<()> {
-        let hundredths = u128::from(all) * 100 / u128::from(operations.max(1));
-        let whole = hundredths / 100;
-        let rest = hundredths % 100;
-        writeln!(
+    /// Adds a line: of nanoseconds for all operations, or of their bytes.
+    pub(crate) fn add(&mut self, row: Row<'_>, all: u64) -> anyhow::Result<()> {
+        let each = each(all, row.operations);
+        let Row {
+            name,
+            size,
+            floor,
+            ..
+        } = row;
+        write!(self.text, "  {name:<34}{size:>12}{all:>14}")?;
+        match row.unit {
+            Unit::Nanoseconds(one) => self.figures(each, floor.each, "ns a ", one)?,
+            Unit::Bytes(one) => self.figures(each, floor.each, "B a ", one)?,
+            Unit::Speed => self.figures(speed(each), speed(floor.each), "MB/s", "")?,
+        }
+        let times = each.saturating_mul(100) / floor.each.max(1);
+        let whole = times / 100;
+        let rest = times % 100;
+        let beside = floor.name;
+        writeln!(self.text, "{whole:>6}.{rest:02}  {beside}")?;
+        Ok(())
+    }
+
+    // A figure and its floor, in thousandths.
+    fn figures(&mut self, each: u64, floor: u64, unit: &str, one: &str) -> anyhow::Result<()> {
+        let whole = each / 1000;
+        let rest = each % 1000 / 10;
+        let width = 18usize.saturating_sub(unit.len());
+        let floor_whole = floor / 1000;
+        let floor_rest = floor % 1000 / 10;
+        write!(
             self.text,
-            "  {name:<28}{size:>12}{all:>16}{whole:>9}.{rest:02}"
+            "{whole:>10}.{rest:02}  {unit}{one:<width$}{floor_whole:>6}.{floor_rest:02}"
         )?;
         Ok(())
     }
@@ -60,7 +102,18 @@ impl<'a, R: Clock> Bench<'a, R> {
     pub(crate) fn finish(self) -> anyhow::Result<String> {
         let tally = self.tally;
         let mut text = self.text;
-        writeln!(text, "tally {tally}")?;
+        writeln!(text, "\ntally {tally}")?;
         Ok(text)
     }
+}
+
+/// The thousandths of one of so many operations.
+pub(crate) fn each(all: u64, operations: u64) -> u64 {
+    let thousandths = u128::from(all) * 1000 / u128::from(operations.max(1));
+    u64::try_from(thousandths).unwrap_or(u64::MAX)
+}
+
+// Thousandths of a megabyte in a second, where a byte takes so many thousandths of a nanosecond.
+fn speed(each: u64) -> u64 {
+    1_000_000_000 / each.max(1)
 }

@@ -1,30 +1,72 @@
-//! What the machine takes at least: the floors beside which the other numbers stand.
-use crate::bench::Bench;
+//! What the machine takes at least: the floors beside which the other figures stand.
+use crate::bench::{Bench, Row, Unit, each};
 use crate::inputs::sets;
-use crate::work::Work;
+use crate::work::{Work, least};
 use indexmap::IndexMap;
 use metric_catalogue::SetKey;
 use std::alloc::Global;
 use std::sync::{Mutex, Wait};
 use std::time::Clock;
 
+/// What the machine takes at least for one operation.
+#[derive(Clone, Copy)]
+pub(crate) struct Floor {
+    /// What it does.
+    pub name: &'static str,
+    /// The thousandths of one.
+    pub each: u64,
+}
+
+impl Floor {
+    /// This one and then the other.
+    pub(crate) fn and(self, name: &'static str, other: Floor) -> Floor {
+        Floor {
+            name,
+            each: self.each.saturating_add(other.each),
+        }
+    }
+
+    /// The floor of one that has this many of them.
+    pub(crate) fn many(self, count: u64) -> Floor {
+        self.shared(count, 1)
+    }
+
+    /// The floor of one of so many which together have this many of them.
+    pub(crate) fn shared(self, count: u64, among: u64) -> Floor {
+        let all = u128::from(self.each) * u128::from(count);
+        let each = all / u128::from(among.max(1));
+        Floor {
+            name: self.name,
+            each: u64::try_from(each).unwrap_or(u64::MAX),
+        }
+    }
+}
+
 // How many bytes are copied.
 const BYTES: usize = 1_048_576;
 
-// How many set keys a map has.
-const SETS: u32 = 1_000;
+// How often an operation is done in one measurement.
+const EVENTS: u32 = 200_000;
+
+/// An addition under a lock that nobody else takes.
+const ADDITION: &str = "a lock with an addition";
+
+/// A look-up of a set key in a map of as many keys.
+const LOOK_UP: &str = "a look-up by a set key";
+
+/// A copy of as many bytes.
+const COPY: &str = "a copy of the bytes";
 
 // An addition under a lock that nobody else takes.
 #[derive(Drop)]
 struct LockedAddition<'a, R: Wait> {
     rt: &'a R,
     sum: Mutex<u64>,
-    events: u32,
 }
 
 impl<R: Wait> Work for LockedAddition<'_, R> {
     fn run(&mut self) -> anyhow::Result<u64> {
-        for event in 0..self.events {
+        for event in 0..EVENTS {
             let mut sum = self.sum.lock(self.rt);
             *sum = sum.wrapping_add(u64::from(event));
         }
@@ -67,47 +109,34 @@ impl Work for Copying {
     }
 }
 
-/// Measures the floors.
-pub(crate) fn measure<R: Wait + Clock>(
-    bench: &mut Bench<'_, R>,
-    events: u32,
-) -> anyhow::Result<()> {
-    bench.begin("floors", "size")?;
-    measure_additions(bench, events)?;
-    measure_look_ups(bench, events)?;
-    measure_copies(bench)
-}
-
-fn measure_additions<R: Wait + Clock>(bench: &mut Bench<'_, R>, events: u32) -> anyhow::Result<()> {
+/// A lock with an addition.
+pub(crate) fn addition<R: Wait + Clock>(rt: &R) -> anyhow::Result<Floor> {
     let mut additions = LockedAddition {
-        rt: bench.rt,
+        rt,
         sum: Mutex::new(0),
-        events,
     };
-    bench.measure(
-        "an addition under a lock",
-        1,
-        u64::from(events),
-        &mut additions,
-    )
+    let measured = least(rt, &mut additions)?;
+    Ok(Floor {
+        name: ADDITION,
+        each: each(measured.nanoseconds, u64::from(EVENTS)),
+    })
 }
 
-fn measure_look_ups<R: Clock>(bench: &mut Bench<'_, R>, events: u32) -> anyhow::Result<()> {
-    let sets = sets(bench.alloc, SETS)?;
-    let map = map_of(bench.alloc, &sets)?;
-    let rounds = (events / SETS).max(1);
-    let operations = u64::from(rounds) * u64::from(SETS);
-    let mut look_ups = LookUp { map, sets, rounds };
-    bench.measure(
-        "a look-up by a set key",
-        u64::from(SETS),
-        operations,
-        &mut look_ups,
-    )
+/// A look-up in a map of so many set keys.
+pub(crate) fn look_up<R: Clock>(rt: &R, alloc: Global, count: u32) -> anyhow::Result<Floor> {
+    let sets = sets(alloc, count)?;
+    let map = map_of(alloc, &sets)?;
+    let rounds = (EVENTS / count.max(1)).max(1);
+    let operations = u64::from(rounds) * u64::from(count);
+    let measured = least(rt, &mut LookUp { map, sets, rounds })?;
+    Ok(Floor {
+        name: LOOK_UP,
+        each: each(measured.nanoseconds, operations),
+    })
 }
 
-// A map with these keys.
-fn map_of(alloc: Global, sets: &[SetKey]) -> anyhow::Result<IndexMap<SetKey, u64>> {
+/// A map with these keys.
+pub(crate) fn map_of(alloc: Global, sets: &[SetKey]) -> anyhow::Result<IndexMap<SetKey, u64>> {
     let mut map = IndexMap::new(alloc);
     for set in sets {
         map.insert(*set, 1)?;
@@ -115,10 +144,15 @@ fn map_of(alloc: Global, sets: &[SetKey]) -> anyhow::Result<IndexMap<SetKey, u64
     Ok(map)
 }
 
-fn measure_copies<R: Clock>(bench: &mut Bench<'_, R>) -> anyhow::Result<()> {
+/// A copy of a byte.
+pub(crate) fn copy<R: Clock>(rt: &R, alloc: Global) -> anyhow::Result<Floor> {
     let mut copies = Copying {
-        from: vec![in bench.alloc; 1; BYTES]?,
-        to: Vec::with_capacity(bench.alloc, BYTES)?,
+        from: vec![in alloc; 1; BYTES]?,
+        to: Vec::with_capacity(alloc, BYTES)?,
     };
-    bench.measure("a byte copied", BYTES as u64, BYTES as u64, &mut copies)
+    let measured = least(rt, &mut copies)?;
+    Ok(Floor {
+        name: COPY,
+        each: each(measured.nanoseconds, BYTES as u64),
+    })
 }

@@ -1,15 +1,21 @@
-//! Measures what recording, collecting and reading cost, beside floors measured in the same run.
+//! Measures what recording, collecting, checking and replaying cost, beside floors measured in the same run.
 //!
-//! Without words it does nothing. `metric_bench all` measures everything, `record`, `collect` and `read` a part.
-//! `--series`, `--attributes` and `--events` set sizes. Each time is the least of several repetitions, in nanoseconds.
+//! Without words it does nothing. `metric_bench all` measures everything; `record`, `histogram`, `collect`, `threads`,
+//! `check`, `replay` and `memory` a part. `--series`, `--attributes`, `--threads` and `--events` set sizes. Each figure is
+//! the least of several repetitions, and names its unit.
 #![tactic(auto)]
 
 mod bench;
+mod cells;
+mod checking;
 mod collecting;
 mod floors;
+mod histograms;
 mod inputs;
+mod memory;
 mod reading;
 mod recording;
+mod replaying;
 mod words;
 mod work;
 
@@ -17,6 +23,7 @@ use crate::bench::Bench;
 use crate::words::{Part, Words};
 use std::alloc::Global;
 use std::process::ExitCode;
+use std::rt::Files;
 use std::sync::Wait;
 use std::time::Clock;
 
@@ -37,22 +44,31 @@ fn main(rt: HostRuntime) -> anyhow::Result<ExitCode> {
 }
 
 // The table of a part.
-fn measured<R: Wait + Clock>(
+fn measured<R: Files + AllocGlobal + Wait + Clock>(
     rt: &R,
     alloc: Global,
     part: Part,
     words: &Words,
 ) -> anyhow::Result<String> {
     let mut bench = Bench::new(rt, alloc);
-    floors::measure(&mut bench, words.events)?;
+    if part.covers(Part::Memory) {
+        memory::measure(&mut bench)?;
+    }
     if part.covers(Part::Record) {
         recording::measure(&mut bench, words)?;
+    }
+    if part.covers(Part::Histogram) {
+        histograms::measure(&mut bench, words.events)?;
     }
     if part.covers(Part::Collect) {
         collecting::measure(&mut bench, words)?;
     }
-    if part.covers(Part::Read) {
+    if part.covers(Part::Check) {
         reading::measure(&mut bench)?;
+        checking::measure(&mut bench)?;
+    }
+    if part.covers(Part::Replay) {
+        replaying::measure(&mut bench)?;
     }
     bench.finish()
 }

@@ -1,5 +1,6 @@
 //! What it costs to read a catalogue and a config, and to find their streams.
-use crate::bench::Bench;
+use crate::bench::{Bench, Row, Unit};
+use crate::floors::{Floor, copy};
 use crate::inputs::{counters, views};
 use crate::work::Work;
 use metric_catalogue::Catalogue;
@@ -8,13 +9,11 @@ use metric_views::Config;
 use std::alloc::Global;
 use std::time::Clock;
 
-// The numbers of instruments and of views.
-const INSTRUMENTS: &[u32] = &[1, 16, 128, 512];
+/// The sizes of a start: how many instruments and views there are.
+pub(crate) const SIZES: &[(u32, u32)] = &[(1, 1), (16, 16), (128, 64), (512, 256)];
 
-const VIEWS: &[u32] = &[1, 16, 256];
-
-// How many keys each instrument has.
-const KEYS: u32 = 4;
+/// How many keys each instrument has.
+pub(crate) const KEYS: u32 = 4;
 
 // The reading of a catalogue.
 #[derive(Drop)]
@@ -61,58 +60,75 @@ impl Work for Resolving {
 
 /// Measures readings of catalogues and configs, and the making of their streams.
 pub(crate) fn measure<R: Clock>(bench: &mut Bench<'_, R>) -> anyhow::Result<()> {
-    bench.begin("a byte of a catalogue", "bytes")?;
-    for count in INSTRUMENTS {
-        measure_catalogue(bench, *count)?;
+    let floor = copy(bench.rt, bench.alloc)?;
+    bench.begin("files", "bytes")?;
+    for (instruments, views) in SIZES {
+        measure_catalogue(bench, *instruments, floor)?;
+        measure_config(bench, *views, floor)?;
     }
-    bench.begin("a byte of a config", "bytes")?;
-    for count in VIEWS {
-        measure_config(bench, *count)?;
-    }
-    bench.begin("an instrument without views", "instruments")?;
-    for count in INSTRUMENTS {
-        measure_streams(bench, *count, 0, *count)?;
-    }
-    bench.begin("a view of 512 instruments", "views")?;
-    for count in VIEWS {
-        measure_streams(bench, 512, *count, *count)?;
+    bench.begin("streams", "pairs")?;
+    for (instruments, views) in SIZES {
+        measure_streams(bench, *instruments, *views, floor)?;
     }
     Ok(())
 }
 
-fn measure_catalogue<R: Clock>(bench: &mut Bench<'_, R>, count: u32) -> anyhow::Result<()> {
+fn measure_catalogue<R: Clock>(
+    bench: &mut Bench<'_, R>,
+    count: u32,
+    floor: Floor,
+) -> anyhow::Result<()> {
     let text = counters(bench.alloc, count, KEYS)?;
-    let bytes = text.len() as u64;
+    let row = row_of("a catalogue read", text.len() as u64, Unit::Speed, floor);
     let mut reading = CatalogueReading {
         alloc: bench.alloc,
         text,
     };
-    bench.measure("Catalogue::read", bytes, bytes, &mut reading)
+    bench.measure(row, &mut reading)
 }
 
-fn measure_config<R: Clock>(bench: &mut Bench<'_, R>, count: u32) -> anyhow::Result<()> {
+fn measure_config<R: Clock>(
+    bench: &mut Bench<'_, R>,
+    count: u32,
+    floor: Floor,
+) -> anyhow::Result<()> {
     let text = views(bench.alloc, count)?;
-    let bytes = text.len() as u64;
+    let row = row_of("a config read", text.len() as u64, Unit::Speed, floor);
     let mut reading = ConfigReading {
         alloc: bench.alloc,
         text,
     };
-    bench.measure("Config::read", bytes, bytes, &mut reading)
+    bench.measure(row, &mut reading)
 }
 
-// The streams of so many instruments and views, of which `size` counts the ones that are measured.
+/// The row of a work with as many operations as its size.
+pub(crate) fn row_of(name: &str, size: u64, unit: Unit, floor: Floor) -> Row<'_> {
+    Row {
+        name,
+        size,
+        operations: size,
+        unit,
+        floor,
+    }
+}
+
+// The streams of so many instruments and views.
 fn measure_streams<R: Clock>(
     bench: &mut Bench<'_, R>,
     instruments: u32,
     count: u32,
-    size: u32,
+    floor: Floor,
 ) -> anyhow::Result<()> {
     let catalogue = counters(bench.alloc, instruments, KEYS)?;
     let config = views(bench.alloc, count)?;
+    let bytes = catalogue.len() as u64;
+    let pairs = u64::from(instruments) * u64::from(count);
     let mut resolving = Resolving {
         alloc: bench.alloc,
         catalogue: Catalogue::read(bench.alloc, &catalogue)?,
         config: Config::read(bench.alloc, &config)?,
     };
-    bench.measure("resolve", u64::from(size), u64::from(size), &mut resolving)
+    let floor = floor.shared(bytes, pairs);
+    let row = row_of("resolved", pairs, Unit::Nanoseconds("pair"), floor);
+    bench.measure(row, &mut resolving)
 }

@@ -1,22 +1,29 @@
-//! What a recording costs: the set key of its attributes, and its place in a table of series.
-use crate::bench::Bench;
-use crate::inputs::{KINDS, counters, sets, streams_of_kinds};
+//! What a recording costs: the set key of its attributes, its place in a table of series, and both in a core.
+use crate::bench::{Bench, Row, Unit};
+use crate::cells::{Instrument, Recording};
+use crate::floors::{Floor, look_up};
+use crate::inputs::{KINDS, attributes, counters, kind_name, kinds_plan, readers, set_of, trial};
 use crate::words::Words;
 use crate::work::Work;
-use metric_catalogue::{Attr, Catalogue, SetKey};
-use metric_names::ValueRef;
-use metric_series::SeriesTable;
-use metric_views::Stream;
+use metric_base::{Items, Text};
+use metric_catalogue::{Attr, Catalogue, OwnedAttr};
+use metric_core::{Core, Event};
+use metric_marked::Marked;
+use metric_names::{AttrValue, ValueRef};
+use metric_plan::Plan;
 use std::alloc::{AllocError, Global};
 use std::time::Clock;
 
-/// How many series a table has, where no word says it.
+/// How many series there are, where no word says it.
 pub(crate) const SERIES: &[u32] = &[1, 1_000, 100_000];
 
-// The names of the keys of a catalogue of counters.
-const KEYS: &[&str] = &[
-    "key.0", "key.1", "key.2", "key.3", "key.4", "key.5", "key.6", "key.7",
-];
+/// How many attributes a recording has, where no word says it.
+pub(crate) const ATTRIBUTES: &[u32] = &[0, 1, 3, 8];
+
+/// How many streams an instrument has.
+const STREAMS: &[u32] = &[1, 3];
+
+const RECORDING: Unit = Unit::Nanoseconds("recording");
 
 // The set key of some attributes.
 #[derive(Drop)]
@@ -37,68 +44,99 @@ impl Work for Encoding<'_> {
     }
 }
 
-// Recordings into a table that holds their series.
+// Recordings as events of a core.
+#[derive(Drop)]
+struct Events {
+    alloc: Global,
+    core: Core<Marked>,
+    events: Vec<Event>,
+}
+
+impl Work for Events {
+    fn run(&mut self) -> anyhow::Result<u64> {
+        Ok(self.core.run(self.alloc, &self.events)?.len() as u64)
+    }
+}
+
+// Recordings of series that are held.
 #[derive(Drop)]
 struct Held {
-    table: SeriesTable,
-    sets: Vec<SetKey>,
+    instrument: Instrument,
     rounds: u32,
 }
 
 impl Work for Held {
     fn run(&mut self) -> anyhow::Result<u64> {
-        let mut added: u64 = 0;
+        let mut accepted: u64 = 0;
         for _ in 0..self.rounds {
-            added = added.wrapping_add(add_all(&mut self.table, &self.sets));
+            accepted = accepted.wrapping_add(self.instrument.record_all());
         }
-        Ok(added)
+        Ok(accepted)
     }
 }
 
-// Recordings of new series into an empty table.
+// Recordings that are each the first of their series.
 #[derive(Drop)]
 struct New<'a> {
     alloc: Global,
-    stream: &'a Stream,
-    table: SeriesTable,
-    sets: Vec<SetKey>,
+    plan: &'a Plan,
+    number: u32,
+    count: u32,
+    instrument: Instrument,
 }
 
 impl Work for New<'_> {
     fn prepare(&mut self) -> anyhow::Result<()> {
-        self.table = SeriesTable::new(self.alloc, self.stream)?;
+        let recordings = recordings(self.alloc, self.count)?;
+        self.instrument = Instrument::new(self.alloc, self.plan, self.number, recordings)?;
         Ok(())
     }
 
     fn run(&mut self) -> anyhow::Result<u64> {
-        Ok(add_all(&mut self.table, &self.sets))
+        Ok(self.instrument.record_all())
     }
 }
 
-/// A recording of 1 for each set key. How many were accepted.
-pub(crate) fn add_all(table: &mut SeriesTable, sets: &[SetKey]) -> u64 {
-    let mut added: u64 = 0;
-    for set in sets {
-        if table.add(*set, 1).is_ok() {
-            added = added.wrapping_add(1);
-        }
+/// A recording for each of so many series, with different values.
+pub(crate) fn recordings(alloc: Global, count: u32) -> Result<Vec<Recording>, AllocError> {
+    let mut recordings = Vec::with_capacity(alloc, count as usize)?;
+    for number in 0..count {
+        let set = set_of(number);
+        let value = i64::from(number.wrapping_mul(7919) % 10_000);
+        recordings.push(Recording { set, value })?;
     }
-    added
+    Ok(recordings)
 }
 
 /// Measures set keys and recordings.
 pub(crate) fn measure<R: Clock>(bench: &mut Bench<'_, R>, words: &Words) -> anyhow::Result<()> {
-    bench.begin("set keys", "attributes")?;
-    for count in words.attributes_or(bench.alloc, &[0, 1, 3, 8])? {
-        measure_encoding(bench, count, words.events)?;
+    measure_attributes(bench, words)?;
+    for count in words.series_or(bench.alloc, SERIES)? {
+        measure_series(bench, count, words.events)?;
     }
-    let streams = streams_of_kinds(bench.alloc)?;
-    for (stream, name) in streams.list().iter().zip(KINDS) {
-        bench.begin(name, "series")?;
-        for count in words.series_or(bench.alloc, SERIES)? {
-            measure_new(bench, stream, count)?;
-            measure_held(bench, stream, count, words.events)?;
-        }
+    Ok(())
+}
+
+// Set keys of attributes, and events of a core with them.
+fn measure_attributes<R: Clock>(bench: &mut Bench<'_, R>, words: &Words) -> anyhow::Result<()> {
+    let one = look_up(bench.rt, bench.alloc, 1)?;
+    bench.begin("attributes at the call", "attributes")?;
+    for count in words.attributes_or(bench.alloc, ATTRIBUTES)? {
+        measure_encoding(bench, count, words.events, one)?;
+        measure_events(bench, count, words.events, one)?;
+    }
+    Ok(())
+}
+
+// So many series, of one stream and of three.
+fn measure_series<R: Clock>(
+    bench: &mut Bench<'_, R>,
+    count: u32,
+    events: u32,
+) -> anyhow::Result<()> {
+    let floor = look_up(bench.rt, bench.alloc, count)?;
+    for streams in STREAMS {
+        measure_streams(bench, count, *streams, events, floor)?;
     }
     Ok(())
 }
@@ -107,6 +145,7 @@ fn measure_encoding<R: Clock>(
     bench: &mut Bench<'_, R>,
     count: u32,
     events: u32,
+    floor: Floor,
 ) -> anyhow::Result<()> {
     let text = counters(bench.alloc, 1, count)?;
     let mut encoding = Encoding {
@@ -114,50 +153,162 @@ fn measure_encoding<R: Clock>(
         attributes: attributes(bench.alloc, count)?,
         events,
     };
-    bench.measure("encode", u64::from(count), u64::from(events), &mut encoding)
+    let row = Row {
+        name: "set key of attributes",
+        size: u64::from(count),
+        operations: u64::from(events),
+        unit: Unit::Nanoseconds("set key"),
+        floor,
+    };
+    bench.measure(row, &mut encoding)
 }
 
-// So many attributes of a catalogue of counters.
-fn attributes(alloc: Global, count: u32) -> Result<Vec<Attr<'static>>, AllocError> {
-    let mut attributes = Vec::new(alloc);
-    for key in KEYS.iter().take(count as usize) {
-        attributes.push(Attr {
-            key: *key,
-            value: ValueRef::Text("value"),
+fn measure_events<R: Clock>(
+    bench: &mut Bench<'_, R>,
+    count: u32,
+    events: u32,
+    floor: Floor,
+) -> anyhow::Result<()> {
+    let catalogue = counters(bench.alloc, 1, count)?;
+    let plan = trial(bench.alloc, &catalogue, &readers(bench.alloc, 1)?)?;
+    let Ok(core) = Core::new(bench.alloc, plan, 0) else {
+        anyhow::bail!("memory");
+    };
+    let mut works = Events {
+        alloc: bench.alloc,
+        core,
+        events: record_events(bench.alloc, count, events)?,
+    };
+    let row = Row {
+        name: "an event of a core",
+        size: u64::from(count),
+        operations: u64::from(events),
+        unit: RECORDING,
+        floor,
+    };
+    bench.measure(row, &mut works)
+}
+
+// So many recordings with so many attributes.
+fn record_events(alloc: Global, attributes: u32, count: u32) -> Result<Vec<Event>, AllocError> {
+    let mut events = Vec::with_capacity(alloc, count as usize)?;
+    for _ in 0..count {
+        events.push(Event::Record {
+            recorder: 0,
+            instrument: 0,
+            attrs: owned(alloc, attributes)?,
+            value: 1,
         })?;
     }
-    Ok(attributes)
+    Ok(events)
+}
+
+// So many attributes, owned.
+fn owned(alloc: Global, count: u32) -> Result<Items<OwnedAttr>, AllocError> {
+    let mut all = Items::new(alloc);
+    for attribute in &attributes(alloc, count)? {
+        all.push(OwnedAttr {
+            key: Text::new(alloc, attribute.key)?,
+            value: owned_value(alloc, attribute.value)?,
+        })?;
+    }
+    Ok(all)
+}
+
+fn owned_value(alloc: Global, value: ValueRef<'_>) -> Result<AttrValue, AllocError> {
+    match value {
+        ValueRef::Text(text) => Ok(AttrValue::Text(Text::new(alloc, text)?)),
+        ValueRef::Whole(number) => Ok(AttrValue::Whole(number)),
+        ValueRef::Flag(flag) => Ok(AttrValue::Flag(flag)),
+    }
+}
+
+// Instruments with so many streams.
+fn measure_streams<R: Clock>(
+    bench: &mut Bench<'_, R>,
+    count: u32,
+    streams: u32,
+    events: u32,
+    floor: Floor,
+) -> anyhow::Result<()> {
+    begin_streams(bench, streams)?;
+    let plan = kinds_plan(bench.alloc, streams)?;
+    measure_kinds(bench, &plan, count, events, floor.many(u64::from(streams)))
+}
+
+fn begin_streams<R: Clock>(bench: &mut Bench<'_, R>, streams: u32) -> anyhow::Result<()> {
+    let plural = if streams == 1 { "" } else { "s" };
+    let title = format!(in bench.alloc; "set key in hand, {streams} stream{plural}")?;
+    bench.begin(&title, "series")
+}
+
+// New and held series of an instrument of each kind.
+fn measure_kinds<R: Clock>(
+    bench: &mut Bench<'_, R>,
+    plan: &Plan,
+    count: u32,
+    events: u32,
+    floor: Floor,
+) -> anyhow::Result<()> {
+    for number in 0..KINDS {
+        measure_new(bench, plan, number, count, floor)?;
+        measure_held(bench, plan, number, count, events, floor)?;
+    }
+    Ok(())
 }
 
 // Recordings that are each the first of their series.
 fn measure_new<R: Clock>(
     bench: &mut Bench<'_, R>,
-    stream: &Stream,
+    plan: &Plan,
+    number: u32,
     count: u32,
+    floor: Floor,
 ) -> anyhow::Result<()> {
+    let recordings = recordings(bench.alloc, count)?;
     let mut new = New {
         alloc: bench.alloc,
-        stream,
-        table: SeriesTable::new(bench.alloc, stream)?,
-        sets: sets(bench.alloc, count)?,
+        plan,
+        number,
+        count,
+        instrument: Instrument::new(bench.alloc, plan, number, recordings)?,
     };
-    bench.measure("add, new", u64::from(count), u64::from(count), &mut new)
+    let kind = kind_name(number);
+    let name = format!(in bench.alloc; "{kind}, new series")?;
+    let row = Row {
+        name: &name,
+        size: u64::from(count),
+        operations: u64::from(count),
+        unit: RECORDING,
+        floor,
+    };
+    bench.measure(row, &mut new)
 }
 
 // About as many recordings as there are events, whose series are held.
 fn measure_held<R: Clock>(
     bench: &mut Bench<'_, R>,
-    stream: &Stream,
+    plan: &Plan,
+    number: u32,
     count: u32,
     events: u32,
+    floor: Floor,
 ) -> anyhow::Result<()> {
     let rounds = (events / count.max(1)).max(1);
-    let operations = u64::from(rounds) * u64::from(count);
+    let recordings = recordings(bench.alloc, count)?;
     let mut held = Held {
-        table: SeriesTable::new(bench.alloc, stream)?,
-        sets: sets(bench.alloc, count)?,
+        instrument: Instrument::new(bench.alloc, plan, number, recordings)?,
         rounds,
     };
-    add_all(&mut held.table, &held.sets);
-    bench.measure("add, held", u64::from(count), operations, &mut held)
+    held.instrument.record_all();
+    let kind = kind_name(number);
+    let name = format!(in bench.alloc; "{kind}, held")?;
+    let row = Row {
+        name: &name,
+        size: u64::from(count),
+        operations: u64::from(rounds) * u64::from(count),
+        unit: RECORDING,
+        floor,
+    };
+    bench.measure(row, &mut held)
 }

@@ -1,4 +1,5 @@
 //! The words of the command line.
+use crate::inputs::MOST_SETS;
 use clap::{Arg, ArgAction, ArgMatches, Command, Error, value_parser};
 use std::alloc::{AllocError, Global};
 
@@ -7,12 +8,20 @@ use std::alloc::{AllocError, Global};
 pub(crate) enum Part {
     /// Everything.
     All,
-    /// Set keys of attributes, and recordings into tables of series.
+    /// Set keys of attributes, and recordings.
     Record,
-    /// Points of tables of series.
+    /// The buckets of histograms.
+    Histogram,
+    /// Collections.
     Collect,
-    /// Catalogues and configs read, and their streams.
-    Read,
+    /// Recordings of several threads.
+    Threads,
+    /// Catalogues and configs read, their streams, and certificates made and checked.
+    Check,
+    /// Scripts replayed.
+    Replay,
+    /// The memory of series.
+    Memory,
 }
 
 impl Part {
@@ -27,10 +36,12 @@ impl Part {
 pub(crate) struct Words {
     /// What is measured, or nothing.
     pub part: Option<Part>,
-    /// How many series a table has, where one number is asked for.
+    /// How many series there are, where one number is asked for.
     pub series: Option<u32>,
     /// How many attributes a recording has, where one number is asked for.
     pub attributes: Option<u32>,
+    /// How many threads record, where one number is asked for.
+    pub threads: Option<u32>,
     /// How often an operation is repeated for one measurement.
     pub events: u32,
 }
@@ -49,6 +60,11 @@ impl Words {
     ) -> Result<Vec<u32>, AllocError> {
         sizes_of(alloc, self.attributes, sizes)
     }
+
+    /// The numbers of threads that are measured: the one that is asked for, or these.
+    pub(crate) fn threads_or(&self, alloc: Global, sizes: &[u32]) -> Result<Vec<u32>, AllocError> {
+        sizes_of(alloc, self.threads, sizes)
+    }
 }
 
 fn sizes_of(alloc: Global, one: Option<u32>, others: &[u32]) -> Result<Vec<u32>, AllocError> {
@@ -57,6 +73,18 @@ fn sizes_of(alloc: Global, one: Option<u32>, others: &[u32]) -> Result<Vec<u32>,
         None => others.to_vec(alloc),
     }
 }
+
+// The parts, as words.
+const PARTS: &[&str] = &[
+    "all",
+    "record",
+    "histogram",
+    "collect",
+    "threads",
+    "check",
+    "replay",
+    "memory",
+];
 
 // How often an operation is repeated, where no word says it.
 const EVENTS: u32 = 100_000;
@@ -68,6 +96,7 @@ pub(crate) fn words_of(alloc: Global, owned: &[String]) -> Result<Words, Error> 
         part: part_of(&matches),
         series: matches.get_one::<u32>("series"),
         attributes: matches.get_one::<u32>("attributes"),
+        threads: matches.get_one::<u32>("threads"),
         events: matches.get_one::<u32>("events").unwrap_or(EVENTS),
     })
 }
@@ -75,25 +104,31 @@ pub(crate) fn words_of(alloc: Global, owned: &[String]) -> Result<Words, Error> 
 fn command<'a>(alloc: Global) -> Result<Command<'a>, Error> {
     let part = Arg::new(alloc, "part")
         .action(ArgAction::Set)
-        .value_parser(["all", "record", "collect", "read"].as_slice());
-    let series = Arg::new(alloc, "series")
-        .long("series")
-        .value_parser(value_parser!(u32).range(1..1_000_001));
-    let attributes = Arg::new(alloc, "attributes")
-        .long("attributes")
-        .value_parser(value_parser!(u32).range(0..9));
-    let events = Arg::new(alloc, "events")
-        .long("events")
-        .value_parser(value_parser!(u32).range(1..100_000_001));
+        .value_parser(PARTS);
     let command = Command::new(alloc, "metric_bench").arg(part)?;
-    Ok(command.arg(series)?.arg(attributes)?.arg(events)?)
+    let series = size(alloc, "series", 1, MOST_SETS);
+    let attributes = size(alloc, "attributes", 0, 8);
+    let threads = size(alloc, "threads", 1, 64);
+    let events = size(alloc, "events", 1, 100_000_000);
+    let command = command.arg(series)?.arg(attributes)?;
+    Ok(command.arg(threads)?.arg(events)?)
+}
+
+// A word with a number in a range.
+fn size<'a>(alloc: Global, name: &'a str, least: u32, most: u32) -> Arg<'a> {
+    let range = value_parser!(u32).range(i64::from(least)..i64::from(most).saturating_add(1));
+    Arg::new(alloc, name).long(name).value_parser(range)
 }
 
 fn part_of(matches: &ArgMatches<'_>) -> Option<Part> {
     match matches.get_str("part")? {
         "record" => Some(Part::Record),
+        "histogram" => Some(Part::Histogram),
         "collect" => Some(Part::Collect),
-        "read" => Some(Part::Read),
+        "threads" => Some(Part::Threads),
+        "check" => Some(Part::Check),
+        "replay" => Some(Part::Replay),
+        "memory" => Some(Part::Memory),
         _ => Some(Part::All),
     }
 }

@@ -1,8 +1,13 @@
 //! Work that is measured.
 use std::time::{Clock, Instant};
 
-// How often each work is done. The least of the times counts.
-const REPETITIONS: u32 = 7;
+// How often each work is done, at least and at most. The least of the times counts.
+const AT_LEAST: u32 = 3;
+
+const AT_MOST: u32 = 7;
+
+// After how many nanoseconds of work it is not done once more than at least.
+const ENOUGH: u64 = 600_000_000;
 
 /// Work that is measured.
 pub(crate) trait Work {
@@ -28,12 +33,18 @@ pub(crate) struct Measured {
 pub(crate) fn least<R: Clock, W: Work>(rt: &R, work: &mut W) -> anyhow::Result<Measured> {
     let mut least = u64::MAX;
     let mut number: u64 = 0;
-    for _ in 0..REPETITIONS {
+    let mut spent: u64 = 0;
+    for repetition in 0..AT_MOST {
+        if repetition >= AT_LEAST && spent > ENOUGH {
+            break;
+        }
         work.prepare()?;
         let start = Instant::now(rt)?;
         let one = work.run()?;
         let took = start.elapsed(rt)?.as_nanos();
-        least = least.min(u64::try_from(took).unwrap_or(u64::MAX));
+        let took = u64::try_from(took).unwrap_or(u64::MAX);
+        spent = spent.saturating_add(took);
+        least = least.min(took);
         number = number.wrapping_add(one);
     }
     Ok(Measured {

@@ -1,0 +1,128 @@
+//! Recordings into the cell of an instrument, with their set keys in hand.
+ghost use Rattle.std.specs.Prelude.{◌≡◌, ◌<◌, ◌==◌, true, length, All, IsTrue};
+ghost use Rattle.std.specs.List.{list_all};
+ghost use Rattle.metric_history.specs.Facts.{in_bounds, is_entry, is_full_set};
+
+use metric_catalogue::SetKey;
+use metric_core::Cell;
+use metric_history::{Facts, KeyFacts};
+use metric_marked::Marked;
+use metric_plan::Plan;
+use std::alloc::Global;
+
+/// A recording with its set key.
+#[derive(Clone, Copy, Drop)]
+pub(crate) struct Recording {
+    pub set: SetKey,
+    pub value: i64,
+}
+
+/// The cell of an instrument, and recordings that it may take.
+#[derive(Drop)]
+pub(crate) struct Instrument {
+    cell: Cell<Marked>,
+    recordings: Vec<Recording>,
+    ghost recorder: { 0 < length cell.facts.budgets },
+    ghost sets: { All (λ r. is_full_set cell.facts.keys r.set ≡ true) recordings.items },
+    ghost values: { All (λ r. in_bounds cell.facts r.value ≡ true) recordings.items },
+}
+
+impl Instrument {
+    /// The instrument of this number without recordings.
+    pub(crate) fn new(
+        alloc: Global,
+        plan: &Plan,
+        instrument: u32,
+        recordings: Vec<Recording>,
+    ) -> anyhow::Result<Instrument> {
+        if instrument as usize >= plan.all_facts().len() {
+            anyhow::bail!("no such instrument");
+        }
+        let cell = Cell::new(alloc, plan, instrument, 0)?;
+        if cell.facts().budgets.len() == 0 || !are_sound(cell.facts(), &recordings) {
+            anyhow::bail!("a recording that the instrument refuses");
+        }
+        Ok(Instrument { cell, recordings })
+    }
+
+    /// Makes each recording once. How many were accepted.
+    pub(crate) fn record_all(&mut self) -> u64 {
+        record_all(&mut self.cell, &self.recordings)
+    }
+
+    /// How many points the reader's streams have.
+    pub(crate) fn points(&mut self, alloc: Global, reader: u32) -> anyhow::Result<u64> {
+        if reader as usize >= self.cell.facts().delta.len() {
+            return Ok(0);
+        }
+        let batch = self.cell.collect(alloc, reader, 0)?;
+        let mut points: u64 = 0;
+        for stream in batch.streams.as_slice() {
+            points = points.wrapping_add(stream.points.len() as u64);
+        }
+        Ok(points)
+    }
+}
+
+// Makes each recording once by the first recorder.
+fn record_all(cell: &mut Cell<Marked>, recordings: &[Recording]) -> u64
+    requires recorder { 0 < length cell.old.facts.budgets }
+    requires sets { All (λ r. is_full_set cell.old.facts.keys r.set ≡ true) recordings.now }
+    requires values { All (λ r. in_bounds cell.old.facts r.value ≡ true) recordings.now }
+    ensures { cell.new.facts ≡ cell.old.facts }
+{
+    let mut accepted: u64 = 0;
+    for recording in recordings {
+        if cell.record(0, recording.set, recording.value).is_ok() {
+            accepted = accepted.wrapping_add(1);
+        }
+    }
+    accepted
+}
+
+// Whether each recording has a full set key and a value in range.
+fn are_sound(facts: &Facts, recordings: &[Recording]) -> bool
+    ensures sets { IsTrue result →
+        All (λ r. is_full_set facts.now.keys r.set ≡ true) recordings.now }
+    ensures values { IsTrue result → All (λ r. in_bounds facts.now r.value ≡ true) recordings.now }
+{
+    let keys = facts.keys.as_slice();
+    recordings
+        .iter()
+        .all(|recording| is_full(keys, &recording.set))
+        && recordings
+            .iter()
+            .all(|recording| facts.admits(&recording.value))
+}
+
+fn is_entry(key: &KeyFacts, entry: u16) -> bool
+    ensures { result ≡ is_entry key.now entry }
+{
+    if entry == 0 {
+        key.optional
+    } else {
+        entry <= key.values
+    }
+}
+
+fn are_zero(entries: &[u16]) -> bool
+    ensures { result ≡ list_all (λ entry. entry == 0) entries.now }
+{
+    match entries.split_first() {
+        None => true,
+        Some((entry, rest)) => *entry == 0 && are_zero(rest),
+    }
+}
+
+// Whether a set key has for each key an entry, and 0 after them.
+fn is_full(keys: &[KeyFacts], set: &[u16]) -> bool
+    ensures { result ≡ is_full_set keys.now set.now }
+{
+    let Some((key, keys)) = keys.split_first() else {
+        return are_zero(set);
+    };
+    let Some((entry, set)) = set.split_first() else {
+        return false;
+    };
+    is_entry(key, *entry) && is_full(keys, set)
+}

@@ -1,0 +1,133 @@
+//! What it costs to make certificates and to check them.
+use crate::bench::{Bench, Unit};
+use crate::floors::{Floor, copy};
+use crate::inputs::{counters, views};
+use crate::reading::{KEYS, SIZES, row_of};
+use crate::work::Work;
+use metric_catalogue::Catalogue;
+use metric_cert::{Certificate, make};
+use metric_check::{Plan, check};
+use metric_views::Config;
+use std::alloc::Global;
+use std::time::Clock;
+
+// The making of a certificate.
+#[derive(Drop)]
+struct Making {
+    alloc: Global,
+    catalogue: Catalogue,
+    config: Config,
+}
+
+impl Work for Making {
+    fn run(&mut self) -> anyhow::Result<u64> {
+        let certificate = make(self.alloc, &self.catalogue, &self.config)?;
+        Ok(certificate.streams.len() as u64)
+    }
+}
+
+// The reading of a certificate.
+#[derive(Drop)]
+struct CertificateReading {
+    alloc: Global,
+    text: String,
+}
+
+impl Work for CertificateReading {
+    fn run(&mut self) -> anyhow::Result<u64> {
+        let certificate = Certificate::read(self.alloc, &self.text)?;
+        Ok(certificate.streams.len() as u64)
+    }
+}
+
+// The check of a certificate, which gives a plan.
+#[derive(Drop)]
+struct Checking {
+    alloc: Global,
+    catalogue: String,
+    config: String,
+    certificate: Certificate,
+    input: Option<(Catalogue, Config)>,
+    plan: Option<Plan>,
+}
+
+impl Work for Checking {
+    fn prepare(&mut self) -> anyhow::Result<()> {
+        let catalogue = Catalogue::read(self.alloc, &self.catalogue)?;
+        let config = Config::read(self.alloc, &self.config)?;
+        self.input = Some((catalogue, config));
+        self.plan = None;
+        Ok(())
+    }
+
+    fn run(&mut self) -> anyhow::Result<u64> {
+        let Some((catalogue, config)) = self.input.take() else {
+            anyhow::bail!("nothing to check");
+        };
+        match check(self.alloc, catalogue, config, &self.certificate) {
+            Ok(plan) => {
+                let streams = plan.streams().len() as u64;
+                self.plan = Some(plan);
+                Ok(streams)
+            }
+            Err((_, _, fault)) => Err(fault.into()),
+        }
+    }
+}
+
+/// Measures certificates.
+pub(crate) fn measure<R: Clock>(bench: &mut Bench<'_, R>) -> anyhow::Result<()> {
+    let floor = copy(bench.rt, bench.alloc)?;
+    bench.begin("certificates", "pairs")?;
+    for (instruments, views) in SIZES {
+        measure_certificate(bench, *instruments, *views, floor)?;
+    }
+    Ok(())
+}
+
+// A certificate about so many instruments and views.
+fn measure_certificate<R: Clock>(
+    bench: &mut Bench<'_, R>,
+    instruments: u32,
+    count: u32,
+    floor: Floor,
+) -> anyhow::Result<()> {
+    let alloc = bench.alloc;
+    let catalogue = counters(alloc, instruments, KEYS)?;
+    let config = views(alloc, count)?;
+    let pairs = u64::from(instruments) * u64::from(count);
+    let mut making = Making {
+        alloc,
+        catalogue: Catalogue::read(alloc, &catalogue)?,
+        config: Config::read(alloc, &config)?,
+    };
+    let certificate = make(alloc, &making.catalogue, &making.config)?;
+    let text = certificate.write(alloc)?;
+    let bytes = text.len() as u64;
+    let a_pair = Unit::Nanoseconds("pair");
+    let beside = floor.shared(bytes, pairs);
+    bench.measure(row_of("made", pairs, a_pair, beside), &mut making)?;
+    measure_check(bench, catalogue, config, certificate, pairs, beside)?;
+    let row = row_of("read, by its bytes", bytes, Unit::Speed, floor);
+    bench.measure(row, &mut CertificateReading { alloc, text })
+}
+
+fn measure_check<R: Clock>(
+    bench: &mut Bench<'_, R>,
+    catalogue: String,
+    config: String,
+    certificate: Certificate,
+    pairs: u64,
+    floor: Floor,
+) -> anyhow::Result<()> {
+    let mut checking = Checking {
+        alloc: bench.alloc,
+        catalogue,
+        config,
+        certificate,
+        input: None,
+        plan: None,
+    };
+    let row = row_of("checked", pairs, Unit::Nanoseconds("pair"), floor);
+    bench.measure(row, &mut checking)
+}

@@ -1,0 +1,222 @@
+//! The answers of seats in one thread beside the replies of a core.
+ghost use Rattle.std.specs.Prelude.{IsTrue};
+
+use crate::samples::{BOTH, HITS, MAIN, certified};
+use crate::seats::{Seats, seated};
+use crate::texts::write_reply;
+use metric_book::{Book, JournalBook};
+use metric_core::Core;
+use metric_marked::Marked;
+use metric_parts::{Needs, parts_of};
+use metric_plan::Plan;
+use metric_script::{ScriptEvents, events_of};
+use metric_text::lines;
+use std::alloc::Global;
+use std::sync::Wait;
+use std::test::Fail;
+
+const SCRIPT: Needs = Needs {
+    certificate: false,
+    script: true,
+};
+
+fn script_of(alloc: Global, script: &str) -> Result<ScriptEvents, Fail> {
+    let input = format!(in alloc; "%% catalogue\n%% config\n%% script\n{script}")?;
+    let lines = lines(alloc, input.as_bytes())?;
+    let parts = parts_of(alloc, &lines, SCRIPT)?;
+    match &parts.script {
+        Some(script) => Ok(events_of(alloc, script)?),
+        None => Err(Fail::from("no script")),
+    }
+}
+
+// A line for the reply of a core to each event.
+fn of_core<B: Book>(alloc: Global, plan: Plan, script: &ScriptEvents) -> Result<String, Fail> {
+    let Ok(mut core) = Core::<B>::new(alloc, plan, script.start) else {
+        return Err(Fail::from("memory"));
+    };
+    let mut out = String::new(alloc);
+    for reply in core.run(alloc, script.events.as_slice())? {
+        write_reply(&mut out, &reply)?;
+    }
+    Ok(out)
+}
+
+// A line for the answer of a seat or the provider to each event.
+fn of_seats<R: Wait, B: Book>(
+    rt: &R,
+    alloc: Global,
+    plan: Plan,
+    script: &ScriptEvents,
+) -> Result<String, Fail>
+    requires { IsTrue plan.is_certified }
+{
+    let mut seats: Seats<B> = seated(rt, alloc, plan, script.start, 1)?;
+    seats.told(rt, alloc, script.events.as_slice())
+}
+
+// The answers of a core and those of seats, each over its own plan.
+fn both<R: Wait, B: Book>(rt: &R, alloc: Global, sample: &Sample) -> Result<[String; 2], Fail> {
+    let script = script_of(alloc, sample.script)?;
+    let plan = certified(alloc, sample.catalogue, sample.config)?;
+    let core = of_core::<B>(alloc, plan, &script)?;
+    let plan = certified(alloc, sample.catalogue, sample.config)?;
+    Ok([core, of_seats::<R, B>(rt, alloc, plan, &script)?])
+}
+
+struct Sample {
+    catalogue: &'static str,
+    config: &'static str,
+    script: &'static str,
+    answers: &'static str,
+}
+
+const ROUTES: &str = "format = 1
+[[meter]]
+name = 'm'
+[[meter.instrument]]
+name = 'hits'
+kind = 'counter'
+range = [0, 100]
+[[meter.instrument.key]]
+name = 'route'
+values = ['/a', '/b']
+[[recorder]]
+name = 'r'
+[[recorder.budget]]
+instrument = 0
+amount = 10
+";
+
+const SMALL: &str = "format = 1
+[[meter]]
+name = 'm'
+[[meter.instrument]]
+name = 'c'
+kind = 'counter'
+range = [0, 9]
+[[recorder]]
+name = 'r'
+[[recorder.budget]]
+instrument = 0
+amount = 2
+";
+
+const CODES: &str = "format = 1
+[[meter]]
+name = 'm'
+[[meter.instrument]]
+name = 'c'
+kind = 'counter'
+range = [0, 9]
+[[meter.instrument.key]]
+name = 'route'
+values = ['/a']
+[[meter.instrument.key]]
+name = 'code'
+values = [200]
+optional = true
+[[recorder]]
+name = 'r'
+[[recorder.budget]]
+instrument = 0
+amount = 1
+";
+
+const SAMPLES: &[Sample] = &[
+    Sample {
+        catalogue: ROUTES,
+        config: MAIN,
+        script: "start 0
+record 0 0 5 \"route\"=\"/b\"
+record 0 0 1 \"route\"=\"/a\"
+record 0 0 2 \"route\"=\"/b\"
+collect 0 0 10
+collect 0 0 20
+",
+        answers: "accepted
+accepted
+accepted
+0 0, 0 to 3, 0 to 10: stream 0 [1 0] 1 [2 0] 7
+0 0, 0 to 3, 0 to 20: stream 0 [1 0] 1 [2 0] 7
+",
+    },
+    Sample {
+        catalogue: HITS,
+        config: BOTH,
+        script: "start 0
+record 0 0 5
+collect 1 0 10
+record 0 0 7
+collect 0 0 20
+collect 1 0 30
+collect 1 0 25
+",
+        answers: "accepted
+1 0, 0 to 1, 0 to 10: stream 1 [0 0] 5
+accepted
+0 0, 0 to 2, 0 to 20: stream 0 [0 0] 12
+1 0, 1 to 2, 10 to 30: stream 1 [0 0] 7
+1 0, 2 to 2, 30 to 30: stream 1
+",
+    },
+    Sample {
+        catalogue: SMALL,
+        config: MAIN,
+        script: "start 0
+record 0 0 4
+record 0 0 4
+record 0 0 4
+close 0
+record 0 0 4
+collect 0 0 1
+close 0
+",
+        answers: "accepted
+accepted
+9 Budget
+done
+8 Closed
+0 0, 0 to 2, 0 to 1: stream 0 [0 0] 8
+8 Closed
+",
+    },
+    Sample {
+        catalogue: CODES,
+        config: MAIN,
+        script: "start 0
+record 0 1 1
+record 0 0 1 \"route\"=\"/a\" \"route\"=\"/b\"
+record 0 0 1 \"zone\"=1 \"route\"=\"/b\"
+record 0 0 1 \"route\"=\"/a\" \"code\"=\"200\"
+record 0 0 1 \"code\"=200
+record 0 0 10 \"route\"=\"/a\"
+record 0 0 1 \"route\"=\"/a\"
+collect 0 1 5
+close 1
+",
+        answers: "1 UnknownInstrument
+3 DuplicateKey
+4 UnknownKey
+5 UnknownValue
+6 MissingKey
+7 ValueRange
+accepted
+1 UnknownInstrument
+1 UnknownInstrument
+",
+    },
+];
+
+#[test]
+fn seats_answer_as_core(rt: HostRuntime) -> Result<(), Fail> {
+    for sample in SAMPLES {
+        for answers in both::<_, JournalBook>(&rt, rt.alloc(), sample)?.as_slice() {
+            assert_eq!(rt; answers.as_str(), sample.answers);
+        }
+        for answers in both::<_, Marked>(&rt, rt.alloc(), sample)?.as_slice() {
+            assert_eq!(rt; answers.as_str(), sample.answers);
+        }
+    }
+    Ok(())
+}

@@ -1,0 +1,13 @@
+//! Tests of instruments behind locks: seats beside a core.
+//!
+//! A module has what no clause says: that a seat's call makes its step, and that a call succeeds while memory is there.
+#![tactic(auto)]
+
+#[cfg(test)]
+mod agreement;
+#[cfg(test)]
+mod samples;
+#[cfg(test)]
+mod seats;
+#[cfg(test)]
+mod texts;

@@ -1,0 +1,66 @@
+//! Catalogues, configs, and their certified plans.
+ghost use Rattle.std.specs.Prelude.{IfOk, IsTrue};
+
+use metric_catalogue::Catalogue;
+use metric_cert::make;
+use metric_check::check;
+use metric_plan::Plan;
+use metric_views::Config;
+use std::alloc::Global;
+use std::test::Fail;
+
+/// A counter without keys.
+pub(crate) const HITS: &str = "format = 1
+[[meter]]
+name = 'm'
+[[meter.instrument]]
+name = 'hits'
+kind = 'counter'
+range = [0, 100]
+[[recorder]]
+name = 'r'
+[[recorder.budget]]
+instrument = 0
+amount = 10
+";
+
+/// Two counters and two recorders.
+pub(crate) const PAIR: &str = "format = 1
+[[meter]]
+name = 'm'
+instrument = [
+    { name = 'A', kind = 'counter', range = [0, 3] },
+    { name = 'B', kind = 'counter', range = [0, 3] },
+]
+[[recorder]]
+name = 'r0'
+budget = [{ instrument = 0, amount = 10 }, { instrument = 1, amount = 10 }]
+[[recorder]]
+name = 'r1'
+budget = [{ instrument = 0, amount = 10 }, { instrument = 1, amount = 10 }]
+";
+
+/// One cumulative reader.
+pub(crate) const MAIN: &str = "format = 1\nreader = [{ name = 'main' }]\n";
+
+/// A cumulative reader and a delta reader.
+pub(crate) const BOTH: &str = "format = 1
+[[reader]]
+name = 'C'
+[[reader]]
+name = 'D'
+temporality = { counter = 'delta' }
+";
+
+/// The plan that the certificate made for a catalogue and a config shows to be safe.
+pub(crate) fn certified(alloc: Global, catalogue: &str, config: &str) -> Result<Plan, Fail>
+    ensures { IfOk result (λ plan. IsTrue plan.is_certified) }
+{
+    let catalogue = Catalogue::read(alloc, catalogue)?;
+    let config = Config::read(alloc, config)?;
+    let certificate = make(alloc, &catalogue, &config)?;
+    match check(alloc, catalogue, config, &certificate) {
+        Ok(plan) => Ok(plan),
+        Err((_, _, fault)) => Err(Fail::from(fault)),
+    }
+}
