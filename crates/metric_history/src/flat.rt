@@ -130,7 +130,8 @@ fn write_list<T: Flat>(bytes: &mut Vec<u8>, values: &[T]) -> Result<(), AllocErr
 }
 
 fn write_text_after(bytes: &mut Vec<u8>, before: &str, text: &str) -> Result<(), AllocError>
-    ensures { OnOk result (bytes.new.items ≡ bytes.old.items ++ flat_text_after before.now text.now) }
+    ensures { OnOk result (bytes.new.items
+        ≡ bytes.old.items ++ flat_text_after before.now text.now) }
 {
     if before == text {
         return write_byte(bytes, 0);
@@ -213,8 +214,8 @@ fn write_texts_after(
     before: &StreamTexts<'_>,
     texts: &StreamTexts<'_>,
 ) -> Result<(), AllocError>
-    ensures { OnOk result (
-        bytes.new.items ≡ bytes.old.items ++ flat_texts_after (texts_seen before.now) (texts_seen texts.now)) }
+    ensures { OnOk result (bytes.new.items
+        ≡ bytes.old.items ++ flat_texts_after (texts_seen before.now) (texts_seen texts.now)) }
 {
     write_text_after(bytes, before.name, texts.name)?;
     write_text_after(bytes, before.description, texts.description)?;
