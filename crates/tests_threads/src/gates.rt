@@ -1,0 +1,121 @@
+//! A recording that is held inside its lock, and one of another instrument.
+ghost use Rattle.std.specs.Prelude.{IsTrue};
+
+use crate::samples::{MAIN, PAIR, certified};
+use metric_catalogue::Refusal;
+use metric_marked::Marked;
+use metric_plan::Plan;
+use metric_provider::{Gate, Provider, Recorder, start};
+use std::alloc::Global;
+use std::sync::Wait;
+use std::sync::atomic::{AtomicBool, Ordering};
+use std::test::Fail;
+use std::thread;
+use std::thread::{Threads, join};
+
+// How often a thread looks at a flag at most.
+const TURNS: u32 = 1_000_000;
+
+// Whether the first instrument was entered, whether the second one has answered, and whether that was seen inside.
+#[derive(Drop)]
+struct Flags {
+    is_inside: AtomicBool,
+    is_answered: AtomicBool,
+    is_seen: AtomicBool,
+}
+
+impl Flags {
+    fn new() -> Flags {
+        Flags {
+            is_inside: AtomicBool::new(false),
+            is_answered: AtomicBool::new(false),
+            is_seen: AtomicBool::new(false),
+        }
+    }
+}
+
+fn is_set_within(flag: &AtomicBool, turns: u32) -> bool {
+    for _ in 0..turns {
+        if flag.load(Ordering::SeqCst) {
+            return true;
+        }
+        thread::yield_now();
+    }
+    false
+}
+
+// Holds a step on the first instrument until the second one has answered.
+#[derive(Clone, Copy, Drop)]
+struct Holding<'a> {
+    flags: &'a Flags,
+}
+
+impl Gate for Holding<'_> {
+    fn inside<R: Wait>(&self, _rt: &R, instrument: u32) {
+        if instrument == 0 {
+            self.flags.is_inside.store(true, Ordering::SeqCst);
+            let is_seen = is_set_within(&self.flags.is_answered, TURNS);
+            self.flags.is_seen.store(is_seen, Ordering::SeqCst);
+        }
+    }
+}
+
+type Held<'a> = Provider<Marked, Holding<'a>>;
+
+// Records on the first instrument.
+fn record_first<R: Wait>(rt: &R, provider: &Held<'_>, seat: Recorder) -> Result<(), Refusal> {
+    let mut seat = seat;
+    seat.record(rt, provider, 0, &[], 1)
+}
+
+// Records on the second instrument while the first one is held, and tells that it was answered.
+fn record_second<R: Wait>(
+    rt: &R,
+    provider: &Held<'_>,
+    seat: Recorder,
+    flags: &Flags,
+) -> Result<(), Refusal> {
+    let mut seat = seat;
+    is_set_within(&flags.is_inside, TURNS);
+    let answer = seat.record(rt, provider, 1, &[], 1);
+    flags.is_answered.store(true, Ordering::SeqCst);
+    answer
+}
+
+type Answers = (Result<(), Refusal>, Result<(), Refusal>);
+
+// What two threads are answered.
+fn answers<R: Threads + Wait + Sync>(
+    rt: &R,
+    alloc: Global,
+    plan: Plan,
+    flags: &Flags,
+) -> Result<Answers, Fail>
+    requires { IsTrue plan.is_certified }
+{
+    let gate = Holding { flags };
+    let Ok((provider, mut seats, _)) = start::<R, Marked, Holding<'_>>(rt, alloc, plan, 0, 0, gate)
+    else {
+        return Err(Fail::from("memory"));
+    };
+    let (Some(second), Some(first)) = (seats.pop(), seats.pop()) else {
+        return Err(Fail::from("no two recorders"));
+    };
+    let shared = &provider;
+    Ok(join(
+        rt,
+        move || record_first(rt, shared, first),
+        move || record_second(rt, shared, second, flags),
+    ))
+}
+
+#[test]
+fn second_instrument_answers_first(rt: HostRuntime) -> Result<(), Fail> {
+    let flags = Flags::new();
+    let plan = certified(rt.alloc(), PAIR, MAIN)?;
+    let (first, second) = answers(&rt, rt.alloc(), plan, &flags)?;
+    assert_eq!(rt; first, Ok(()));
+    assert_eq!(rt; second, Ok(()));
+    assert!(rt; flags.is_seen.load(Ordering::SeqCst));
+    Ok(())
+}
