@@ -13,8 +13,9 @@ use Rattle.metric_history.specs.declared.facts.Facts.{Facts}
 use Rattle.metric_history.specs.Answers.{spent}
 use Rattle.metric_history.specs.Facts.{in_bounds, is_full_set}
 use Rattle.metric_history.specs.SumLaws.{sum_push}
-use Rattle.metric_core.proofs.BudgetLaws.{has_room, raised_within, sum_raised}
-use Rattle.metric_core.specs.Cells.{CellKept, CellStands, CellValue, is_sound, new_cell}
+use Rattle.metric_core.proofs.BudgetLaws.{raised_within, sum_raised}
+use Rattle.metric_core.specs.BudgetLaws.{has_room}
+use Rattle.metric_core.specs.Cells.{CellKept, CellStands, CellValue, new_cell}
 use Rattle.metric_core.specs.CellAnswers.{with_batch, with_entry}
 
 -- an element after one was replaced
@@ -71,7 +72,7 @@ may_take stands c entry k below room full within = (
     record {
       full = full;
       value = within;
-      counted = omega (arith, k.known.counted, k.budgeted, has_room stands c entry.recorder k below room);
+      counted = omega (arith, k.known.counted, k.budgeted, has_room stands c entry.recorder k room);
     },
   ),
 )
@@ -79,13 +80,13 @@ may_take stands c entry k below room full within = (
 -- what a cell keeps, with one recording more
 pub kept_pushed : {B : Type 0} (stands : B → Standing) (c : CellValue B) (entry : Entry) (book : B) → CellKept stands c
     → entry.recorder < length c.facts.budgets → slice_index c.spent entry.recorder < slice_index c.facts.budgets entry.recorder
-    → is_sound c.facts entry ≡ true → neg_ℤ (pos (2 ^ 63)) ≤ℤ entry.value → entry.value ≤ℤ pos (2 ^ 63)
+    → is_admitted c.facts entry ≡ true → neg_ℤ (pos (2 ^ 63)) ≤ℤ entry.value → entry.value ≤ℤ pos (2 ^ 63)
     → ((journal : List Entry) → stands c.book c.facts journal c.marks → stands book c.facts (journal ++ entry ∷ []) c.marks)
     → CellKept stands (with_entry c entry book)
-kept_pushed stands c entry book k below room sound low high taken = record {
+kept_pushed stands c entry book k below room one low high taken = record {
   journal = k.journal ++ entry ∷ [];
   known = stands_pushed stands c entry book k.journal k.one_budget_each below k.known (taken k.journal k.known.book);
-  sound = list_all-append (is_sound c.facts) k.journal (entry ∷ []) ∙ ap (λ (b : Bool). b && (is_sound c.facts entry && true)) k.sound ∙ ap (λ (b : Bool). b && true) sound;
+  admitted = admitted_more c.facts k.journal entry k.admitted one;
   one_mark_each = k.one_mark_each;
   one_time_each = k.one_time_each;
   one_budget_each = length-set c.spent entry.recorder (slice_index c.spent entry.recorder + 1) ∙ k.one_budget_each;
@@ -115,7 +116,7 @@ pub kept_moved : {B : Type 0} (stands : B → Standing) (c : CellValue B) (reade
 kept_moved stands c reader time book k below moved = record {
   journal = k.journal;
   known = stands_moved stands c reader time book k.journal k.known (moved k.journal k.known.book);
-  sound = k.sound;
+  admitted = k.admitted;
   one_mark_each = length-set c.marks reader c.count ∙ k.one_mark_each;
   one_time_each = length-set c.times reader time ∙ k.one_time_each;
   one_budget_each = k.one_budget_each;
@@ -155,7 +156,7 @@ pub new_kept : {B : Type 0} (stands : B → Standing) (facts : Facts) (start : �
 new_kept stands facts start book begins budgeted = record {
   journal = [];
   known = new_stands stands facts start book begins;
-  sound = refl;
+  admitted = refl;
   one_mark_each = length-replicate (length facts.delta) 0;
   one_time_each = length-replicate (length facts.delta) start;
   one_budget_each = length-replicate (length facts.budgets) 0;
@@ -181,12 +182,6 @@ pub fits_taken : (fits : Bool) → MayAnswer fits (Ok tt) → fits ≡ true
 fits_taken true taken = refl
 fits_taken false taken = absurd taken
 
-pub sound_entry : (facts : Facts) (entry : Entry) → length entry.set ≡ 8 → is_full_set facts.keys entry.set ≡ true → in_bounds facts entry.value ≡ true → is_sound facts entry ≡ true
-sound_entry facts entry eight full within =
-    ap (λ (n : ℕ). (n == 8) && (is_full_set facts.keys entry.set && in_bounds facts entry.value)) eight
-    ∙ ap (λ (b : Bool). b && in_bounds facts entry.value) full
-    ∙ within
-
 pub stands_recorded : {B : Type 0} (stands : B → Standing) (c new : CellValue B) (entry : Entry) (journal : List Entry) → new ≡ with_entry c entry new.book
     → length c.spent ≡ length c.facts.budgets → entry.recorder < length c.facts.budgets
     → CellStands stands c journal → stands new.book c.facts (journal ++ entry ∷ []) c.marks → CellStands stands new (journal ++ entry ∷ [])
@@ -195,10 +190,10 @@ stands_recorded {B} stands c new entry journal made long below s taken =
 
 pub kept_recorded : {B : Type 0} (stands : B → Standing) (c new : CellValue B) (entry : Entry) → new ≡ with_entry c entry new.book → CellKept stands c
     → entry.recorder < length c.facts.budgets → slice_index c.spent entry.recorder < slice_index c.facts.budgets entry.recorder
-    → is_sound c.facts entry ≡ true → neg_ℤ (pos (2 ^ 63)) ≤ℤ entry.value → entry.value ≤ℤ pos (2 ^ 63)
+    → is_admitted c.facts entry ≡ true → neg_ℤ (pos (2 ^ 63)) ≤ℤ entry.value → entry.value ≤ℤ pos (2 ^ 63)
     → ((journal : List Entry) → stands c.book c.facts journal c.marks → stands new.book c.facts (journal ++ entry ∷ []) c.marks) → CellKept stands new
-kept_recorded {B} stands c new entry made k below room sound low high taken =
-    subst (λ (v : CellValue B). CellKept stands v) (sym made) (kept_pushed stands c entry new.book k below room sound low high taken)
+kept_recorded {B} stands c new entry made k below room one low high taken =
+    subst (λ (v : CellValue B). CellKept stands v) (sym made) (kept_pushed stands c entry new.book k below room one low high taken)
 
 pub stands_new : {B : Type 0} (stands : B → Standing) (c : CellValue B) (start : ℕ) → c ≡ new_cell c.facts start c.book → stands c.book c.facts [] (no_marks c.facts) → CellStands stands c []
 stands_new {B} stands c start made begins = subst (λ (v : CellValue B). CellStands stands v []) (sym made) (new_stands stands c.facts start c.book begins)

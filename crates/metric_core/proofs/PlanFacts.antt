@@ -19,41 +19,11 @@ use Rattle.metric_history.specs.declared.facts.Facts.{Facts}
 use Rattle.metric_history.specs.Events.{instrument_of}
 use Rattle.metric_history.specs.Facts.{EncodesFullSets, RunFacts, facts_from, facts_of, is_full_set}
 use Rattle.metric_plan.specs.Counting.{counts_fit}
+use Rattle.metric_plan.specs.PlanFacts.{plan_facts_at}
 use Rattle.metric_plan.specs.Plans.{IsPlan, PlanValue}
 use Rattle.metric_views.specs.declared.config.Reader.{Reader}
 use Rattle.metric_views.specs.declared.stream.Stream.{Stream}
 use Rattle.metric_core.specs.Steps.{HasFullSet, IsFullSet}
-
--- the declared instrument that facts are of
-record IsOf (certified : Bool) (recorders : List Recorder) (readers : List Reader) (streams : List Stream) (instruments : List Instrument) (number i : ℕ) (own : Facts) : Type 0 where
-  pub declared : Instrument
-  pub found : slice_get instruments i ≡ Some declared
-  pub is : own ≡ facts_of certified recorders readers streams number declared
-
-facts_at : (certified : Bool) (recorders : List Recorder) (readers : List Reader) (streams : List Stream) (instruments : List Instrument) (first i : ℕ) (own : Facts)
-    → slice_get (facts_from certified recorders readers streams first instruments) i ≡ Some own → IsOf certified recorders readers streams instruments (first + i) i own
-facts_at certified recorders readers streams [] first i own found = absurd cc
-facts_at certified recorders readers streams (d ∷ instruments) first zero own found = record {
-  declared = d;
-  found = refl;
-  is = sym (same_Some (facts_of certified recorders readers streams first d) own found) ∙ ap (λ (n : ℕ). facts_of certified recorders readers streams n d) (omega arith);
-}
-facts_at certified recorders readers streams (d ∷ instruments) first (suc i) own found =
-    let rest = facts_at certified recorders readers streams instruments (first + 1) i own found in
-    record {
-      declared = rest.declared;
-      found = rest.found;
-      is = rest.is ∙ ap (λ (n : ℕ). facts_of certified recorders readers streams n rest.declared) (omega arith);
-    }
-
--- those of a plan
-plan_facts_at : (plan : PlanValue) (i : ℕ) (own : Facts) → IsPlan plan → slice_get plan.facts.instruments i ≡ Some own
-    → IsOf plan.is_certified plan.facts.contents.recorders plan.config.readers plan.streams plan.facts.contents.instruments i i own
-plan_facts_at plan i own p found =
-    let from : IsOf plan.is_certified plan.facts.contents.recorders plan.config.readers plan.streams plan.facts.contents.instruments (0 + i) i own =
-    facts_at plan.is_certified plan.facts.contents.recorders plan.config.readers plan.streams plan.facts.contents.instruments 0 i own
-    (ap (λ (run : RunFacts). slice_get run.instruments i) (sym p.facts) ∙ found) in
-    subst (λ (n : ℕ). IsOf plan.is_certified plan.facts.contents.recorders plan.config.readers plan.streams plan.facts.contents.instruments n i own) (omega arith) from
 
 counted_at : (contents : Contents) (instruments : List Instrument) (first i : ℕ) (d : Instrument) → counts_fit contents first instruments ≡ true → slice_get instruments i ≡ Some d
     → total_of contents (first + i) < 2 ^ 64
@@ -71,7 +41,7 @@ unfolding total_of
 budgets_fit plan i own p found =
     let of = plan_facts_at plan i own p found in
     let fits : sum_by (λ (recorder : Recorder). amount_of recorder i) plan.facts.contents.recorders < 2 ^ 64 =
-    subst (λ (n : ℕ). total_of plan.facts.contents n < 2 ^ 64) (omega arith) (counted_at plan.facts.contents plan.facts.contents.instruments 0 i of.declared p.counted of.found) in
+    subst (λ (n : ℕ). total_of plan.facts.contents n < 2 ^ 64) (omega arith) (counted_at plan.facts.contents plan.facts.contents.instruments 0 i of.instrument p.counted of.at) in
     let is : sum own.budgets ≡ sum_by (λ (recorder : Recorder). amount_of recorder i) plan.facts.contents.recorders =
     ap (λ (f : Facts). sum f.budgets) of.is ∙ sum-map (λ (recorder : Recorder). amount_of recorder i) plan.facts.contents.recorders in
     omega (arith, is, fits)
@@ -82,12 +52,12 @@ full_at : (plan : PlanValue) (i : ℕ) (own : Facts) (attrs : List Given) → Is
 unfolding encode_of
 full_at plan i own attrs p full found =
     let of = plan_facts_at plan i own p found in
-    rw of.found (at (set_of of.declared.keys attrs) refl)
+    rw of.at (at (set_of of.instrument.keys attrs) refl)
   where
-    at : (r : Result (List ℕ) Refusal) → set_of (plan_facts_at plan i own p found).declared.keys attrs ≡ r → IsFullSet own r
+    at : (r : Result (List ℕ) Refusal) → set_of (plan_facts_at plan i own p found).instrument.keys attrs ≡ r → IsFullSet own r
     at (Ok set) made =
         let of = plan_facts_at plan i own p found in
-        ap (λ (f : Facts). is_full_set f.keys set) of.is ∙ full of.declared.keys attrs set made
+        ap (λ (f : Facts). is_full_set f.keys set) of.is ∙ full of.instrument.keys attrs set made
     at (Err refusal) made = tt
 
 pub has_full_set : (plan : PlanValue) (contents : Contents) (own : Facts) (event : Event) (k : ℕ) → IsPlan plan → EncodesFullSets → contents ≡ plan.facts.contents → k ≡ instrument_of event

@@ -1,13 +1,12 @@
 -- The state of one instrument, and for which recordings it stands.
-use Rattle.std.specs.Prelude.{◌≡◌, ◌<◌, ◌≤◌, ◌*◌, ◌^◌, ℕ, ℤ, pos, neg_ℤ, ◌≤ℤ◌, Bool, true, false, ◌&&◌, List, length, replicate, slice_index, slice_index_or, sum, ◌==◌}
-use Rattle.std.specs.List.{list_all}
+use Rattle.std.specs.Prelude.{◌≡◌, ◌<◌, ◌≤◌, ◌*◌, ◌^◌, ℕ, ℤ, pos, neg_ℤ, ◌≤ℤ◌, Bool, true, false, List, length, replicate, slice_index, slice_index_or, sum}
 use Rattle.metric_aggregate.specs.Value.{sum_of}
 use Rattle.metric_book.specs.Journals.{Standing, no_marks}
 use Rattle.metric_history.specs.declared.entry.Entry.{Entry}
 use Rattle.metric_history.specs.declared.facts.Facts.{Facts}
 use Rattle.metric_history.specs.Answers.{Told, spent}
-use Rattle.metric_history.specs.Facts.{in_bounds, is_full_set}
 use Rattle.metric_history.specs.Points.{values}
+use Rattle.metric_safety.specs.SafeFacts.{are_admitted}
 
 -- what its run depends on, the book of its recordings, the start, how many recordings each reader's last batch
 -- counted and the time of that batch, how many recordings each recorder made, how many there are and their sum,
@@ -44,16 +43,12 @@ pub record CellStands {B : Type 0} (stands : B → Standing) (c : CellValue B) (
   pub summed : c.total ≡ sum_of (values journal)
   pub charged : (recorder : ℕ) → recorder < length c.facts.budgets → slice_index c.spent recorder ≡ spent journal recorder
 
--- whether a recording is of a set key that is a full set, with a value in range
-abbrev pub is_sound : Facts → Entry → Bool
-is_sound facts entry = (length entry.set == 8) && (is_full_set facts.keys entry.set && in_bounds facts entry.value)
-
--- What each cell keeps: it stands for some sound recordings, no recorder has made more of them than its budget,
+-- What each cell keeps: it stands for some recordings that the instrument admits, no recorder has made more of them than its budget,
 -- and the budgets together are a u64.
 pub record CellKept {B : Type 0} (stands : B → Standing) (c : CellValue B) : Type 0 where
   pub journal : List Entry
   pub known : CellStands stands c journal
-  pub sound : list_all (is_sound c.facts) journal ≡ true
+  pub admitted : are_admitted c.facts journal ≡ true
   pub one_mark_each : length c.marks ≡ length c.facts.delta
   pub one_time_each : length c.times ≡ length c.facts.delta
   pub one_budget_each : length c.spent ≡ length c.facts.budgets

@@ -3,3 +3,4 @@ pub mod CellAnswers
 pub mod CertifiedRuns
 pub mod CoreStands
 pub mod Steps
+pub mod BudgetLaws

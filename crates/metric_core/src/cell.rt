@@ -74,8 +74,26 @@ impl<B: Book> Cell<B> {
         ensures new { IfOk result (λ cell. cell ≡ new_cell cell.facts start cell.book) }
         ensures stands { IfOk result (λ cell. CellStands B.stands cell []) }
     {
+        Cell::with_seed(alloc, plan, instrument, start, start)
+    }
+
+    /// The same, where a book that hashes begins with this seed. With a seed that strangers do not know, set keys
+    /// that they choose collide in no fixed way.
+    pub fn with_seed(
+        alloc: Global,
+        plan: &Plan,
+        instrument: u32,
+        start: u64,
+        seed: u64,
+    ) -> Result<Cell<B>, AllocError>
+        requires { instrument < length plan.now.facts.instruments }
+        ensures facts { IfOk result (λ cell.
+            slice_get plan.now.facts.instruments instrument ≡ Some cell.facts) }
+        ensures new { IfOk result (λ cell. cell ≡ new_cell cell.facts start cell.book) }
+        ensures stands { IfOk result (λ cell. CellStands B.stands cell []) }
+    {
         let facts = plan.facts(instrument).copy(alloc)?;
-        let book = B::new(alloc, plan, instrument, start)?;
+        let book = B::new(alloc, plan, instrument, seed)?;
         let marks = vec![in alloc; 0; facts.delta.len()]?;
         let times = vec![in alloc; start; facts.delta.len()]?;
         let spent = vec![in alloc; 0; facts.budgets.len()]?;

@@ -12,40 +12,10 @@ use Rattle.metric_catalogue.specs.declared.contents.Recorder.{Recorder}
 use Rattle.metric_catalogue.specs.declared.refusal.Refusal.TheVariants.{UnknownInstrument}
 use Rattle.metric_history.specs.declared.facts.Facts.{Facts}
 use Rattle.metric_history.specs.Facts.{EncodesFullSets, RunFacts, facts_from, facts_of, is_delta_reader, is_full_set}
+use Rattle.metric_plan.specs.PlanFacts.{plan_facts_at}
 use Rattle.metric_plan.specs.Plans.{IsPlan, PlanValue}
 use Rattle.metric_views.specs.declared.config.Reader.{Reader}
 use Rattle.metric_views.specs.declared.stream.Stream.{Stream}
-
--- the declared instrument that facts are of
-record IsOf (certified : Bool) (recorders : List Recorder) (readers : List Reader) (streams : List Stream) (instruments : List Instrument) (number i : ℕ) (own : Facts) : Type 0 where
-  pub declared : Instrument
-  pub found : slice_get instruments i ≡ Some declared
-  pub is : own ≡ facts_of certified recorders readers streams number declared
-
-facts_at : (certified : Bool) (recorders : List Recorder) (readers : List Reader) (streams : List Stream) (instruments : List Instrument) (first i : ℕ) (own : Facts)
-    → slice_get (facts_from certified recorders readers streams first instruments) i ≡ Some own → IsOf certified recorders readers streams instruments (first + i) i own
-facts_at certified recorders readers streams [] first i own found = absurd cc
-facts_at certified recorders readers streams (d ∷ instruments) first zero own found = record {
-  declared = d;
-  found = refl;
-  is = sym (same_Some (facts_of certified recorders readers streams first d) own found) ∙ ap (λ (n : ℕ). facts_of certified recorders readers streams n d) (omega arith);
-}
-facts_at certified recorders readers streams (d ∷ instruments) first (suc i) own found =
-    let rest = facts_at certified recorders readers streams instruments (first + 1) i own found in
-    record {
-      declared = rest.declared;
-      found = rest.found;
-      is = rest.is ∙ ap (λ (n : ℕ). facts_of certified recorders readers streams n rest.declared) (omega arith);
-    }
-
--- those of a plan
-plan_facts_at : (plan : PlanValue) (i : ℕ) (own : Facts) → IsPlan plan → slice_get plan.facts.instruments i ≡ Some own
-    → IsOf plan.is_certified plan.facts.contents.recorders plan.config.readers plan.streams plan.facts.contents.instruments i i own
-plan_facts_at plan i own p found =
-    let from : IsOf plan.is_certified plan.facts.contents.recorders plan.config.readers plan.streams plan.facts.contents.instruments (0 + i) i own =
-    facts_at plan.is_certified plan.facts.contents.recorders plan.config.readers plan.streams plan.facts.contents.instruments 0 i own
-    (ap (λ (run : RunFacts). slice_get run.instruments i) (sym p.facts) ∙ found) in
-    subst (λ (n : ℕ). IsOf plan.is_certified plan.facts.contents.recorders plan.config.readers plan.streams plan.facts.contents.instruments n i own) (omega arith) from
 
 -- there is a budget for each recorder
 pub budgets_each : (plan : PlanValue) (i : ℕ) (own : Facts) → IsPlan plan → slice_get plan.facts.instruments i ≡ Some own → length own.budgets ≡ length plan.facts.contents.recorders
@@ -57,7 +27,7 @@ budgets_each plan i own p found =
 pub delta_each : (plan : PlanValue) (i : ℕ) (own : Facts) → IsPlan plan → slice_get plan.facts.instruments i ≡ Some own → length own.delta ≡ length plan.config.readers
 delta_each plan i own p found =
     let of = plan_facts_at plan i own p found in
-    ap (λ (f : Facts). length f.delta) of.is ∙ length-map plan.config.readers (is_delta_reader of.declared.kind)
+    ap (λ (f : Facts). length f.delta) of.is ∙ length-map plan.config.readers (is_delta_reader of.instrument.kind)
 
 -- what attributes are encoded to is a full set of the instrument's keys
 pub full_at : (plan : PlanValue) (i : ℕ) (own : Facts) (attrs : List Given) (set : List ℕ) → IsPlan plan → EncodesFullSets → slice_get plan.facts.instruments i ≡ Some own
@@ -65,6 +35,6 @@ pub full_at : (plan : PlanValue) (i : ℕ) (own : Facts) (attrs : List Given) (s
 unfolding encode_of
 full_at plan i own attrs set p full found made =
     let of = plan_facts_at plan i own p found in
-    let named : set_of of.declared.keys attrs ≡ Ok set =
-    sym (ap (λ (o : Option Instrument). require_some o UnknownInstrument >>= λ d. set_of d.keys attrs) of.found) ∙ made in
-    ap (λ (f : Facts). is_full_set f.keys set) of.is ∙ full of.declared.keys attrs set named
+    let named : set_of of.instrument.keys attrs ≡ Ok set =
+    sym (ap (λ (o : Option Instrument). require_some o UnknownInstrument >>= λ d. set_of d.keys attrs) of.at) ∙ made in
+    ap (λ (f : Facts). is_full_set f.keys set) of.is ∙ full of.instrument.keys attrs set named

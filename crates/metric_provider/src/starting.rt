@@ -16,8 +16,8 @@ use std::sync::{Mutex, Wait};
 
 /// A provider of a certified plan without recordings, since a start in nanoseconds, with a seat for each recorder and
 /// each reader, in order. Seats serve the run that they were made for, so no two providers at a time may have the same
-/// number of the run. The start is also the seed of books that hash. Where memory is refused, the plan and the gate
-/// are handed back.
+/// number of the run. The seed of books that hash is made of the start and the number of the run. Where memory is
+/// refused, the plan and the gate are handed back.
 pub fn start<R: Wait, B: Book, G: Gate>(
     _rt: &R,
     alloc: Global,
@@ -61,21 +61,33 @@ fn new_parts<B: Book>(
         ≡ map (new_collector run (length plan.now.facts.instruments))
         (range_with_len 0 (length plan.now.config.readers))) }
 {
-    let slots = new_slots(alloc, plan, start)?;
+    let slots = new_slots(alloc, plan, start, seed_of(start, run))?;
     let recorders = new_recorders(alloc, plan, run)?;
     let collectors = new_collectors(alloc, plan, run)?;
     Ok((slots, recorders, collectors))
 }
 
+// A seed that differs from run to run, also of runs that start in one moment: the factor is odd and has its bits
+// spread, so it takes numbers of runs far apart.
+fn seed_of(start: u64, run: u64) -> u64
+{
+    start ^ run.wrapping_mul(0x9E37_79B9_7F4A_7C15)
+}
+
 // The slot of each instrument, without recordings.
-fn new_slots<B: Book>(alloc: Global, plan: &Plan, start: u64) -> Result<Vec<Locked<B>>, AllocError>
+fn new_slots<B: Book>(
+    alloc: Global,
+    plan: &Plan,
+    start: u64,
+    seed: u64,
+) -> Result<Vec<Locked<B>>, AllocError>
     requires { IsTrue plan.now.is_certified }
     ensures { IfOk result (λ slots. vec_len slots ≡ length plan.now.facts.instruments) }
 {
     let count = plan.catalogue().instruments().len() as u32;
     let mut slots = Vec::new(alloc);
     for instrument in 0..count {
-        let slot = Slot::new(alloc, plan, instrument, start)?;
+        let slot = Slot::with_seed(alloc, plan, instrument, start, seed)?;
         slots.push(CachePadded::new(Mutex::new(slot)))?;
     }
     Ok(slots)

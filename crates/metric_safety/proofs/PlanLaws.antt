@@ -32,6 +32,7 @@ use Rattle.metric_bounds.specs.Sums.{is_summed, keeps_sum, sums_instrument}
 use Rattle.metric_history.specs.declared.facts.Facts.{Facts}
 use Rattle.metric_history.specs.declared.facts.NumberedStream.{NumberedStream}
 use Rattle.metric_history.specs.Facts.{RunFacts, facts_from, facts_of, key_facts, numbered, numbered_from}
+use Rattle.metric_plan.specs.PlanFacts.{FactsAt, facts_at}
 use Rattle.metric_plan.specs.Plans.{PlanValue, RangesFit, plan_of, run_facts}
 use Rattle.metric_safety.specs.SafeFacts.{product_of, key_factor, IsSafeStream, IsSafeFacts}
 use Rattle.metric_safety.specs.SafeRuns.{GivesSafePlan, IsSafePlan, IsSafeRun}
@@ -131,24 +132,6 @@ numbered_places all number first (s ∷ streams) places =
         All-cons (λ (n : NumberedStream). slice_get all n.number ≡ Some n.stream) (record { number = first; stream = s }) []
         (ap (slice_get all) start ∙ places zero s refl) (All-nil (λ (n : NumberedStream). slice_get all n.number ≡ Some n.stream))
     here false = All-nil (λ (n : NumberedStream). slice_get all n.number ≡ Some n.stream)
-
--- ---- the facts at a place
-
-record FactsAt (certified : Bool) (recorders : List Recorder) (readers : List Reader) (streams : List Stream) (number : ℕ) (instruments : List Instrument) (k : ℕ) (own : Facts) : Type 0 where
-  instrument : Instrument
-  at : slice_get instruments k ≡ Some instrument
-  is : own ≡ facts_of certified recorders readers streams number instrument
-
-facts_at : (certified : Bool) (recorders : List Recorder) (readers : List Reader) (streams : List Stream) (first number : ℕ) (instruments : List Instrument) (k : ℕ) (own : Facts) → first + k ≡ number
-    → slice_get (facts_from certified recorders readers streams first instruments) k ≡ Some own → FactsAt certified recorders readers streams number instruments k own
-facts_at certified recorders readers streams first number [] k own place e = absurd cc
-facts_at certified recorders readers streams first number (i ∷ instruments) zero own place e =
-    let same : facts_of certified recorders readers streams first i ≡ own = cc in
-    let start : first ≡ number = omega (arith, place) in
-    record { instrument = i; at = refl; is = sym same ∙ ap (λ (n : ℕ). facts_of certified recorders readers streams n i) start }
-facts_at certified recorders readers streams first number (i ∷ instruments) (suc k) own place e =
-    let later = facts_at certified recorders readers streams (first + 1) number instruments k own (omega (arith, place)) e in
-    record { instrument = later.instrument; at = later.at; is = later.is }
 
 -- ---- safety
 

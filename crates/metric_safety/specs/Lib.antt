@@ -1,3 +1,4 @@
 pub mod SafeFacts
 pub mod WindowBounds
 pub mod SafeRuns
+pub mod AdmissionLaws

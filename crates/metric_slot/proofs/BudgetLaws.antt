@@ -1,4 +1,4 @@
--- How many recordings the budgets of an instrument leave, and how far their values are above the least.
+-- How far the values of recordings within the budgets are above the least.
 use Rattle.std.proofs.Common.{◌≡◌, ℕ, zero, suc, ◌+◌, ◌*◌, ◌^◌, ◌<◌, ◌≤◌, ℤ, pos, negsuc, ◌-ℤ◌, ◌*ℤ◌, ◌≤ℤ◌, ◌<ℤ◌, true, List, [], ◌∷◌, length, refl, arith}
 use Rattle.std.specs.Prelude.{slice_index, sum, unsigned_abs}
 use Rattle.std.proofs.lemmas.Bool.Decides.{nat_tests}
@@ -12,23 +12,6 @@ use Rattle.metric_safety.specs.SafeFacts.{IsSafeFacts, total}
 
 sum-cons : (x : ℕ) (xs : List ℕ) → sum (x ∷ xs) ≡ x + sum xs
 sum-cons x xs = sum_by-cons (λ n. n) x xs
-
-pub sum_le : (xs ys : List ℕ) → length xs ≡ length ys → ((i : ℕ) → slice_index xs i ≤ slice_index ys i) → sum xs ≤ sum ys
-sum_le [] [] long within = omega arith
-sum_le [] (y ∷ ys) long within = absurd (omega arith)
-sum_le (x ∷ xs) [] long within = absurd (omega arith)
-sum_le (x ∷ xs) (y ∷ ys) long within =
-    omega (arith, sum-cons x xs, sum-cons y ys, within 0, sum_le xs ys (omega arith) (λ i. within (suc i)))
-
--- where one element is less, so is the sum
-pub sum_less : (xs ys : List ℕ) (i : ℕ) → length xs ≡ length ys → ((j : ℕ) → slice_index xs j ≤ slice_index ys j) → slice_index xs i < slice_index ys i → sum xs < sum ys
-sum_less [] [] i long within less = absurd (omega arith)
-sum_less [] (y ∷ ys) i long within less = absurd (omega arith)
-sum_less (x ∷ xs) [] i long within less = absurd (omega arith)
-sum_less (x ∷ xs) (y ∷ ys) zero long within less =
-    omega (arith, sum-cons x xs, sum-cons y ys, less, sum_le xs ys (omega arith) (λ j. within (suc j)))
-sum_less (x ∷ xs) (y ∷ ys) (suc i) long within less =
-    omega (arith, sum-cons x xs, sum-cons y ys, within 0, sum_less xs ys i (omega arith) (λ j. within (suc j)) less)
 
 pub element_le : (xs : List ℕ) (i : ℕ) → slice_index xs i ≤ sum xs
 element_le [] i = omega arith

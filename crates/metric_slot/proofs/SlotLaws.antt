@@ -2,20 +2,21 @@
 use Rattle.std.proofs.Common.{◌≡◌, ℕ, ◌+◌, ◌<◌, ◌≤◌, ℤ, Bool, true, false, ◌&&◌, [], ◌∷◌, ◌++◌, Result, Ok, Err, length, sym, ap, subst, ◌∙◌, arith}
 use Rattle.std.specs.Prelude.{◌==◌, OnOk, slice_index}
 use Rattle.std.proofs.lemmas.List.{length_push}
-use Rattle.std.proofs.lemmas.List.Folds.{list_all-append}
 use Rattle.metric_book.specs.Journals.{Standing}
 use Rattle.metric_catalogue.specs.declared.refusal.Refusal.{Refusal}
 use Rattle.metric_catalogue.specs.declared.refusal.Refusal.TheVariants as refusals
-use Rattle.metric_core.specs.Cells.{CellKept, CellValue, is_sound}
+use Rattle.metric_core.specs.BudgetLaws.{has_room, kept_within}
+use Rattle.metric_core.specs.Cells.{CellKept, CellValue}
 use Rattle.metric_core.specs.CellAnswers.{AnswersRecording, IsJudged, ReportsBatch}
 use Rattle.metric_history.specs.declared.batch.Batch.{Batch}
 use Rattle.metric_history.specs.declared.entry.Entry.{Entry}
 use Rattle.metric_history.specs.declared.facts.Facts.{Facts}
 use Rattle.metric_history.specs.Facts.{in_bounds, is_full_set}
 use Rattle.metric_history.specs.Windows.{fits_all}
+use Rattle.metric_safety.specs.AdmissionLaws.{admitted, admitted_more}
 use Rattle.metric_safety.specs.SafeFacts.{IsJournal, IsSafeFacts, total}
 use Rattle.metric_safety.specs.WindowBounds.{BoundsReports, FitsJournals, IsReportWithin}
-use Rattle.metric_slot.proofs.BudgetLaws.{amount_room, element_le, sum_le, sum_less}
+use Rattle.metric_slot.proofs.BudgetLaws.{amount_room, element_le}
 use Rattle.metric_slot.specs.declared.told.Told.{Told}
 use Rattle.metric_slot.specs.SlotAnswers.{AnswersRecorder}
 use Rattle.metric_slot.specs.Slots.{IsOwnRecorder}
@@ -24,14 +25,9 @@ use Rattle.metric_slot.specs.Tellings.{HasRoom}
 -- the recordings of a cell are within its budgets
 pub kept_journal : {B : Type 0} (stands : B → Standing) (c : CellValue B) (k : CellKept stands c) → IsJournal c.facts k.journal
 kept_journal stands c k = record {
-  admitted = k.sound;
-  budgeted = omega (arith, k.known.counted, k.counted, sum_le c.spent c.facts.budgets k.one_budget_each k.within);
+  admitted = k.admitted;
+  budgeted = omega (arith, k.known.counted, kept_within stands c k);
 }
-
--- a recorder with recordings left leaves room for one more
-pub kept_room : {B : Type 0} (stands : B → Standing) (c : CellValue B) (recorder : ℕ) → CellKept stands c
-    → slice_index c.spent recorder < slice_index c.facts.budgets recorder → c.count + 1 ≤ total c.facts
-kept_room stands c recorder k left = omega (arith, k.counted, sum_less c.spent c.facts.budgets recorder k.one_budget_each k.within left)
 
 -- what the next recording is to the facts of an instrument
 pub record IsNext (facts : Facts) (entry : Entry) : Type 0 where
@@ -39,18 +35,12 @@ pub record IsNext (facts : Facts) (entry : Entry) : Type 0 where
   pub full : is_full_set facts.keys entry.set ≡ true
   pub value : in_bounds facts entry.value ≡ true
 
-next_sound : (facts : Facts) (entry : Entry) → IsNext facts entry → is_sound facts entry ≡ true
-next_sound facts entry n =
-    ap (λ (m : ℕ). (m == 8) && (is_full_set facts.keys entry.set && in_bounds facts entry.value)) n.eight
-    ∙ ap (λ (b : Bool). b && in_bounds facts entry.value) n.full
-    ∙ n.value
-
 -- the recordings of a cell with one more
 journal_more : {B : Type 0} (stands : B → Standing) (c : CellValue B) (k : CellKept stands c) (entry : Entry)
     → slice_index c.spent entry.recorder < slice_index c.facts.budgets entry.recorder → IsNext c.facts entry → IsJournal c.facts (k.journal ++ entry ∷ [])
 journal_more stands c k entry left next = record {
-  admitted = list_all-append (is_sound c.facts) k.journal (entry ∷ []) ∙ ap (λ (b : Bool). b && (is_sound c.facts entry && true)) k.sound ∙ ap (λ (b : Bool). b && true) (next_sound c.facts entry next);
-  budgeted = omega (arith, length_push k.journal entry, k.known.counted, kept_room stands c entry.recorder k left);
+  admitted = admitted_more c.facts k.journal entry k.admitted (admitted c.facts entry next.eight next.full next.value);
+  budgeted = omega (arith, length_push k.journal entry, k.known.counted, has_room stands c entry.recorder k left);
 }
 
 -- no recording takes a sum out of range
@@ -86,7 +76,7 @@ pub told_room : {B : Type 0} (stands : B → Standing) (c : CellValue B) (own : 
     → slice_index c.spent recorder < slice_index c.facts.budgets recorder → in_bounds own value ≡ true
     → HasRoom told own.lo value
 told_room stands c own told recorder value safe k mine left within =
-    let counted : told.count + 1 ≤ total c.facts = omega (arith, mine.spent, element_le c.spent recorder, k.counted, kept_room stands c recorder k left) in
+    let counted : told.count + 1 ≤ total c.facts = omega (arith, mine.spent, element_le c.spent recorder, k.counted, has_room stands c recorder k left) in
     record {
       count = omega (arith, k.budgeted);
       amount = amount_room own told.count told.amount value (subst IsSafeFacts mine.facts safe) (subst (λ (f : Facts). told.count + 1 ≤ total f) mine.facts counted) mine.amount within;

@@ -57,8 +57,27 @@ impl<B: Book> Slot<B> {
         ensures new { IfOk result (λ slot. slot ≡ new_cell slot.facts start slot.book) }
         ensures stands { IfOk result (λ slot. CellStands B.stands slot []) }
     {
+        Slot::with_seed(alloc, plan, instrument, start, start)
+    }
+
+    /// The same, where a book that hashes begins with this seed. With a seed that strangers do not know, set keys
+    /// that they choose collide in no fixed way.
+    pub fn with_seed(
+        alloc: Global,
+        plan: &Plan,
+        instrument: u32,
+        start: u64,
+        seed: u64,
+    ) -> Result<Slot<B>, AllocError>
+        requires certified { IsTrue plan.now.is_certified }
+        requires known { instrument < length plan.now.facts.instruments }
+        ensures facts { IfOk result (λ slot.
+            slice_get plan.now.facts.instruments instrument ≡ Some slot.facts) }
+        ensures new { IfOk result (λ slot. slot ≡ new_cell slot.facts start slot.book) }
+        ensures stands { IfOk result (λ slot. CellStands B.stands slot []) }
+    {
         certified_facts_are_safe(plan);
-        let cell = Cell::new(alloc, plan, instrument, start)?;
+        let cell = Cell::with_seed(alloc, plan, instrument, start, seed)?;
         Ok(Slot { cell })
     }
 

@@ -1,6 +1,6 @@
 -- no recorder has more than its budget
 use Rattle.std.proofs.Common.{◌≤◌, subst, sum}
-use Rattle.metric_core.proofs.BudgetLaws.{kept_within}
+use Rattle.metric_core.specs.BudgetLaws.{kept_within}
 use Rattle.metric_core.specs.Cells.{CellValue}
 use Rattle.metric_core.proofs.cell.Cell.count.Goals as goal
 

@@ -6,10 +6,11 @@ use Rattle.metric_history.specs.declared.entry.Entry.{Entry}
 use Rattle.metric_history.specs.declared.facts.Facts.{Facts}
 use Rattle.metric_history.specs.Windows.{fits_all}
 use Rattle.metric_history.specs.Facts.{in_bounds, is_full_set}
-use Rattle.metric_core.proofs.BudgetLaws.{has_room}
+use Rattle.metric_core.specs.BudgetLaws.{has_room}
 use Rattle.metric_core.specs.Cells.{CellStands, CellValue}
 use Rattle.metric_core.specs.CellAnswers.{IsJudged, entry_of}
-use Rattle.metric_core.proofs.CellLaws.{fits_taken, has_left, kept_recorded, may_take, sound_entry, stands_recorded}
+use Rattle.metric_core.proofs.CellLaws.{fits_taken, has_left, kept_recorded, may_take, stands_recorded}
+use Rattle.metric_safety.specs.AdmissionLaws.{admitted}
 use Rattle.metric_core.proofs.cell.Cell.record.Goals as goal
 
 pub push-requires : goal.push-requires
@@ -26,7 +27,7 @@ pub overflow_add-self : goal.overflow_add-self
 overflow_add-self g c =
     let known : c.args.recorder < length c.self.inside.facts.budgets = subst (λ (v : CellValue g.row.B.Denot). c.args.recorder < length v.facts.budgets) (sym c.self.view_is) c.requires.recorder in
     let left = has_left c.self.inside.spent.items c.self.inside.facts.budgets c.args.recorder c.has_budget.result _ _ c.deref.ensures.value (c.as_slice.ensures ∙ ap (λ (f : Facts). f.budgets) c.deref-2.ensures) c.has_budget.ensures c.if-not-has_budget.false in
-    record { fits = omega (arith, c.self.invariant.budgeted, has_room g.B.Book.stands _ c.args.recorder c.self.invariant known left) }
+    record { fits = omega (arith, c.self.invariant.budgeted, has_room g.B.Book.stands _ c.args.recorder c.self.invariant left) }
 
 pub invariant_of-self-2 : goal.invariant_of-self-2
 invariant_of-self-2 g c =
@@ -39,7 +40,7 @@ invariant_of-self-2 g c =
     let eight : length c.args.set ≡ 8 = search rules in
     let low : neg_ℤ (pos (2 ^ 63)) ≤ℤ c.args.value = omega (arith, ints) in
     let high : c.args.value ≤ℤ pos (2 ^ 63) = omega (arith, ints) in
-    kept_recorded g.B.Book.stands _ _ entry (search rules) c.self.invariant known left (sound_entry c.self.inside.facts entry eight full within) low high
+    kept_recorded g.B.Book.stands _ _ entry (search rules) c.self.invariant known left (admitted c.self.inside.facts entry eight full within) low high
     (λ journal s. subst (λ (v : ℤ). g.B.Book.stands c.push.new.self c.self.inside.facts (journal ++ entry_of c.args.recorder c.args.set v ∷ []) c.self.inside.marks.items) same
     (c.in_ok-push.ensures.stands c.self.inside.facts journal c.self.inside.marks.items s))
 

@@ -3,7 +3,7 @@ use Rattle.std.proofs.Common.{◌≡◌, Some, sym, ap, ◌∙◌, rules}
 use Rattle.std.specs.Prelude.{slice_get}
 use Rattle.metric_core.proofs.CellLaws.{kept_new, stands_new}
 use Rattle.metric_core.proofs.PlanFacts.{budgets_fit}
-use Rattle.metric_core.proofs.cell.Cell.new.Goals as goal
+use Rattle.metric_core.proofs.cell.Cell.with_seed.Goals as goal
 
 pub invariant_of-result : goal.invariant_of-result
 invariant_of-result g c =
