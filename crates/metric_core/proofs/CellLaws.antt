@@ -1,11 +1,11 @@
 -- What a recording and a collection make of the numbers that a cell keeps.
-use Rattle.std.proofs.Common.{◌≡◌, ◌≢◌, ℕ, zero, suc, ◌+◌, ◌^◌, ◌<◌, ◌≤◌, Bool, true, false, ◌&&◌, cond, ℤ, pos, neg_ℤ, ◌+ℤ◌, ◌≤ℤ◌, List, [], ◌∷◌, ◌++◌, length, refl, sym, ap, subst, ◌∙◌, arith}
+use Rattle.std.proofs.Common.{◌≡◌, ◌≢◌, ℕ, zero, suc, ◌+◌, ◌^◌, ◌<◌, ◌≤◌, Bool, true, false, cond, ℤ, pos, neg_ℤ, ◌+ℤ◌, ◌≤ℤ◌, List, [], ◌∷◌, ◌++◌, length, refl, sym, ap, subst, ◌∙◌, arith}
 use Rattle.std.specs.Prelude.{◌==◌, Ok, nat_lt, replicate, slice_index, slice_index_or, slice_set, sum}
 use Rattle.std.proofs.lemmas.Bool.{ltb-true}
 use Rattle.std.proofs.lemmas.Bool.Decides.{nat_tests}
 use Rattle.std.proofs.lemmas.Int.{ints}
 use Rattle.std.proofs.lemmas.List.{length-set, length-replicate, length_push, get_or-set_same, get_or-set_other}
-use Rattle.std.proofs.lemmas.List.Folds.{list_all-append, sum_by-replicate}
+use Rattle.std.proofs.lemmas.List.Folds.{sum_by-replicate}
 use Rattle.std.proofs.lemmas.List.Sums.{sum_by_push}
 use Rattle.metric_book.specs.Journals.{MayAnswer, MayTake, Standing, no_marks}
 use Rattle.metric_history.specs.declared.entry.Entry.{Entry}
@@ -15,6 +15,8 @@ use Rattle.metric_history.specs.Facts.{in_bounds, is_full_set}
 use Rattle.metric_history.specs.SumLaws.{sum_push}
 use Rattle.metric_core.proofs.BudgetLaws.{raised_within, sum_raised}
 use Rattle.metric_core.specs.BudgetLaws.{has_room}
+use Rattle.metric_safety.specs.AdmissionLaws.{admitted_more}
+use Rattle.metric_safety.specs.SafeFacts.{is_admitted}
 use Rattle.metric_core.specs.Cells.{CellKept, CellStands, CellValue, new_cell}
 use Rattle.metric_core.specs.CellAnswers.{with_batch, with_entry}
 

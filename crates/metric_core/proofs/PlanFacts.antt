@@ -1,9 +1,8 @@
 -- What a plan keeps of the facts of one instrument.
-use Rattle.std.proofs.Common.{◌≡◌, ℕ, zero, suc, ◌+◌, ◌^◌, ◌<◌, Bool, true, List, [], ◌∷◌, Some, Result, Ok, Err, map, refl, sym, ap, subst, ◌∙◌, arith}
+use Rattle.std.proofs.Common.{◌≡◌, ℕ, zero, suc, ◌+◌, ◌^◌, ◌<◌, true, List, [], ◌∷◌, Some, Result, Ok, Err, map, refl, sym, ap, subst, ◌∙◌, arith}
 use Rattle.std.specs.Prelude.{nat_lt, slice_get, sum, sum_by}
 use Rattle.std.proofs.lemmas.Bool.{and_parts, ltb-true}
 use Rattle.std.proofs.lemmas.List.Sums.{sum-map}
-use Rattle.std.proofs.lemmas.Option.{same_Some}
 use Rattle.metric_bounds.specs.Amounts.{total_of}
 use Rattle.metric_catalogue.specs.Budgets.{amount_of}
 use Rattle.metric_catalogue.specs.Attributes.{given_by_owned}
@@ -17,12 +16,10 @@ use Rattle.metric_history.specs.declared.event.Event.{Event}
 use Rattle.metric_history.specs.declared.event.Event.TheVariants.{Record, Collect, Close}
 use Rattle.metric_history.specs.declared.facts.Facts.{Facts}
 use Rattle.metric_history.specs.Events.{instrument_of}
-use Rattle.metric_history.specs.Facts.{EncodesFullSets, RunFacts, facts_from, facts_of, is_full_set}
+use Rattle.metric_history.specs.Facts.{EncodesFullSets, is_full_set}
 use Rattle.metric_plan.specs.Counting.{counts_fit}
 use Rattle.metric_plan.specs.PlanFacts.{plan_facts_at}
 use Rattle.metric_plan.specs.Plans.{IsPlan, PlanValue}
-use Rattle.metric_views.specs.declared.config.Reader.{Reader}
-use Rattle.metric_views.specs.declared.stream.Stream.{Stream}
 use Rattle.metric_core.specs.Steps.{HasFullSet, IsFullSet}
 
 counted_at : (contents : Contents) (instruments : List Instrument) (first i : ℕ) (d : Instrument) → counts_fit contents first instruments ≡ true → slice_get instruments i ≡ Some d

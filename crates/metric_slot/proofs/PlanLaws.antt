@@ -1,19 +1,13 @@
 -- What a certified plan says of each of its instruments.
-use Rattle.std.proofs.Common.{◌≡◌, ℕ, zero, suc, ◌+◌, Bool, List, [], ◌∷◌, Some, sym, ap, subst, ◌∙◌}
-use Rattle.std.specs.Prelude.{IsTrue, slice_get}
-use Rattle.std.proofs.lemmas.Option.{same_Some}
+use Rattle.std.proofs.Common.{◌≡◌, ap, subst, ◌∙◌}
+use Rattle.std.specs.Prelude.{IsTrue}
 use Rattle.metric_catalogue.specs.Sound.{IsSound}
 use Rattle.metric_catalogue.specs.declared.contents.Contents.{Contents}
-use Rattle.metric_catalogue.specs.declared.contents.Instrument.{Instrument}
-use Rattle.metric_catalogue.specs.declared.contents.Recorder.{Recorder}
 use Rattle.metric_history.specs.declared.facts.Facts.{Facts}
-use Rattle.metric_history.specs.Facts.{RunFacts, facts_from, facts_of}
 use Rattle.metric_plan.specs.PlanFacts.{plan_facts_at}
 use Rattle.metric_plan.specs.Plans.{IsPlan, PlanValue}
 use Rattle.metric_safety.specs.SafeRuns.{IsSafePlan, IsSafeRun}
 use Rattle.metric_slot.specs.Slots.{AreCertified}
-use Rattle.metric_views.specs.declared.config.Reader.{Reader}
-use Rattle.metric_views.specs.declared.stream.Stream.{Stream}
 
 pub are_certified : (plan : PlanValue) (contents : Contents) → IsPlan plan → contents ≡ plan.facts.contents → IsSound contents
     → ((p : PlanValue) → IsSafePlan p → IsSafeRun p.streams p.facts) → IsTrue plan.is_certified → AreCertified plan.facts.instruments
