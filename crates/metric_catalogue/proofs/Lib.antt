@@ -7,3 +7,4 @@ mod SoundCatalogues
 pub mod Mapped
 mod OrderLaws
 mod Differing
+mod InOrderLaws

@@ -1,7 +1,6 @@
 -- Laws of numberings.
 use Rattle.std.proofs.lemmas.List.{take_more, drop_more}
 use Rattle.std.proofs.Common.{take, drop, get_or, length-take, is_some, ◌≡◌, ℕ, ◌+◌, Bool, true, false, cond, List, [], ◌∷◌, ◌++◌, length, Option, Some, None, String, Global, refl, sym, ap, subst, ◌∙◌, arith, IfSome, ◌<◌, string_bytes}
-use Rattle.std.specs.List.{position_from}
 use Rattle.std.specs.Str.{bytes_eq}
 use Rattle.std.specs.String.{string_eq}
 use Rattle.std.specs.HashMap.{Updates}

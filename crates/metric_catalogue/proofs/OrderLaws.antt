@@ -105,7 +105,8 @@ few_of (given ∷ attrs) name e =
         omega arith
     by false h alone rest = let one = count_by-no (is_of name) given attrs h in omega arith
 
-abbrev steps : Bool → Bool → Bool → Bool → List ℕ → Result (List ℕ) Refusal
+-- the steps of a set key, from what they test and what they give
+abbrev pub steps : Bool → Bool → Bool → Bool → List ℕ → Result (List ℕ) Refusal
 steps repeated declared valued complete set = do
   _ ← require (not repeated) DuplicateKey
   _ ← require declared UnknownKey

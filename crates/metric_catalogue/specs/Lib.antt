@@ -14,5 +14,6 @@ pub mod Catalogues
 pub mod Sound
 pub mod Encoding
 pub mod ByKeys
+pub mod InOrder
 pub mod Attributes
 pub mod Budgets

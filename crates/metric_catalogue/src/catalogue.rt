@@ -99,7 +99,8 @@ impl Catalogue {
 
     /// The set key that the attributes name for the instrument of this number, in any order, or the
     /// first refusal of `UnknownInstrument`, `DuplicateKey`, `UnknownKey`, `UnknownValue` and
-    /// `MissingKey`, each tried over the whole list before the next. Takes no memory.
+    /// `MissingKey`, each tried over the whole list before the next. Takes no memory, and only one pass
+    /// where the attributes stand in the declared order of their keys.
     pub fn encode(&self, instrument: u32, attrs: &[Attr<'_>]) -> Result<SetKey, Refusal>
         ensures { result ≡ encode_of self.now.instruments instrument (map given_by attrs.now) }
     {

@@ -1,11 +1,12 @@
 //! The set key that attributes name.
 ghost use Rattle.std.specs.Prelude.{◌≡◌, ◌≤◌, None, Some, false, find, if◌then◌else◌, length, map, true, vec_capacity};
-ghost use Rattle.std.specs.List.{list_all, list_any};
-ghost use Rattle.std.specs.Option.{option_copied};
+ghost use Rattle.std.specs.List.{All, list_all, list_any};
+ghost use Rattle.std.specs.Option.{option_copied, option_map};
 ghost use Rattle.metric_names.specs.Values.{value_of};
 ghost use Rattle.metric_catalogue.specs.Attributes.{given_by_owned};
 ghost use Rattle.metric_catalogue.specs.ByKeys.{is_allowed};
 ghost use Rattle.metric_catalogue.specs.Encoding.{IgnoresOrder, encode_of, entry_at, entry_with, has_declared_value, has_repeated_key, is_complete, is_declared, is_of, set_key, set_of};
+ghost use Rattle.metric_catalogue.specs.InOrder.{AreKeysApart, entry_in_order, set_in_order};
 ghost use Rattle.metric_catalogue.specs.Keys.{is_key};
 
 use crate::attributes::{Attribute, OwnedAttr};
@@ -25,6 +26,7 @@ pub(crate) fn encode_of<A: Attribute>(
     instrument: u32,
     attrs: &[A],
 ) -> Result<SetKey, Refusal>
+    requires { All (λ instrument. AreKeysApart instrument.keys) instruments.now }
     ensures { result ≡ encode_of instruments.now instrument (map A.given attrs.now) }
 {
     match instruments.get(instrument as usize) {
@@ -47,7 +49,8 @@ pub(crate) fn encode_with_room<'a>(
     attrs: &'a [OwnedAttr],
     room: &mut Vec<&'a str>,
 ) -> Result<SetKey, Refusal>
-    requires { length attrs.now ≤ vec_capacity room.old }
+    requires apart { All (λ instrument. AreKeysApart instrument.keys) instruments.now }
+    requires room { length attrs.now ≤ vec_capacity room.old }
     ensures exact { result ≡ encode_of instruments.now instrument (map given_by_owned attrs.now) }
     ensures room { vec_capacity room.new ≡ vec_capacity room.old }
 {
@@ -57,12 +60,17 @@ pub(crate) fn encode_with_room<'a>(
     }
 }
 
-// Which keys are declared is tried first, since attributes of declared keys alone soon repeat one.
+// The usual order is tried first; then which keys are declared, since attributes of declared keys alone
+// soon repeat one.
 #[tactic(auto, unfolding(crate::specs::Encoding::set_of))]
 fn set_of<A: Attribute>(keys: &[Key], attrs: &[A]) -> Result<SetKey, Refusal>
-    requires { length keys.now ≤ 8 }
+    requires few { length keys.now ≤ 8 }
+    requires apart { AreKeysApart keys.now }
     ensures { result ≡ set_of keys.now (map A.given attrs.now) }
 {
+    if let Some(set) = set_in_order(keys, attrs) {
+        return Ok(set);
+    }
     if are_declared(keys, attrs) {
         return set_of_declared(keys, attrs);
     }
@@ -78,11 +86,15 @@ fn set_with_room<'a>(
     attrs: &'a [OwnedAttr],
     room: &mut Vec<&'a str>,
 ) -> Result<SetKey, Refusal>
-    requires keys { length keys.now ≤ 8 }
+    requires few { length keys.now ≤ 8 }
+    requires apart { AreKeysApart keys.now }
     requires room { length attrs.now ≤ vec_capacity room.old }
     ensures exact { result ≡ set_of keys.now (map given_by_owned attrs.now) }
     ensures room { vec_capacity room.new ≡ vec_capacity room.old }
 {
+    if let Some(set) = set_in_order(keys, attrs) {
+        return Ok(set);
+    }
     if are_declared(keys, attrs) {
         return set_of_declared(keys, attrs);
     }
@@ -90,6 +102,36 @@ fn set_with_room<'a>(
         return Err(Refusal::DuplicateKey);
     }
     Err(Refusal::UnknownKey)
+}
+
+// The set key of attributes that stand in the order of their keys, as they mostly do: one pass finds it.
+// Nothing where they do not, or where there is a refusal to tell.
+#[tactic(auto, unfolding(crate::specs::InOrder::set_in_order))]
+fn set_in_order<A: Attribute>(keys: &[Key], attrs: &[A]) -> Option<SetKey>
+    requires { length keys.now ≤ 8 }
+    ensures { result ≡ set_in_order keys.now (map A.given attrs.now) }
+{
+    let mut set = [0; 8];
+    let mut left = attrs;
+    for (place, key) in keys.iter().enumerate() {
+        let (entry, rest) = entry_in_order(key, left)?;
+        set[place] = entry;
+        left = rest;
+    }
+    left.is_empty().then_some(set)
+}
+
+// The entry of a key, whose attribute stands first where it has one, and the attributes that are left.
+fn entry_in_order<'a, A: Attribute>(key: &Key, attrs: &'a [A]) -> Option<(u16, &'a [A])>
+    ensures { option_map (λ taken. (taken.0, map A.given taken.1.now)) result
+        ≡ entry_in_order key.now (map A.given attrs.now) }
+{
+    if let Some((attr, rest)) = attrs.split_first() {
+        if attr.key() == key.name.as_str() {
+            return Some((entry_with(key, attr.value())?, rest));
+        }
+    }
+    key.optional.then_some((0, attrs))
 }
 
 // The set key of attributes whose keys are all declared, or the first refusal.
