@@ -6,7 +6,7 @@ use std::test::Fail;
 type Piece = (usize, usize);
 
 // What each of these may be written in place of.
-const WORDS: [&str; 7] = [
+const WORDS: &[&str] = &[
     "\"product\"",
     "\"budget\"",
     "\"instrument_type\"",
@@ -17,7 +17,7 @@ const WORDS: [&str; 7] = [
 ];
 
 // Lists that lose, gain or join lists.
-const LISTS: [(&str, &str); 6] = [
+const LISTS: &[(&str, &str)] = &[
     ("[], ", ""),
     (", []", ""),
     ("[]", "[], []"),
@@ -31,28 +31,23 @@ pub fn altered(alloc: Global, text: &str) -> Result<Vec<String>, Fail> {
     let mut out = Vec::new(alloc);
     add_counts(alloc, text, &mut out)?;
     add_moves(alloc, text, ", ", &numbers_of(alloc, text)?, &mut out)?;
-    add_moves(alloc, text, "\n", &pieces_of(alloc, text, "\n")?, &mut out)?;
-    add_moves(
-        alloc,
-        text,
-        "\n\n",
-        &pieces_of(alloc, text, "\n\n")?,
-        &mut out,
-    )?;
-    for (old, new) in LISTS {
-        add_others(alloc, text, old, new, &mut out)?;
-    }
-    for word in WORDS {
-        add_words(alloc, text, word, &mut out)?;
-    }
+    add_pieces(alloc, text, "\n", &mut out)?;
+    add_pieces(alloc, text, "\n\n", &mut out)?;
+    add_lists(alloc, text, &mut out)?;
+    add_words(alloc, text, &mut out)?;
     Ok(out)
+}
+
+// Three texts as one.
+fn joined(alloc: Global, first: &str, second: &str, third: &str) -> Result<String, AllocError> {
+    format!(in alloc; "{first}{second}{third}")
 }
 
 // The text with a piece of it written anew.
 fn replaced(alloc: Global, text: &str, piece: Piece, new: &str) -> Result<String, AllocError> {
     let before = text.get(0..piece.0).unwrap_or("");
     let after = text.get(piece.1..text.len()).unwrap_or("");
-    format!(in alloc; "{before}{new}{after}")
+    joined(alloc, before, new, after)
 }
 
 // Where the numbers stand, without their signs.
@@ -87,19 +82,34 @@ fn pieces_of(alloc: Global, text: &str, joint: &str) -> Result<Vec<Piece>, Fail>
 // Each number one more, one less, and twice as much.
 fn add_counts(alloc: Global, text: &str, out: &mut Vec<String>) -> Result<(), Fail> {
     for piece in &numbers_of(alloc, text)? {
-        let digits = text.get(piece.0..piece.1).unwrap_or("");
-        let number = digits.parse::<u128>().unwrap_or(0);
-        let counts = [
-            number.saturating_add(1),
-            number.saturating_sub(1),
-            number.saturating_mul(2),
-        ];
-        for count in counts {
-            let count = format!(in alloc; "{count}")?;
-            out.push(replaced(alloc, text, *piece, count.as_str())?)?;
-        }
+        add_counts_at(alloc, text, *piece, out)?;
     }
     Ok(())
+}
+
+fn add_counts_at(
+    alloc: Global,
+    text: &str,
+    piece: Piece,
+    out: &mut Vec<String>,
+) -> Result<(), AllocError> {
+    let digits = text.get(piece.0..piece.1).unwrap_or("");
+    let number = digits.parse::<u128>().unwrap_or(0);
+    for count in [
+        number.saturating_add(1),
+        number.saturating_sub(1),
+        number.saturating_mul(2),
+    ] {
+        let count = count.to_string(alloc)?;
+        out.push(replaced(alloc, text, piece, count.as_str())?)?;
+    }
+    Ok(())
+}
+
+// Each piece between joints moved.
+fn add_pieces(alloc: Global, text: &str, joint: &str, out: &mut Vec<String>) -> Result<(), Fail> {
+    let pieces = pieces_of(alloc, text, joint)?;
+    add_moves(alloc, text, joint, &pieces, out)
 }
 
 // Each piece removed, doubled, and swapped with the next.
@@ -111,10 +121,8 @@ fn add_moves(
     out: &mut Vec<String>,
 ) -> Result<(), Fail> {
     for piece in pieces {
-        let own = text.get(piece.0..piece.1).unwrap_or("");
-        let twice = format!(in alloc; "{own}{joint}{own}")?;
         out.push(without(alloc, text, joint, *piece)?)?;
-        out.push(replaced(alloc, text, *piece, twice.as_str())?)?;
+        out.push(doubled(alloc, text, joint, *piece)?)?;
     }
     for pair in pieces.windows(2) {
         out.push(swapped(alloc, text, pair[0], pair[1])?)?;
@@ -126,11 +134,22 @@ fn add_moves(
 fn without(alloc: Global, text: &str, joint: &str, piece: Piece) -> Result<String, AllocError> {
     let before = text.get(0..piece.0).unwrap_or("");
     let after = text.get(piece.1..text.len()).unwrap_or("");
-    if let Some(after) = after.strip_prefix(joint) {
-        return format!(in alloc; "{before}{after}");
+    match after.strip_prefix(joint) {
+        Some(after) => joined(alloc, before, "", after),
+        None => joined(
+            alloc,
+            before.strip_suffix(joint).unwrap_or(before),
+            "",
+            after,
+        ),
     }
-    let before = before.strip_suffix(joint).unwrap_or(before);
-    format!(in alloc; "{before}{after}")
+}
+
+// The text with a piece in it twice.
+fn doubled(alloc: Global, text: &str, joint: &str, piece: Piece) -> Result<String, AllocError> {
+    let own = text.get(piece.0..piece.1).unwrap_or("");
+    let twice = joined(alloc, own, joint, own)?;
+    replaced(alloc, text, piece, twice.as_str())
 }
 
 // The text with two pieces in each other's place, of which the second stands later.
@@ -156,8 +175,28 @@ fn add_others(
     Ok(())
 }
 
-// Each place of a word with each other word in it.
-fn add_words(alloc: Global, text: &str, word: &str, out: &mut Vec<String>) -> Result<(), Fail> {
+// Each list less, more, or joined.
+fn add_lists(alloc: Global, text: &str, out: &mut Vec<String>) -> Result<(), Fail> {
+    for (old, new) in LISTS {
+        add_others(alloc, text, old, new, out)?;
+    }
+    Ok(())
+}
+
+// Each place of each word with another in it.
+fn add_words(alloc: Global, text: &str, out: &mut Vec<String>) -> Result<(), Fail> {
+    for word in WORDS {
+        add_other_words(alloc, text, word, out)?;
+    }
+    Ok(())
+}
+
+fn add_other_words(
+    alloc: Global,
+    text: &str,
+    word: &str,
+    out: &mut Vec<String>,
+) -> Result<(), Fail> {
     for other in WORDS {
         add_others(alloc, text, word, other, out)?;
     }

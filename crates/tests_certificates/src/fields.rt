@@ -1,5 +1,6 @@
 //! Certificates as texts: every field, numbers at their edges, and tables of another shape.
 use crate::telling::read;
+use std::alloc::{AllocError, Global};
 use std::test::Fail;
 
 const WHOLE: &str = r#"
@@ -29,40 +30,51 @@ fn every_field_is_read(rt: HostRuntime) -> Result<(), Fail> {
     Ok(())
 }
 
-// Numbers in decimal, without leading zeros or a plus, and within their range.
+// Numbers in decimal, without leading zeros or a plus, and within their range: a count, a sum, and whether they are right.
+const DECIMALS: &[(&str, &str, bool)] = &[
+    ("0", "0", true),
+    (
+        "18446744073709551615",
+        "170141183460469231731687303715884105727",
+        true,
+    ),
+    ("1", "-170141183460469231731687303715884105728", true),
+    ("18446744073709551616", "0", false),
+    ("-1", "0", false),
+    ("0", "170141183460469231731687303715884105728", false),
+    ("0", "-170141183460469231731687303715884105729", false),
+    ("0", "-0", false),
+    ("0", "007", false),
+    ("0", "+5", false),
+    ("007", "0", false),
+    ("+5", "0", false),
+    ("", "0", false),
+    ("0", "", false),
+    ("0", "-", false),
+    ("1_0", "0", false),
+];
+
+// A certificate of one bound.
+fn with_bound(alloc: Global, count: &str, sum: &str) -> Result<String, AllocError> {
+    format!(in alloc;
+        "format = 1\nreason = []\nstream = []\norder = []\nbound = [{{ instrument = 0, total = \"{count}\", amount = \"{count}\", low = \"{sum}\", high = \"{sum}\" }}]"
+    )
+}
+
+// What is read of it.
+fn told_of(alloc: Global, count: &str, sum: &str, right: bool) -> Result<String, AllocError> {
+    if right {
+        format!(in alloc; "bound 0 {count} {count} {sum} {sum}\n")
+    } else {
+        String::from_str(alloc, "2 Shape")
+    }
+}
+
 #[test]
 fn decimals_have_one_spelling(rt: HostRuntime) -> Result<(), Fail> {
-    let rows = [
-        ("0", "0", true),
-        (
-            "18446744073709551615",
-            "170141183460469231731687303715884105727",
-            true,
-        ),
-        ("1", "-170141183460469231731687303715884105728", true),
-        ("18446744073709551616", "0", false),
-        ("-1", "0", false),
-        ("0", "170141183460469231731687303715884105728", false),
-        ("0", "-170141183460469231731687303715884105729", false),
-        ("0", "-0", false),
-        ("0", "007", false),
-        ("0", "+5", false),
-        ("007", "0", false),
-        ("+5", "0", false),
-        ("", "0", false),
-        ("0", "", false),
-        ("0", "-", false),
-        ("1_0", "0", false),
-    ];
-    for (count, sum, right) in rows {
-        let text = format!(in rt.alloc();
-            "format = 1\nreason = []\nstream = []\norder = []\nbound = [{{ instrument = 0, total = \"{count}\", amount = \"{count}\", low = \"{sum}\", high = \"{sum}\" }}]"
-        )?;
-        let due = if right {
-            format!(in rt.alloc(); "bound 0 {count} {count} {sum} {sum}\n")?
-        } else {
-            String::from_str(rt.alloc(), "2 Shape")?
-        };
+    for (count, sum, right) in DECIMALS {
+        let text = with_bound(rt.alloc(), count, sum)?;
+        let due = told_of(rt.alloc(), count, sum, *right)?;
         assert_eq!(rt; read(rt.alloc(), text.as_str())?.as_str(), due.as_str());
     }
     Ok(())
@@ -70,81 +82,82 @@ fn decimals_have_one_spelling(rt: HostRuntime) -> Result<(), Fail> {
 
 const BARE: &str = "format = 1\nreason = []\nstream = []\nbound = []\norder = []\n";
 
-// A table with other fields than those of a certificate.
+// What takes the place of which text, and what is read then: other fields than those of a certificate have another shape.
+const SHAPES: &[(&str, &str, &str)] = &[
+    ("order = []\n", "", "2 Shape"),
+    ("bound = []\n", "", "2 Shape"),
+    ("stream = []\n", "", "2 Shape"),
+    ("reason = []\n", "", "2 Shape"),
+    ("format = 1\n", "", "2 Shape"),
+    ("format = 1\n", "format = 2\n", "2 Shape"),
+    ("format = 1\n", "format = \"1\"\n", "2 Shape"),
+    ("format = 1\n", "format = 1\nmore = 1\n", "2 Shape"),
+    ("order = []\n", "order = [\n", "1 NotToml"),
+    (
+        "reason = []",
+        "reason = [{ view = 0, instrument = 0 }]",
+        "2 Shape",
+    ),
+    (
+        "reason = []",
+        "reason = [{ view = 0, instrument = 0, takes = [], rows = [] }]",
+        "2 Shape",
+    ),
+    (
+        "reason = []",
+        "reason = [{ view = 0, instrument = 0, takes = [], miss = \"meter_name\" }]",
+        "2 Shape",
+    ),
+    (
+        "reason = []",
+        "reason = [{ view = 0, instrument = 0, miss = \"instrument_name\" }]",
+        "2 Shape",
+    ),
+    (
+        "reason = []",
+        "reason = [{ view = 0, instrument = 0, takes = [65536] }]",
+        "2 Shape",
+    ),
+    (
+        "reason = []",
+        "reason = [{ view = 0, instrument = 0, rows = [0] }]",
+        "2 Shape",
+    ),
+    (
+        "reason = []",
+        "reason = [{ view = -1, instrument = 0, takes = [] }]",
+        "2 Shape",
+    ),
+    (
+        "stream = []",
+        "stream = [{ reader = 0, instrument = 0, by = \"sum\", sets = 1 }]",
+        "2 Shape",
+    ),
+    (
+        "stream = []",
+        "stream = [{ reader = 0, instrument = 0, by = \"product\", sets = 4294967296 }]",
+        "2 Shape",
+    ),
+    (
+        "stream = []",
+        "stream = [{ reader = 0, instrument = 0, sets = 1 }]",
+        "2 Shape",
+    ),
+    (
+        "bound = []",
+        "bound = [{ instrument = 0, total = 1, amount = \"0\", low = \"0\", high = \"0\" }]",
+        "2 Shape",
+    ),
+    ("order = []", "order = [{ reader = 0 }]", "2 Shape"),
+    ("order = []", "order = [1]", "2 Shape"),
+    ("order = []", "order = []", ""),
+];
+
 #[test]
 fn other_tables_are_no_certificates(rt: HostRuntime) -> Result<(), Fail> {
-    let rows = [
-        ("order = []\n", "", "2 Shape"),
-        ("bound = []\n", "", "2 Shape"),
-        ("stream = []\n", "", "2 Shape"),
-        ("reason = []\n", "", "2 Shape"),
-        ("format = 1\n", "", "2 Shape"),
-        ("format = 1\n", "format = 2\n", "2 Shape"),
-        ("format = 1\n", "format = \"1\"\n", "2 Shape"),
-        ("format = 1\n", "format = 1\nmore = 1\n", "2 Shape"),
-        ("order = []\n", "order = [\n", "1 NotToml"),
-        (
-            "reason = []",
-            "reason = [{ view = 0, instrument = 0 }]",
-            "2 Shape",
-        ),
-        (
-            "reason = []",
-            "reason = [{ view = 0, instrument = 0, takes = [], rows = [] }]",
-            "2 Shape",
-        ),
-        (
-            "reason = []",
-            "reason = [{ view = 0, instrument = 0, takes = [], miss = \"meter_name\" }]",
-            "2 Shape",
-        ),
-        (
-            "reason = []",
-            "reason = [{ view = 0, instrument = 0, miss = \"instrument_name\" }]",
-            "2 Shape",
-        ),
-        (
-            "reason = []",
-            "reason = [{ view = 0, instrument = 0, takes = [65536] }]",
-            "2 Shape",
-        ),
-        (
-            "reason = []",
-            "reason = [{ view = 0, instrument = 0, rows = [0] }]",
-            "2 Shape",
-        ),
-        (
-            "reason = []",
-            "reason = [{ view = -1, instrument = 0, takes = [] }]",
-            "2 Shape",
-        ),
-        (
-            "stream = []",
-            "stream = [{ reader = 0, instrument = 0, by = \"sum\", sets = 1 }]",
-            "2 Shape",
-        ),
-        (
-            "stream = []",
-            "stream = [{ reader = 0, instrument = 0, by = \"product\", sets = 4294967296 }]",
-            "2 Shape",
-        ),
-        (
-            "stream = []",
-            "stream = [{ reader = 0, instrument = 0, sets = 1 }]",
-            "2 Shape",
-        ),
-        (
-            "bound = []",
-            "bound = [{ instrument = 0, total = 1, amount = \"0\", low = \"0\", high = \"0\" }]",
-            "2 Shape",
-        ),
-        ("order = []", "order = [{ reader = 0 }]", "2 Shape"),
-        ("order = []", "order = [1]", "2 Shape"),
-        ("order = []", "order = []", ""),
-    ];
-    for (old, new, due) in rows {
+    for (old, new, due) in SHAPES {
         let text = BARE.replace(rt.alloc(), old, new)?;
-        assert_eq!(rt; read(rt.alloc(), text.as_str())?.as_str(), due);
+        assert_eq!(rt; read(rt.alloc(), text.as_str())?.as_str(), *due);
     }
     Ok(())
 }

@@ -39,6 +39,16 @@ fn stars_take_as_little_as_they_can(rt: HostRuntime) -> Result<(), Fail> {
     Ok(())
 }
 
+// The row of the places below this one.
+fn row_below(alloc: Global, end: usize) -> Result<String, Fail> {
+    let mut row = String::from_str(alloc, " [0")?;
+    for place in 1..end {
+        write!(row, ", {place}")?;
+    }
+    row.push(']')?;
+    Ok(row)
+}
+
 // Every place of the stars is reached before each character, and the end never is.
 #[test]
 fn rows_shut_out_the_end(rt: HostRuntime) -> Result<(), Fail> {
@@ -47,11 +57,7 @@ fn rows_shut_out_the_end(rt: HostRuntime) -> Result<(), Fail> {
     let stars = stars.as_str();
     let pattern = format!(in rt.alloc(); "{stars}b")?;
     let told = first_reason(rt.alloc(), name.as_str(), pattern.as_str())?;
-    let mut row = String::from_str(rt.alloc(), " [0")?;
-    for place in 1..255 {
-        write!(row, ", {place}")?;
-    }
-    row.push(']')?;
+    let row = row_below(rt.alloc(), 255)?;
     let rows = repeated(rt.alloc(), row.as_str(), 256)?;
     let rows = rows.as_str();
     let due = format!(in rt.alloc(); "reason 0 0 rows{rows}")?;
@@ -59,29 +65,37 @@ fn rows_shut_out_the_end(rt: HostRuntime) -> Result<(), Fail> {
     Ok(())
 }
 
+const OF_ONE_METER: &str =
+    "format = 1\nmeter = [{ name = \"m\", version = \"1\", schema_url = \"u\", instrument = [{ name = \"a\", kind = \"counter\", unit = \"s\", range = [0, 1] }] }]";
+
+// Criteria that fail, in the order in which they are tried, and what shows it.
+const CRITERIA: &[(&str, &str)] = &[
+    ("instrument_type = \"gauge\"", "miss instrument_type"),
+    ("instrument_unit = \"S\"", "miss instrument_unit"),
+    ("meter_name = \"M\"", "miss meter_name"),
+    ("meter_version = \"\"", "miss meter_version"),
+    ("meter_schema_url = \"v\"", "miss meter_schema_url"),
+    ("instrument_name = \"b\"", "rows [0] []"),
+];
+
+// A config of a view with all criteria but so many.
+fn config_without(alloc: Global, count: usize) -> Result<String, AllocError> {
+    let mut config = String::from_str(alloc, "format = 1\nview = [{ ")?;
+    for (criterion, _) in CRITERIA.iter().skip(count) {
+        config.push_str(criterion)?;
+        config.push_str(", ")?;
+    }
+    config.push_str("limit = 1 }]")?;
+    Ok(config)
+}
+
 // The first criterion that fails is named, whatever else fails.
 #[test]
 fn criteria_are_tried_in_order(rt: HostRuntime) -> Result<(), Fail> {
-    let catalogue =
-        "format = 1\nmeter = [{ name = \"m\", version = \"1\", schema_url = \"u\", instrument = [{ name = \"a\", kind = \"counter\", unit = \"s\", range = [0, 1] }] }]";
-    let criteria = [
-        ("instrument_type = \"gauge\"", "miss instrument_type"),
-        ("instrument_unit = \"S\"", "miss instrument_unit"),
-        ("meter_name = \"M\"", "miss meter_name"),
-        ("meter_version = \"\"", "miss meter_version"),
-        ("meter_schema_url = \"v\"", "miss meter_schema_url"),
-        ("instrument_name = \"b\"", "rows [0] []"),
-    ];
-    for first in 0..criteria.len() {
-        let mut view = String::new(rt.alloc());
-        for (criterion, _) in criteria.iter().skip(first) {
-            write!(view, "{criterion}, ")?;
-        }
-        let view = view.as_str();
-        let config = format!(in rt.alloc(); "format = 1\nview = [{{ {view}limit = 1 }}]")?;
-        let text = made(rt.alloc(), catalogue, config.as_str())?;
+    for (first, (_, due)) in CRITERIA.iter().enumerate() {
+        let config = config_without(rt.alloc(), first)?;
+        let text = made(rt.alloc(), OF_ONE_METER, config.as_str())?;
         let told = read(rt.alloc(), text.as_str())?;
-        let due = criteria[first].1;
         let due = format!(in rt.alloc(); "reason 0 0 {due}\nbound 0 0 0 0 0\n")?;
         assert_eq!(rt; told.as_str(), due.as_str());
     }
