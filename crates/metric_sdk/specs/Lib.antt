@@ -1,0 +1,5 @@
+pub mod Setups
+pub use Rattle.metric_bounds.specs.Safe
+pub use Rattle.metric_catalogue.specs.Catalogues
+pub use Rattle.metric_plan.specs.Plans
+pub use Rattle.metric_views.specs.Configs

@@ -1,0 +1,87 @@
+-- The certified plan of two texts, and why they come to none.
+use Rattle.std.specs.Prelude.{◌≡◌, ℕ, true, List, Some, Result, Ok, Err}
+use Rattle.metric_catalogue.specs.Catalogues.{catalogue_of}
+use Rattle.metric_catalogue.specs.declared.contents.Contents.{Contents}
+use Rattle.metric_catalogue.specs.declared.fault.CatalogueFault.{CatalogueFault}
+use Rattle.metric_views.specs.Configs.{config_of}
+use Rattle.metric_views.specs.declared.config.Setup.{Setup}
+use Rattle.metric_views.specs.declared.fault.ViewFault.{ViewFault}
+use Rattle.metric_resolve.specs.Resolved.{streams_of}
+use Rattle.metric_bounds.specs.Finding.{SafetyFinds}
+use Rattle.metric_bounds.specs.Safe.{IsSafe}
+use Rattle.metric_cert.specs.Making.{make_faults}
+use Rattle.metric_cert.specs.Valid.{IsValid}
+use Rattle.metric_cert.specs.declared.certificate.Certificate.{Certificate}
+use Rattle.metric_cert.specs.declared.make_fault.MakeFault.{MakeFault}
+use Rattle.metric_plan.specs.Plans.{PlanValue, plan_of}
+use Rattle.metric_sdk.specs.declared.fault.SetupFault.{SetupFault}
+use Rattle.metric_sdk.specs.declared.fault.SetupFault.TheVariants.{Catalogue, Config, Unsafe, Memory}
+
+-- The texts are this catalogue and this config.
+pub record IsDeclared (catalogue config : List ℕ) (contents : Contents) (setup : Setup) : Type 0 where
+  pub is_catalogue : catalogue_of catalogue ≡ Ok contents
+  pub is_config : config_of config ≡ Ok setup
+
+-- The texts are safe, and this is the plan that they come to.
+pub record IsCertifiedPlan (catalogue config : List ℕ) (plan : PlanValue) : Type 0 where
+  pub contents : Contents
+  pub setup : Setup
+  pub declared : IsDeclared catalogue config contents setup
+  pub safe : IsSafe contents setup
+  pub planned : plan ≡ plan_of true contents setup
+
+-- The catalogue is right, and the config has this first fault.
+pub record IsFaultyConfig (catalogue config : List ℕ) (fault : ViewFault) : Type 0 where
+  pub contents : Contents
+  pub is_catalogue : catalogue_of catalogue ≡ Ok contents
+  pub first : config_of config ≡ Err fault
+
+-- This is the first part of safety that fails.
+abbrev pub IsUnsafe : Contents → Setup → MakeFault → Type 0
+IsUnsafe contents setup fault = SafetyFinds make_faults contents (streams_of contents setup) (Some fault)
+
+-- The catalogue and the config are right, and not safe together.
+pub record IsUnsafeSetup (catalogue config : List ℕ) (fault : MakeFault) : Type 0 where
+  pub contents : Contents
+  pub setup : Setup
+  pub declared : IsDeclared catalogue config contents setup
+  pub found : IsUnsafe contents setup fault
+
+-- The fault is the first that the texts have, unless memory was refused.
+abbrev pub IsFirstFault : SetupFault → List ℕ → List ℕ → Type 0
+IsFirstFault (Catalogue fault) catalogue config = catalogue_of catalogue ≡ Err fault
+IsFirstFault (Config fault) catalogue config = IsFaultyConfig catalogue config fault
+IsFirstFault (Unsafe fault) catalogue config = IsUnsafeSetup catalogue config fault
+IsFirstFault Memory catalogue config = Unit {0}
+
+-- a catalogue, or its first fault, unless memory was refused
+abbrev pub ReadsCatalogue : Result Contents SetupFault → Result Contents CatalogueFault → Type 0
+ReadsCatalogue (Ok contents) read = read ≡ Ok contents
+ReadsCatalogue (Err (Catalogue fault)) read = read ≡ Err fault
+ReadsCatalogue (Err Memory) read = Unit {0}
+ReadsCatalogue (Err _) read = ⊥
+
+-- a config, or its first fault, unless memory was refused
+abbrev pub ReadsConfig : Result Setup SetupFault → Result Setup ViewFault → Type 0
+ReadsConfig (Ok setup) read = read ≡ Ok setup
+ReadsConfig (Err (Config fault)) read = read ≡ Err fault
+ReadsConfig (Err Memory) read = Unit {0}
+ReadsConfig (Err _) read = ⊥
+
+-- The certificate shows that a catalogue and a config are safe, which they are.
+pub record Certifies (contents : Contents) (setup : Setup) (certificate : Certificate) : Type 0 where
+  pub safe : IsSafe contents setup
+  pub valid : IsValid contents setup certificate
+
+-- a certificate, or the first part of safety that fails, unless memory was refused
+abbrev pub Makes : Result Certificate SetupFault → Contents → Setup → Type 0
+Makes (Ok certificate) contents setup = Certifies contents setup certificate
+Makes (Err (Unsafe fault)) contents setup = IsUnsafe contents setup fault
+Makes (Err Memory) contents setup = Unit {0}
+Makes (Err _) contents setup = ⊥
+
+-- the certified plan, unless memory was refused
+abbrev pub Plans : Result PlanValue SetupFault → Contents → Setup → Type 0
+Plans (Ok plan) contents setup = plan ≡ plan_of true contents setup
+Plans (Err Memory) contents setup = Unit {0}
+Plans (Err _) contents setup = ⊥

@@ -1,0 +1,24 @@
+//! Why a service gets no plan.
+use metric_catalogue::CatalogueFault;
+use metric_cert::MakeFault;
+use metric_views::ViewFault;
+use std::alloc::AllocError;
+use thiserror::Error;
+
+/// Why a catalogue and a config come to no certified plan: the first fault of the catalogue, then that of the config,
+/// then the first part of safety that fails, or want of memory.
+#[derive(Clone, Copy, Debug, PartialEq, Eq, Drop, Error)]
+pub enum SetupFault {
+    /// The catalogue is none.
+    #[error("catalogue {0}")]
+    Catalogue(CatalogueFault),
+    /// The config is none.
+    #[error("config {0}")]
+    Config(ViewFault),
+    /// The catalogue and the config are not safe together, so nothing can certify them.
+    #[error("make {0}")]
+    Unsafe(MakeFault),
+    /// Memory was refused.
+    #[error("memory")]
+    Memory,
+}
