@@ -13,6 +13,8 @@ pub(crate) enum Unit {
     Speed,
     /// Bytes of memory for one of these.
     Bytes(&'static str),
+    /// How many times as fast as this.
+    Times(&'static str),
 }
 
 /// What a line tells: a name, a size, how many operations the work has, and what a figure counts.
@@ -47,21 +49,37 @@ impl<'a, R: Clock> Bench<'a, R> {
 
     /// Begins a part of the table: its title, and what a size counts in it.
     pub(crate) fn begin(&mut self, title: &str, size: &str) -> anyhow::Result<()> {
+        let unit = "unit";
         writeln!(
             self.text,
-            "\n{title:<36}{size:>12}    in all, ns        least  unit                  floor    times  beside"
+            "\n{title:<36}{size:>12}      figure  {unit:<28}     floor    times  beside"
         )?;
         Ok(())
     }
 
     /// Measures a work, and adds its line to the table.
     pub(crate) fn measure<W: Work>(&mut self, row: Row<'_>, work: &mut W) -> anyhow::Result<()> {
-        let measured = least(self.rt, work)?;
-        self.tally = self.tally.wrapping_add(measured.number);
-        self.add(row, measured.nanoseconds)
+        let nanoseconds = self.time(work)?;
+        self.add(row, nanoseconds)
     }
 
-    /// Adds a line: of nanoseconds for all operations, or of their bytes.
+    /// The least time that a work takes, in nanoseconds.
+    pub(crate) fn time<W: Work>(&mut self, work: &mut W) -> anyhow::Result<u64> {
+        let measured = least(self.rt, work)?;
+        self.tally = self.tally.wrapping_add(measured.number);
+        Ok(measured.nanoseconds)
+    }
+
+    /// The least time of one of so many operations, in thousandths of a nanosecond.
+    pub(crate) fn each_of<W: Work>(
+        &mut self,
+        work: &mut W,
+        operations: u32,
+    ) -> anyhow::Result<u64> {
+        Ok(each(self.time(work)?, u64::from(operations)))
+    }
+
+    /// Adds a line: of nanoseconds for all operations, of their bytes, or of as many times.
     pub(crate) fn add(&mut self, row: Row<'_>, all: u64) -> anyhow::Result<()> {
         let each = each(all, row.operations);
         let Row {
@@ -70,10 +88,11 @@ impl<'a, R: Clock> Bench<'a, R> {
             floor,
             ..
         } = row;
-        write!(self.text, "  {name:<34}{size:>12}{all:>14}")?;
+        write!(self.text, "  {name:<34}{size:>12}")?;
         match row.unit {
             Unit::Nanoseconds(one) => self.figures(each, floor.each, "ns a ", one)?,
             Unit::Bytes(one) => self.figures(each, floor.each, "B a ", one)?,
+            Unit::Times(one) => self.figures(each, floor.each, "times ", one)?,
             Unit::Speed => self.figures(speed(each), speed(floor.each), "MB/s", "")?,
         }
         let times = each.saturating_mul(100) / floor.each.max(1);
@@ -88,12 +107,12 @@ impl<'a, R: Clock> Bench<'a, R> {
     fn figures(&mut self, each: u64, floor: u64, unit: &str, one: &str) -> anyhow::Result<()> {
         let whole = each / 1000;
         let rest = each % 1000 / 10;
-        let width = 18usize.saturating_sub(unit.len());
+        let width = 28usize.saturating_sub(unit.len());
         let floor_whole = floor / 1000;
         let floor_rest = floor % 1000 / 10;
         write!(
             self.text,
-            "{whole:>10}.{rest:02}  {unit}{one:<width$}{floor_whole:>6}.{floor_rest:02}"
+            "{whole:>9}.{rest:02}  {unit}{one:<width$}{floor_whole:>7}.{floor_rest:02}"
         )?;
         Ok(())
     }

@@ -80,8 +80,8 @@ fn record_all(cell: &mut Cell<Marked>, recordings: &[Recording]) -> u64
     accepted
 }
 
-// Whether each recording has a full set key and a value in range.
-fn are_sound(facts: &Facts, recordings: &[Recording]) -> bool
+/// Whether each recording has a full set key and a value in range.
+pub(crate) fn are_sound(facts: &Facts, recordings: &[Recording]) -> bool
     ensures sets { IsTrue result →
         All (λ r. is_full_set facts.now.keys r.set ≡ true) recordings.now }
     ensures values { IsTrue result → All (λ r. in_bounds facts.now r.value ≡ true) recordings.now }

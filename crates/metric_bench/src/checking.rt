@@ -3,12 +3,14 @@ use crate::bench::{Bench, Unit};
 use crate::floors::{Floor, copy};
 use crate::inputs::{counters, views};
 use crate::reading::{KEYS, SIZES, row_of};
+use crate::seats::{Seats, certified, started};
 use crate::work::Work;
 use metric_catalogue::Catalogue;
 use metric_cert::{Certificate, make};
 use metric_check::{Plan, check};
 use metric_views::Config;
 use std::alloc::Global;
+use std::sync::Wait;
 use std::time::Clock;
 
 // The making of a certificate.
@@ -75,14 +77,71 @@ impl Work for Checking {
     }
 }
 
-/// Measures certificates.
-pub(crate) fn measure<R: Clock>(bench: &mut Bench<'_, R>) -> anyhow::Result<()> {
+// The start of a provider of a certified plan.
+#[derive(Drop)]
+struct Starting<'a, R: Wait> {
+    rt: &'a R,
+    alloc: Global,
+    catalogue: String,
+    config: String,
+    plan: Option<Plan>,
+    seats: Option<Seats>,
+}
+
+impl<R: Wait> Work for Starting<'_, R> {
+    fn prepare(&mut self) -> anyhow::Result<()> {
+        self.seats = None;
+        self.plan = Some(certified(self.alloc, &self.catalogue, &self.config)?);
+        Ok(())
+    }
+
+    fn run(&mut self) -> anyhow::Result<u64> {
+        let Some(plan) = self.plan.take() else {
+            anyhow::bail!("nothing to start");
+        };
+        let seats = started(self.rt, self.alloc, plan)?;
+        let recorders = seats.recorders.len() as u64;
+        self.seats = Some(seats);
+        Ok(recorders)
+    }
+}
+
+/// Measures certificates, and starts of what they certify.
+pub(crate) fn measure<R: Wait + Clock>(bench: &mut Bench<'_, R>) -> anyhow::Result<()> {
     let floor = copy(bench.rt, bench.alloc)?;
     bench.begin("certificates", "pairs")?;
     for (instruments, views) in SIZES {
         measure_certificate(bench, *instruments, *views, floor)?;
     }
+    bench.begin("starts", "pairs")?;
+    for (instruments, views) in SIZES {
+        measure_start(bench, *instruments, *views, floor)?;
+    }
     Ok(())
+}
+
+// The start of so many instruments with so many views.
+fn measure_start<R: Wait + Clock>(
+    bench: &mut Bench<'_, R>,
+    instruments: u32,
+    count: u32,
+    floor: Floor,
+) -> anyhow::Result<()> {
+    let catalogue = counters(bench.alloc, instruments, KEYS)?;
+    let config = views(bench.alloc, count)?;
+    let bytes = catalogue.len() as u64;
+    let pairs = u64::from(instruments) * u64::from(count);
+    let floor = floor.shared(bytes, pairs);
+    let mut starting = Starting {
+        rt: bench.rt,
+        alloc: bench.alloc,
+        catalogue,
+        config,
+        plan: None,
+        seats: None,
+    };
+    let row = row_of("started", pairs, Unit::Nanoseconds("pair"), floor);
+    bench.measure(row, &mut starting)
 }
 
 // A certificate about so many instruments and views.

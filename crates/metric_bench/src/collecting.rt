@@ -2,7 +2,7 @@
 use crate::bench::{Bench, Row, Unit};
 use crate::cells::Instrument;
 use crate::floors::{Floor, look_up};
-use crate::inputs::{KINDS, kind_name, kinds, readers, trial};
+use crate::inputs::{KINDS, kind_name, kinds_plan};
 use crate::recording::{SERIES, recordings};
 use crate::words::Words;
 use crate::work::Work;
@@ -25,8 +25,7 @@ impl Work for Collection {
 
 /// Measures collections.
 pub(crate) fn measure<R: Clock>(bench: &mut Bench<'_, R>, words: &Words) -> anyhow::Result<()> {
-    let catalogue = kinds(bench.alloc, 8)?;
-    let plan = trial(bench.alloc, &catalogue, &readers(bench.alloc, 1)?)?;
+    let plan = kinds_plan(bench.alloc, 1)?;
     measure_plan(bench, &plan, words)
 }
 

@@ -1,6 +1,7 @@
 //! What the machine takes at least: the floors beside which the other figures stand.
 use crate::bench::{Bench, Row, Unit, each};
 use crate::inputs::sets;
+use crate::walk::Walk;
 use crate::work::{Work, least};
 use indexmap::IndexMap;
 use metric_catalogue::SetKey;
@@ -54,6 +55,9 @@ const ADDITION: &str = "a lock with an addition";
 /// A look-up of a set key in a map of as many keys.
 const LOOK_UP: &str = "a look-up by a set key";
 
+/// The two together.
+const LOCKED_LOOK_UP: &str = "a lock, a look-up for each stream, an addition";
+
 /// A copy of as many bytes.
 const COPY: &str = "a copy of the bytes";
 
@@ -79,14 +83,16 @@ impl<R: Wait> Work for LockedAddition<'_, R> {
 struct LookUp {
     map: IndexMap<SetKey, u64>,
     sets: Vec<SetKey>,
-    rounds: u32,
+    walk: Walk,
 }
 
 impl Work for LookUp {
     fn run(&mut self) -> anyhow::Result<u64> {
         let mut found: u64 = 0;
-        for _ in 0..self.rounds {
-            for set in &self.sets {
+        let mut at = 0;
+        for _ in 0..EVENTS {
+            at = self.walk.after(at, self.sets.len());
+            if let Some(set) = self.sets.get(at) {
                 found = found.wrapping_add(self.map.get(set).copied().unwrap_or(0));
             }
         }
@@ -122,16 +128,30 @@ pub(crate) fn addition<R: Wait + Clock>(rt: &R) -> anyhow::Result<Floor> {
     })
 }
 
+/// What a recording takes at least that has to look up each of its series under a lock.
+pub(crate) fn recording<R: Wait + Clock>(
+    rt: &R,
+    alloc: Global,
+    series: u32,
+    streams: u32,
+) -> anyhow::Result<Floor> {
+    let look_ups = look_up(rt, alloc, series)?.many(u64::from(streams));
+    Ok(addition(rt)?.and(LOCKED_LOOK_UP, look_ups))
+}
+
 /// A look-up in a map of so many set keys.
 pub(crate) fn look_up<R: Clock>(rt: &R, alloc: Global, count: u32) -> anyhow::Result<Floor> {
     let sets = sets(alloc, count)?;
     let map = map_of(alloc, &sets)?;
-    let rounds = (EVENTS / count.max(1)).max(1);
-    let operations = u64::from(rounds) * u64::from(count);
-    let measured = least(rt, &mut LookUp { map, sets, rounds })?;
+    let mut look_ups = LookUp {
+        map,
+        sets,
+        walk: Walk::new(),
+    };
+    let measured = least(rt, &mut look_ups)?;
     Ok(Floor {
         name: LOOK_UP,
-        each: each(measured.nanoseconds, operations),
+        each: each(measured.nanoseconds, u64::from(EVENTS)),
     })
 }
 

@@ -1,4 +1,5 @@
 //! Catalogues and configs of a size, set keys and attributes.
+use crate::seats::certified;
 use metric_catalogue::{Attr, Catalogue, SetKey};
 use metric_names::ValueRef;
 use metric_plan::Plan;
@@ -21,14 +22,23 @@ pub(crate) fn kind_name(number: u32) -> &'static str {
 /// How many different set keys there are at most.
 pub(crate) const MOST_SETS: u32 = 262_144;
 
-// How many recorders there are, one for each thread at most.
+/// How many threads may record.
+pub(crate) const MOST_THREADS: u32 = 64;
+
+// How many recorders there are, where no threads record.
 const RECORDERS: u32 = 4;
 
 // How many recordings a recorder may make on an instrument.
-const BUDGET: u64 = 100_000_000_000_000;
+const BUDGET: u64 = 1_000_000_000_000;
 
-// How many keys have eight values; others have one.
-const WIDE_KEYS: u32 = 6;
+/// How many keys have more than one value.
+pub(crate) const WIDE_KEYS: u32 = 3;
+
+// How many values a key has whose values are to tell many series apart.
+const MANY_VALUES: u32 = 64;
+
+// How many values a key has in a catalogue that is read and checked.
+const SOME_VALUES: u32 = 8;
 
 const HEAD: &str = "format = 1\n[[meter]]\nname = 'm'\n";
 
@@ -42,16 +52,20 @@ fn push_instrument(out: &mut String, number: u32, kind: &str) -> Result<(), Allo
     writeln!(out, "kind = '{kind}'\nrange = [0, 9999]")
 }
 
-fn push_keys(out: &mut String, count: u32) -> Result<(), AllocError> {
+fn push_keys(out: &mut String, count: u32, values: u32) -> Result<(), AllocError> {
     for key in 0..count {
         writeln!(out, "[[meter.instrument.key]]\nname = 'key.{key}'")?;
-        if key < WIDE_KEYS {
-            writeln!(out, "values = ['value', 'b', 'c', 'd', 'e', 'f', 'g', 'h']")?;
-        } else {
-            writeln!(out, "values = ['value']")?;
-        }
+        push_values(out, if key < WIDE_KEYS { values } else { 1 })?;
     }
     Ok(())
+}
+
+fn push_values(out: &mut String, count: u32) -> Result<(), AllocError> {
+    write!(out, "values = ['value.0'")?;
+    for value in 1..count {
+        write!(out, ", 'value.{value}'")?;
+    }
+    writeln!(out, "]")
 }
 
 // 128 boundaries.
@@ -64,13 +78,26 @@ fn push_boundaries(out: &mut String) -> Result<(), AllocError> {
     writeln!(out, "]")
 }
 
-fn push_recorders(out: &mut String, instruments: u32) -> Result<(), AllocError> {
-    for recorder in 0..RECORDERS {
+fn push_recorders(out: &mut String, count: u32, instruments: u32) -> Result<(), AllocError> {
+    for recorder in 0..count {
         writeln!(out, "[[recorder]]\nname = 'recorder.{recorder}'")?;
-        for instrument in 0..instruments {
-            writeln!(out, "[[recorder.budget]]\ninstrument = {instrument}")?;
-            writeln!(out, "amount = {BUDGET}")?;
-        }
+        push_budgets(out, instruments)?;
+    }
+    Ok(())
+}
+
+fn push_budgets(out: &mut String, instruments: u32) -> Result<(), AllocError> {
+    for instrument in 0..instruments {
+        writeln!(out, "[[recorder.budget]]\ninstrument = {instrument}")?;
+        writeln!(out, "amount = {BUDGET}")?;
+    }
+    Ok(())
+}
+
+fn push_counters(out: &mut String, count: u32, keys: u32, values: u32) -> Result<(), AllocError> {
+    for number in 0..count {
+        push_instrument(out, number, "counter")?;
+        push_keys(out, keys, values)?;
     }
     Ok(())
 }
@@ -78,11 +105,16 @@ fn push_recorders(out: &mut String, instruments: u32) -> Result<(), AllocError> 
 /// A catalogue of so many counters, each with so many keys.
 pub(crate) fn counters(alloc: Global, count: u32, keys: u32) -> Result<String, AllocError> {
     let mut out = String::from_str(alloc, HEAD)?;
-    for number in 0..count {
-        push_instrument(&mut out, number, "counter")?;
-        push_keys(&mut out, keys)?;
-    }
-    push_recorders(&mut out, count)?;
+    push_counters(&mut out, count, keys, SOME_VALUES)?;
+    push_recorders(&mut out, RECORDERS, count)?;
+    Ok(out)
+}
+
+/// A catalogue of a counter and a recorder for each of so many threads, with three keys each.
+pub(crate) fn threaded(alloc: Global, threads: u32) -> Result<String, AllocError> {
+    let mut out = String::from_str(alloc, HEAD)?;
+    push_counters(&mut out, threads, WIDE_KEYS, MANY_VALUES)?;
+    push_recorders(&mut out, threads, threads)?;
     Ok(out)
 }
 
@@ -91,15 +123,15 @@ pub(crate) fn counters(alloc: Global, count: u32, keys: u32) -> Result<String, A
 pub(crate) fn kinds(alloc: Global, keys: u32) -> Result<String, AllocError> {
     let mut out = String::from_str(alloc, HEAD)?;
     push_instrument(&mut out, 0, "counter")?;
-    push_keys(&mut out, keys)?;
+    push_keys(&mut out, keys, MANY_VALUES)?;
     push_instrument(&mut out, 1, "gauge")?;
-    push_keys(&mut out, keys)?;
+    push_keys(&mut out, keys, MANY_VALUES)?;
     push_instrument(&mut out, 2, "histogram")?;
-    push_keys(&mut out, keys)?;
+    push_keys(&mut out, keys, MANY_VALUES)?;
     push_instrument(&mut out, 3, "histogram")?;
     push_boundaries(&mut out)?;
-    push_keys(&mut out, keys)?;
-    push_recorders(&mut out, KINDS)?;
+    push_keys(&mut out, keys, MANY_VALUES)?;
+    push_recorders(&mut out, RECORDERS, KINDS)?;
     Ok(out)
 }
 
@@ -126,11 +158,11 @@ pub(crate) fn views(alloc: Global, count: u32) -> Result<String, AllocError> {
     Ok(out)
 }
 
-/// The plan of a trial of [`kinds`] with eight keys, for so many readers.
+/// The certified plan of [`kinds`] with three keys, for so many readers.
 pub(crate) fn kinds_plan(alloc: Global, count: u32) -> anyhow::Result<Plan> {
-    let catalogue = kinds(alloc, 8)?;
+    let catalogue = kinds(alloc, WIDE_KEYS)?;
     let config = readers(alloc, count)?;
-    trial(alloc, &catalogue, &config)
+    certified(alloc, &catalogue, &config)
 }
 
 /// The plan of a trial.
@@ -143,7 +175,7 @@ pub(crate) fn trial(alloc: Global, catalogue: &str, config: &str) -> anyhow::Res
     }
 }
 
-/// So many different set keys of eight keys.
+/// So many different set keys of three keys.
 pub(crate) fn sets(alloc: Global, count: u32) -> Result<Vec<SetKey>, AllocError> {
     let mut sets = Vec::new(alloc);
     for number in 0..count {
@@ -152,25 +184,75 @@ pub(crate) fn sets(alloc: Global, count: u32) -> Result<Vec<SetKey>, AllocError>
     Ok(sets)
 }
 
-/// The set key whose entries are the number's digits, one more each.
+/// The set key whose first entries are the number's digits, one more each.
 pub(crate) fn set_of(number: u32) -> SetKey {
-    let mut set = [1; 8];
+    let mut set = [0; 8];
     let mut rest = number;
     for entry in set.iter_mut().take(WIDE_KEYS as usize) {
-        *entry = (rest % 8 + 1) as u16;
-        rest /= 8;
+        *entry = (rest % MANY_VALUES + 1) as u16;
+        rest /= MANY_VALUES;
     }
     set
 }
 
-/// So many attributes, one for each key.
-pub(crate) fn attributes(alloc: Global, count: u32) -> Result<Vec<Attr<'static>>, AllocError> {
-    let mut attributes = Vec::new(alloc);
-    for key in KEYS.iter().take(count as usize) {
-        attributes.push(Attr {
-            key: *key,
-            value: ValueRef::Text("value"),
-        })?;
+/// The names of the values that a key has at most.
+pub(crate) fn value_names(alloc: Global) -> Result<Vec<String>, AllocError> {
+    let mut names = Vec::new(alloc);
+    for number in 0..MANY_VALUES {
+        names.push(format!(in alloc; "value.{number}")?)?;
+    }
+    Ok(names)
+}
+
+// The name of the value whose number is the last digit.
+fn last_digit<'a>(names: &'a [String], number: u32) -> ValueRef<'a> {
+    let digit = (number % MANY_VALUES) as usize;
+    match names.get(digit) {
+        Some(name) => ValueRef::Text(name.as_str()),
+        None => ValueRef::Whole(0),
+    }
+}
+
+/// The attributes of the first three keys, whose values are the digits of a number.
+pub(crate) fn three_attributes<'a>(names: &'a [String], number: u32) -> [Attr<'a>; 3] {
+    [
+        Attr {
+            key: "key.0",
+            value: last_digit(names, number),
+        },
+        Attr {
+            key: "key.1",
+            value: last_digit(names, number / MANY_VALUES),
+        },
+        Attr {
+            key: "key.2",
+            value: last_digit(names, number / MANY_VALUES / MANY_VALUES),
+        },
+    ]
+}
+
+// The name of the key at a place.
+fn key_name(place: usize) -> &'static str {
+    match KEYS.get(place) {
+        Some(name) => *name,
+        None => "",
+    }
+}
+
+/// So many attributes, one for each key, whose first values are the digits of a number.
+pub(crate) fn attributes<'a>(
+    alloc: Global,
+    names: &'a [String],
+    count: u32,
+    number: u32,
+) -> Result<Vec<Attr<'a>>, AllocError> {
+    let mut attributes: Vec<Attr<'a>> = Vec::new(alloc);
+    let mut rest = number;
+    for place in 0..count as usize {
+        let key = key_name(place);
+        let value = last_digit(names, rest);
+        attributes.push(Attr { key, value })?;
+        rest /= MANY_VALUES;
     }
     Ok(attributes)
 }

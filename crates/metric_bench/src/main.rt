@@ -1,11 +1,13 @@
 //! Measures what recording, collecting, checking and replaying cost, beside floors measured in the same run.
 //!
-//! Without words it does nothing. `metric_bench all` measures everything; `record`, `histogram`, `collect`, `threads`,
-//! `check`, `replay` and `memory` a part. `--series`, `--attributes`, `--threads` and `--events` set sizes. Each figure is
-//! the least of several repetitions, and names its unit.
+//! Without words it does nothing. `metric_bench all` measures everything; `record`, `histogram`, `collect`,
+//! `threads`, `check`, `replay` and `memory` a part. `--series`, `--attributes`, `--threads` and `--events` set sizes.
+//! Each figure is the least of several repetitions, and names its unit.
 #![tactic(auto)]
 
 mod bench;
+mod busy;
+mod called;
 mod cells;
 mod checking;
 mod collecting;
@@ -16,6 +18,11 @@ mod memory;
 mod reading;
 mod recording;
 mod replaying;
+mod seats;
+mod slots;
+mod tasks;
+mod threads;
+mod walk;
 mod words;
 mod work;
 
@@ -25,6 +32,7 @@ use std::alloc::Global;
 use std::process::ExitCode;
 use std::rt::Files;
 use std::sync::Wait;
+use std::thread::Threads;
 use std::time::Clock;
 
 fn main(rt: HostRuntime) -> anyhow::Result<ExitCode> {
@@ -44,7 +52,7 @@ fn main(rt: HostRuntime) -> anyhow::Result<ExitCode> {
 }
 
 // The table of a part.
-fn measured<R: Files + AllocGlobal + Wait + Clock>(
+fn measured<R: Files + AllocGlobal + Threads + Wait + Clock + Sync>(
     rt: &R,
     alloc: Global,
     part: Part,
@@ -56,12 +64,17 @@ fn measured<R: Files + AllocGlobal + Wait + Clock>(
     }
     if part.covers(Part::Record) {
         recording::measure(&mut bench, words)?;
+        called::measure(&mut bench, words)?;
     }
     if part.covers(Part::Histogram) {
         histograms::measure(&mut bench, words.events)?;
     }
     if part.covers(Part::Collect) {
         collecting::measure(&mut bench, words)?;
+    }
+    if part.covers(Part::Threads) {
+        threads::measure(&mut bench, words)?;
+        busy::measure(&mut bench)?;
     }
     if part.covers(Part::Check) {
         reading::measure(&mut bench)?;

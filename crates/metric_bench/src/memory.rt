@@ -2,7 +2,7 @@
 use crate::bench::{Bench, Row, Unit, each};
 use crate::cells::Instrument;
 use crate::floors::{Floor, map_of};
-use crate::inputs::{KINDS, kind_name, kinds, readers, sets, trial};
+use crate::inputs::{KINDS, kind_name, kinds_plan, sets};
 use crate::recording::recordings;
 use metric_plan::Plan;
 use std::alloc::Global;
@@ -21,8 +21,7 @@ const PAGE: u64 = 4_096;
 pub(crate) fn measure<R: Files + AllocGlobal + Clock>(
     bench: &mut Bench<'_, R>,
 ) -> anyhow::Result<()> {
-    let catalogue = kinds(bench.alloc, 8)?;
-    let plan = trial(bench.alloc, &catalogue, &readers(bench.alloc, 1)?)?;
+    let plan = kinds_plan(bench.alloc, 1)?;
     measure_plan(bench, &plan)
 }
 

@@ -2,7 +2,11 @@
 use crate::bench::{Bench, Row, Unit};
 use crate::cells::{Instrument, Recording};
 use crate::floors::{Floor, look_up};
-use crate::inputs::{KINDS, attributes, counters, kind_name, kinds_plan, readers, set_of, trial};
+use crate::inputs::{
+    KINDS, attributes, kind_name, kinds, kinds_plan, readers, set_of, trial, value_names,
+};
+use crate::slots::InSlot;
+use crate::walk::Walk;
 use crate::words::Words;
 use crate::work::Work;
 use metric_base::{Items, Text};
@@ -20,25 +24,33 @@ pub(crate) const SERIES: &[u32] = &[1, 1_000, 100_000];
 /// How many attributes a recording has, where no word says it.
 pub(crate) const ATTRIBUTES: &[u32] = &[0, 1, 3, 8];
 
-/// How many streams an instrument has.
-const STREAMS: &[u32] = &[1, 3];
+//// How many streams an instrument has.
+pub(crate) const STREAMS: &[u32] = &[1, 3];
 
 const RECORDING: Unit = Unit::Nanoseconds("recording");
 
-// The set key of some attributes.
+/// How many lists of attributes there are to choose from.
+pub(crate) const LISTS: u32 = 64;
+
+// The set keys of lists of attributes.
 #[derive(Drop)]
 struct Encoding<'a> {
-    catalogue: Catalogue,
-    attributes: Vec<Attr<'a>>,
+    catalogue: &'a Catalogue,
+    lists: &'a [Vec<Attr<'a>>],
+    walk: Walk,
     events: u32,
 }
 
 impl Work for Encoding<'_> {
     fn run(&mut self) -> anyhow::Result<u64> {
         let mut sum: u64 = 0;
+        let mut at = 0;
         for _ in 0..self.events {
-            let set = self.catalogue.encode(0, &self.attributes)?;
-            sum = sum.wrapping_add(u64::from(set[0]));
+            at = self.walk.after(at, self.lists.len());
+            if let Some(attributes) = self.lists.get(at) {
+                let set = self.catalogue.encode(0, attributes)?;
+                sum = sum.wrapping_add(u64::from(set[0]));
+            }
         }
         Ok(sum)
     }
@@ -141,16 +153,44 @@ fn measure_series<R: Clock>(
     Ok(())
 }
 
+/// Lists of so many attributes, with different values.
+pub(crate) fn lists<'a>(
+    alloc: Global,
+    names: &'a [String],
+    count: u32,
+) -> Result<Vec<Vec<Attr<'a>>>, AllocError> {
+    let mut lists = Vec::new(alloc);
+    for number in 0..LISTS {
+        lists.push(attributes(alloc, names, count, number)?)?;
+    }
+    Ok(lists)
+}
+
 fn measure_encoding<R: Clock>(
     bench: &mut Bench<'_, R>,
     count: u32,
     events: u32,
     floor: Floor,
 ) -> anyhow::Result<()> {
-    let text = counters(bench.alloc, 1, count)?;
+    let names = value_names(bench.alloc)?;
+    let lists = lists(bench.alloc, &names, count)?;
+    let text = kinds(bench.alloc, count)?;
+    let catalogue = Catalogue::read(bench.alloc, &text)?;
+    measure_lists(bench, &catalogue, &lists, count, events, floor)
+}
+
+fn measure_lists<R: Clock>(
+    bench: &mut Bench<'_, R>,
+    catalogue: &Catalogue,
+    lists: &[Vec<Attr<'_>>],
+    count: u32,
+    events: u32,
+    floor: Floor,
+) -> anyhow::Result<()> {
     let mut encoding = Encoding {
-        catalogue: Catalogue::read(bench.alloc, &text)?,
-        attributes: attributes(bench.alloc, count)?,
+        catalogue,
+        lists,
+        walk: Walk::new(),
         events,
     };
     let row = Row {
@@ -169,7 +209,7 @@ fn measure_events<R: Clock>(
     events: u32,
     floor: Floor,
 ) -> anyhow::Result<()> {
-    let catalogue = counters(bench.alloc, 1, count)?;
+    let catalogue = kinds(bench.alloc, count)?;
     let plan = trial(bench.alloc, &catalogue, &readers(bench.alloc, 1)?)?;
     let Ok(core) = Core::new(bench.alloc, plan, 0) else {
         anyhow::bail!("memory");
@@ -205,8 +245,9 @@ fn record_events(alloc: Global, attributes: u32, count: u32) -> Result<Vec<Event
 
 // So many attributes, owned.
 fn owned(alloc: Global, count: u32) -> Result<Items<OwnedAttr>, AllocError> {
+    let names = value_names(alloc)?;
     let mut all = Items::new(alloc);
-    for attribute in &attributes(alloc, count)? {
+    for attribute in &attributes(alloc, &names, count, 0)? {
         all.push(OwnedAttr {
             key: Text::new(alloc, attribute.key)?,
             value: owned_value(alloc, attribute.value)?,
@@ -233,7 +274,31 @@ fn measure_streams<R: Clock>(
 ) -> anyhow::Result<()> {
     begin_streams(bench, streams)?;
     let plan = kinds_plan(bench.alloc, streams)?;
-    measure_kinds(bench, &plan, count, events, floor.many(u64::from(streams)))
+    let floor = floor.many(u64::from(streams));
+    measure_kinds(bench, &plan, count, events, floor)?;
+    measure_slot(bench, &plan, count, events, floor)
+}
+
+// Recordings on a counter as it stands behind a lock, whose series are held.
+fn measure_slot<R: Clock>(
+    bench: &mut Bench<'_, R>,
+    plan: &Plan,
+    count: u32,
+    events: u32,
+    floor: Floor,
+) -> anyhow::Result<()> {
+    let rounds = (events / count.max(1)).max(1);
+    let all = recordings(bench.alloc, count)?;
+    let mut in_slot = InSlot::new(bench.alloc, plan, 0, all, rounds)?;
+    in_slot.run()?;
+    let row = Row {
+        name: "sum, held, in a slot",
+        size: u64::from(count),
+        operations: u64::from(rounds) * u64::from(count),
+        unit: RECORDING,
+        floor,
+    };
+    bench.measure(row, &mut in_slot)
 }
 
 fn begin_streams<R: Clock>(bench: &mut Bench<'_, R>, streams: u32) -> anyhow::Result<()> {

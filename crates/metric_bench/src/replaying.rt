@@ -85,5 +85,8 @@ fn push_event(out: &mut String, number: u32) -> Result<(), AllocError> {
     let recorder = number / 4 % 4;
     let value = number % 10;
     write!(out, "record {recorder} {instrument} {value}")?;
-    writeln!(out, " \"key.0\"=\"value\" \"key.1\"=\"b\" \"key.2\"=\"h\"")
+    writeln!(
+        out,
+        " \"key.0\"=\"value.0\" \"key.1\"=\"value.1\" \"key.2\"=\"value.7\""
+    )
 }

@@ -1,5 +1,5 @@
 //! The words of the command line.
-use crate::inputs::MOST_SETS;
+use crate::inputs::{MOST_SETS, MOST_THREADS};
 use clap::{Arg, ArgAction, ArgMatches, Command, Error, value_parser};
 use std::alloc::{AllocError, Global};
 
@@ -108,7 +108,7 @@ fn command<'a>(alloc: Global) -> Result<Command<'a>, Error> {
     let command = Command::new(alloc, "metric_bench").arg(part)?;
     let series = size(alloc, "series", 1, MOST_SETS);
     let attributes = size(alloc, "attributes", 0, 8);
-    let threads = size(alloc, "threads", 1, 64);
+    let threads = size(alloc, "threads", 1, MOST_THREADS);
     let events = size(alloc, "events", 1, 100_000_000);
     let command = command.arg(series)?.arg(attributes)?;
     Ok(command.arg(threads)?.arg(events)?)

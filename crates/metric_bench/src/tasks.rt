@@ -1,0 +1,146 @@
+//! What several threads do at once.
+use crate::busy::UntilStopped;
+use crate::threads::{Additions, Recordings};
+use crate::work::Work;
+use std::alloc::{AllocError, Global};
+use std::sync::Wait;
+use std::sync::atomic::{AtomicU64, Ordering};
+use std::thread;
+use std::thread::Threads;
+use std::time::{Clock, Instant};
+
+// How often a thread looks whether the others have started.
+const TURNS: u32 = 1_000_000;
+
+/// What a thread does.
+#[derive(Drop)]
+pub(crate) enum Task<'a> {
+    /// Recordings.
+    Record(Recordings<'a>),
+    /// Recordings until it is told to stop.
+    RecordUntil(UntilStopped<'a>),
+    /// Additions under a lock.
+    Add(Additions<'a>),
+}
+
+impl Task<'_> {
+    // Does it so many times. The number depends on all of it.
+    fn repeat<R: Wait>(&mut self, rt: &R, events: u32) -> u64 {
+        match self {
+            Task::Record(recordings) => recordings.repeat(rt, events),
+            Task::RecordUntil(recordings) => recordings.repeat(rt, events),
+            Task::Add(additions) => additions.repeat(rt, events),
+        }
+    }
+}
+
+/// A thread's task, and what came of it.
+#[derive(Drop)]
+pub(crate) struct Runner<'a> {
+    task: Task<'a>,
+    number: u64,
+    nanoseconds: Option<u64>,
+}
+
+impl Runner<'_> {
+    // Does the task so many times, once so many threads have started.
+    fn run<R: Wait + Clock>(&mut self, rt: &R, started: &AtomicU64, threads: u64, events: u32) {
+        wait_for_all(started, threads);
+        self.nanoseconds = None;
+        if let Ok(start) = Instant::now(rt) {
+            self.number = self.task.repeat(rt, events);
+            self.nanoseconds = nanoseconds_since(rt, start);
+        }
+    }
+}
+
+// Waits until so many threads have started, or for a while.
+fn wait_for_all(started: &AtomicU64, threads: u64) {
+    started.fetch_add(1, Ordering::SeqCst);
+    for _ in 0..TURNS {
+        if started.load(Ordering::SeqCst) >= threads {
+            break;
+        }
+        thread::yield_now();
+    }
+}
+
+/// The nanoseconds since a moment, or nothing where the clock fails.
+pub(crate) fn nanoseconds_since<R: Clock>(rt: &R, start: Instant) -> Option<u64> {
+    let took = start.elapsed(rt).ok()?;
+    u64::try_from(took.as_nanos()).ok()
+}
+
+/// A runner for each task.
+pub(crate) fn runners_of<'a>(
+    alloc: Global,
+    tasks: Vec<Task<'a>>,
+) -> Result<Vec<Runner<'a>>, AllocError> {
+    let mut runners = Vec::with_capacity(alloc, tasks.len())?;
+    for task in tasks {
+        runners.push(Runner {
+            task,
+            number: 0,
+            nanoseconds: None,
+        })?;
+    }
+    Ok(runners)
+}
+
+/// Lets each runner do its task in a thread of its own, so many times.
+pub(crate) fn run_all<R: Threads + Wait + Clock + Sync>(
+    rt: &R,
+    runners: &mut Vec<Runner<'_>>,
+    events: u32,
+) {
+    let count = runners.len();
+    if count == 0 {
+        return;
+    }
+    let threads = count as u64;
+    let started = AtomicU64::new(0);
+    let started = &started;
+    thread::for_each_mut(
+        rt,
+        runners.as_mut_slice(),
+        count,
+        &|_, runner: &mut Runner<'_>| { runner.run(rt, started, threads, events) },
+    );
+}
+
+/// Tasks that threads do at once, so many times each. Its time is that of the thread that takes longest.
+#[derive(Drop)]
+pub(crate) struct Together<'a, R> {
+    rt: &'a R,
+    runners: Vec<Runner<'a>>,
+    events: u32,
+}
+
+impl<'a, R> Together<'a, R> {
+    pub(crate) fn new(rt: &'a R, runners: Vec<Runner<'a>>, events: u32) -> Together<'a, R> {
+        Together {
+            rt,
+            runners,
+            events,
+        }
+    }
+}
+
+impl<R: Threads + Wait + Clock + Sync> Work for Together<'_, R> {
+    fn run(&mut self) -> anyhow::Result<u64> {
+        run_all(self.rt, &mut self.runners, self.events);
+        let mut sum: u64 = 0;
+        for runner in &self.runners {
+            sum = sum.wrapping_add(runner.number);
+        }
+        Ok(sum)
+    }
+
+    fn own_time(&self) -> Option<u64> {
+        let mut longest: u64 = 0;
+        for runner in &self.runners {
+            longest = longest.max(runner.nanoseconds?);
+        }
+        Some(longest)
+    }
+}
