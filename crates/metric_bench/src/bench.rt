@@ -1,6 +1,6 @@
 //! Works measured one after the other, and the table that tells of them.
 use crate::floors::Floor;
-use crate::work::{Work, least};
+use crate::work::{Measured, Work, least};
 use std::alloc::Global;
 use std::time::Clock;
 
@@ -66,8 +66,13 @@ impl<'a, R: Clock> Bench<'a, R> {
     /// The least time that a work takes, in nanoseconds.
     pub(crate) fn time<W: Work>(&mut self, work: &mut W) -> anyhow::Result<u64> {
         let measured = least(self.rt, work)?;
+        Ok(self.take(measured))
+    }
+
+    /// The nanoseconds of measured work, whose result goes into the tally.
+    pub(crate) fn take(&mut self, measured: Measured) -> u64 {
         self.tally = self.tally.wrapping_add(measured.number);
-        Ok(measured.nanoseconds)
+        measured.nanoseconds
     }
 
     /// The least time of one of so many operations, in thousandths of a nanosecond.

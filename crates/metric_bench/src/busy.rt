@@ -3,9 +3,10 @@ use crate::bench::{Bench, Row, Unit};
 use crate::floors::{Floor, look_up};
 use crate::inputs::value_names;
 use crate::seats::{Seats, Shared};
-use crate::tasks::{Runner, Task, nanoseconds_since, run_all, runners_of};
+use crate::tasks::{REPETITIONS, Runner, Task, nanoseconds_since, run_all, runners_of};
 use crate::threads::{Recordings, SERIES, seats_of};
-use crate::work::Work;
+use crate::work::Measured;
+use anyhow::Context;
 use metric_provider::{Collector, Recorder};
 use std::alloc::{AllocError, Global};
 use std::sync::Wait;
@@ -76,33 +77,38 @@ impl Collections<'_> {
     }
 }
 
-// Collections of a reader while threads record.
-#[derive(Drop)]
-struct Beside<'a, R> {
-    rt: &'a R,
-    collections: Collections<'a>,
-    runners: Vec<Runner<'a>>,
-    nanoseconds: Option<u64>,
+// The least time that collections take while threads record.
+fn least_beside<R: Threads + Wait + Clock + Sync>(
+    rt: &R,
+    collections: &mut Collections<'_>,
+    runners: &mut Vec<Runner<'_>>,
+) -> anyhow::Result<Measured> {
+    let mut least = u64::MAX;
+    let mut number: u64 = 0;
+    for _ in 0..REPETITIONS {
+        let (batches, took) = once_beside(rt, collections, runners);
+        least = least.min(took.context("a collection or the clock failed")?);
+        number = number.wrapping_add(batches);
+    }
+    Ok(Measured {
+        nanoseconds: least,
+        number,
+    })
 }
 
-impl<R: Threads + Wait + Clock + Sync> Work for Beside<'_, R> {
-    fn run(&mut self) -> anyhow::Result<u64> {
-        let rt = self.rt;
-        let collections = &mut self.collections;
-        let runners = &mut self.runners;
-        collections.is_over.store(false, Ordering::SeqCst);
-        let ((batches, nanoseconds), _) = thread::join(
-            rt,
-            move || collections.collect_beside(rt),
-            move || run_all(rt, runners, u32::MAX),
-        );
-        self.nanoseconds = nanoseconds;
-        Ok(batches)
-    }
-
-    fn own_time(&self) -> Option<u64> {
-        self.nanoseconds
-    }
+// Collections while threads record.
+fn once_beside<R: Threads + Wait + Clock + Sync>(
+    rt: &R,
+    collections: &mut Collections<'_>,
+    runners: &mut Vec<Runner<'_>>,
+) -> (u64, Option<u64>) {
+    collections.is_over.store(false, Ordering::SeqCst);
+    let (collected, _) = thread::join(
+        rt,
+        move || collections.collect_beside(rt),
+        move || run_all(rt, runners, u32::MAX),
+    );
+    collected
 }
 
 /// Measures collections while threads record.
@@ -144,7 +150,7 @@ fn measure_beside<R: Threads + Wait + Clock + Sync>(
 
 fn measure_collections<R: Threads + Wait + Clock + Sync>(
     bench: &mut Bench<'_, R>,
-    collections: Collections<'_>,
+    mut collections: Collections<'_>,
     names: &[String],
     recorders: Vec<Recorder>,
     threads: u32,
@@ -152,12 +158,8 @@ fn measure_collections<R: Threads + Wait + Clock + Sync>(
 ) -> anyhow::Result<()> {
     let (provider, is_over) = (collections.provider, collections.is_over);
     let tasks = tasks(bench.alloc, provider, names, is_over, recorders)?;
-    let mut beside = Beside {
-        rt: bench.rt,
-        runners: runners_of(bench.alloc, tasks)?,
-        collections,
-        nanoseconds: None,
-    };
+    let mut runners = runners_of(bench.alloc, tasks)?;
+    let measured = least_beside(bench.rt, &mut collections, &mut runners)?;
     let row = Row {
         name: "recordings on its instrument",
         size: u64::from(threads),
@@ -165,7 +167,8 @@ fn measure_collections<R: Threads + Wait + Clock + Sync>(
         unit: Unit::Nanoseconds("collection"),
         floor,
     };
-    bench.measure(row, &mut beside)
+    let nanoseconds = bench.take(measured);
+    bench.add(row, nanoseconds)
 }
 
 // A recording of each series.

@@ -1,13 +1,17 @@
 //! What several threads do at once.
 use crate::busy::UntilStopped;
 use crate::threads::{Additions, Recordings};
-use crate::work::Work;
+use crate::work::Measured;
+use anyhow::Context;
 use std::alloc::{AllocError, Global};
 use std::sync::Wait;
 use std::sync::atomic::{AtomicU64, Ordering};
 use std::thread;
 use std::thread::Threads;
 use std::time::{Clock, Instant};
+
+/// How often threads do their tasks together. The least of the times counts.
+pub(crate) const REPETITIONS: u32 = 5;
 
 // How often a thread looks whether the others have started.
 const TURNS: u32 = 1_000_000;
@@ -108,39 +112,40 @@ pub(crate) fn run_all<R: Threads + Wait + Clock + Sync>(
     );
 }
 
-/// Tasks that threads do at once, so many times each. Its time is that of the thread that takes longest.
-#[derive(Drop)]
-pub(crate) struct Together<'a, R> {
-    rt: &'a R,
-    runners: Vec<Runner<'a>>,
+/// The least time that the tasks take together, so many times each: that of the thread that takes longest.
+pub(crate) fn least_together<R: Threads + Wait + Clock + Sync>(
+    rt: &R,
+    runners: &mut Vec<Runner<'_>>,
     events: u32,
+) -> anyhow::Result<Measured> {
+    let mut least = u64::MAX;
+    let mut number: u64 = 0;
+    for _ in 0..REPETITIONS {
+        run_all(rt, runners, events);
+        let took = longest(runners).context("the clock failed")?;
+        least = least.min(took);
+        number = number.wrapping_add(sum_of(runners));
+    }
+    Ok(Measured {
+        nanoseconds: least,
+        number,
+    })
 }
 
-impl<'a, R> Together<'a, R> {
-    pub(crate) fn new(rt: &'a R, runners: Vec<Runner<'a>>, events: u32) -> Together<'a, R> {
-        Together {
-            rt,
-            runners,
-            events,
-        }
+// The nanoseconds of the thread that took longest, or nothing where the clock failed.
+fn longest(runners: &[Runner<'_>]) -> Option<u64> {
+    let mut longest: u64 = 0;
+    for runner in runners {
+        longest = longest.max(runner.nanoseconds?);
     }
+    Some(longest)
 }
 
-impl<R: Threads + Wait + Clock + Sync> Work for Together<'_, R> {
-    fn run(&mut self) -> anyhow::Result<u64> {
-        run_all(self.rt, &mut self.runners, self.events);
-        let mut sum: u64 = 0;
-        for runner in &self.runners {
-            sum = sum.wrapping_add(runner.number);
-        }
-        Ok(sum)
+// What came of all tasks.
+fn sum_of(runners: &[Runner<'_>]) -> u64 {
+    let mut sum: u64 = 0;
+    for runner in runners {
+        sum = sum.wrapping_add(runner.number);
     }
-
-    fn own_time(&self) -> Option<u64> {
-        let mut longest: u64 = 0;
-        for runner in &self.runners {
-            longest = longest.max(runner.nanoseconds?);
-        }
-        Some(longest)
-    }
+    sum
 }

@@ -1,9 +1,9 @@
 //! What recordings cost that several threads make at once.
-use crate::bench::{Bench, Row, Unit};
+use crate::bench::{Bench, Row, Unit, each};
 use crate::floors::Floor;
 use crate::inputs::{readers, threaded, three_attributes, value_names};
 use crate::seats::{Seats, Shared, seated};
-use crate::tasks::{Task, Together, runners_of};
+use crate::tasks::{Task, least_together, runners_of};
 use crate::words::Words;
 use crossbeam_utils::CachePadded;
 use metric_provider::Recorder;
@@ -221,8 +221,7 @@ fn recording_of<R: Threads + Wait + Clock + Sync>(
     sharing: Sharing,
 ) -> anyhow::Result<u64> {
     let tasks = recordings_of(bench.alloc, provider, names, recorders, sharing)?;
-    let runners = runners_of(bench.alloc, tasks)?;
-    bench.each_of(&mut Together::new(bench.rt, runners, events), events)
+    together(bench, tasks, events)
 }
 
 fn recordings_of<'a>(
@@ -262,8 +261,7 @@ fn lock<R: Threads + Wait + Clock + Sync>(
             tasks.push(Task::Add(Additions { sum }))?;
         }
     }
-    let runners = runners_of(bench.alloc, tasks)?;
-    bench.each_of(&mut Together::new(bench.rt, runners, events), events)
+    together(bench, tasks, events)
 }
 
 // So many sums, each behind a lock.
@@ -273,4 +271,15 @@ fn sums(alloc: Global, count: u32) -> Result<Vec<CachePadded<Mutex<u64>>>, Alloc
         sums.push(CachePadded::new(Mutex::new(0)))?;
     }
     Ok(sums)
+}
+
+// What one of so many operations costs each of the threads that do the tasks, in thousandths of a nanosecond.
+fn together<R: Threads + Wait + Clock + Sync>(
+    bench: &mut Bench<'_, R>,
+    tasks: Vec<Task<'_>>,
+    events: u32,
+) -> anyhow::Result<u64> {
+    let mut runners = runners_of(bench.alloc, tasks)?;
+    let measured = least_together(bench.rt, &mut runners, events)?;
+    Ok(each(bench.take(measured), u64::from(events)))
 }

@@ -18,11 +18,6 @@ pub(crate) trait Work {
 
     /// Does the work. The number depends on all of it, so that no part of the work can be left out.
     fn run(&mut self) -> anyhow::Result<u64>;
-
-    /// How many nanoseconds the work took, where it looks at the clock itself.
-    fn own_time(&self) -> Option<u64> {
-        None
-    }
 }
 
 /// What came of measured work.
@@ -49,7 +44,7 @@ pub(crate) fn least<R: Clock, W: Work>(rt: &R, work: &mut W) -> anyhow::Result<M
         let took = start.elapsed(rt)?.as_nanos();
         let took = u64::try_from(took).unwrap_or(u64::MAX);
         spent = spent.saturating_add(took);
-        least = least.min(work.own_time().unwrap_or(took));
+        least = least.min(took);
         number = number.wrapping_add(one);
     }
     Ok(Measured {
