@@ -1,7 +1,7 @@
 //! The answers of seats in one thread beside the replies of a core.
 ghost use Rattle.std.specs.Prelude.{IsTrue};
 
-use crate::samples::{BOTH, HITS, MAIN, certified};
+use crate::samples::{BOTH, CODES, HITS, MAIN, certified};
 use crate::seats::{Seats, seated};
 use crate::texts::write_reply;
 use metric_book::{Book, JournalBook};
@@ -100,27 +100,6 @@ name = 'r'
 [[recorder.budget]]
 instrument = 0
 amount = 2
-";
-
-const CODES: &str = "format = 1
-[[meter]]
-name = 'm'
-[[meter.instrument]]
-name = 'c'
-kind = 'counter'
-range = [0, 9]
-[[meter.instrument.key]]
-name = 'route'
-values = ['/a']
-[[meter.instrument.key]]
-name = 'code'
-values = [200]
-optional = true
-[[recorder]]
-name = 'r'
-[[recorder.budget]]
-instrument = 0
-amount = 1
 ";
 
 const SAMPLES: &[Sample] = &[

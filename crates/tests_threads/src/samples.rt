@@ -24,6 +24,28 @@ instrument = 0
 amount = 10
 ";
 
+/// A counter with a required and an optional key, and a budget of one recording.
+pub(crate) const CODES: &str = "format = 1
+[[meter]]
+name = 'm'
+[[meter.instrument]]
+name = 'c'
+kind = 'counter'
+range = [0, 9]
+[[meter.instrument.key]]
+name = 'route'
+values = ['/a']
+[[meter.instrument.key]]
+name = 'code'
+values = [200]
+optional = true
+[[recorder]]
+name = 'r'
+[[recorder.budget]]
+instrument = 0
+amount = 1
+";
+
 /// Two counters and two recorders.
 pub(crate) const PAIR: &str = "format = 1
 [[meter]]

@@ -1,0 +1,95 @@
+//! The refusals of a recording in the order in which they are tried, and that they change nothing.
+use crate::samples::{CODES, MAIN, certified};
+use crate::seats::{Seats, seated};
+use metric_book::{Book, JournalBook};
+use metric_catalogue::{Attr, Refusal};
+use metric_marked::Marked;
+use metric_names::ValueRef;
+use metric_provider::{NoGate, Provider, Recorder, Told};
+use std::alloc::Global;
+use std::process::Abort;
+use std::sync::Wait;
+use std::test::Fail;
+
+const ROUTE: Attr<'static> = Attr {
+    key: "route",
+    value: ValueRef::Text("/a"),
+};
+
+const CODE: Attr<'static> = Attr {
+    key: "code",
+    value: ValueRef::Whole(200),
+};
+
+const OTHER_CODE: Attr<'static> = Attr {
+    key: "code",
+    value: ValueRef::Whole(404),
+};
+
+const ZONE: Attr<'static> = Attr {
+    key: "zone",
+    value: ValueRef::Flag(true),
+};
+
+// An instrument, attributes, a value, and why the recording is refused: for the first of all that is wrong with it.
+const UNDECLARED: &[(u32, &[Attr<'static>], i64, Refusal)] = &[
+    (1, &[ZONE, ZONE], 10, Refusal::UnknownInstrument),
+    (0, &[ZONE, ZONE], 10, Refusal::DuplicateKey),
+    (0, &[ZONE, OTHER_CODE], 10, Refusal::UnknownKey),
+    (0, &[OTHER_CODE], 10, Refusal::UnknownValue),
+    (0, &[CODE], 10, Refusal::MissingKey),
+    (0, &[ROUTE], 10, Refusal::ValueRange),
+];
+
+// Whether the counter is closed before, and what a declared recording is answered: the budget is one.
+const DECLARED: &[(bool, Result<(), Refusal>)] = &[
+    (false, Ok(())),
+    (false, Err(Refusal::Budget)),
+    (true, Err(Refusal::Closed)),
+];
+
+// Each recording that is not declared is refused, and its recorder told of nothing.
+fn refuse_undeclared<R: Wait + Abort, B: Book>(
+    rt: &R,
+    provider: &Provider<B, NoGate>,
+    recorder: &mut Recorder,
+) {
+    for (instrument, attrs, value, refusal) in UNDECLARED {
+        let before = recorder.accepted(0);
+        let answer = recorder.record(rt, provider, *instrument, *attrs, *value);
+        assert_eq!(rt; answer, Err(*refusal));
+        assert_eq!(rt; recorder.accepted(0), before);
+    }
+}
+
+fn refuse_in_order<R: Wait + Abort, B: Book>(rt: &R, alloc: Global) -> Result<(), Fail> {
+    let plan = certified(alloc, CODES, MAIN)?;
+    let mut seats: Seats<B> = seated(rt, alloc, plan, 0, 1)?;
+    let Some(mut recorder) = seats.recorders.pop() else {
+        return Err(Fail::from("no recorder"));
+    };
+    for (is_closed, answer) in DECLARED {
+        if *is_closed {
+            seats.provider.close(rt, 0)?;
+        }
+        refuse_undeclared(rt, &seats.provider, &mut recorder);
+        assert_eq!(rt;
+            recorder.record(rt, &seats.provider, 0, &[ROUTE], 3),
+            *answer
+        );
+        assert_eq!(rt;
+            recorder.accepted(0),
+            Some(Told {
+                count: 1,
+                amount: 3
+            })
+        );
+    }
+    Ok(())
+}
+
+#[test]
+fn the_first_refusal_is_answered(rt: HostRuntime) -> Result<(), Fail> {
+    refuse_in_order::<_, JournalBook>(&rt, rt.alloc())?;
+    refuse_in_order::<_, Marked>(&rt, rt.alloc())
+}
