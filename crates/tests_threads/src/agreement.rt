@@ -187,15 +187,27 @@ accepted
     },
 ];
 
+// The first answers that are not those of the sample.
+fn other_answers<R: Wait, B: Book>(
+    rt: &R,
+    alloc: Global,
+    sample: &Sample,
+) -> Result<Option<String>, Fail> {
+    for answers in both::<R, B>(rt, alloc, sample)? {
+        if answers.as_str() != sample.answers {
+            return Ok(Some(answers));
+        }
+    }
+    Ok(None)
+}
+
 #[test]
 fn seats_answer_as_core(rt: HostRuntime) -> Result<(), Fail> {
     for sample in SAMPLES {
-        for answers in both::<_, JournalBook>(&rt, rt.alloc(), sample)?.as_slice() {
-            assert_eq!(rt; answers.as_str(), sample.answers);
-        }
-        for answers in both::<_, Marked>(&rt, rt.alloc(), sample)?.as_slice() {
-            assert_eq!(rt; answers.as_str(), sample.answers);
-        }
+        let other = other_answers::<_, JournalBook>(&rt, rt.alloc(), sample)?;
+        assert_eq!(rt; other, None);
+        let other = other_answers::<_, Marked>(&rt, rt.alloc(), sample)?;
+        assert_eq!(rt; other, None);
     }
     Ok(())
 }
