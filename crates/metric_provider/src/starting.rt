@@ -67,8 +67,8 @@ fn new_parts<B: Book>(
     Ok((slots, recorders, collectors))
 }
 
-// A seed that differs from run to run, also of runs that start in one moment: the factor is odd and has its bits
-// spread, so it takes numbers of runs far apart.
+// The seed of a run. Runs that start in one moment have different ones: the factor is odd, so it takes no two numbers
+// to one, and has its bits spread, so it takes them far apart.
 fn seed_of(start: u64, run: u64) -> u64 {
     start ^ run.wrapping_mul(0x9E37_79B9_7F4A_7C15)
 }
