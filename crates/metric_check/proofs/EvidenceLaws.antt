@@ -1,6 +1,7 @@
 -- True evidence says whether a view selects an instrument.
-use Rattle.std.proofs.Common.{◌≡◌, ℕ, ◌+◌, ◌*◌, ◌<◌, Bool, true, false, List, [], ◌∷◌, length, Option, Some, None, IfSome, slice_get, unwrap_or, refl, sym, subst, arith}
-use Rattle.std.proofs.lemmas.Option.{slice_get_within}
+use Rattle.std.proofs.Common.{◌≡◌, ℕ, ◌+◌, ◌*◌, ◌<◌, Bool, true, false, List, [], ◌∷◌, length, Option, Some, None, IfSome, option_map, slice_get, unwrap_or, refl, sym, ap, subst, ◌∙◌, inl, inr, arith}
+use Rattle.std.proofs.lemmas.Option.{slice_get_cases, slice_get_within}
+use Rattle.std.specs.List.{AllZip}
 use Rattle.std.proofs.lemmas.Slice.Zip.{AllZip-long}
 use Rattle.std.proofs.lemmas.List.{append-nil}
 use Rattle.metric_glob.specs.Matching.{Matches}
@@ -22,9 +23,13 @@ use Rattle.metric_cert.specs.declared.reason.SelectionReason.{SelectionReason}
 use Rattle.metric_cert.specs.declared.reason.Evidence.TheVariants.{Name, Miss}
 use Rattle.metric_cert.specs.Valid.{IsReasonOf, IsTrueEvidence, IsTrueOf, all_pairs, pattern_for}
 use Rattle.metric_check.specs.Findings.{AllHold}
-use Rattle.metric_check.specs.Known.{AreReasons, EachHolds, selects_by}
+use Rattle.metric_check.specs.Known.{EachHolds, ShowSelection, selects_by}
 use Rattle.metric_check.proofs.Pairs.{pair_of}
 use Rattle.metric_check.proofs.Walks.{zip_at}
+
+-- The reasons are those of all pairs, and true.
+abbrev pub AreReasons : Contents → Config → List SelectionReason → Type 0
+AreReasons contents config reasons = AllZip (IsReasonOf contents config) (all_pairs contents config) reasons
 
 -- `*` matches each name
 star_matches : (name : List ℕ) → Matches (42 ∷ []) name
@@ -107,7 +112,7 @@ pub each_from_all : (criteria : Criteria) (meter : Meter) (instrument : Instrume
 each_from_all criteria meter instrument all = (all InstrumentType, all InstrumentUnit, all MeterName, all MeterVersion, all MeterSchemaUrl)
 
 -- the reason at the place of a view and an instrument
-pub reason_shows : (contents : Contents) (config : Config) (reasons : List SelectionReason) → AreReasons contents config reasons → (view instrument : ℕ)
+reason_shows : (contents : Contents) (config : Config) (reasons : List SelectionReason) → AreReasons contents config reasons → (view instrument : ℕ)
     → view < length config.views → instrument < length contents.instruments → (reason : SelectionReason)
     → slice_get reasons (view * length contents.instruments + instrument) ≡ Some reason → selects_by reason.evidence ≡ is_selected contents config instrument view
 reason_shows contents config reasons zip view instrument within inside reason at =
@@ -120,9 +125,36 @@ reason_shows contents config reasons zip view instrument within inside reason at
     shown_by contents config reason.evidence view instrument evidence
 
 -- there is such a place
-pub reason_there : (contents : Contents) (config : Config) (reasons : List SelectionReason) → AreReasons contents config reasons → (view instrument : ℕ)
+reason_there : (contents : Contents) (config : Config) (reasons : List SelectionReason) → AreReasons contents config reasons → (view instrument : ℕ)
     → view < length config.views → instrument < length contents.instruments → view * length contents.instruments + instrument < length reasons
 reason_there contents config reasons zip view instrument within inside =
     let long = AllZip-long (IsReasonOf contents config) (all_pairs contents config) reasons zip in
     let at = slice_get_within (all_pairs contents config) (view * length contents.instruments + instrument) (view, instrument) (pair_of contents config view instrument within inside) in
     omega (arith, long, at)
+
+-- true reasons of all pairs show which views select which instruments
+pub all_show : (contents : Contents) (config : Config) (reasons : List SelectionReason) → AreReasons contents config reasons → ShowSelection contents config reasons
+all_show contents config reasons zip view instrument within inside =
+    elim (slice_get_cases reasons (view * length contents.instruments + instrument)).1 [
+      | inl h ↦ ap (option_map (λ (reason : SelectionReason). selects_by reason.evidence)) h.2 ∙ ap (λ b. Some b) (reason_shows contents config reasons zip view instrument within inside h.0 h.2)
+      | inr h ↦ let there = reason_there contents config reasons zip view instrument within inside in absurd (omega (arith, there, h.0))
+    ]
+
+-- the place of a pair's reason
+pub shown_there : (contents : Contents) (config : Config) (reasons : List SelectionReason) → ShowSelection contents config reasons → (view instrument : ℕ)
+    → view < length config.views → instrument < length contents.instruments → view * length contents.instruments + instrument < length reasons
+shown_there contents config reasons shown view instrument within inside =
+    elim (slice_get_cases reasons (view * length contents.instruments + instrument)).1 [
+      | inl h ↦ h.1
+      | inr h ↦
+          let e = sym (ap (option_map (λ (reason : SelectionReason). selects_by reason.evidence)) h.1) ∙ shown view instrument within inside in
+          absurd cc
+    ]
+
+-- what it shows
+pub shown_at : (contents : Contents) (config : Config) (reasons : List SelectionReason) → ShowSelection contents config reasons → (view instrument : ℕ)
+    → view < length config.views → instrument < length contents.instruments → (reason : SelectionReason)
+    → slice_get reasons (view * length contents.instruments + instrument) ≡ Some reason → selects_by reason.evidence ≡ is_selected contents config instrument view
+shown_at contents config reasons shown view instrument within inside reason at =
+    let e = sym (ap (option_map (λ (reason : SelectionReason). selects_by reason.evidence)) at) ∙ shown view instrument within inside in
+    cc

@@ -1,5 +1,4 @@
 pub mod EvidenceLaws
-pub mod OfferLaws
 pub mod OrderLaws
 pub mod OwnStreams
 pub mod Pairs

@@ -30,8 +30,9 @@ use Rattle.metric_plan.specs.declared.fault.CheckFault.{CheckFault}
 use Rattle.metric_plan.specs.declared.fault.CheckFault.TheVariants.{PairMissing, BadTakes, BadRows, BadMiss, StreamMissing, StreamStrange, BadOrder, BadSets, LimitExceeded, SumLow, SumHigh, CountRange, AmountRange, Memory}
 use Rattle.metric_check.specs.Checked.{FindsNothingWhereValid}
 use Rattle.metric_check.specs.Findings.{BoundFinds, BoundsFind, CheckFinds, EntryFinds, EvidenceFindsAt, LimitFinds, NumbersFindAt, ReasonFinds, entry_order}
-use Rattle.metric_check.specs.Known.{AreReasons, AreTotals}
+use Rattle.metric_check.specs.Known.{AreTotals}
 use Rattle.metric_check.specs.Paired.{EachPaired}
+use Rattle.metric_check.proofs.EvidenceLaws.{AreReasons}
 use Rattle.metric_check.proofs.Singles.{CheckFinds-IsSingle}
 use Rattle.metric_check.proofs.Walks.{range_at, there, zip_at}
 

@@ -1,6 +1,5 @@
 -- What the steps of a check have shown for the steps after them.
-use Rattle.std.specs.Prelude.{◌≡◌, ℕ, ◌<◌, Bool, true, false, IsSomeAnd, List, length, slice_get}
-use Rattle.std.specs.List.{AllZip}
+use Rattle.std.specs.Prelude.{◌≡◌, ℕ, ◌+◌, ◌*◌, ◌<◌, Bool, true, false, IsSomeAnd, List, Some, length, option_map, slice_get}
 use Rattle.metric_catalogue.specs.declared.contents.Contents.{Contents}
 use Rattle.metric_views.specs.declared.config.Config.{Config}
 use Rattle.metric_bounds.specs.Amounts.{total_of}
@@ -13,7 +12,8 @@ use Rattle.metric_cert.specs.declared.reason.Criterion.TheVariants.{InstrumentTy
 use Rattle.metric_cert.specs.declared.reason.Evidence.{Evidence}
 use Rattle.metric_cert.specs.declared.reason.Evidence.TheVariants.{Name}
 use Rattle.metric_cert.specs.declared.reason.SelectionReason.{SelectionReason}
-use Rattle.metric_cert.specs.Valid.{Holds, IsReasonOf, all_pairs}
+use Rattle.metric_cert.specs.Valid.{Holds}
+use Rattle.metric_resolve.specs.Applying.{is_selected}
 
 -- The criteria beside the name hold one by one.
 abbrev pub EachHolds : Criteria → Meter → Instrument → Type 0
@@ -21,14 +21,17 @@ EachHolds criteria meter instrument =
     Holds InstrumentType criteria meter instrument × Holds InstrumentUnit criteria meter instrument × Holds MeterName criteria meter instrument
     × Holds MeterVersion criteria meter instrument × Holds MeterSchemaUrl criteria meter instrument
 
--- The reasons are those of all pairs, and true.
-abbrev pub AreReasons : Contents → Config → List SelectionReason → Type 0
-AreReasons contents config reasons = AllZip (IsReasonOf contents config) (all_pairs contents config) reasons
-
 -- whether evidence, where it is true, shows that a view selects an instrument
 abbrev pub selects_by : Evidence → Bool
 selects_by (Name (Takes takes)) = true
 selects_by _ = false
+
+-- The reason of each pair is there, and shows whether the view selects the instrument.
+abbrev pub ShowSelection : Contents → Config → List SelectionReason → Type 0
+ShowSelection contents config reasons =
+    (view instrument : ℕ) → view < length config.views → instrument < length contents.instruments
+    → option_map (λ reason. selects_by reason.evidence) (slice_get reasons (view * length contents.instruments + instrument))
+    ≡ Some (is_selected contents config instrument view)
 
 -- The bounds have the sum of the budgets of each instrument.
 abbrev pub AreTotals : Contents → List InstrumentBound → Type 0

@@ -1,6 +1,5 @@
 pub mod Checked
 pub mod Findings
 pub mod Known
-pub mod Offered
 pub mod Paired
 pub mod Rising

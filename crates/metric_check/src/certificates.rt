@@ -6,20 +6,19 @@ ghost use Rattle.metric_glob.specs.declared.characters.TheConstants.{ANY_TEXT};
 ghost use Rattle.metric_plan.specs.Plans.{plan_of};
 ghost use Rattle.metric_resolve.specs.Resolved.{streams_of};
 ghost use Rattle.metric_check.specs.Findings.{CheckFinds, StreamsFind};
-ghost use Rattle.metric_check.specs.Known.{AreReasons};
 
 use crate::bounds::check_bounds;
 use crate::entries::check_entries;
 use crate::limits::check_limits;
-use crate::offers::offers_of;
 use crate::orders::check_orders;
 use crate::reasons::check_reasons;
-use crate::stream_list::streams_of;
+use crate::selection::ByReasons;
 use metric_base::Few;
 use metric_catalogue::Catalogue;
-use metric_cert::{Certificate, SelectionReason};
+use metric_cert::Certificate;
 use metric_glob::Pattern;
 use metric_plan::{CheckFault, Plan};
+use metric_resolve::streams_by;
 use metric_views::{Config, Stream};
 use std::alloc::{AllocError, Global};
 
@@ -68,7 +67,12 @@ fn checked_streams(
     let any = any_name(alloc)?;
     let reasons = certificate.reasons.as_slice();
     check_reasons(&any, catalogue, config, reasons)?;
-    let streams = given_streams(alloc, catalogue, config, reasons)?;
+    let selection = ByReasons {
+        catalogue,
+        config,
+        reasons,
+    };
+    let streams = streams_by(alloc, &selection)?;
     check_streams(alloc, catalogue, config, certificate, streams.as_slice())?;
     Ok(streams)
 }
@@ -101,19 +105,4 @@ fn any_name(alloc: Global) -> Result<Pattern, AllocError>
         Ok(pattern) => Ok(pattern),
         Err(_) => Err(AllocError),
     }
-}
-
-// The streams that true reasons give.
-fn given_streams(
-    alloc: Global,
-    catalogue: &Catalogue,
-    config: &Config,
-    reasons: &[SelectionReason],
-) -> Result<Few<Stream, 2_097_152>, AllocError>
-    requires { AreReasons catalogue.now config.now reasons.now }
-    ensures { IfOk result (λ streams. streams ≡ streams_of catalogue.now config.now) }
-{
-    let offers = offers_of(alloc, catalogue, config, reasons)?;
-    let streams = streams_of(alloc, catalogue, config, offers.as_slice())?;
-    Ok(Few::from_items(streams))
 }

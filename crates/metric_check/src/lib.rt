@@ -12,10 +12,9 @@ mod evidence;
 mod laws;
 mod limits;
 mod numbers;
-mod offers;
 mod orders;
 mod reasons;
-mod stream_list;
+mod selection;
 
 pub use certificates::check;
 pub use laws::{faults_are_single, nothing_is_found_where_valid, valid_is_safe};

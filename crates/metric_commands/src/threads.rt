@@ -31,7 +31,7 @@ const RUN: u64 = 0;
 /// # Errors
 ///
 /// [`KitFault::Read`] and [`KitFault::Write`] where the source or the sink failed, [`KitFault::Memory`] also where memory
-/// was refused in a thread or a thread could not be started, and else the first fault that the input has. The last of
+/// was refused in a thread or for one, and else the first fault that the input has. The last of
 /// them are those of the certificate's check; after the threads [`KitFault::Finish`] may come.
 pub fn threads_run<R: Threads + Wait + Sync, S: Source, W: Sink>(
     rt: &R,

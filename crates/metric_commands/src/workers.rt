@@ -7,8 +7,7 @@ use metric_marked::Marked;
 use metric_provider::{Collector, NoGate, Provider, Recorder};
 use std::alloc::{AllocError, Global};
 use std::sync::Wait;
-use std::thread;
-use std::thread::Threads;
+use std::thread::{Threads, join, map_vec};
 
 /// The provider of the threads.
 pub(crate) type Shared = Provider<Marked, NoGate>;
@@ -16,8 +15,8 @@ pub(crate) type Shared = Provider<Marked, NoGate>;
 // The last time of the collections, which come at each moment from 1 on.
 const LAST: u64 = 8;
 
-/// Lets the recorders record and the readers collect, each in a thread of its own, and gives the recorders back after
-/// all of them have ended. Fails where memory was refused in a thread, or a thread could not be started.
+/// Lets the recorders record and the readers collect, each in a thread of its own where one can be made, and gives the
+/// recorders back after all of them have ended. Fails where memory was refused, in a thread or for one.
 pub(crate) fn work<R: Threads + Wait + Sync>(
     rt: &R,
     alloc: Global,
@@ -26,30 +25,37 @@ pub(crate) fn work<R: Threads + Wait + Sync>(
     recorders: Vec<Recorder>,
     collectors: Vec<Collector>,
 ) -> Result<Vec<Recorder>, AllocError> {
-    thread::scope(
-        thread::scope_env(),
+    let record = |recorder| record_all(rt, alloc, provider, options, recorder);
+    let collect = |collector| collect_all(rt, alloc, provider, collector);
+    let (recorded, collected) = join(
         rt,
-        move |scope| -> Result<Vec<Recorder>, AllocError> {
-            let mut recording = Vec::new(alloc);
-            for recorder in recorders {
-                recording.push(scope.spawn(move || record_all(
-                    rt, alloc, provider, options, recorder,
-                ))?)?;
-            }
-            let mut collecting = Vec::new(alloc);
-            for collector in collectors {
-                collecting.push(scope.spawn(move || collect_all(rt, alloc, provider, collector))?)?;
-            }
-            let mut back = Vec::new(alloc);
-            for child in recording {
-                back.push(child.join(rt)?)?;
-            }
-            for child in collecting {
-                child.join(rt)?;
-            }
-            Ok(back)
-        },
-    )
+        || map_vec(rt, recorders, &record),
+        || map_vec(rt, collectors, &collect),
+    );
+    each_ended(&collected?)?;
+    each_back(alloc, recorded?)
+}
+
+// Fails where a collection did.
+fn each_ended(collected: &[Result<(), AllocError>]) -> Result<(), AllocError> {
+    for ended in collected {
+        if ended.is_err() {
+            return Err(AllocError);
+        }
+    }
+    Ok(())
+}
+
+// The recorders, or a failure of one.
+fn each_back(
+    alloc: Global,
+    recorded: Vec<Result<Recorder, AllocError>>,
+) -> Result<Vec<Recorder>, AllocError> {
+    let mut recorders = Vec::with_capacity(alloc, recorded.len())?;
+    for recorder in recorded {
+        recorders.push(recorder?)?;
+    }
+    Ok(recorders)
 }
 
 // Records on each instrument in order, so many times, and gives the recorder back.

@@ -1,5 +1,5 @@
 -- Streams have equal keys exactly where they have equal identities.
-use Rattle.std.proofs.Common.{◌≡◌, ℕ, zero, suc, ◌<◌, ◌≤◌, Bool, true, false, ◌&&◌, ◌==◌, List, [], ◌∷◌, length, take, get_or, Option, Some, None, Decides, refl, sym, ap, subst, ◌∙◌, arith, ◌⊎◌, inl, inr}
+use Rattle.std.proofs.Common.{◌≡◌, ℕ, zero, suc, ◌<◌, ◌≤◌, Bool, true, false, ◌&&◌, ◌==◌, List, [], ◌∷◌, length, Option, Some, None, Decides, refl, sym, ap, subst, ◌∙◌, arith, ◌⊎◌, inl, inr}
 use Rattle.std.specs.Cmp.{tied_then}
 use Rattle.std.specs.Cmp.Lexicographic.{slice_cmp}
 use Rattle.std.specs.Option.{option_map}
@@ -7,7 +7,6 @@ use Rattle.std.specs.Ordering.{eq_by_cmp, is_eq, nat_cmp}
 use Rattle.std.specs.Prelude.{option_and_then, slice_get}
 use Rattle.std.proofs.lemmas.Bool.{cases_lt}
 use Rattle.std.proofs.lemmas.Bool.Decides.{Decides-eqb, nat_tests}
-use Rattle.std.proofs.lemmas.List.Folds.{list_any_at}
 use Rattle.std.proofs.lemmas.Map.Text.{is_eq-slice_cmp}
 use Rattle.std.proofs.lemmas.Option.{get_or_from_slice_get, slice_get_within}
 use Rattle.std.proofs.lemmas.Slice.Eq.{bytes_eq-Decides}
@@ -15,13 +14,11 @@ use Rattle.metric_names.specs.Names.{folded}
 use Rattle.metric_catalogue.specs.declared.contents.Contents.{Contents}
 use Rattle.metric_catalogue.specs.declared.contents.Instrument.{Instrument}
 use Rattle.metric_catalogue.specs.declared.contents.Meter.{Meter}
-use Rattle.metric_catalogue.specs.Meters.{is_meter}
 use Rattle.metric_catalogue.specs.Sound.{IsSound}
 use Rattle.metric_views.specs.declared.stream.Stream.{Stream}
 use Rattle.metric_resolve.specs.declared.stream_key.StreamKey.{StreamKey}
 use Rattle.metric_resolve.specs.Collisions.{Identity, identity_of, identity_with, is_same}
 use Rattle.metric_resolve.specs.StreamKeys.{IsKeyOf, identity_by, key_identity, key_order}
-use Rattle.metric_resolve.proofs.Lists.{slice_get-take}
 use Rattle.metric_resolve.proofs.Same.{both, is_same-Decides}
 
 same_number : (x y : ℕ) → Decides (is_eq (nat_cmp x y)) (x ≡ y)

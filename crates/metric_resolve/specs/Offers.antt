@@ -3,37 +3,27 @@ use Rattle.std.specs.Prelude.{◌≡◌, ℕ, ◌≤◌, ◌++◌, List, [], len
 use Rattle.std.specs.List.{enumerate_from, filter_map, list_any}
 use Rattle.metric_catalogue.specs.declared.contents.Contents.{Contents}
 use Rattle.metric_catalogue.specs.declared.contents.Instrument.{Instrument}
-use Rattle.metric_catalogue.specs.declared.contents.Meter.{Meter}
 use Rattle.metric_views.specs.declared.config.Config.{Config}
 use Rattle.metric_views.specs.declared.config.Reader.{Reader}
 use Rattle.metric_views.specs.declared.config.View.{View}
 use Rattle.metric_views.specs.declared.stream.Stream.{Stream}
 use Rattle.metric_views.specs.declared.template.Template.{Template}
-use Rattle.metric_views.specs.Selection.{selects}
 use Rattle.metric_views.specs.Streams.{fill_by, no_settings, template_of}
 use Rattle.metric_resolve.specs.declared.offers.Offer.{Offer}
-use Rattle.metric_resolve.specs.Applying.{meter_at}
+use Rattle.metric_resolve.specs.Applying.{is_selected}
 use Rattle.metric_resolve.specs.Resolved.{is_fit, kept, kept_of}
 
--- what a view with its number offers of an instrument with its meter and number
-abbrev pub view_template : Meter → ℕ → Instrument → ℕ × View → Option Template
-view_template meter number instrument view =
-    if selects view.1.criteria meter instrument then Some (template_of number instrument (Some view.0) view.1.settings) else None
-
--- what an instrument offers
-abbrev pub offer_of : List View → Meter → ℕ → Instrument → Offer
-offer_of views meter number instrument = record {
-  by_views = filter_map (view_template meter number instrument) (enumerate_from 0 views);
-  default = template_of number instrument None no_settings;
-}
+-- what a view with its number offers of an instrument with its number
+abbrev pub view_template : Contents → Config → ℕ → Instrument → ℕ × View → Option Template
+view_template contents config number instrument view =
+    if is_selected contents config number view.0 then Some (template_of number instrument (Some view.0) view.1.settings) else None
 
 -- It is what the instrument of this number offers.
 pub record IsOffer (contents : Contents) (config : Config) (number : ℕ) (offer : Offer) : Type 0 where
   pub instrument : Instrument
-  pub meter : Meter
   pub at : slice_get contents.instruments number ≡ Some instrument
-  pub of_meter : meter_at contents number ≡ Some meter
-  pub is : offer ≡ offer_of config.views meter number instrument
+  pub by_views : offer.by_views ≡ filter_map (view_template contents config number instrument) (enumerate_from 0 config.views)
+  pub default : offer.default ≡ template_of number instrument None no_settings
 
 -- They are what the instruments offer, in order. There are as many instruments and views as a file may have.
 pub record AreOffers (contents : Contents) (config : Config) (offers : List Offer) : Type 0 where

@@ -1,5 +1,5 @@
 -- The streams that a config gives for a catalogue.
-use Rattle.std.specs.Prelude.{ℕ, ◌<◌, Bool, true, false, List, [], length, map, Option, Some, None, option_and_then}
+use Rattle.std.specs.Prelude.{ℕ, ◌<◌, Bool, true, false, List, [], length, Option, Some, None, option_and_then}
 use Rattle.std.specs.List.{cons_option, filter_map, flat_map}
 use Rattle.metric_catalogue.specs.declared.contents.Contents.{Contents}
 use Rattle.metric_views.specs.declared.config.Config.{Config}

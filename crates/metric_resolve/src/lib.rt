@@ -6,6 +6,7 @@ mod identity;
 mod laws;
 mod offers;
 mod resolved;
+mod selection;
 mod stream_key;
 mod stream_list;
 mod unfit;
@@ -16,4 +17,6 @@ pub use laws::{
     collisions_are_of_one_identity, streams_are_what_views_give, unfit_views_sum_gauges,
 };
 pub use resolved::{Streams, resolve};
+pub use selection::Selection;
+pub use stream_list::streams_by;
 pub use warning::Warning;

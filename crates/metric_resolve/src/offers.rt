@@ -1,12 +1,13 @@
 //! What each instrument offers the readers.
-ghost use Rattle.std.specs.Prelude.{◌≡◌, ◌≤◌, ◌<◌, IfOk, Some, length};
+ghost use Rattle.std.specs.Prelude.{◌≡◌, ◌≤◌, ◌<◌, IfOk, Some, length, slice_get};
 ghost use Rattle.std.specs.List.{enumerate_from, filter_map};
 ghost use Rattle.metric_resolve.specs.Applying.{meter_at};
-ghost use Rattle.metric_resolve.specs.Offers.{AreOffers, offer_of, view_template};
+ghost use Rattle.metric_resolve.specs.Offers.{AreOffers, IsOffer, view_template};
 
+use crate::selection::Selection;
 use metric_base::Items;
 use metric_catalogue::{Catalogue, Instrument, Meter};
-use metric_views::{Config, Template, View};
+use metric_views::{Template, View};
 use std::alloc::{AllocError, Global};
 
 // The streams that a reader can see of an instrument.
@@ -19,19 +20,16 @@ pub(crate) struct Offer {
 }
 
 // What each instrument offers. A view is matched with an instrument once, for all readers.
-pub(crate) fn offers_of(
+pub(crate) fn offers_of<S: Selection>(
     alloc: Global,
-    catalogue: &Catalogue,
-    config: &Config,
+    selection: &S,
 ) -> Result<Items<Offer>, AllocError>
-    ensures { IfOk result (AreOffers catalogue.now config.now) }
+    ensures { IfOk result (AreOffers (S.contents selection.now) (S.setup selection.now)) }
 {
-    let views = config.views();
+    let views = selection.config().views();
     let mut offers = Items::new(alloc);
-    for (number, instrument) in catalogue.instruments().iter().enumerate() {
-        let number = number as u32;
-        let meter = meter_of(catalogue, number);
-        let offer = offer_of(alloc, views, meter, number, instrument)?;
+    for (number, instrument) in selection.catalogue().instruments().iter().enumerate() {
+        let offer = offer_of(alloc, selection, views, number as u32, instrument)?;
         offers.push(offer)?;
     }
     Ok(offers)
@@ -46,36 +44,43 @@ pub(crate) fn meter_of(catalogue: &Catalogue, instrument: u32) -> &Meter
     &catalogue.meters()[number as usize]
 }
 
-fn offer_of(
+// What the instrument of a number offers, where these are all views.
+fn offer_of<S: Selection>(
     alloc: Global,
+    selection: &S,
     views: &[View],
-    meter: &Meter,
     number: u32,
     instrument: &Instrument,
 ) -> Result<Offer, AllocError>
-    requires { length views.now ≤ 256 }
-    ensures { IfOk result (λ o. o ≡ offer_of views.now meter.now number instrument.now) }
+    requires views { views.now ≡ (S.setup selection.now).views }
+    requires few { length views.now ≤ 256 }
+    requires at { slice_get (S.contents selection.now).instruments number ≡ Some instrument.now }
+    ensures { IfOk result (IsOffer (S.contents selection.now) (S.setup selection.now) number) }
 {
-    let by_views = templates_of(alloc, views, meter, number, instrument)?;
+    let by_views = templates_of(alloc, selection, views, number, instrument)?;
     let default = Template::of_default(alloc, number, instrument)?;
     Ok(Offer { by_views, default })
 }
 
-fn templates_of(
+// Those of the views that select the instrument.
+fn templates_of<S: Selection>(
     alloc: Global,
+    selection: &S,
     views: &[View],
-    meter: &Meter,
     number: u32,
     instrument: &Instrument,
 ) -> Result<Items<Template>, AllocError>
-    requires { length views.now ≤ 256 }
-    ensures { IfOk result (λ ts. ts
-        ≡ filter_map (view_template meter.now number instrument.now) (enumerate_from 0 views.now)) }
+    requires views { views.now ≡ (S.setup selection.now).views }
+    requires few { length views.now ≤ 256 }
+    requires within { number < length (S.contents selection.now).instruments }
+    ensures { IfOk result (λ templates. templates
+        ≡ filter_map (view_template (S.contents selection.now) (S.setup selection.now)
+        number instrument.now) (enumerate_from 0 views.now)) }
 {
     let mut templates = Items::new(alloc);
     for (view_number, view) in views.iter().enumerate() {
-        if view.selects(meter, instrument) {
-            let view_number = view_number as u32;
+        let view_number = view_number as u32;
+        if selection.selects(view_number, number) {
             let template = Template::of_view(alloc, number, instrument, view_number, view)?;
             templates.push(template)?;
         }

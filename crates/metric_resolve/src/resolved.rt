@@ -4,8 +4,8 @@ ghost use Rattle.metric_resolve.specs.Resolved.{streams_of};
 ghost use Rattle.metric_resolve.specs.Warnings.{warnings_of};
 
 use crate::collisions::add_collisions;
-use crate::offers::offers_of;
-use crate::stream_list::streams_of;
+use crate::selection::ByCriteria;
+use crate::stream_list::streams_by;
 use crate::unfit::add_unfit;
 use crate::warning::Warning;
 use metric_base::{Few, Items};
@@ -59,13 +59,9 @@ pub fn resolve(alloc: Global, catalogue: &Catalogue, config: &Config) -> Result<
     ensures list { IfOk result (λ s. s.list ≡ streams_of catalogue.now config.now) }
     ensures warnings { IfOk result (λ s. s.warnings ≡ warnings_of catalogue.now config.now) }
 {
-    let offers = offers_of(alloc, catalogue, config)?;
-    let list = streams_of(alloc, catalogue, config, offers.as_slice())?;
+    let list = streams_by(alloc, &ByCriteria { catalogue, config })?;
     let mut warnings = Items::new(alloc);
     add_unfit(catalogue, config, &mut warnings)?;
     add_collisions(alloc, catalogue, list.as_slice(), &mut warnings)?;
-    Ok(Streams {
-        list: Few::from_items(list),
-        warnings,
-    })
+    Ok(Streams { list, warnings })
 }

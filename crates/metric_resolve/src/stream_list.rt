@@ -5,14 +5,36 @@ ghost use Rattle.metric_views.specs.Streams.{fill_by};
 ghost use Rattle.metric_resolve.specs.Offers.{AreOffers, streams_of_offer};
 ghost use Rattle.metric_resolve.specs.Resolved.{IsKnown, is_fit, kept, kept_of, streams_of};
 
-use crate::offers::Offer;
-use metric_base::Items;
+use crate::offers::{Offer, offers_of};
+use crate::selection::Selection;
+use metric_base::{Few, Items};
 use metric_catalogue::Catalogue;
 use metric_views::{Config, Fill, Reader, Stream, Template};
 use std::alloc::{AllocError, Global};
 
+/// The streams of all readers (Metrics SDK, View), by reader, instrument and view, where the selection tells which views
+/// select which instruments. There are at most 2,097,152. Fails only where memory is refused.
+pub fn streams_by<S: Selection>(
+    alloc: Global,
+    selection: &S,
+) -> Result<Few<Stream, 2_097_152>, AllocError>
+    ensures exact { IfOk result (λ s. s
+        ≡ streams_of (S.contents selection.now) (S.setup selection.now)) }
+    ensures few { IfOk result (λ s. length s ≤ 2097152) }
+    ensures known { IfOk result (All (IsKnown (S.contents selection.now))) }
+{
+    let offers = offers_of(alloc, selection)?;
+    let streams = streams_of(
+        alloc,
+        selection.catalogue(),
+        selection.config(),
+        offers.as_slice(),
+    )?;
+    Ok(Few::from_items(streams))
+}
+
 // The streams of all readers, in order.
-pub(crate) fn streams_of(
+fn streams_of(
     alloc: Global,
     catalogue: &Catalogue,
     config: &Config,

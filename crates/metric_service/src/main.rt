@@ -6,24 +6,37 @@
 
 ghost use Rattle.std.specs.Prelude.{IfOk, IsTrue};
 
-mod report;
-mod server;
 mod worker;
 
 use anyhow::bail;
-use metric_sdk::{Marked, NoGate, Plan, StdSink, TextExporter, certified_plan, start};
+use metric_sdk::{
+    ClockTicker, Collector, Marked, MeterProvider, NoGate, Periodic, Plan, Recorder, StdSink,
+    StopFlag, TextExporter, certified_plan, start, write_batch,
+};
 use std::alloc::Global;
+use std::io::{self, Stderr};
 use std::rt::{Env, Files};
 use std::sync::Wait;
-use std::thread::Threads;
+use std::sync::atomic::{AtomicU64, Ordering};
+use std::thread::{Threads, join, map_vec};
 use std::time::Clock;
 use std::{env, fs};
 
-// When the service starts, in nanoseconds. A real one asks its clock; of this the seed of the tables is made.
+// When the service starts and ends, in nanoseconds. A real one asks its clock; of the start the seed of the tables is made.
 const START: u64 = 0;
+
+const END: u64 = 1_000_000_000;
 
 // The number of the run: no two providers of a process may have the same.
 const RUN: u64 = 0;
+
+// How many milliseconds lie between two exports, and how many exports there are at most.
+const PERIOD: u64 = 5;
+
+const EXPORTS: u32 = 1_000_000;
+
+// Where the periodic reader exports to.
+type Log = TextExporter<StdSink<Stderr>>;
 
 fn main(rt: HostRuntime) -> anyhow::Result<()> {
     let plan = plan_of(&rt)?;
@@ -46,20 +59,88 @@ fn plan_of<R: Env + Files + AllocGlobal>(rt: &R) -> anyhow::Result<Plan>
 }
 
 // Serves with a provider of the plan, and tells what its instruments come to.
-fn run<R: Threads + Wait + Clock + Print + Sync>(
-    rt: &R,
-    alloc: Global,
-    plan: Plan,
-    log: server::Log,
-) -> anyhow::Result<()>
+fn run<R>(rt: &R, alloc: Global, plan: Plan, log: Log) -> anyhow::Result<()>
+where
+    R: Threads + Wait + Clock + Print + Sync,
     requires { IsTrue plan.is_certified }
 {
-    let Ok((provider, recorders, collectors)) = start::<R, Marked, NoGate>(
+    let Ok((provider, recorders, mut collectors)) = start::<R, Marked, NoGate>(
         rt, alloc, plan, START, RUN, NoGate,
     ) else {
         bail!("no memory for a provider");
     };
-    let served = server::serve(rt, alloc, &provider, recorders, collectors, log)?;
-    let recorders = report::last_batches(rt, alloc, &provider, served)?;
-    report::totals(rt, alloc, provider, recorders)
+    // The readers stand in the order of the config.
+    let (Some(reader), Some(last)) = (collectors.pop(), collectors.pop()) else {
+        bail!("the config needs two readers");
+    };
+    let recorders = serve(rt, alloc, &provider, recorders, reader, log)?;
+    print_last(rt, alloc, &provider, last)?;
+    print_totals(rt, alloc, provider, recorders)
+}
+
+// Lets each worker serve in a thread of its own, and exports in one more until they have ended. The seats of the workers.
+fn serve<R: Threads + Wait + Clock + Print + Sync>(
+    rt: &R,
+    alloc: Global,
+    provider: &MeterProvider,
+    recorders: Vec<Recorder>,
+    reader: Collector,
+    log: Log,
+) -> anyhow::Result<Vec<Recorder>> {
+    let stop = StopFlag::new();
+    let refused = AtomicU64::new(0);
+    let (failed, recorders) = join(
+        rt,
+        || {
+            let mut ticker = ClockTicker::new(PERIOD, u64::from(EXPORTS), &stop);
+            let periodic = Periodic::new(log, EXPORTS);
+            periodic
+                .run(rt, alloc, provider, reader, &mut ticker)
+                .failed
+        },
+        || {
+            let work = |recorder| worker::work(rt, provider, recorder, &refused);
+            let recorders = map_vec(rt, recorders, &work);
+            stop.set(rt);
+            recorders
+        },
+    );
+    let refused = refused.load(Ordering::SeqCst);
+    println!(rt; "refused recordings: {refused}, failed exports: {failed}")?;
+    Ok(recorders?)
+}
+
+// Collects a last time, which ends the reader, and prints a batch of each instrument.
+fn print_last<R: Wait + Print>(
+    rt: &R,
+    alloc: Global,
+    provider: &MeterProvider,
+    last: Collector,
+) -> anyhow::Result<()> {
+    let Ok(batches) = last.shutdown(rt, alloc, provider, END) else {
+        bail!("no memory for the last collection");
+    };
+    let mut sink = StdSink::new(io::writer(rt));
+    for batch in batches.iter() {
+        write_batch(alloc, &mut sink, provider.plan(), batch)?;
+    }
+    Ok(())
+}
+
+// Ends the provider by the seats of all its recorders, and prints what each instrument comes to.
+fn print_totals<R: Wait + Print>(
+    rt: &R,
+    alloc: Global,
+    provider: MeterProvider,
+    recorders: Vec<Recorder>,
+) -> anyhow::Result<()> {
+    let totals = match provider.finish(rt, alloc, recorders) {
+        Ok(totals) => totals,
+        Err((_, _, fault)) => bail!("{fault}"),
+    };
+    for (number, total) in totals.instruments.iter().enumerate() {
+        let (count, sum) = (total.count, total.sum);
+        println!(rt; "instrument {number}: {count} recordings, sum {sum}")?;
+    }
+    Ok(())
 }

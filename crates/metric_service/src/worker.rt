@@ -1,6 +1,7 @@
 //! What a worker does: it serves its share of the requests, and records them.
 use metric_sdk::{Attr, MeterProvider, Recorder, ValueRef};
 use std::sync::Wait;
+use std::sync::atomic::{AtomicU64, Ordering};
 
 // The instruments, by their numbers in the catalogue.
 const REQUESTS: u32 = 0;
@@ -30,55 +31,45 @@ const SERVED: [Request; 9] = [
     ("/admin", 404, 1),
 ];
 
-/// A worker: its seat, and how many of its recordings were refused.
-#[derive(Drop)]
-pub(crate) struct Worker {
-    pub recorder: Recorder,
-    pub refused: u64,
-}
-
-/// Serves each request whose turn is the worker's, and gives the worker back.
-pub(crate) fn work<R: Wait>(rt: &R, provider: &MeterProvider, recorder: Recorder) -> Worker {
+/// Serves each request whose turn is the worker's. Metrics stop no service: refused recordings are counted.
+pub(crate) fn work<R: Wait>(
+    rt: &R,
+    provider: &MeterProvider,
+    mut recorder: Recorder,
+    refused: &AtomicU64,
+) -> Recorder {
     let own = recorder.number() as usize;
-    let mut worker = Worker {
-        recorder,
-        refused: 0,
-    };
     for (number, request) in SERVED.iter().enumerate() {
         if number % WORKERS == own {
-            worker.serve(rt, provider, request);
+            serve(rt, provider, &mut recorder, request, refused);
         }
     }
-    worker
+    recorder
 }
 
-impl Worker {
-    // Serves a request, and records it.
-    fn serve<R: Wait>(&mut self, rt: &R, provider: &MeterProvider, request: &Request) {
-        let (route, status, milliseconds) = *request;
-        let worker = i64::from(self.recorder.number());
-        let worker = attr("worker", ValueRef::Whole(worker));
-        let route = attr("route", ValueRef::Text(route));
-        let status = attr("status", ValueRef::Whole(status));
-        self.record(rt, provider, ACTIVE, &[], 1);
-        self.record(rt, provider, REQUESTS, &[route, status], 1);
-        self.record(rt, provider, DURATION, &[route], milliseconds);
-        self.record(rt, provider, LATEST, &[worker], milliseconds);
-        self.record(rt, provider, ACTIVE, &[], -1);
-    }
-
-    // Makes a recording. Metrics stop no service: a refusal is counted, and that is all.
-    fn record<R: Wait>(
-        &mut self,
-        rt: &R,
-        provider: &MeterProvider,
-        instrument: u32,
-        attrs: &[Attr<'_>],
-        value: i64,
-    ) {
-        let answer = self.recorder.record(rt, provider, instrument, attrs, value);
+// Serves a request, and records it.
+fn serve<R: Wait>(
+    rt: &R,
+    provider: &MeterProvider,
+    recorder: &mut Recorder,
+    request: &Request,
+    refused: &AtomicU64,
+) {
+    let (route, status, milliseconds) = *request;
+    let worker = attr("worker", ValueRef::Whole(i64::from(recorder.number())));
+    let route = attr("route", ValueRef::Text(route));
+    let status = attr("status", ValueRef::Whole(status));
+    let recordings: [(u32, &[Attr<'_>], i64); 5] = [
+        (ACTIVE, &[], 1),
+        (REQUESTS, &[route, status], 1),
+        (DURATION, &[route], milliseconds),
+        (LATEST, &[worker], milliseconds),
+        (ACTIVE, &[], -1),
+    ];
+    for (instrument, attrs, value) in &recordings {
+        let answer = recorder.record(rt, provider, *instrument, attrs, *value);
         if answer.is_err() {
-            self.refused = self.refused.saturating_add(1);
+            refused.fetch_add(1, Ordering::SeqCst);
         }
     }
 }

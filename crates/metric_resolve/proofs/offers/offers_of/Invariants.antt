@@ -5,7 +5,8 @@ use Rattle.metric_resolve.specs.Offers.{IsOffer}
 use Rattle.metric_resolve.proofs.offers.offers_of.Given as goal
 
 abbrev pub invariant-loop-number : goal.invariant-loop-number
-invariant-loop-number l = record {
+invariant-loop-number g l = record {
   count : length l.offers ≡ l.number;
-  each : (k : ℕ) (offer : Offer) → slice_get l.offers k ≡ Some offer → IsOffer l.catalogue l.config k offer;
+  each : (k : ℕ) (offer : Offer) → slice_get l.offers k ≡ Some offer
+      → IsOffer (g.S.Selection.contents l.selection) (g.S.Selection.setup l.selection) k offer;
 }
