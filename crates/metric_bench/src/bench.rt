@@ -1,31 +1,51 @@
 //! Works measured one after the other, and the table that tells of them.
 use crate::floors::Floor;
-use crate::work::{Measured, Work, least};
+use crate::watch::{Measured, Watch, least};
 use std::alloc::Global;
 use std::time::Clock;
 
 /// What a figure counts.
 #[derive(Clone, Copy)]
-pub(crate) enum Unit {
+pub(crate) enum Unit<'a> {
     /// Nanoseconds for one of these.
-    Nanoseconds(&'static str),
+    Nanoseconds(&'a str),
     /// Megabytes in a second, where each operation is a byte.
     Speed,
     /// Bytes of memory for one of these.
-    Bytes(&'static str),
+    Bytes(&'a str),
     /// How many times as fast as this.
-    Times(&'static str),
+    Times(&'a str),
 }
 
-/// What a line tells: a name, a size, how many operations the work has, and what a figure counts.
+/// What a line tells: of what and in which state, a size, how many operations the work has, and what a figure counts.
 #[derive(Clone, Copy)]
 pub(crate) struct Row<'a> {
     pub name: &'a str,
+    pub state: &'a str,
     pub size: u64,
     pub operations: u64,
-    pub unit: Unit,
-    pub floor: Floor,
+    pub unit: Unit<'a>,
+    pub floor: Floor<'a>,
 }
+
+impl<'a> Row<'a> {
+    /// A work with as many operations as its size.
+    pub(crate) fn new(name: &'a str, size: u64, unit: Unit<'a>, floor: Floor<'a>) -> Row<'a> {
+        Row {
+            name,
+            state: "",
+            size,
+            operations: size,
+            unit,
+            floor,
+        }
+    }
+}
+
+// How wide the columns of names and of units are.
+const NAMES: usize = 34;
+
+const UNITS: usize = 28;
 
 /// Works measured one after the other, and the text of their table.
 #[derive(Drop)]
@@ -58,15 +78,16 @@ impl<'a, R: Clock> Bench<'a, R> {
     }
 
     /// Measures a work, and adds its line to the table.
-    pub(crate) fn measure<W: Work>(&mut self, row: Row<'_>, work: &mut W) -> anyhow::Result<()> {
-        let nanoseconds = self.time(work)?;
-        self.add(row, nanoseconds)
-    }
-
-    /// The least time that a work takes, in nanoseconds.
-    pub(crate) fn time<W: Work>(&mut self, work: &mut W) -> anyhow::Result<u64> {
+    pub(crate) fn measure<W: FnMut(&mut Watch<'a, R>) -> anyhow::Result<u64>>(
+        &mut self,
+        row: Row<'_>,
+        work: W,
+    ) -> anyhow::Result<()>
+        requires { W.IsAlwaysCallable work }
+    {
         let measured = least(self.rt, work)?;
-        Ok(self.take(measured))
+        let nanoseconds = self.take(measured);
+        self.add(row, nanoseconds)
     }
 
     /// The nanoseconds of measured work, whose result goes into the tally.
@@ -75,25 +96,18 @@ impl<'a, R: Clock> Bench<'a, R> {
         measured.nanoseconds
     }
 
-    /// The least time of one of so many operations, in thousandths of a nanosecond.
-    pub(crate) fn each_of<W: Work>(
-        &mut self,
-        work: &mut W,
-        operations: u32,
-    ) -> anyhow::Result<u64> {
-        Ok(each(self.time(work)?, u64::from(operations)))
-    }
-
     /// Adds a line: of nanoseconds for all operations, of their bytes, or of as many times.
     pub(crate) fn add(&mut self, row: Row<'_>, all: u64) -> anyhow::Result<()> {
         let each = each(all, row.operations);
         let Row {
             name,
+            state,
             size,
             floor,
             ..
         } = row;
-        write!(self.text, "  {name:<34}{size:>12}")?;
+        let rest = NAMES.saturating_sub(name.len());
+        write!(self.text, "  {name}{state:<rest$}{size:>12}")?;
         match row.unit {
             Unit::Nanoseconds(one) => self.figures(each, floor.each, "ns a ", one)?,
             Unit::Bytes(one) => self.figures(each, floor.each, "B a ", one)?,
@@ -112,7 +126,7 @@ impl<'a, R: Clock> Bench<'a, R> {
     fn figures(&mut self, each: u64, floor: u64, unit: &str, one: &str) -> anyhow::Result<()> {
         let whole = each / 1000;
         let rest = each % 1000 / 10;
-        let width = 28usize.saturating_sub(unit.len());
+        let width = UNITS.saturating_sub(unit.len());
         let floor_whole = floor / 1000;
         let floor_rest = floor % 1000 / 10;
         write!(

@@ -3,18 +3,30 @@ ghost use Rattle.std.specs.Prelude.{◌≡◌, ◌<◌, ◌==◌, true, length, 
 ghost use Rattle.std.specs.List.{list_all};
 ghost use Rattle.metric_history.specs.Facts.{in_bounds, is_entry, is_full_set};
 
+use crate::inputs::{set_of, value_of};
 use metric_catalogue::SetKey;
 use metric_core::Cell;
 use metric_history::{Facts, KeyFacts};
 use metric_marked::Marked;
 use metric_plan::Plan;
-use std::alloc::Global;
+use std::alloc::{AllocError, Global};
 
 /// A recording with its set key.
 #[derive(Clone, Copy, Drop)]
 pub(crate) struct Recording {
     pub set: SetKey,
     pub value: i64,
+}
+
+/// A recording for each of so many series, with different values.
+pub(crate) fn recordings(alloc: Global, count: u32) -> Result<Vec<Recording>, AllocError> {
+    let mut recordings = Vec::with_capacity(alloc, count as usize)?;
+    for number in 0..count {
+        let set = set_of(number);
+        let value = value_of(number);
+        recordings.push(Recording { set, value })?;
+    }
+    Ok(recordings)
 }
 
 /// The cell of an instrument, and recordings that it may take.
@@ -28,16 +40,17 @@ pub(crate) struct Instrument {
 }
 
 impl Instrument {
-    /// The instrument of this number without recordings.
+    /// The instrument of this number, which has recorded nothing, and a recording for each of so many series.
     pub(crate) fn new(
         alloc: Global,
         plan: &Plan,
         instrument: u32,
-        recordings: Vec<Recording>,
+        series: u32,
     ) -> anyhow::Result<Instrument> {
         if instrument as usize >= plan.all_facts().len() {
             anyhow::bail!("no such instrument");
         }
+        let recordings = recordings(alloc, series)?;
         let cell = Cell::new(alloc, plan, instrument, 0)?;
         if cell.facts().budgets.len() == 0 || !are_sound(cell.facts(), &recordings) {
             anyhow::bail!("a recording that the instrument refuses");
@@ -48,6 +61,15 @@ impl Instrument {
     /// Makes each recording once. How many were accepted.
     pub(crate) fn record_all(&mut self) -> u64 {
         record_all(&mut self.cell, &self.recordings)
+    }
+
+    /// Makes each recording so many times. How many were accepted.
+    pub(crate) fn repeat(&mut self, rounds: u32) -> u64 {
+        let mut accepted: u64 = 0;
+        for _ in 0..rounds {
+            accepted = accepted.wrapping_add(self.record_all());
+        }
+        accepted
     }
 
     /// How many points the reader's streams have.

@@ -1,110 +1,17 @@
-//! What it costs to make certificates and to check them.
-use crate::bench::{Bench, Unit};
+//! What it costs to make certificates, to check them, and to start what they certify.
+use crate::bench::{Bench, Row, Unit};
 use crate::floors::{Floor, copy};
 use crate::inputs::{counters, views};
-use crate::reading::{KEYS, SIZES, row_of};
-use crate::seats::{Seats, certified, started};
-use crate::work::Work;
+use crate::reading::{KEYS, SIZES};
+use crate::seats::{certified, started};
 use metric_catalogue::Catalogue;
 use metric_cert::{Certificate, make};
-use metric_check::{Plan, check};
+use metric_check::check;
 use metric_views::Config;
-use std::alloc::Global;
 use std::sync::Wait;
 use std::time::Clock;
 
-// The making of a certificate.
-#[derive(Drop)]
-struct Making {
-    alloc: Global,
-    catalogue: Catalogue,
-    config: Config,
-}
-
-impl Work for Making {
-    fn run(&mut self) -> anyhow::Result<u64> {
-        let certificate = make(self.alloc, &self.catalogue, &self.config)?;
-        Ok(certificate.streams.len() as u64)
-    }
-}
-
-// The reading of a certificate.
-#[derive(Drop)]
-struct CertificateReading {
-    alloc: Global,
-    text: String,
-}
-
-impl Work for CertificateReading {
-    fn run(&mut self) -> anyhow::Result<u64> {
-        let certificate = Certificate::read(self.alloc, &self.text)?;
-        Ok(certificate.streams.len() as u64)
-    }
-}
-
-// The check of a certificate, which gives a plan.
-#[derive(Drop)]
-struct Checking {
-    alloc: Global,
-    catalogue: String,
-    config: String,
-    certificate: Certificate,
-    input: Option<(Catalogue, Config)>,
-    plan: Option<Plan>,
-}
-
-impl Work for Checking {
-    fn prepare(&mut self) -> anyhow::Result<()> {
-        let catalogue = Catalogue::read(self.alloc, &self.catalogue)?;
-        let config = Config::read(self.alloc, &self.config)?;
-        self.input = Some((catalogue, config));
-        self.plan = None;
-        Ok(())
-    }
-
-    fn run(&mut self) -> anyhow::Result<u64> {
-        let Some((catalogue, config)) = self.input.take() else {
-            anyhow::bail!("nothing to check");
-        };
-        match check(self.alloc, catalogue, config, &self.certificate) {
-            Ok(plan) => {
-                let streams = plan.streams().len() as u64;
-                self.plan = Some(plan);
-                Ok(streams)
-            }
-            Err((_, _, fault)) => Err(fault.into()),
-        }
-    }
-}
-
-// The start of a provider of a certified plan.
-#[derive(Drop)]
-struct Starting<'a, R: Wait> {
-    rt: &'a R,
-    alloc: Global,
-    catalogue: String,
-    config: String,
-    plan: Option<Plan>,
-    seats: Option<Seats>,
-}
-
-impl<R: Wait> Work for Starting<'_, R> {
-    fn prepare(&mut self) -> anyhow::Result<()> {
-        self.seats = None;
-        self.plan = Some(certified(self.alloc, &self.catalogue, &self.config)?);
-        Ok(())
-    }
-
-    fn run(&mut self) -> anyhow::Result<u64> {
-        let Some(plan) = self.plan.take() else {
-            anyhow::bail!("nothing to start");
-        };
-        let seats = started(self.rt, self.alloc, plan)?;
-        let recorders = seats.recorders.len() as u64;
-        self.seats = Some(seats);
-        Ok(recorders)
-    }
-}
+const PAIR: Unit<'static> = Unit::Nanoseconds("pair");
 
 /// Measures certificates, and starts of what they certify.
 pub(crate) fn measure<R: Wait + Clock>(bench: &mut Bench<'_, R>) -> anyhow::Result<()> {
@@ -125,68 +32,98 @@ fn measure_start<R: Wait + Clock>(
     bench: &mut Bench<'_, R>,
     instruments: u32,
     count: u32,
-    floor: Floor,
+    floor: Floor<'_>,
 ) -> anyhow::Result<()> {
-    let catalogue = counters(bench.alloc, instruments, KEYS)?;
-    let config = views(bench.alloc, count)?;
-    let bytes = catalogue.len() as u64;
+    let (rt, alloc) = (bench.rt, bench.alloc);
+    let catalogue = counters(alloc, instruments, KEYS)?;
+    let config = views(alloc, count)?;
     let pairs = u64::from(instruments) * u64::from(count);
-    let floor = floor.shared(bytes, pairs);
-    let mut starting = Starting {
-        rt: bench.rt,
-        alloc: bench.alloc,
-        catalogue,
-        config,
-        plan: None,
-        seats: None,
-    };
-    let row = row_of("started", pairs, Unit::Nanoseconds("pair"), floor);
-    bench.measure(row, &mut starting)
+    let floor = floor.shared(catalogue.len() as u64, pairs);
+    bench.measure(Row::new("started", pairs, PAIR, floor), |watch| {
+        let plan = certified(alloc, &catalogue, &config)?;
+        watch.start();
+        let seats = started(rt, alloc, plan);
+        watch.stop();
+        Ok(seats?.recorders.len() as u64)
+    })
 }
 
-// A certificate about so many instruments and views.
+// A certificate about so many instruments and views: made, checked and read.
 fn measure_certificate<R: Clock>(
     bench: &mut Bench<'_, R>,
     instruments: u32,
     count: u32,
-    floor: Floor,
+    floor: Floor<'_>,
 ) -> anyhow::Result<()> {
     let alloc = bench.alloc;
     let catalogue = counters(alloc, instruments, KEYS)?;
     let config = views(alloc, count)?;
+    let text = certificate_text(bench, &catalogue, &config)?;
     let pairs = u64::from(instruments) * u64::from(count);
-    let mut making = Making {
-        alloc,
-        catalogue: Catalogue::read(alloc, &catalogue)?,
-        config: Config::read(alloc, &config)?,
-    };
-    let certificate = make(alloc, &making.catalogue, &making.config)?;
-    let text = certificate.write(alloc)?;
-    let bytes = text.len() as u64;
-    let a_pair = Unit::Nanoseconds("pair");
-    let beside = floor.shared(bytes, pairs);
-    bench.measure(row_of("made", pairs, a_pair, beside), &mut making)?;
-    measure_check(bench, catalogue, config, certificate, pairs, beside)?;
-    let row = row_of("read, by its bytes", bytes, Unit::Speed, floor);
-    bench.measure(row, &mut CertificateReading { alloc, text })
+    let beside = floor.shared(text.len() as u64, pairs);
+    measure_make(
+        bench,
+        &catalogue,
+        &config,
+        Row::new("made", pairs, PAIR, beside),
+    )?;
+    measure_check(
+        bench,
+        &catalogue,
+        &config,
+        Row::new("checked", pairs, PAIR, beside),
+    )?;
+    let row = Row::new("read, by its bytes", text.len() as u64, Unit::Speed, floor);
+    bench.measure(row, |_| {
+        let certificate = Certificate::read(alloc, &text)?;
+        Ok(certificate.streams.len() as u64)
+    })
+}
+
+fn certificate_text<R>(
+    bench: &Bench<'_, R>,
+    catalogue: &str,
+    config: &str,
+) -> anyhow::Result<String> {
+    let catalogue = Catalogue::read(bench.alloc, catalogue)?;
+    let config = Config::read(bench.alloc, config)?;
+    let certificate = make(bench.alloc, &catalogue, &config)?;
+    Ok(certificate.write(bench.alloc)?)
+}
+
+fn measure_make<R: Clock>(
+    bench: &mut Bench<'_, R>,
+    catalogue: &str,
+    config: &str,
+    row: Row<'_>,
+) -> anyhow::Result<()> {
+    let alloc = bench.alloc;
+    let catalogue = Catalogue::read(alloc, catalogue)?;
+    let config = Config::read(alloc, config)?;
+    bench.measure(row, |_| {
+        let certificate = make(alloc, &catalogue, &config)?;
+        Ok(certificate.streams.len() as u64)
+    })
 }
 
 fn measure_check<R: Clock>(
     bench: &mut Bench<'_, R>,
-    catalogue: String,
-    config: String,
-    certificate: Certificate,
-    pairs: u64,
-    floor: Floor,
+    catalogue: &str,
+    config: &str,
+    row: Row<'_>,
 ) -> anyhow::Result<()> {
-    let mut checking = Checking {
-        alloc: bench.alloc,
-        catalogue,
-        config,
-        certificate,
-        input: None,
-        plan: None,
-    };
-    let row = row_of("checked", pairs, Unit::Nanoseconds("pair"), floor);
-    bench.measure(row, &mut checking)
+    let alloc = bench.alloc;
+    let text = certificate_text(bench, catalogue, config)?;
+    let certificate = Certificate::read(alloc, &text)?;
+    bench.measure(row, |watch| {
+        let catalogue = Catalogue::read(alloc, catalogue)?;
+        let config = Config::read(alloc, config)?;
+        watch.start();
+        let checked = check(alloc, catalogue, config, &certificate);
+        watch.stop();
+        match checked {
+            Ok(plan) => Ok(plan.streams().len() as u64),
+            Err((_, _, fault)) => Err(fault.into()),
+        }
+    })
 }

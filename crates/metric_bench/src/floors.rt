@@ -1,26 +1,26 @@
 //! What the machine takes at least: the floors beside which the other figures stand.
-use crate::bench::{Bench, Row, Unit, each};
+use crate::bench::each;
 use crate::inputs::sets;
 use crate::walk::Walk;
-use crate::work::{Work, least};
+use crate::watch::least;
 use indexmap::IndexMap;
 use metric_catalogue::SetKey;
-use std::alloc::Global;
+use std::alloc::{AllocError, Global};
 use std::sync::{Mutex, Wait};
 use std::time::Clock;
 
 /// What the machine takes at least for one operation.
 #[derive(Clone, Copy)]
-pub(crate) struct Floor {
+pub(crate) struct Floor<'a> {
     /// What it does.
-    pub name: &'static str,
+    pub name: &'a str,
     /// The thousandths of one.
     pub each: u64,
 }
 
-impl Floor {
+impl<'a> Floor<'a> {
     /// This one and then the other.
-    pub(crate) fn and(self, name: &'static str, other: Floor) -> Floor {
+    pub(crate) fn and(self, name: &'a str, other: Floor<'_>) -> Floor<'a> {
         Floor {
             name,
             each: self.each.saturating_add(other.each),
@@ -28,12 +28,12 @@ impl Floor {
     }
 
     /// The floor of one that has this many of them.
-    pub(crate) fn many(self, count: u64) -> Floor {
+    pub(crate) fn many(self, count: u64) -> Floor<'a> {
         self.shared(count, 1)
     }
 
     /// The floor of one of so many which together have this many of them.
-    pub(crate) fn shared(self, count: u64, among: u64) -> Floor {
+    pub(crate) fn shared(self, count: u64, among: u64) -> Floor<'a> {
         let all = u128::from(self.each) * u128::from(count);
         let each = all / u128::from(among.max(1));
         Floor {
@@ -49,83 +49,23 @@ const BYTES: usize = 1_048_576;
 // How often an operation is done in one measurement.
 const EVENTS: u32 = 200_000;
 
-/// An addition under a lock that nobody else takes.
-const ADDITION: &str = "a lock with an addition";
-
-/// A look-up of a set key in a map of as many keys.
-const LOOK_UP: &str = "a look-up by a set key";
-
-/// The two together.
-const LOCKED_LOOK_UP: &str = "a lock, a look-up for each stream, an addition";
-
-/// A copy of as many bytes.
-const COPY: &str = "a copy of the bytes";
-
-// An addition under a lock that nobody else takes.
-#[derive(Drop)]
-struct LockedAddition<'a, R: Wait> {
-    rt: &'a R,
-    sum: Mutex<u64>,
-}
-
-impl<R: Wait> Work for LockedAddition<'_, R> {
-    fn run(&mut self) -> anyhow::Result<u64> {
-        for event in 0..EVENTS {
-            let mut sum = self.sum.lock(self.rt);
-            *sum = sum.wrapping_add(u64::from(event));
-        }
-        Ok(*self.sum.lock(self.rt))
-    }
-}
-
-// A look-up of a set key in a map.
-#[derive(Drop)]
-struct LookUp {
-    map: IndexMap<SetKey, u64>,
-    sets: Vec<SetKey>,
-    walk: Walk,
-}
-
-impl Work for LookUp {
-    fn run(&mut self) -> anyhow::Result<u64> {
-        let mut found: u64 = 0;
-        let mut at = 0;
-        for _ in 0..EVENTS {
-            at = self.walk.after(at, self.sets.len());
-            if let Some(set) = self.sets.get(at) {
-                found = found.wrapping_add(self.map.get(set).copied().unwrap_or(0));
-            }
-        }
-        Ok(found)
-    }
-}
-
-// A copy of bytes.
-#[derive(Drop)]
-struct Copying {
-    from: Vec<u8>,
-    to: Vec<u8>,
-}
-
-impl Work for Copying {
-    fn run(&mut self) -> anyhow::Result<u64> {
-        self.to.clear();
-        self.to.extend_from_slice(&self.from)?;
-        Ok(u64::from(self.to.last().copied().unwrap_or(0)))
-    }
-}
-
-/// A lock with an addition.
-pub(crate) fn addition<R: Wait + Clock>(rt: &R) -> anyhow::Result<Floor> {
-    let mut additions = LockedAddition {
-        rt,
-        sum: Mutex::new(0),
-    };
-    let measured = least(rt, &mut additions)?;
+/// Additions under a lock that nobody else takes.
+pub(crate) fn addition<R: Wait + Clock>(rt: &R) -> anyhow::Result<Floor<'static>> {
+    let sum = Mutex::new(0);
+    let measured = least(rt, |_| Ok(add_all(rt, &sum, EVENTS)))?;
     Ok(Floor {
-        name: ADDITION,
+        name: "a lock with an addition",
         each: each(measured.nanoseconds, u64::from(EVENTS)),
     })
+}
+
+/// Makes so many additions under a lock. The sum.
+pub(crate) fn add_all<R: Wait>(rt: &R, sum: &Mutex<u64>, events: u32) -> u64 {
+    for event in 0..events {
+        let mut sum = sum.lock(rt);
+        *sum = sum.wrapping_add(u64::from(event));
+    }
+    *sum.lock(rt)
 }
 
 /// What a recording takes at least that has to look up each of its series under a lock.
@@ -134,29 +74,42 @@ pub(crate) fn recording<R: Wait + Clock>(
     alloc: Global,
     series: u32,
     streams: u32,
-) -> anyhow::Result<Floor> {
+) -> anyhow::Result<Floor<'static>> {
     let look_ups = look_up(rt, alloc, series)?.many(u64::from(streams));
-    Ok(addition(rt)?.and(LOCKED_LOOK_UP, look_ups))
+    Ok(addition(rt)?.and("a lock, a look-up for each stream, an addition", look_ups))
 }
 
 /// A look-up in a map of so many set keys.
-pub(crate) fn look_up<R: Clock>(rt: &R, alloc: Global, count: u32) -> anyhow::Result<Floor> {
+pub(crate) fn look_up<R: Clock>(
+    rt: &R,
+    alloc: Global,
+    count: u32,
+) -> anyhow::Result<Floor<'static>> {
     let sets = sets(alloc, count)?;
     let map = map_of(alloc, &sets)?;
-    let mut look_ups = LookUp {
-        map,
-        sets,
-        walk: Walk::new(),
-    };
-    let measured = least(rt, &mut look_ups)?;
+    let walk = Walk::new();
+    let measured = least(rt, |_| Ok(look_all_up(&map, &sets, &walk)))?;
     Ok(Floor {
-        name: LOOK_UP,
+        name: "a look-up by a set key",
         each: each(measured.nanoseconds, u64::from(EVENTS)),
     })
 }
 
+// Looks up one set key after the other. The sum of what was found.
+fn look_all_up(map: &IndexMap<SetKey, u64>, sets: &[SetKey], walk: &Walk) -> u64 {
+    let mut found: u64 = 0;
+    let mut at = 0;
+    for _ in 0..EVENTS {
+        at = walk.after(at, sets.len());
+        if let Some(set) = sets.get(at) {
+            found = found.wrapping_add(map.get(set).copied().unwrap_or(0));
+        }
+    }
+    found
+}
+
 /// A map with these keys.
-pub(crate) fn map_of(alloc: Global, sets: &[SetKey]) -> anyhow::Result<IndexMap<SetKey, u64>> {
+pub(crate) fn map_of(alloc: Global, sets: &[SetKey]) -> Result<IndexMap<SetKey, u64>, AllocError> {
     let mut map = IndexMap::new(alloc);
     for set in sets {
         map.insert(*set, 1)?;
@@ -165,14 +118,16 @@ pub(crate) fn map_of(alloc: Global, sets: &[SetKey]) -> anyhow::Result<IndexMap<
 }
 
 /// A copy of a byte.
-pub(crate) fn copy<R: Clock>(rt: &R, alloc: Global) -> anyhow::Result<Floor> {
-    let mut copies = Copying {
-        from: vec![in alloc; 1; BYTES]?,
-        to: Vec::with_capacity(alloc, BYTES)?,
-    };
-    let measured = least(rt, &mut copies)?;
+pub(crate) fn copy<R: Clock>(rt: &R, alloc: Global) -> anyhow::Result<Floor<'static>> {
+    let from: Vec<u8> = vec![in alloc; 1; BYTES]?;
+    let mut to: Vec<u8> = Vec::with_capacity(alloc, BYTES)?;
+    let measured = least(rt, |_| {
+        to.clear();
+        to.extend_from_slice(&from)?;
+        Ok(u64::from(to.last().copied().unwrap_or(0)))
+    })?;
     Ok(Floor {
-        name: COPY,
+        name: "a copy of the bytes",
         each: each(measured.nanoseconds, BYTES as u64),
     })
 }

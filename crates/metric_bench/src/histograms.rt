@@ -1,33 +1,11 @@
 //! What it costs to find the bucket of a value.
 use crate::bench::{Bench, Row, Unit};
 use crate::floors::{Floor, look_up};
-use crate::inputs::{kinds, readers, trial};
-use crate::work::Work;
+use crate::inputs::{kinds, readers, trial, value_of};
 use metric_aggregate::{Aggregate, BucketAgg};
 use metric_base::Boundaries;
 use metric_views::StreamAggregation;
 use std::time::Clock;
-
-// Values added to one histogram.
-#[derive(Drop)]
-struct Additions {
-    histogram: BucketAgg,
-    events: u32,
-}
-
-impl Work for Additions {
-    fn run(&mut self) -> anyhow::Result<u64> {
-        let mut added: u64 = 0;
-        for event in 0..self.events {
-            let value = i64::from(event.wrapping_mul(7919) % 10_000);
-            if self.histogram.fits(value) {
-                self.histogram.add(value);
-                added = added.wrapping_add(1);
-            }
-        }
-        Ok(added)
-    }
-}
 
 /// Measures histograms.
 pub(crate) fn measure<R: Clock>(bench: &mut Bench<'_, R>, events: u32) -> anyhow::Result<()> {
@@ -47,18 +25,26 @@ fn measure_additions<R: Clock>(
     bench: &mut Bench<'_, R>,
     boundaries: &Boundaries,
     events: u32,
-    floor: Floor,
+    floor: Floor<'_>,
 ) -> anyhow::Result<()> {
-    let mut additions = Additions {
-        histogram: BucketAgg::new(bench.alloc, boundaries, true)?,
-        events,
-    };
+    let mut histogram = BucketAgg::new(bench.alloc, boundaries, true)?;
+    let size = boundaries.as_slice().len() as u64;
     let row = Row {
-        name: "a value added",
-        size: boundaries.as_slice().len() as u64,
         operations: u64::from(events),
-        unit: Unit::Nanoseconds("value"),
-        floor,
+        ..Row::new("a value added", size, Unit::Nanoseconds("value"), floor)
     };
-    bench.measure(row, &mut additions)
+    bench.measure(row, |_| Ok(add_values(&mut histogram, events)))
+}
+
+// Adds so many values. How many fitted.
+fn add_values(histogram: &mut BucketAgg, events: u32) -> u64 {
+    let mut added: u64 = 0;
+    for event in 0..events {
+        let value = value_of(event);
+        if histogram.fits(value) {
+            histogram.add(value);
+            added = added.wrapping_add(1);
+        }
+    }
+    added
 }

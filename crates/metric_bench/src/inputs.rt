@@ -102,7 +102,7 @@ fn push_counters(out: &mut String, count: u32, keys: u32, values: u32) -> Result
     Ok(())
 }
 
-/// A catalogue of so many counters, each with so many keys.
+/// A catalogue of so many counters, each with so many keys of a few values.
 pub(crate) fn counters(alloc: Global, count: u32, keys: u32) -> Result<String, AllocError> {
     let mut out = String::from_str(alloc, HEAD)?;
     push_counters(&mut out, count, keys, SOME_VALUES)?;
@@ -122,17 +122,23 @@ pub(crate) fn threaded(alloc: Global, threads: u32) -> Result<String, AllocError
 /// 15 and of 128 boundaries.
 pub(crate) fn kinds(alloc: Global, keys: u32) -> Result<String, AllocError> {
     let mut out = String::from_str(alloc, HEAD)?;
-    push_instrument(&mut out, 0, "counter")?;
-    push_keys(&mut out, keys, MANY_VALUES)?;
-    push_instrument(&mut out, 1, "gauge")?;
-    push_keys(&mut out, keys, MANY_VALUES)?;
-    push_instrument(&mut out, 2, "histogram")?;
-    push_keys(&mut out, keys, MANY_VALUES)?;
-    push_instrument(&mut out, 3, "histogram")?;
-    push_boundaries(&mut out)?;
-    push_keys(&mut out, keys, MANY_VALUES)?;
+    for number in 0..KINDS {
+        push_kind(&mut out, number, keys)?;
+    }
     push_recorders(&mut out, RECORDERS, KINDS)?;
     Ok(out)
+}
+
+fn push_kind(out: &mut String, number: u32, keys: u32) -> Result<(), AllocError> {
+    match number {
+        0 => push_instrument(out, number, "counter")?,
+        1 => push_instrument(out, number, "gauge")?,
+        _ => push_instrument(out, number, "histogram")?,
+    }
+    if number == 3 {
+        push_boundaries(out)?;
+    }
+    push_keys(out, keys, MANY_VALUES)
 }
 
 /// A config of so many readers, with the highest limits of series.
@@ -193,6 +199,11 @@ pub(crate) fn set_of(number: u32) -> SetKey {
         rest /= MANY_VALUES;
     }
     set
+}
+
+/// A value of the ranges, another one for each of the numbers that follow one another.
+pub(crate) fn value_of(number: u32) -> i64 {
+    i64::from(number.wrapping_mul(7919) % 10_000)
 }
 
 /// The names of the values that a key has at most.

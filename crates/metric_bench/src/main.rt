@@ -8,6 +8,7 @@
 mod bench;
 mod busy;
 mod called;
+mod callers;
 mod cells;
 mod checking;
 mod collecting;
@@ -23,8 +24,8 @@ mod slots;
 mod tasks;
 mod threads;
 mod walk;
+mod watch;
 mod words;
-mod work;
 
 use crate::bench::Bench;
 use crate::words::{Part, Words};

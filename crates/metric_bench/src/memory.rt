@@ -3,7 +3,6 @@ use crate::bench::{Bench, Row, Unit, each};
 use crate::cells::Instrument;
 use crate::floors::{Floor, map_of};
 use crate::inputs::{KINDS, kind_name, kinds_plan, sets};
-use crate::recording::recordings;
 use metric_plan::Plan;
 use std::alloc::Global;
 use std::fs;
@@ -22,17 +21,10 @@ pub(crate) fn measure<R: Files + AllocGlobal + Clock>(
     bench: &mut Bench<'_, R>,
 ) -> anyhow::Result<()> {
     let plan = kinds_plan(bench.alloc, 1)?;
-    measure_plan(bench, &plan)
-}
-
-fn measure_plan<R: Files + AllocGlobal + Clock>(
-    bench: &mut Bench<'_, R>,
-    plan: &Plan,
-) -> anyhow::Result<()> {
     let floor = map_memory(bench.rt, bench.alloc)?;
     bench.begin("memory", "series")?;
     for number in 0..KINDS {
-        measure_kind(bench, plan, number, floor)?;
+        measure_kind(bench, &plan, number, floor)?;
     }
     Ok(())
 }
@@ -41,25 +33,19 @@ fn measure_kind<R: Files + AllocGlobal + Clock>(
     bench: &mut Bench<'_, R>,
     plan: &Plan,
     number: u32,
-    floor: Floor,
+    floor: Floor<'_>,
 ) -> anyhow::Result<()> {
-    let recordings = recordings(bench.alloc, SERIES)?;
-    let mut instrument = Instrument::new(bench.alloc, plan, number, recordings)?;
+    let mut instrument = Instrument::new(bench.alloc, plan, number, SERIES)?;
     let before = in_use(bench.rt)?;
     instrument.record_all();
     let after = in_use(bench.rt)?;
-    let row = Row {
-        name: kind_name(number),
-        size: u64::from(SERIES),
-        operations: u64::from(SERIES),
-        unit: Unit::Bytes("series"),
-        floor,
-    };
+    let unit = Unit::Bytes("series");
+    let row = Row::new(kind_name(number), u64::from(SERIES), unit, floor);
     bench.add(row, after.saturating_sub(before))
 }
 
 // The memory of a map of set keys.
-fn map_memory<R: Files + AllocGlobal>(rt: &R, alloc: Global) -> anyhow::Result<Floor> {
+fn map_memory<R: Files + AllocGlobal>(rt: &R, alloc: Global) -> anyhow::Result<Floor<'static>> {
     let sets = sets(alloc, SERIES)?;
     let before = in_use(rt)?;
     let map = map_of(alloc, &sets)?;

@@ -1,66 +1,53 @@
 //! What it costs to replay a script.
-use crate::bench::{Bench, Unit};
+use crate::bench::{Bench, Row, Unit};
 use crate::floors::{Floor, copy};
 use crate::inputs::{counters, readers};
-use crate::reading::row_of;
-use crate::work::Work;
 use metric_commands::{ReplayOptions, replay};
 use metric_io::{CutSink, CutSource};
 use std::alloc::{AllocError, Global};
 use std::time::Clock;
 
-// How many events there are.
-const EVENTS: &[u32] = &[100, 10_000, 100_000];
+// How many events there are, with a name of their number.
+const EVENTS: &[(u32, &str)] = &[
+    (100, "100 events"),
+    (10_000, "10000 events"),
+    (100_000, "100000 events"),
+];
 
 // How many recordings come before each collection.
 const BETWEEN: u32 = 100;
-
-// A replay of an input.
-#[derive(Drop)]
-struct Replay {
-    alloc: Global,
-    input: String,
-}
-
-impl Work for Replay {
-    fn run(&mut self) -> anyhow::Result<u64> {
-        let mut source = CutSource::new(self.input.as_bytes(), None);
-        let mut sink = CutSink::new(self.alloc, None);
-        match replay(
-            self.alloc,
-            ReplayOptions { trial: true },
-            &mut source,
-            &mut sink,
-        ) {
-            Ok(()) => Ok(sink.taken().len() as u64),
-            Err(_) => anyhow::bail!("a script that is refused"),
-        }
-    }
-}
 
 /// Measures replays.
 pub(crate) fn measure<R: Clock>(bench: &mut Bench<'_, R>) -> anyhow::Result<()> {
     let floor = copy(bench.rt, bench.alloc)?;
     bench.begin("replays, by the bytes read", "bytes")?;
-    for count in EVENTS {
-        measure_replay(bench, *count, floor)?;
+    for (count, name) in EVENTS {
+        measure_replay(bench, *count, name, floor)?;
     }
     Ok(())
 }
 
-fn measure_replay<R: Clock>(
+fn measure_replay<'a, R: Clock>(
     bench: &mut Bench<'_, R>,
     count: u32,
-    floor: Floor,
+    name: &'a str,
+    floor: Floor<'a>,
 ) -> anyhow::Result<()> {
-    let input = input(bench.alloc, count)?;
-    let bytes = input.len() as u64;
-    let mut replay = Replay {
-        alloc: bench.alloc,
-        input,
-    };
-    let name = format!(in bench.alloc; "{count} events")?;
-    bench.measure(row_of(&name, bytes, Unit::Speed, floor), &mut replay)
+    let alloc = bench.alloc;
+    let input = input(alloc, count)?;
+    let row = Row::new(name, input.len() as u64, Unit::Speed, floor);
+    bench.measure(row, |_| replayed(alloc, &input))
+}
+
+// Replays an input. How many bytes it writes.
+fn replayed(alloc: Global, input: &str) -> anyhow::Result<u64> {
+    let mut source = CutSource::new(input.as_bytes(), None);
+    let mut sink = CutSink::new(alloc, None);
+    let options = ReplayOptions { trial: true };
+    match replay(alloc, options, &mut source, &mut sink) {
+        Ok(()) => Ok(sink.taken().len() as u64),
+        Err(_) => anyhow::bail!("a script that is refused"),
+    }
 }
 
 // An input with a script of so many events.

@@ -2,8 +2,7 @@
 ghost use Rattle.std.specs.Prelude.{◌≡◌, ◌<◌, true, length, All};
 ghost use Rattle.metric_history.specs.Facts.{in_bounds, is_full_set};
 
-use crate::cells::{Recording, are_sound};
-use crate::work::Work;
+use crate::cells::{Recording, are_sound, recordings};
 use metric_history::Facts;
 use metric_marked::Marked;
 use metric_plan::Plan;
@@ -17,21 +16,21 @@ pub(crate) struct InSlot<'a> {
     slot: Slot<Marked>,
     told: Told,
     recordings: Vec<Recording>,
-    rounds: u32,
 }
 
 impl<'a> InSlot<'a> {
-    /// The instrument of this number of a certified plan, without recordings.
+    /// The instrument of this number of a certified plan, which has recorded nothing, and a recording for each of so
+    /// many series.
     pub(crate) fn new(
         alloc: Global,
         plan: &'a Plan,
         instrument: u32,
-        recordings: Vec<Recording>,
-        rounds: u32,
+        series: u32,
     ) -> anyhow::Result<InSlot<'a>> {
         if !plan.is_certified() || instrument as usize >= plan.all_facts().len() {
             anyhow::bail!("no such instrument of a certified plan");
         }
+        let recordings = recordings(alloc, series)?;
         Ok(InSlot {
             facts: plan.facts(instrument),
             slot: Slot::new(alloc, plan, instrument, 0)?,
@@ -40,20 +39,18 @@ impl<'a> InSlot<'a> {
                 amount: 0,
             },
             recordings,
-            rounds,
         })
     }
-}
 
-impl Work for InSlot<'_> {
-    fn run(&mut self) -> anyhow::Result<u64> {
+    /// Makes each recording so many times. How many were accepted.
+    pub(crate) fn repeat(&mut self, rounds: u32) -> anyhow::Result<u64> {
         let facts = self.facts;
         let all = self.recordings.as_slice();
         if facts.budgets.len() == 0 || !are_sound(facts, all) {
             anyhow::bail!("a recording that the instrument refuses");
         }
         let mut accepted: u64 = 0;
-        for _ in 0..self.rounds {
+        for _ in 0..rounds {
             let more = record_all(&mut self.slot, facts, &mut self.told, all);
             accepted = accepted.wrapping_add(more);
         }

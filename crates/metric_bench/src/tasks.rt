@@ -1,14 +1,14 @@
 //! What several threads do at once.
-use crate::busy::UntilStopped;
-use crate::threads::{Additions, Recordings};
-use crate::work::Measured;
+use crate::callers::{Caller, UntilStopped};
+use crate::floors::add_all;
+use crate::watch::{Measured, Watch};
 use anyhow::Context;
 use std::alloc::{AllocError, Global};
-use std::sync::Wait;
 use std::sync::atomic::{AtomicU64, Ordering};
+use std::sync::{Mutex, Wait};
 use std::thread;
 use std::thread::Threads;
-use std::time::{Clock, Instant};
+use std::time::Clock;
 
 /// How often threads do their tasks together. The least of the times counts.
 pub(crate) const REPETITIONS: u32 = 5;
@@ -20,22 +20,11 @@ const TURNS: u32 = 1_000_000;
 #[derive(Drop)]
 pub(crate) enum Task<'a> {
     /// Recordings.
-    Record(Recordings<'a>),
+    Record(Caller<'a>),
     /// Recordings until it is told to stop.
     RecordUntil(UntilStopped<'a>),
     /// Additions under a lock.
-    Add(Additions<'a>),
-}
-
-impl Task<'_> {
-    // Does it so many times. The number depends on all of it.
-    fn repeat<R: Wait>(&mut self, rt: &R, events: u32) -> u64 {
-        match self {
-            Task::Record(recordings) => recordings.repeat(rt, events),
-            Task::RecordUntil(recordings) => recordings.repeat(rt, events),
-            Task::Add(additions) => additions.repeat(rt, events),
-        }
-    }
+    Add(&'a Mutex<u64>),
 }
 
 /// A thread's task, and what came of it.
@@ -50,11 +39,13 @@ impl Runner<'_> {
     // Does the task so many times, once so many threads have started.
     fn run<R: Wait + Clock>(&mut self, rt: &R, started: &AtomicU64, threads: u64, events: u32) {
         wait_for_all(started, threads);
-        self.nanoseconds = None;
-        if let Ok(start) = Instant::now(rt) {
-            self.number = self.task.repeat(rt, events);
-            self.nanoseconds = nanoseconds_since(rt, start);
-        }
+        let watch = Watch::new(rt);
+        self.number = match &mut self.task {
+            Task::Record(caller) => caller.repeat(rt, events),
+            Task::RecordUntil(caller) => caller.repeat(rt),
+            Task::Add(sum) => add_all(rt, sum, events),
+        };
+        self.nanoseconds = watch.took();
     }
 }
 
@@ -67,12 +58,6 @@ fn wait_for_all(started: &AtomicU64, threads: u64) {
         }
         thread::yield_now();
     }
-}
-
-/// The nanoseconds since a moment, or nothing where the clock fails.
-pub(crate) fn nanoseconds_since<R: Clock>(rt: &R, start: Instant) -> Option<u64> {
-    let took = start.elapsed(rt).ok()?;
-    u64::try_from(took.as_nanos()).ok()
 }
 
 /// A runner for each task.

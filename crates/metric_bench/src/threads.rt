@@ -1,7 +1,8 @@
 //! What recordings cost that several threads make at once.
 use crate::bench::{Bench, Row, Unit, each};
+use crate::callers::Caller;
 use crate::floors::Floor;
-use crate::inputs::{readers, threaded, three_attributes, value_names};
+use crate::inputs::{readers, threaded, value_names};
 use crate::seats::{Seats, Shared, seated};
 use crate::tasks::{Task, least_together, runners_of};
 use crate::words::Words;
@@ -21,64 +22,11 @@ pub(crate) const SERIES: u32 = 1_000;
 // How often as much a bare lock is taken as recordings are made.
 const MORE: u32 = 8;
 
-const RECORDING: Unit = Unit::Nanoseconds("recording of each thread");
-
-const ONE_THREAD: Unit = Unit::Times("one thread");
-
 // What a bare lock costs.
 const LOCK: &str = "a lock with an addition, as many threads";
 
-/// Recordings of a thread, with three attributes each, of one series after the other.
-#[derive(Drop)]
-pub(crate) struct Recordings<'a> {
-    pub provider: &'a Shared,
-    pub recorder: Recorder,
-    pub names: &'a [String],
-    pub instrument: u32,
-}
-
-impl Recordings<'_> {
-    /// Makes a recording of the series of this number. Whether it was accepted.
-    pub(crate) fn record<R: Wait>(&mut self, rt: &R, number: u32) -> bool {
-        let attributes = three_attributes(self.names, number % SERIES);
-        let answer = self
-            .recorder
-            .record(rt, self.provider, self.instrument, &attributes, 1);
-        answer.is_ok()
-    }
-
-    /// Makes so many recordings. How many were accepted.
-    pub(crate) fn repeat<R: Wait>(&mut self, rt: &R, events: u32) -> u64 {
-        let mut accepted: u64 = 0;
-        for number in 0..events {
-            if self.record(rt, number) {
-                accepted = accepted.wrapping_add(1);
-            }
-        }
-        accepted
-    }
-}
-
-/// Additions of a thread under a lock.
-#[derive(Drop)]
-pub(crate) struct Additions<'a> {
-    sum: &'a CachePadded<Mutex<u64>>,
-}
-
-impl Additions<'_> {
-    /// Makes so many additions. The sum.
-    pub(crate) fn repeat<R: Wait>(&mut self, rt: &R, events: u32) -> u64 {
-        let sum: &Mutex<u64> = self.sum;
-        for event in 0..events {
-            let mut sum = sum.lock(rt);
-            *sum = sum.wrapping_add(u64::from(event));
-        }
-        *sum.lock(rt)
-    }
-}
-
 // Whether threads share one of something, or have one each.
-#[derive(Clone, Copy, PartialEq, Eq)]
+#[derive(Clone, Copy)]
 enum Sharing {
     One,
     Each,
@@ -99,13 +47,6 @@ impl Sharing {
             Sharing::Each => "an instrument each",
         }
     }
-
-    fn name_of_ratio(self) -> &'static str {
-        match self {
-            Sharing::One => "one instrument, throughput",
-            Sharing::Each => "an instrument each, throughput",
-        }
-    }
 }
 
 /// Measures recordings of threads.
@@ -113,13 +54,14 @@ pub(crate) fn measure<R: Threads + Wait + Clock + Sync>(
     bench: &mut Bench<'_, R>,
     words: &Words,
 ) -> anyhow::Result<()> {
+    let names = value_names(bench.alloc)?;
     bench.begin("threads, 3 attributes, 1000 series", "threads")?;
-    measure_sharing(bench, words, Sharing::One)?;
-    measure_sharing(bench, words, Sharing::Each)
+    measure_sharing(bench, words, &names, Sharing::One)?;
+    measure_sharing(bench, words, &names, Sharing::Each)
 }
 
-// The figures of a number of threads, in thousandths of a nanosecond.
-#[derive(Clone, Copy, Drop)]
+// What one operation costs each of so many threads, in thousandths of a nanosecond.
+#[derive(Clone, Copy)]
 struct Figures {
     threads: u32,
     recording: u64,
@@ -129,14 +71,14 @@ struct Figures {
 fn measure_sharing<R: Threads + Wait + Clock + Sync>(
     bench: &mut Bench<'_, R>,
     words: &Words,
+    names: &[String],
     sharing: Sharing,
 ) -> anyhow::Result<()> {
-    let one = figures_of(bench, words.events, sharing, 1)?;
-    for threads in words.threads_or(bench.alloc, THREADS)? {
-        let several = if threads == 1 {
-            one
-        } else {
-            figures_of(bench, words.events, sharing, threads)?
+    let one = figures_of(bench, words.events, names, sharing, 1)?;
+    for threads in words.threads_or(THREADS) {
+        let several = match *threads {
+            1 => one,
+            threads => figures_of(bench, words.events, names, sharing, threads)?,
         };
         add_figures(bench, sharing, one, several)?;
     }
@@ -151,22 +93,24 @@ fn add_figures<R: Clock>(
     several: Figures,
 ) -> anyhow::Result<()> {
     let size = u64::from(several.threads);
+    let name = LOCK;
     let row = Row {
         name: sharing.name(),
+        state: "",
         size,
         operations: 1000,
-        unit: RECORDING,
+        unit: Unit::Nanoseconds("recording of each thread"),
         floor: Floor {
-            name: LOCK,
+            name,
             each: several.lock,
         },
     };
     bench.add(row, several.recording)?;
     let row = Row {
-        name: sharing.name_of_ratio(),
-        unit: ONE_THREAD,
+        state: ", throughput",
+        unit: Unit::Times("one thread"),
         floor: Floor {
-            name: LOCK,
+            name,
             each: times(one.lock, several.lock, size),
         },
         ..row
@@ -183,45 +127,55 @@ fn times(one: u64, several: u64, threads: u64) -> u64 {
     u64::try_from(thousandths).unwrap_or(u64::MAX)
 }
 
-// What a recording costs each of so many threads, and what a bare lock does.
 fn figures_of<R: Threads + Wait + Clock + Sync>(
     bench: &mut Bench<'_, R>,
     events: u32,
+    names: &[String],
     sharing: Sharing,
     threads: u32,
 ) -> anyhow::Result<Figures> {
+    let seats = seats_of(bench.rt, bench.alloc, threads)?;
+    let recording = recording(bench, events, names, sharing, seats)?;
+    let lock = lock(bench, events.saturating_mul(MORE), sharing, threads)?;
     Ok(Figures {
         threads,
-        recording: recording(bench, events, sharing, threads)?,
-        lock: lock(bench, events.saturating_mul(MORE), sharing, threads)?,
+        recording,
+        lock,
     })
 }
 
 fn recording<R: Threads + Wait + Clock + Sync>(
     bench: &mut Bench<'_, R>,
     events: u32,
+    names: &[String],
     sharing: Sharing,
-    threads: u32,
+    seats: Seats,
 ) -> anyhow::Result<u64> {
-    let names = value_names(bench.alloc)?;
     let Seats {
         provider,
         recorders,
         collectors: _collectors,
-    } = seats_of(bench.rt, bench.alloc, threads)?;
-    recording_of(bench, &provider, &names, recorders, events, sharing)
+    } = seats;
+    let tasks = recordings_of(bench.alloc, &provider, names, recorders, sharing)?;
+    together(bench, tasks, events)
 }
 
-fn recording_of<R: Threads + Wait + Clock + Sync>(
+fn lock<R: Threads + Wait + Clock + Sync>(
     bench: &mut Bench<'_, R>,
-    provider: &Shared,
-    names: &[String],
-    recorders: Vec<Recorder>,
     events: u32,
     sharing: Sharing,
+    threads: u32,
 ) -> anyhow::Result<u64> {
-    let tasks = recordings_of(bench.alloc, provider, names, recorders, sharing)?;
+    let sums = sums(bench.alloc, threads)?;
+    let tasks = additions_of(bench.alloc, &sums, threads, sharing)?;
     together(bench, tasks, events)
+}
+
+/// A provider with a recorder and an instrument for each thread.
+pub(crate) fn seats_of<R: Wait>(rt: &R, alloc: Global, threads: u32) -> anyhow::Result<Seats> {
+    let catalogue = threaded(alloc, threads)?;
+    let config = readers(alloc, 1)?;
+    seated(rt, alloc, &catalogue, &config)
 }
 
 fn recordings_of<'a>(
@@ -233,35 +187,16 @@ fn recordings_of<'a>(
 ) -> Result<Vec<Task<'a>>, AllocError> {
     let mut tasks = Vec::new(alloc);
     for recorder in recorders {
-        tasks.push(Task::Record(Recordings {
+        let instrument = sharing.number(recorder.number());
+        tasks.push(Task::Record(Caller {
             provider,
-            instrument: sharing.number(recorder.number()),
             recorder,
             names,
+            instrument,
+            series: SERIES,
         }))?;
     }
     Ok(tasks)
-}
-
-// A provider with a recorder and an instrument for each thread.
-pub(crate) fn seats_of<R: Wait>(rt: &R, alloc: Global, threads: u32) -> anyhow::Result<Seats> {
-    seated(rt, alloc, &threaded(alloc, threads)?, &readers(alloc, 1)?)
-}
-
-fn lock<R: Threads + Wait + Clock + Sync>(
-    bench: &mut Bench<'_, R>,
-    events: u32,
-    sharing: Sharing,
-    threads: u32,
-) -> anyhow::Result<u64> {
-    let sums = sums(bench.alloc, threads)?;
-    let mut tasks = Vec::new(bench.alloc);
-    for thread in 0..threads {
-        if let Some(sum) = sums.get(sharing.number(thread) as usize) {
-            tasks.push(Task::Add(Additions { sum }))?;
-        }
-    }
-    together(bench, tasks, events)
 }
 
 // So many sums, each behind a lock.
@@ -271,6 +206,21 @@ fn sums(alloc: Global, count: u32) -> Result<Vec<CachePadded<Mutex<u64>>>, Alloc
         sums.push(CachePadded::new(Mutex::new(0)))?;
     }
     Ok(sums)
+}
+
+fn additions_of<'a>(
+    alloc: Global,
+    sums: &'a [CachePadded<Mutex<u64>>],
+    threads: u32,
+    sharing: Sharing,
+) -> Result<Vec<Task<'a>>, AllocError> {
+    let mut tasks = Vec::new(alloc);
+    for thread in 0..threads {
+        if let Some(sum) = sums.get(sharing.number(thread) as usize) {
+            tasks.push(Task::Add(sum))?;
+        }
+    }
+    Ok(tasks)
 }
 
 // What one of so many operations costs each of the threads that do the tasks, in thousandths of a nanosecond.

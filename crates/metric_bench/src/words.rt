@@ -1,7 +1,8 @@
 //! The words of the command line.
 use crate::inputs::{MOST_SETS, MOST_THREADS};
 use clap::{Arg, ArgAction, ArgMatches, Command, Error, value_parser};
-use std::alloc::{AllocError, Global};
+use std::alloc::Global;
+use std::slice;
 
 /// What is measured.
 #[derive(Clone, Copy, PartialEq, Eq)]
@@ -48,29 +49,25 @@ pub(crate) struct Words {
 
 impl Words {
     /// The numbers of series that are measured: the one that is asked for, or these.
-    pub(crate) fn series_or(&self, alloc: Global, sizes: &[u32]) -> Result<Vec<u32>, AllocError> {
-        sizes_of(alloc, self.series, sizes)
+    pub(crate) fn series_or<'a>(&'a self, sizes: &'a [u32]) -> &'a [u32] {
+        one_or(&self.series, sizes)
     }
 
     /// The numbers of attributes that are measured: the one that is asked for, or these.
-    pub(crate) fn attributes_or(
-        &self,
-        alloc: Global,
-        sizes: &[u32],
-    ) -> Result<Vec<u32>, AllocError> {
-        sizes_of(alloc, self.attributes, sizes)
+    pub(crate) fn attributes_or<'a>(&'a self, sizes: &'a [u32]) -> &'a [u32] {
+        one_or(&self.attributes, sizes)
     }
 
     /// The numbers of threads that are measured: the one that is asked for, or these.
-    pub(crate) fn threads_or(&self, alloc: Global, sizes: &[u32]) -> Result<Vec<u32>, AllocError> {
-        sizes_of(alloc, self.threads, sizes)
+    pub(crate) fn threads_or<'a>(&'a self, sizes: &'a [u32]) -> &'a [u32] {
+        one_or(&self.threads, sizes)
     }
 }
 
-fn sizes_of(alloc: Global, one: Option<u32>, others: &[u32]) -> Result<Vec<u32>, AllocError> {
+fn one_or<'a>(one: &'a Option<u32>, sizes: &'a [u32]) -> &'a [u32] {
     match one {
-        Some(size) => [size].to_vec(alloc),
-        None => others.to_vec(alloc),
+        Some(size) => slice::from_ref(size),
+        None => sizes,
     }
 }
 
