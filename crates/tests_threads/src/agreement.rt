@@ -1,15 +1,17 @@
 //! The answers of seats in one thread beside the replies of a core.
 ghost use Rattle.std.specs.Prelude.{IsTrue};
 
-use crate::samples::{BOTH, CODES, HITS, MAIN, certified};
+use crate::samples::{BOTH, CODES, HITS, MAIN};
 use crate::seats::{Seats, seated};
 use crate::texts::write_reply;
 use metric_book::{Book, JournalBook};
 use metric_core::Core;
+use metric_history::Reply;
 use metric_marked::Marked;
 use metric_parts::{Needs, parts_of};
 use metric_plan::Plan;
 use metric_script::{ScriptEvents, events_of};
+use metric_sdk::certified_plan;
 use metric_text::lines;
 use std::alloc::Global;
 use std::sync::Wait;
@@ -23,7 +25,11 @@ const SCRIPT: Needs = Needs {
 fn script_of(alloc: Global, script: &str) -> Result<ScriptEvents, Fail> {
     let input = format!(in alloc; "%% catalogue\n%% config\n%% script\n{script}")?;
     let lines = lines(alloc, input.as_bytes())?;
-    let parts = parts_of(alloc, &lines, SCRIPT)?;
+    script_in(alloc, &lines)
+}
+
+fn script_in(alloc: Global, lines: &[&[u8]]) -> Result<ScriptEvents, Fail> {
+    let parts = parts_of(alloc, lines, SCRIPT)?;
     match &parts.script {
         Some(script) => Ok(events_of(alloc, script)?),
         None => Err(Fail::from("no script")),
@@ -35,9 +41,14 @@ fn of_core<B: Book>(alloc: Global, plan: Plan, script: &ScriptEvents) -> Result<
     let Ok(mut core) = Core::<B>::new(alloc, plan, script.start) else {
         return Err(Fail::from("memory"));
     };
+    let replies = core.run(alloc, script.events.as_slice())?;
+    replies_text(alloc, &replies)
+}
+
+fn replies_text(alloc: Global, replies: &[Reply]) -> Result<String, Fail> {
     let mut out = String::new(alloc);
-    for reply in core.run(alloc, script.events.as_slice())? {
-        write_reply(&mut out, &reply)?;
+    for reply in replies {
+        write_reply(&mut out, reply)?;
     }
     Ok(out)
 }
@@ -58,9 +69,9 @@ fn of_seats<R: Wait, B: Book>(
 // The answers of a core and those of seats, each over its own plan.
 fn both<R: Wait, B: Book>(rt: &R, alloc: Global, sample: &Sample) -> Result<[String; 2], Fail> {
     let script = script_of(alloc, sample.script)?;
-    let plan = certified(alloc, sample.catalogue, sample.config)?;
+    let plan = certified_plan(alloc, sample.catalogue, sample.config)?;
     let core = of_core::<B>(alloc, plan, &script)?;
-    let plan = certified(alloc, sample.catalogue, sample.config)?;
+    let plan = certified_plan(alloc, sample.catalogue, sample.config)?;
     Ok([core, of_seats::<R, B>(rt, alloc, plan, &script)?])
 }
 

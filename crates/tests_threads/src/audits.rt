@@ -2,12 +2,13 @@
 ghost use Rattle.std.specs.Prelude.{◌≡◌, IsTrue, length};
 ghost use Rattle.metric_provider.specs.Totals.{AreAllSeats};
 
-use crate::samples::{HITS, MAIN, certified};
+use crate::samples::{HITS, MAIN};
 use crate::slots::record;
 use metric_book::{Book, JournalBook};
 use metric_marked::Marked;
 use metric_plan::Plan;
 use metric_provider::{FinishFault, NoGate, Recorder, Slot, Told, Total, settle, start};
+use metric_sdk::certified_plan;
 use std::alloc::Global;
 use std::sync::Wait;
 use std::test::Fail;
@@ -60,7 +61,7 @@ fn settled_untold<R: Wait, B: Book>(
 }
 
 fn settled<R: Wait, B: Book>(rt: &R, alloc: Global, is_recorded: bool) -> Result<Settled, Fail> {
-    let plan = certified(alloc, HITS, MAIN)?;
+    let plan = certified_plan(alloc, HITS, MAIN)?;
     settled_untold::<R, B>(rt, alloc, plan, is_recorded)
 }
 

@@ -1,11 +1,12 @@
 //! Collections of all instruments by a delta reader, beside recordings.
-use crate::samples::{BOTH, PAIR, certified};
+use crate::samples::{BOTH, PAIR};
 use crate::seats::{Seats, seated};
 use crate::texts::batches;
 use metric_book::{Book, JournalBook};
 use metric_history::Batch;
 use metric_marked::Marked;
 use metric_provider::Collector;
+use metric_sdk::certified_plan;
 use std::alloc::Global;
 use std::sync::Wait;
 use std::test::Fail;
@@ -67,7 +68,7 @@ fn collected<R: Wait, B: Book>(
 
 // The batches of two collections by the delta reader, and of its last one.
 fn told<R: Wait, B: Book>(rt: &R, alloc: Global) -> Result<String, Fail> {
-    let plan = certified(alloc, PAIR, BOTH)?;
+    let plan = certified_plan(alloc, PAIR, BOTH)?;
     let mut seats: Seats<B> = seated(rt, alloc, plan, 0, 1)?;
     let Some(mut reader) = seats.collectors.pop() else {
         return Err(Fail::from("no reader"));

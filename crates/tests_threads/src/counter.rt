@@ -1,11 +1,12 @@
 //! A counter with one recorder and one reader, from its first recording to its totals.
-use crate::samples::{HITS, MAIN, certified};
+use crate::samples::{HITS, MAIN};
 use crate::seats::{Seats, seated};
 use crate::texts::batches;
 use metric_book::{Book, JournalBook};
 use metric_catalogue::Refusal;
 use metric_marked::Marked;
 use metric_provider::{Collector, NoGate, Provider, Recorder, Told, Total, Totals};
+use metric_sdk::certified_plan;
 use std::alloc::Global;
 use std::sync::Wait;
 use std::test::Fail;
@@ -19,7 +20,7 @@ struct Counter<B: Book> {
 }
 
 fn started<R: Wait, B: Book>(rt: &R, alloc: Global) -> Result<Counter<B>, Fail> {
-    let plan = certified(alloc, HITS, MAIN)?;
+    let plan = certified_plan(alloc, HITS, MAIN)?;
     let mut seats: Seats<B> = seated(rt, alloc, plan, 0, 1)?;
     let (Some(recorder), Some(reader)) = (seats.recorders.pop(), seats.collectors.pop()) else {
         return Err(Fail::from("no seats"));

@@ -1,11 +1,12 @@
 //! A recording that is held inside its lock, and one of another instrument.
 ghost use Rattle.std.specs.Prelude.{IsTrue};
 
-use crate::samples::{MAIN, PAIR, certified};
+use crate::samples::{MAIN, PAIR};
 use metric_catalogue::Refusal;
 use metric_marked::Marked;
 use metric_plan::Plan;
 use metric_provider::{Gate, Provider, Recorder, start};
+use metric_sdk::certified_plan;
 use std::alloc::Global;
 use std::sync::Wait;
 use std::sync::atomic::{AtomicBool, Ordering};
@@ -84,7 +85,7 @@ fn record_second<R: Wait>(
 
 type Answers = (Result<(), Refusal>, Result<(), Refusal>);
 
-// What two threads are answered.
+// What two threads are answered by a provider of the plan.
 fn answers<R: Threads + Wait + Sync>(
     rt: &R,
     alloc: Global,
@@ -93,26 +94,33 @@ fn answers<R: Threads + Wait + Sync>(
 ) -> Result<Answers, Fail>
     requires { IsTrue plan.is_certified }
 {
-    let gate = Holding { flags };
-    let Ok((provider, mut seats, _)) = start::<R, Marked, Holding<'_>>(rt, alloc, plan, 0, 0, gate)
-    else {
-        return Err(Fail::from("memory"));
-    };
+    match start::<R, Marked, Holding<'_>>(rt, alloc, plan, 0, 0, Holding { flags }) {
+        Ok((provider, seats, _)) => both_answers(rt, &provider, seats, flags),
+        Err((_, _, refused)) => Err(Fail::from(refused)),
+    }
+}
+
+// What the threads of the two recorders are answered.
+fn both_answers<R: Threads + Wait + Sync>(
+    rt: &R,
+    provider: &Held<'_>,
+    mut seats: Vec<Recorder>,
+    flags: &Flags,
+) -> Result<Answers, Fail> {
     let (Some(second), Some(first)) = (seats.pop(), seats.pop()) else {
         return Err(Fail::from("no two recorders"));
     };
-    let shared = &provider;
     Ok(join(
         rt,
-        move || record_first(rt, shared, first),
-        move || record_second(rt, shared, second, flags),
+        move || record_first(rt, provider, first),
+        move || record_second(rt, provider, second, flags),
     ))
 }
 
 #[test]
 fn second_instrument_answers_first(rt: HostRuntime) -> Result<(), Fail> {
     let flags = Flags::new();
-    let plan = certified(rt.alloc(), PAIR, MAIN)?;
+    let plan = certified_plan(rt.alloc(), PAIR, MAIN)?;
     let (first, second) = answers(&rt, rt.alloc(), plan, &flags)?;
     assert_eq!(rt; first, Ok(()));
     assert_eq!(rt; second, Ok(()));

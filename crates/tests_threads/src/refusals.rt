@@ -1,11 +1,12 @@
 //! The refusals of a recording in the order in which they are tried, and that they change nothing.
-use crate::samples::{CODES, MAIN, certified};
+use crate::samples::{CODES, MAIN};
 use crate::seats::{Seats, seated};
 use metric_book::{Book, JournalBook};
 use metric_catalogue::{Attr, Refusal};
 use metric_marked::Marked;
 use metric_names::ValueRef;
 use metric_provider::{NoGate, Provider, Recorder, Told};
+use metric_sdk::certified_plan;
 use std::alloc::Global;
 use std::process::Abort;
 use std::sync::Wait;
@@ -63,7 +64,7 @@ fn refuse_undeclared<R: Wait + Abort, B: Book>(
 }
 
 fn refuse_in_order<R: Wait + Abort, B: Book>(rt: &R, alloc: Global) -> Result<(), Fail> {
-    let plan = certified(alloc, CODES, MAIN)?;
+    let plan = certified_plan(alloc, CODES, MAIN)?;
     let mut seats: Seats<B> = seated(rt, alloc, plan, 0, 1)?;
     let Some(mut recorder) = seats.recorders.pop() else {
         return Err(Fail::from("no recorder"));

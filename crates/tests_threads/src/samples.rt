@@ -1,13 +1,4 @@
-//! Catalogues, configs, and their certified plans.
-ghost use Rattle.std.specs.Prelude.{IfOk, IsTrue};
-
-use metric_catalogue::Catalogue;
-use metric_cert::make;
-use metric_check::check;
-use metric_plan::Plan;
-use metric_views::Config;
-use std::alloc::Global;
-use std::test::Fail;
+//! Catalogues and configs.
 
 /// A counter without keys.
 pub(crate) const HITS: &str = "format = 1
@@ -73,16 +64,3 @@ name = 'C'
 name = 'D'
 temporality = { counter = 'delta' }
 ";
-
-/// The plan that the certificate made for a catalogue and a config shows to be safe.
-pub(crate) fn certified(alloc: Global, catalogue: &str, config: &str) -> Result<Plan, Fail>
-    ensures { IfOk result (λ plan. IsTrue plan.is_certified) }
-{
-    let catalogue = Catalogue::read(alloc, catalogue)?;
-    let config = Config::read(alloc, config)?;
-    let certificate = make(alloc, &catalogue, &config)?;
-    match check(alloc, catalogue, config, &certificate) {
-        Ok(plan) => Ok(plan),
-        Err((_, _, fault)) => Err(Fail::from(fault)),
-    }
-}

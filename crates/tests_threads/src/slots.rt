@@ -1,7 +1,7 @@
 //! A slot by its own calls, over each book, for a recorder and a reader that say what they were told.
 ghost use Rattle.std.specs.Prelude.{IsTrue};
 
-use crate::samples::{BOTH, certified};
+use crate::samples::BOTH;
 use crate::texts::{write_batch, write_refusal};
 use metric_book::{Book, JournalBook};
 use metric_catalogue::Refusal;
@@ -9,6 +9,7 @@ use metric_history::Facts;
 use metric_marked::Marked;
 use metric_plan::Plan;
 use metric_provider::{Slot, Told};
+use metric_sdk::certified_plan;
 use std::alloc::Global;
 use std::test::Fail;
 
@@ -170,7 +171,7 @@ fn answers<B: Book>(alloc: Global, plan: &Plan) -> Result<String, Fail>
 
 #[test]
 fn a_slot_answers_each_call(rt: HostRuntime) -> Result<(), Fail> {
-    let plan = certified(rt.alloc(), PAIRS, BOTH)?;
+    let plan = certified_plan(rt.alloc(), PAIRS, BOTH)?;
     assert_eq!(rt;
         answers::<JournalBook>(rt.alloc(), &plan)?.as_str(),
         ANSWERS

@@ -1,17 +1,18 @@
 //! Seats of another run.
-use crate::samples::{MAIN, PAIR, certified};
+use crate::samples::{MAIN, PAIR};
 use crate::seats::{Seats, seated};
 use metric_book::{Book, JournalBook};
 use metric_catalogue::Refusal;
 use metric_marked::Marked;
 use metric_provider::{FinishFault, Recorder, Total};
+use metric_sdk::certified_plan;
 use std::alloc::Global;
 use std::sync::Wait;
 use std::test::Fail;
 
 // Seats of a run of this number.
 fn run_of<R: Wait, B: Book>(rt: &R, alloc: Global, run: u64) -> Result<Seats<B>, Fail> {
-    let plan = certified(alloc, PAIR, MAIN)?;
+    let plan = certified_plan(alloc, PAIR, MAIN)?;
     seated(rt, alloc, plan, 0, run)
 }
 
