@@ -23,10 +23,10 @@ const START: u64 = 0;
 // The number of the run, of which there is one.
 const RUN: u64 = 0;
 
-/// Starts a thread for each recorder of an input, which records on each instrument in order, so many times, the greatest
-/// value of its range with the first declared value of each required key; and one for each reader, which collects all
-/// instruments at the times 1 to 8 (Metrics SDK, concurrency requirements). Recordings beyond a budget are passed over. After
-/// the threads have ended it writes what each instrument comes to. A refused input writes nothing.
+/// Lets each recorder of an input record, and each reader collect, in a thread of its own where one can be made: a recorder
+/// on each instrument in order, so many times, the greatest value of its range with the first declared value of each required
+/// key; a reader all instruments at the times 1 to 8 (Metrics SDK, concurrency requirements). Recordings beyond a budget are
+/// passed over. After the threads have ended it writes what each instrument comes to. A refused input writes nothing.
 ///
 /// # Errors
 ///
