@@ -57,6 +57,7 @@ fn runs_stay_safe(plan: &Plan)
         → AllLegal plan.now.facts start h events replies
         → StaysSafe plan.now start h events replies }
 {
+    // For the proof alone: what a plan and a catalogue keep.
     let _ = plan.catalogue().instruments();
     runs_keep_histories_legal();
     safe_plans_have_safe_histories();

@@ -138,6 +138,7 @@ impl Plan {
         ensures one_each { length self.now.facts.instruments ≡ length result.now.instruments }
         ensures kept { IsPlan self.now }
     {
+        // For the proof alone: a plan keeps something of its facts too.
         let _ = &self.facts;
         &self.catalogue
     }
@@ -223,5 +224,6 @@ fn range_fits(own: &Facts)
     ensures low { FitsSigned w64 own.now.lo }
     ensures high { FitsSigned w64 own.now.hi }
 {
+    // For the proof alone: both are read, so both are of their type.
     let _ = own.lo <= own.hi;
 }

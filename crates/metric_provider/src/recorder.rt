@@ -153,6 +153,7 @@ impl Recorder {
         ensures long { OnOk result (instrument < length self.now.told) }
     {
         attributes_name_full_sets();
+        // For the proof alone: a plan has facts for each of its instruments.
         let _ = plan.all_facts();
         if !self.is_of(plan, run) {
             return Err(Refusal::Stranger);

@@ -10,6 +10,7 @@ pub fn certified_facts_are_safe(plan: &Plan)
     requires { IsTrue plan.now.is_certified }
     ensures { AreCertified plan.now.facts.instruments }
 {
+    // For the proof alone: what a plan and a catalogue keep.
     let _ = plan.catalogue().instruments();
     safe_plans_run_safely();
 }

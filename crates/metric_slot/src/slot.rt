@@ -143,6 +143,7 @@ impl<B: Book> Slot<B> {
             return Err(Refusal::Stranger);
         }
         journals_are_bounded();
+        // For the proof alone: what a cell keeps.
         let _ = self.cell.facts();
         let batch = self.cell.collect(alloc, reader, now)?;
         *seen = batch.mark;
@@ -165,6 +166,7 @@ impl<B: Book> Slot<B> {
         ensures certified { IsCertified self.now.facts }
         ensures kept { CellKept B.stands self.now }
     {
+        // For the proof alone: what a cell keeps.
         let _ = self.cell.facts();
         &self.cell
     }
@@ -196,6 +198,7 @@ fn record_own<B: Book>(
         return Err(Refusal::Stranger);
     }
     journals_are_bounded();
+    // For the proof alone: what a cell keeps.
     let _ = cell.facts();
     cell.record(recorder, set, value)
 }

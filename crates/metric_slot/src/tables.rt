@@ -12,6 +12,7 @@ use metric_safety::laws::journals_are_bounded;
 pub fn tables_are_bounded(slot: &Slot<Marked>)
     ensures { AreTablesBounded slot.now }
 {
+    // For the proof alone: what a slot keeps.
     let _ = slot.cell();
     journals_are_bounded();
 }
