@@ -37,18 +37,13 @@ impl Criterion {
     pub fn named(text: &str) -> Option<Criterion>
         ensures { result ≡ criterion_named text.now }
     {
-        if text == "instrument_type" {
-            Some(Criterion::InstrumentType)
-        } else if text == "instrument_unit" {
-            Some(Criterion::InstrumentUnit)
-        } else if text == "meter_name" {
-            Some(Criterion::MeterName)
-        } else if text == "meter_version" {
-            Some(Criterion::MeterVersion)
-        } else if text == "meter_schema_url" {
-            Some(Criterion::MeterSchemaUrl)
-        } else {
-            None
+        match text {
+            "instrument_type" => Some(Criterion::InstrumentType),
+            "instrument_unit" => Some(Criterion::InstrumentUnit),
+            "meter_name" => Some(Criterion::MeterName),
+            "meter_version" => Some(Criterion::MeterVersion),
+            "meter_schema_url" => Some(Criterion::MeterSchemaUrl),
+            _ => None,
         }
     }
 

@@ -27,12 +27,10 @@ impl By {
     pub fn named(text: &str) -> Option<By>
         ensures { result ≡ by_named text.now }
     {
-        if text == "product" {
-            Some(By::Product)
-        } else if text == "budget" {
-            Some(By::Budget)
-        } else {
-            None
+        match text {
+            "product" => Some(By::Product),
+            "budget" => Some(By::Budget),
+            _ => None,
         }
     }
 

@@ -1,7 +1,8 @@
 //! The state of one instrument.
-ghost use Rattle.std.specs.Prelude.{◌≡◌, ◌≤◌, ◌<◌, ◌+◌, ◌-◌, ◌^◌, pos, neg_ℤ, ◌+ℤ◌, ◌≤ℤ◌, Some, [], true, length, nat_lt, slice_get, slice_index, slice_set, sum, vec_len, IfOk, IfErr, OnOk, OnErr};
+ghost use Rattle.std.specs.Prelude.{◌≡◌, ◌≤◌, ◌<◌, ◌+◌, ◌-◌, ◌^◌, pos, neg_ℤ, ◌+ℤ◌, ◌≤ℤ◌, Some, [], true, length, nat_lt, replicate, slice_get, slice_index, slice_set, sum, vec_len, IfOk, IfErr, OnOk, OnErr};
 ghost use Rattle.metric_core.specs.Cells.{CellKept, CellStands, new_cell};
 ghost use Rattle.metric_core.specs.CellAnswers.{AnswersClose, AnswersRecording, GainsEntry, KeepsJournal, ReportsBatch, entry_of, with_batch, with_entry};
+ghost use Rattle.metric_book.specs.Journals.{no_marks};
 ghost use Rattle.metric_history.specs.Facts.{in_bounds, is_full_set};
 
 use metric_base::Copied;
@@ -94,16 +95,14 @@ impl<B: Book> Cell<B> {
     {
         let facts = plan.facts(instrument).copy(alloc)?;
         let book = B::new(alloc, plan, instrument, seed)?;
-        let marks = vec![in alloc; 0; facts.delta.len()]?;
-        let times = vec![in alloc; start; facts.delta.len()]?;
-        let spent = vec![in alloc; 0; facts.budgets.len()]?;
+        let counters = Counters::new(alloc, &facts, start)?;
         Ok(Cell {
             facts,
             book,
             start,
-            marks,
-            times,
-            spent,
+            marks: counters.marks,
+            times: counters.times,
+            spent: counters.spent,
             count: 0,
             total: 0,
             is_closed: false,
@@ -241,6 +240,32 @@ impl<B: Book> Cell<B> {
         ensures { result ≡ self.now.total }
     {
         self.total
+    }
+}
+
+// What a cell counts beside its book: of each reader the mark and the time of its last batch, of each recorder its
+// recordings.
+#[derive(Drop)]
+struct Counters {
+    marks: Vec<u64>,
+    times: Vec<u64>,
+    spent: Vec<u64>,
+}
+
+impl Counters {
+    // Those of an instrument without recordings, since a start.
+    fn new(alloc: Global, facts: &Facts, start: u64) -> Result<Counters, AllocError>
+        ensures marks { IfOk result (λ new. new.marks.items ≡ no_marks facts.now) }
+        ensures times { IfOk result (λ new.
+            new.times.items ≡ replicate (length facts.now.delta) start) }
+        ensures spent { IfOk result (λ new.
+            new.spent.items ≡ replicate (length facts.now.budgets) 0) }
+    {
+        Ok(Counters {
+            marks: vec![in alloc; 0; facts.delta.len()]?,
+            times: vec![in alloc; start; facts.delta.len()]?,
+            spent: vec![in alloc; 0; facts.budgets.len()]?,
+        })
     }
 }
 
