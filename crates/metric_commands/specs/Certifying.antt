@@ -27,21 +27,29 @@ pub record IsCertificateFor (contents : Contents) (config : Setup) (certificate 
 abbrev pub IsUnsafe : Contents → Setup → MakeFault → Type 0
 IsUnsafe contents config fault = SafetyFinds make_faults contents (streams_of contents config) (Some fault)
 
--- a certificate, or the first part of safety that fails, unless memory was refused
+-- The fault is the first part of safety that fails, unless memory was refused.
+abbrev pub FailsToMake : KitFault → Contents → Setup → Type 0
+FailsToMake (Make fault) contents config = IsUnsafe contents config fault
+FailsToMake Memory contents config = Unit {0}
+FailsToMake _ contents config = ⊥
+
+-- a certificate, or why there is none
 abbrev pub Makes : Result Certificate KitFault → Contents → Setup → Type 0
 Makes (Ok certificate) contents config = IsCertificateFor contents config certificate
-Makes (Err (Make fault)) contents config = IsUnsafe contents config fault
-Makes (Err Memory) contents config = Unit {0}
-Makes (Err _) contents config = ⊥
+Makes (Err fault) contents config = FailsToMake fault contents config
+
+-- A text that is read as the certificate for a catalogue and a config.
+pub record IsTextFor (contents : Contents) (config : Setup) (text : List ℕ) : Type 0 where
+  pub certificate : Certificate
+  pub made : IsCertificateFor contents config certificate
+  pub reads : certificate_from text ≡ Ok certificate
 
 -- A text that is read as the certificate for what the parts declare.
 pub record IsCertified (read : Parts) (text : List ℕ) : Type 0 where
   pub contents : Contents
   pub config : Setup
   pub declared : IsDeclared read contents config
-  pub certificate : Certificate
-  pub made : IsCertificateFor contents config certificate
-  pub reads : certificate_from text ≡ Ok certificate
+  pub written : IsTextFor contents config text
 
 -- The text that making a certificate of the input writes.
 pub record IsCertificateText (input text : List ℕ) : Type 0 where

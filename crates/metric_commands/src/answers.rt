@@ -1,14 +1,16 @@
 //! The replies to the script of an input.
-ghost use Rattle.std.specs.Prelude.{◌≡◌, IfOk, IfErr, IsSome, false};
+ghost use Rattle.std.specs.Prelude.{◌≡◌, [], IfOk, IfErr, IsSome, false};
 ghost use Rattle.std.specs.List.{list_any};
 ghost use Rattle.metric_commands.specs.Replaying.{IsFirstFault, IsOutput, IsPlanFault, IsPlanned};
 ghost use Rattle.metric_commands.specs.Replies.{is_want_of_memory, replies_text};
 ghost use Rattle.metric_commands.specs.Faults.{IsOfInput};
 ghost use Rattle.metric_commands.specs.Runs.{IsRun};
+ghost use Rattle.metric_core.specs.CoreStands.{CoreStands};
 
 use crate::fault::KitFault;
 use crate::options::ReplayOptions;
 use crate::planning::{certified_plan, trial_plan};
+use metric_book::Book;
 use metric_catalogue::Refusal;
 use metric_core::Core;
 use metric_history::{Event, Reply};
@@ -64,14 +66,25 @@ fn run(alloc: Global, plan: Plan, start: u64, events: &[Event]) -> Result<Answer
         × IsRun plan start events.now answers.replies.items) }
     ensures err { IfErr result (λ fault. fault ≡ KitFault.Memory) }
 {
-    let Ok(mut core) = Core::new(alloc, plan, start) else {
-        return Err(KitFault::Memory);
-    };
+    let mut core = core_of(alloc, plan, start)?;
     let replies = core.run(alloc, events)?;
     if has_want_of_memory(&replies) {
         return Err(KitFault::Memory);
     }
     Ok(Answers { core, replies })
+}
+
+// A core of the plan without any event, since a start.
+fn core_of<B: Book>(alloc: Global, plan: Plan, start: u64) -> Result<Core<B>, KitFault>
+    ensures plan { IfOk result (λ core. core.plan ≡ plan) }
+    ensures start { IfOk result (λ core. core.start ≡ start) }
+    ensures stands { IfOk result (λ core. CoreStands B.stands core []) }
+    ensures err { IfErr result (λ fault. fault ≡ KitFault.Memory) }
+{
+    match Core::new(alloc, plan, start) {
+        Ok(core) => Ok(core),
+        Err(_) => Err(KitFault::Memory),
+    }
 }
 
 // Whether some reply is want of memory.

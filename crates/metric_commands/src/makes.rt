@@ -2,7 +2,7 @@
 ghost use Rattle.std.specs.Prelude.{◌≡◌, IfErr, IfOk, OnOk, string_bytes};
 ghost use Rattle.std.specs.Io.KnownBytes.{Appends};
 ghost use Rattle.metric_io.specs.Prefix.{AppendsPrefix};
-ghost use Rattle.metric_commands.specs.Certifying.{IsCertificateText, IsCertified, IsFirstMakeFault, IsMakeFault, Makes};
+ghost use Rattle.metric_commands.specs.Certifying.{FailsToMake, IsCertificateText, IsCertified, IsFirstMakeFault, IsMakeFault, IsTextFor, Makes};
 ghost use Rattle.metric_commands.specs.Commands.{RunsCommand, sink_run, source_run};
 ghost use Rattle.metric_commands.specs.Faults.{IsOfInput};
 ghost use Rattle.metric_commands.specs.Written.{IsSinkFault};
@@ -87,7 +87,15 @@ fn certified(alloc: Global, parts: &InputParts<'_>) -> Result<String, KitFault>
 {
     let catalogue = catalogue_of(alloc, parts.catalogue.as_str())?;
     let config = config_of(alloc, parts.config.as_str())?;
-    let certificate = certificate_for(alloc, &catalogue, &config)?;
+    text_for(alloc, &catalogue, &config)
+}
+
+// The text of the certificate for a catalogue and a config.
+fn text_for(alloc: Global, catalogue: &Catalogue, config: &Config) -> Result<String, KitFault>
+    ensures ok { IfOk result (λ text. IsTextFor catalogue.now config.now (string_bytes text)) }
+    ensures err { IfErr result (λ fault. FailsToMake fault catalogue.now config.now) }
+{
+    let certificate = certificate_for(alloc, catalogue, config)?;
     let text = certificate.write(alloc)?;
     Ok(text)
 }
