@@ -1,23 +1,14 @@
-//! A plan, a batch, and the text of the batch.
+//! A batch with its plan, and the text that it is exported as.
+use crate::samples::HITS;
 use metric_aggregate::PointValue;
 use metric_base::Items;
-use metric_catalogue::Catalogue;
 use metric_history::{Batch, Point, StreamPoints};
 use metric_plan::Plan;
-use metric_views::Config;
-use std::alloc::Global;
+use metric_sdk::certified_plan;
+use std::alloc::{AllocError, Global};
 use std::test::Fail;
 
-const CATALOGUE: &str = "format = 1
-[[meter]]
-name = 'm'
-[[meter.instrument]]
-name = 'hits'
-kind = 'counter'
-range = [0, 100]
-";
-
-const CONFIG: &str = "format = 1
+const DELTA: &str = "format = 1
 [[reader]]
 name = 'D'
 temporality = { counter = 'delta' }
@@ -29,18 +20,22 @@ stream reader=\"D\" meter=\"m\" version=\"\" schema=\"\" name=\"hits\" unit=\"\"
 point {} start=0 time=10 value=5
 ";
 
-/// The plan of a counter without keys, for a reader of its own.
-pub(crate) fn plan(alloc: Global) -> Result<Plan, Fail> {
-    let catalogue = Catalogue::read(alloc, CATALOGUE)?;
-    let config = Config::read(alloc, CONFIG)?;
-    match Plan::trial(alloc, catalogue, config) {
-        Ok(plan) => Ok(plan),
-        Err((_, _, fault)) => Err(Fail::from(fault)),
+/// A collection of a counter without keys after a recording of 5, for the only reader of its plan.
+#[derive(Drop)]
+pub(crate) struct SampleBatch {
+    pub(crate) plan: Plan,
+    pub(crate) batch: Batch,
+}
+
+impl SampleBatch {
+    pub(crate) fn new(alloc: Global) -> Result<SampleBatch, Fail> {
+        let batch = five(alloc)?;
+        let plan = certified_plan(alloc, HITS, DELTA)?;
+        Ok(SampleBatch { plan, batch })
     }
 }
 
-/// A collection of the counter after a recording of 5.
-pub(crate) fn batch(alloc: Global) -> Result<Batch, Fail> {
+fn five(alloc: Global) -> Result<Batch, AllocError> {
     let mut points = Items::new(alloc);
     points.push(Point {
         set: Some([0; 8]),

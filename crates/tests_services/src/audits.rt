@@ -3,11 +3,12 @@ ghost use Rattle.std.specs.Prelude.{◌≡◌, IsTrue, length};
 ghost use Rattle.metric_provider.specs.Totals.{AreAllSeats};
 
 use crate::samples::{HITS, MAIN};
+use crate::seats::{Seats, seated};
 use crate::slots::record;
 use metric_book::{Book, JournalBook};
 use metric_marked::Marked;
 use metric_plan::Plan;
-use metric_provider::{FinishFault, NoGate, Recorder, Slot, Told, Total, settle, start};
+use metric_provider::{FinishFault, Recorder, Slot, Told, Total, settle};
 use metric_sdk::certified_plan;
 use std::alloc::Global;
 use std::sync::Wait;
@@ -47,21 +48,19 @@ fn settled_untold<R: Wait, B: Book>(
     plan: Plan,
     is_recorded: bool,
 ) -> Result<Settled, Fail>
-    requires { IsTrue plan.is_certified }
+    requires certified { IsTrue plan.is_certified }
+    requires recorder { length plan.facts.contents.recorders ≡ 1 }
+    requires one { length plan.facts.instruments ≡ 1 }
 {
-    if plan.catalogue().recorders().len() != 1 || plan.all_facts().len() != 1 {
-        return Err(Fail::from("not one recorder and one instrument"));
-    }
-    match start::<R, B, NoGate>(rt, alloc, plan, 0, 1, NoGate) {
-        Ok((provider, recorders, _)) => {
-            settled_by::<B>(alloc, provider.plan(), &recorders, is_recorded)
-        }
-        Err((_, _, refused)) => Err(Fail::from(refused)),
-    }
+    let seats: Seats<B> = seated(rt, alloc, plan, 0, 1)?;
+    settled_by::<B>(alloc, seats.provider.plan(), &seats.recorders, is_recorded)
 }
 
 fn settled<R: Wait, B: Book>(rt: &R, alloc: Global, is_recorded: bool) -> Result<Settled, Fail> {
     let plan = certified_plan(alloc, HITS, MAIN)?;
+    if plan.catalogue().recorders().len() != 1 || plan.all_facts().len() != 1 {
+        return Err(Fail::from("not one recorder and one instrument"));
+    }
     settled_untold::<R, B>(rt, alloc, plan, is_recorded)
 }
 

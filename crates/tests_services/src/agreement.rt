@@ -1,12 +1,10 @@
 //! The answers of seats in one thread beside the replies of a core.
-ghost use Rattle.std.specs.Prelude.{IsTrue};
-
 use crate::samples::{BOTH, CODES, HITS, MAIN};
-use crate::seats::{Seats, seated};
+use crate::seats::{Seats, seats_of};
 use crate::texts::write_reply;
 use metric_book::{Book, JournalBook};
 use metric_core::Core;
-use metric_history::Reply;
+use metric_history::{Event, Reply};
 use metric_marked::Marked;
 use metric_parts::{Needs, parts_of};
 use metric_plan::Plan;
@@ -36,15 +34,14 @@ fn script_in(alloc: Global, lines: &[&[u8]]) -> Result<ScriptEvents, Fail> {
     }
 }
 
-// A line for the reply of a core to each event.
-fn of_core<B: Book>(alloc: Global, plan: Plan, script: &ScriptEvents) -> Result<String, Fail> {
-    let Ok(mut core) = Core::<B>::new(alloc, plan, script.start) else {
-        return Err(Fail::from("memory"));
-    };
-    let replies = core.run(alloc, script.events.as_slice())?;
-    replies_text(alloc, &replies)
+fn core_of<B: Book>(alloc: Global, plan: Plan, since: u64) -> Result<Core<B>, Fail> {
+    match Core::new(alloc, plan, since) {
+        Ok(core) => Ok(core),
+        Err(_) => Err(Fail::from("memory")),
+    }
 }
 
+// A line for each reply.
 fn replies_text(alloc: Global, replies: &[Reply]) -> Result<String, Fail> {
     let mut out = String::new(alloc);
     for reply in replies {
@@ -53,26 +50,34 @@ fn replies_text(alloc: Global, replies: &[Reply]) -> Result<String, Fail> {
     Ok(out)
 }
 
+fn told_by<B: Book>(alloc: Global, core: &mut Core<B>, events: &[Event]) -> Result<String, Fail> {
+    let replies = core.run(alloc, events)?;
+    replies_text(alloc, &replies)
+}
+
+// A line for the reply of a core to each event.
+fn of_core<B: Book>(alloc: Global, sample: &Sample, script: &ScriptEvents) -> Result<String, Fail> {
+    let plan = certified_plan(alloc, sample.catalogue, sample.config)?;
+    let mut core: Core<B> = core_of(alloc, plan, script.start)?;
+    told_by(alloc, &mut core, script.events.as_slice())
+}
+
 // A line for the answer of a seat or the provider to each event.
 fn of_seats<R: Wait, B: Book>(
     rt: &R,
     alloc: Global,
-    plan: Plan,
+    sample: &Sample,
     script: &ScriptEvents,
-) -> Result<String, Fail>
-    requires { IsTrue plan.is_certified }
-{
-    let mut seats: Seats<B> = seated(rt, alloc, plan, script.start, 1)?;
+) -> Result<String, Fail> {
+    let mut seats: Seats<B> = seats_of(
+        rt,
+        alloc,
+        sample.catalogue,
+        sample.config,
+        script.start,
+        1,
+    )?;
     seats.told(rt, alloc, script.events.as_slice())
-}
-
-// The answers of a core and those of seats, each over its own plan.
-fn both<R: Wait, B: Book>(rt: &R, alloc: Global, sample: &Sample) -> Result<[String; 2], Fail> {
-    let script = script_of(alloc, sample.script)?;
-    let plan = certified_plan(alloc, sample.catalogue, sample.config)?;
-    let core = of_core::<B>(alloc, plan, &script)?;
-    let plan = certified_plan(alloc, sample.catalogue, sample.config)?;
-    Ok([core, of_seats::<R, B>(rt, alloc, plan, &script)?])
 }
 
 struct Sample {
@@ -198,18 +203,23 @@ accepted
     },
 ];
 
-// The first answers that are not those of the sample.
+// The first answers, of a core or of seats, that are not those of the sample.
 fn other_answers<R: Wait, B: Book>(
     rt: &R,
     alloc: Global,
     sample: &Sample,
 ) -> Result<Option<String>, Fail> {
-    for answers in both::<R, B>(rt, alloc, sample)? {
-        if answers.as_str() != sample.answers {
-            return Ok(Some(answers));
-        }
+    let script = script_of(alloc, sample.script)?;
+    let core = of_core::<B>(alloc, sample, &script)?;
+    if core.as_str() != sample.answers {
+        return Ok(Some(core));
     }
-    Ok(None)
+    let seats = of_seats::<R, B>(rt, alloc, sample, &script)?;
+    Ok(if seats.as_str() == sample.answers {
+        None
+    } else {
+        Some(seats)
+    })
 }
 
 #[test]

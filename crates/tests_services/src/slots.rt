@@ -169,13 +169,14 @@ fn answers<B: Book>(alloc: Global, plan: &Plan) -> Result<String, Fail>
     Ok(out)
 }
 
+fn told<B: Book>(alloc: Global) -> Result<String, Fail> {
+    let plan = certified_plan(alloc, PAIRS, BOTH)?;
+    answers::<B>(alloc, &plan)
+}
+
 #[test]
 fn a_slot_answers_each_call(rt: HostRuntime) -> Result<(), Fail> {
-    let plan = certified_plan(rt.alloc(), PAIRS, BOTH)?;
-    assert_eq!(rt;
-        answers::<JournalBook>(rt.alloc(), &plan)?.as_str(),
-        ANSWERS
-    );
-    assert_eq!(rt; answers::<Marked>(rt.alloc(), &plan)?.as_str(), ANSWERS);
+    assert_eq!(rt; told::<JournalBook>(rt.alloc())?.as_str(), ANSWERS);
+    assert_eq!(rt; told::<Marked>(rt.alloc())?.as_str(), ANSWERS);
     Ok(())
 }

@@ -1,12 +1,11 @@
 //! The refusals of a recording in the order in which they are tried, and that they change nothing.
 use crate::samples::{CODES, MAIN};
-use crate::seats::{Seats, seated};
+use crate::seats::{Seats, seats_of};
 use metric_book::{Book, JournalBook};
 use metric_catalogue::{Attr, Refusal};
 use metric_marked::Marked;
 use metric_names::ValueRef;
 use metric_provider::{NoGate, Provider, Recorder, Told};
-use metric_sdk::certified_plan;
 use std::alloc::Global;
 use std::process::Abort;
 use std::sync::Wait;
@@ -63,30 +62,42 @@ fn refuse_undeclared<R: Wait + Abort, B: Book>(
     }
 }
 
-fn refuse_in_order<R: Wait + Abort, B: Book>(rt: &R, alloc: Global) -> Result<(), Fail> {
-    let plan = certified_plan(alloc, CODES, MAIN)?;
-    let mut seats: Seats<B> = seated(rt, alloc, plan, 0, 1)?;
-    let Some(mut recorder) = seats.recorders.pop() else {
-        return Err(Fail::from("no recorder"));
+// A declared recording is answered so, and its recorder then told of one that was accepted.
+fn record_declared<R: Wait + Abort, B: Book>(
+    rt: &R,
+    provider: &Provider<B, NoGate>,
+    recorder: &mut Recorder,
+    answer: Result<(), Refusal>,
+) {
+    let once = Told {
+        count: 1,
+        amount: 3,
     };
+    assert_eq!(rt; recorder.record(rt, provider, 0, &[ROUTE], 3), answer);
+    assert_eq!(rt; recorder.accepted(0), Some(once));
+}
+
+fn refuse_in_turn<R: Wait + Abort, B: Book>(
+    rt: &R,
+    provider: &Provider<B, NoGate>,
+    recorder: &mut Recorder,
+) -> Result<(), Fail> {
     for (is_closed, answer) in DECLARED {
         if *is_closed {
-            seats.provider.close(rt, 0)?;
+            provider.close(rt, 0)?;
         }
-        refuse_undeclared(rt, &seats.provider, &mut recorder);
-        assert_eq!(rt;
-            recorder.record(rt, &seats.provider, 0, &[ROUTE], 3),
-            *answer
-        );
-        assert_eq!(rt;
-            recorder.accepted(0),
-            Some(Told {
-                count: 1,
-                amount: 3
-            })
-        );
+        refuse_undeclared(rt, provider, recorder);
+        record_declared(rt, provider, recorder, *answer);
     }
     Ok(())
+}
+
+fn refuse_in_order<R: Wait + Abort, B: Book>(rt: &R, alloc: Global) -> Result<(), Fail> {
+    let mut seats: Seats<B> = seats_of(rt, alloc, CODES, MAIN, 0, 1)?;
+    match seats.recorders.first_mut() {
+        Some(recorder) => refuse_in_turn(rt, &seats.provider, recorder),
+        None => Err(Fail::from("no recorder")),
+    }
 }
 
 #[test]

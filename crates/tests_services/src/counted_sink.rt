@@ -2,6 +2,7 @@
 ghost use Rattle.std.specs.Prelude.{Some};
 
 use metric_io::{Broken, CutSink, Sink};
+use std::alloc::Global;
 
 /// A sink in memory, and how often it was written or flushed.
 #[derive(Drop)]
@@ -25,6 +26,16 @@ impl CountedSink {
     pub(crate) fn taken(&self) -> &[u8] {
         self.inner.taken()
     }
+}
+
+/// A sink that has room for so many bytes, and of which flushes fail or not.
+pub(crate) fn sink_of(alloc: Global, room: Option<usize>, flushes: bool) -> CountedSink {
+    let sink = CutSink::new(alloc, room);
+    CountedSink::new(if flushes {
+        sink
+    } else {
+        sink.with_failing_flush()
+    })
 }
 
 impl Sink for CountedSink {

@@ -85,17 +85,26 @@ fn record_second<R: Wait>(
 
 type Answers = (Result<(), Refusal>, Result<(), Refusal>);
 
-// What two threads are answered by a provider of the plan.
-fn answers<R: Threads + Wait + Sync>(
+// A provider whose first instrument is held, and the seats of its recorders.
+#[derive(Drop)]
+struct HeldSeats<'a> {
+    provider: Held<'a>,
+    recorders: Vec<Recorder>,
+}
+
+fn held_seats<'a, R: Wait>(
     rt: &R,
     alloc: Global,
     plan: Plan,
-    flags: &Flags,
-) -> Result<Answers, Fail>
+    flags: &'a Flags,
+) -> Result<HeldSeats<'a>, Fail>
     requires { IsTrue plan.is_certified }
 {
-    match start::<R, Marked, Holding<'_>>(rt, alloc, plan, 0, 0, Holding { flags }) {
-        Ok((provider, seats, _)) => both_answers(rt, &provider, seats, flags),
+    match start(rt, alloc, plan, 0, 0, Holding { flags }) {
+        Ok((provider, recorders, _)) => Ok(HeldSeats {
+            provider,
+            recorders,
+        }),
         Err((_, _, refused)) => Err(Fail::from(refused)),
     }
 }
@@ -117,11 +126,23 @@ fn both_answers<R: Threads + Wait + Sync>(
     ))
 }
 
+fn answers<R: Threads + Wait + Sync>(
+    rt: &R,
+    alloc: Global,
+    flags: &Flags,
+) -> Result<Answers, Fail> {
+    let plan = certified_plan(alloc, PAIR, MAIN)?;
+    let HeldSeats {
+        provider,
+        recorders,
+    } = held_seats(rt, alloc, plan, flags)?;
+    both_answers(rt, &provider, recorders, flags)
+}
+
 #[test]
 fn second_instrument_answers_first(rt: HostRuntime) -> Result<(), Fail> {
     let flags = Flags::new();
-    let plan = certified_plan(rt.alloc(), PAIR, MAIN)?;
-    let (first, second) = answers(&rt, rt.alloc(), plan, &flags)?;
+    let (first, second) = answers(&rt, rt.alloc(), &flags)?;
     assert_eq!(rt; first, Ok(()));
     assert_eq!(rt; second, Ok(()));
     assert!(rt; flags.is_seen.load(Ordering::SeqCst));

@@ -1,10 +1,11 @@
 //! Runs of a periodic reader: what is exported, and how the run is counted.
-use crate::counted_sink::CountedSink;
-use crate::started::{Started, start_hits};
+use crate::counted_sink::sink_of;
+use crate::seats::{Seats, hit_once};
 use crate::wavering::WaveringExporter;
 use metric_export::{ExporterState, ListTicker, MetricExporter, TextExporter, Tick};
-use metric_io::CutSink;
+use metric_marked::Marked;
 use metric_periodic::{Periodic, PeriodicEnd};
+use metric_provider::{Collector, NoGate, Provider};
 use std::alloc::Global;
 use std::sync::Wait;
 use std::test::Fail;
@@ -17,14 +18,25 @@ fn end_of<R: Wait, E: MetricExporter>(
     alloc: Global,
     exporter: E,
     turns: u32,
-    from: Started,
+    provider: &Provider<Marked, NoGate>,
+    reader: Collector,
 ) -> PeriodicEnd<E> {
-    let Started {
-        provider,
-        collector,
-    } = from;
     let mut ticker = ListTicker::new(TICKS);
-    Periodic::new(exporter, turns).run(rt, alloc, &provider, collector, &mut ticker)
+    Periodic::new(exporter, turns).run(rt, alloc, provider, reader, &mut ticker)
+}
+
+// The end of a run of the delta reader, after a recording of 5.
+fn end_after_hit<R: Wait, E: MetricExporter + Drop>(
+    rt: &R,
+    alloc: Global,
+    exporter: E,
+    turns: u32,
+) -> Result<PeriodicEnd<E>, Fail> {
+    let mut seats: Seats<Marked> = hit_once(rt, alloc, 1)?;
+    match seats.collectors.pop() {
+        Some(reader) => Ok(end_of(rt, alloc, exporter, turns, &seats.provider, reader)),
+        None => Err(Fail::from("no reader")),
+    }
 }
 
 fn counts<E>(alloc: Global, end: &PeriodicEnd<E>) -> Result<String, Fail> {
@@ -49,9 +61,8 @@ const RUNS: &[(u32, u64, &str, &[(u64, usize)])] = &[
 #[test]
 fn batches_are_exported(rt: HostRuntime) -> Result<(), Fail> {
     for (turns, fails_at, wanted, taken) in RUNS {
-        let from = start_hits(&rt, rt.alloc(), 1)?;
         let exporter = WaveringExporter::new(rt.alloc(), *fails_at);
-        let end = end_of(&rt, rt.alloc(), exporter, *turns, from);
+        let end = end_after_hit(&rt, rt.alloc(), exporter, *turns)?;
         assert_eq!(rt; counts(rt.alloc(), &end)?.as_str(), *wanted);
         assert_eq!(rt; end.exporter.taken(), *taken);
     }
@@ -75,15 +86,8 @@ const WRITTEN: &[(Option<usize>, bool, &str, &str)] = &[
 #[test]
 fn texts_are_written(rt: HostRuntime) -> Result<(), Fail> {
     for (room, flushes, wanted, held) in WRITTEN {
-        let sink = CutSink::new(rt.alloc(), *room);
-        let sink = if *flushes {
-            sink
-        } else {
-            sink.with_failing_flush()
-        };
-        let from = start_hits(&rt, rt.alloc(), 1)?;
-        let exporter = TextExporter::new(CountedSink::new(sink));
-        let end = end_of(&rt, rt.alloc(), exporter, 9, from);
+        let exporter = TextExporter::new(sink_of(rt.alloc(), *room, *flushes));
+        let end = end_after_hit(&rt, rt.alloc(), exporter, 9)?;
         assert_eq!(rt; counts(rt.alloc(), &end)?.as_str(), *wanted);
         assert_eq!(rt; end.exporter.state(), ExporterState::ShutDown);
         assert_eq!(rt; end.exporter.sink().taken(), held.as_bytes());
@@ -91,15 +95,34 @@ fn texts_are_written(rt: HostRuntime) -> Result<(), Fail> {
     Ok(())
 }
 
+// The delta reader's seat of another run.
+fn stranger<R: Wait>(rt: &R, alloc: Global) -> Result<Collector, Fail> {
+    let mut other: Seats<Marked> = hit_once(rt, alloc, 2)?;
+    match other.collectors.pop() {
+        Some(reader) => Ok(reader),
+        None => Err(Fail::from("no reader")),
+    }
+}
+
+fn end_by_stranger<R: Wait>(
+    rt: &R,
+    alloc: Global,
+    provider: &Provider<Marked, NoGate>,
+) -> Result<PeriodicEnd<WaveringExporter>, Fail> {
+    let reader = stranger(rt, alloc)?;
+    let exporter = WaveringExporter::new(alloc, 0);
+    Ok(end_of(rt, alloc, exporter, 9, provider, reader))
+}
+
 // A seat of another run is refused each time, and comes back.
+fn end_of_stranger<R: Wait>(rt: &R, alloc: Global) -> Result<PeriodicEnd<WaveringExporter>, Fail> {
+    let one: Seats<Marked> = hit_once(rt, alloc, 1)?;
+    end_by_stranger(rt, alloc, &one.provider)
+}
+
 #[test]
-fn a_refused_collector_is_kept(rt: HostRuntime) -> Result<(), Fail> {
-    let from = Started {
-        provider: start_hits(&rt, rt.alloc(), 1)?.provider,
-        collector: start_hits(&rt, rt.alloc(), 2)?.collector,
-    };
-    let exporter = WaveringExporter::new(rt.alloc(), 0);
-    let end = end_of(&rt, rt.alloc(), exporter, 9, from);
+fn a_refused_reader_is_kept(rt: HostRuntime) -> Result<(), Fail> {
+    let end = end_of_stranger(&rt, rt.alloc())?;
     assert_eq!(rt; counts(rt.alloc(), &end)?.as_str(), "0 0 3 true true");
     assert!(rt; end.exporter.taken().is_empty());
     Ok(())

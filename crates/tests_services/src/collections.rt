@@ -1,12 +1,10 @@
 //! Collections of all instruments by a delta reader, beside recordings.
 use crate::samples::{BOTH, PAIR};
-use crate::seats::{Seats, seated};
-use crate::texts::batches;
+use crate::seats::{Seats, seats_of};
+use crate::texts::write_batches;
 use metric_book::{Book, JournalBook};
 use metric_history::Batch;
 use metric_marked::Marked;
-use metric_provider::Collector;
-use metric_sdk::certified_plan;
 use std::alloc::Global;
 use std::sync::Wait;
 use std::test::Fail;
@@ -45,39 +43,66 @@ fn record_all<R: Wait, B: Book>(
     Ok(())
 }
 
-// A line for each batch of a collection that is to be answered.
-fn texts<F: Drop>(alloc: Global, collected: Result<Vec<Batch>, F>) -> Result<String, Fail> {
+// Writes a line for each batch of a collection that is to be answered.
+fn write_all<F: Drop>(out: &mut String, collected: Result<Vec<Batch>, F>) -> Result<(), Fail> {
     match collected {
-        Ok(collected) => batches(alloc, &collected),
+        Ok(collected) => write_batches(out, &collected),
         Err(_) => Err(Fail::from("refused")),
     }
 }
 
-// The batches of a collection that comes after these recordings.
-fn collected<R: Wait, B: Book>(
+// Writes the batches of a collection by the delta reader.
+fn write_collected<R: Wait, B: Book>(
+    out: &mut String,
     rt: &R,
     alloc: Global,
     seats: &mut Seats<B>,
-    reader: &mut Collector,
-    recordings: &[Recording],
     now: u64,
-) -> Result<String, Fail> {
-    record_all(rt, seats, recordings)?;
-    texts(alloc, reader.collect_all(rt, alloc, &seats.provider, now))
-}
-
-// The batches of two collections by the delta reader, and of its last one.
-fn told<R: Wait, B: Book>(rt: &R, alloc: Global) -> Result<String, Fail> {
-    let plan = certified_plan(alloc, PAIR, BOTH)?;
-    let mut seats: Seats<B> = seated(rt, alloc, plan, 0, 1)?;
-    let Some(mut reader) = seats.collectors.pop() else {
+) -> Result<(), Fail> {
+    let Some(reader) = seats.collectors.last_mut() else {
         return Err(Fail::from("no reader"));
     };
-    let first = collected(rt, alloc, &mut seats, &mut reader, FIRST, 10)?;
-    let second = collected(rt, alloc, &mut seats, &mut reader, SECOND, 20)?;
-    record_all(rt, &mut seats, THIRD)?;
-    let last = texts(alloc, reader.shutdown(rt, alloc, &seats.provider, 30))?;
-    Ok(format!(in alloc; "{first}{second}{last}")?)
+    write_all(out, reader.collect_all(rt, alloc, &seats.provider, now))
+}
+
+// Writes the batches of the delta reader's last collection.
+fn write_last<R: Wait, B: Book>(
+    out: &mut String,
+    rt: &R,
+    alloc: Global,
+    seats: &mut Seats<B>,
+    now: u64,
+) -> Result<(), Fail> {
+    let Some(reader) = seats.collectors.pop() else {
+        return Err(Fail::from("no reader"));
+    };
+    write_all(out, reader.shutdown(rt, alloc, &seats.provider, now))
+}
+
+// Writes the batches of two collections by the delta reader, and of its last one.
+fn write_told<R: Wait, B: Book>(
+    out: &mut String,
+    rt: &R,
+    alloc: Global,
+    seats: &mut Seats<B>,
+) -> Result<(), Fail> {
+    record_all(rt, seats, FIRST)?;
+    write_collected(out, rt, alloc, seats, 10)?;
+    record_all(rt, seats, SECOND)?;
+    write_collected(out, rt, alloc, seats, 20)?;
+    record_all(rt, seats, THIRD)?;
+    write_last(out, rt, alloc, seats, 30)
+}
+
+fn write_run<R: Wait, B: Book>(out: &mut String, rt: &R, alloc: Global) -> Result<(), Fail> {
+    let mut seats: Seats<B> = seats_of(rt, alloc, PAIR, BOTH, 0, 1)?;
+    write_told(out, rt, alloc, &mut seats)
+}
+
+fn told<R: Wait, B: Book>(rt: &R, alloc: Global) -> Result<String, Fail> {
+    let mut out = String::new(alloc);
+    write_run::<R, B>(&mut out, rt, alloc)?;
+    Ok(out)
 }
 
 #[test]

@@ -1,10 +1,11 @@
 //! Runs of calls on exporters: what each call answers, and what the sink took.
-use crate::counted_sink::CountedSink;
-use crate::samples::{TEXT, batch, plan};
+use crate::counted_sink::sink_of;
+use crate::sample_batch::{SampleBatch, TEXT};
 use crate::wavering::WaveringExporter;
 use metric_export::{ExportFault, ExporterState, MetricExporter, TextExporter, write_batch};
 use metric_io::CutSink;
 use std::alloc::Global;
+use std::process::Abort;
 use std::test::Fail;
 
 #[derive(Clone, Copy)]
@@ -17,13 +18,14 @@ enum Call {
 fn answer_to<E: MetricExporter>(
     alloc: Global,
     exporter: &mut E,
+    sample: &SampleBatch,
     call: Call,
-) -> Result<Result<(), ExportFault>, Fail> {
-    Ok(match call {
-        Call::Export => exporter.export(alloc, &plan(alloc)?, &batch(alloc)?),
+) -> Result<(), ExportFault> {
+    match call {
+        Call::Export => exporter.export(alloc, &sample.plan, &sample.batch),
         Call::Flush => exporter.force_flush(),
         Call::ShutDown => exporter.shutdown(),
-    })
+    }
 }
 
 fn push_answer(out: &mut String, answer: Result<(), ExportFault>) -> Result<(), Fail> {
@@ -38,23 +40,14 @@ fn push_answer(out: &mut String, answer: Result<(), ExportFault>) -> Result<(), 
 fn answers<E: MetricExporter>(
     alloc: Global,
     exporter: &mut E,
+    sample: &SampleBatch,
     calls: &[Call],
 ) -> Result<String, Fail> {
     let mut out = String::new(alloc);
     for call in calls {
-        push_answer(&mut out, answer_to(alloc, exporter, *call)?)?;
+        push_answer(&mut out, answer_to(alloc, exporter, sample, *call))?;
     }
     Ok(out)
-}
-
-// A sink that has room for so many bytes, and of which flushes fail or not.
-fn sink_of(alloc: Global, room: Option<usize>, flushes: bool) -> CountedSink {
-    let sink = CutSink::new(alloc, room);
-    CountedSink::new(if flushes {
-        sink
-    } else {
-        sink.with_failing_flush()
-    })
 }
 
 // Calls of an exporter over a sink that has so much room and flushes or not, and what comes of them: the answers, the
@@ -134,56 +127,82 @@ const RUNS: &[Run] = &[
     },
 ];
 
+// The calls of a run come to what it says.
+fn assert_run<R: Abort>(
+    rt: &R,
+    alloc: Global,
+    sample: &SampleBatch,
+    run: &Run,
+) -> Result<(), Fail> {
+    let mut exporter = TextExporter::new(sink_of(alloc, run.room, run.flushes));
+    let told = answers(alloc, &mut exporter, sample, run.calls)?;
+    assert_eq!(rt; told.as_str(), run.answers);
+    assert_eq!(rt; exporter.state(), run.state);
+    assert_eq!(rt; exporter.sink().calls(), run.called);
+    let sink = exporter.into_inner();
+    assert_eq!(rt; sink.taken().len(), run.held);
+    Ok(())
+}
+
 #[test]
 fn texts_are_exported(rt: HostRuntime) -> Result<(), Fail> {
+    let sample = SampleBatch::new(rt.alloc())?;
     for run in RUNS {
-        let mut exporter = TextExporter::new(sink_of(rt.alloc(), run.room, run.flushes));
-        let told = answers(rt.alloc(), &mut exporter, run.calls)?;
-        assert_eq!(rt; told.as_str(), run.answers);
-        assert_eq!(rt; exporter.state(), run.state);
-        assert_eq!(rt; exporter.sink().calls(), run.called);
-        let sink = exporter.into_inner();
-        assert_eq!(rt; sink.taken().len(), run.held);
+        assert_run(&rt, rt.alloc(), &sample, run)?;
     }
+    Ok(())
+}
+
+// A sink that has so much room takes the front of the text.
+fn assert_front<R: Abort>(
+    rt: &R,
+    alloc: Global,
+    sample: &SampleBatch,
+    room: usize,
+) -> Result<(), Fail> {
+    let mut exporter = TextExporter::new(sink_of(alloc, Some(room), true));
+    let told = answers(alloc, &mut exporter, sample, &[Call::Export])?;
+    assert_eq!(rt; told.as_str() == "ok ", room == TEXT.len());
+    assert_eq!(rt; Some(exporter.sink().taken()), TEXT.as_bytes().get(..room));
     Ok(())
 }
 
 #[test]
 fn what_was_written_is_the_front_of_the_text(rt: HostRuntime) -> Result<(), Fail> {
+    let sample = SampleBatch::new(rt.alloc())?;
     for room in [0, 1, 20, TEXT.len() - 1, TEXT.len()] {
-        let mut exporter = TextExporter::new(sink_of(rt.alloc(), Some(room), true));
-        let told = answers(rt.alloc(), &mut exporter, &[Call::Export])?;
-        assert_eq!(rt; told.as_str() == "ok ", room == TEXT.len());
-        assert_eq!(rt; exporter.sink().taken(), &TEXT.as_bytes()[..room]);
+        assert_front(&rt, rt.alloc(), &sample, room)?;
     }
     Ok(())
 }
 
+const WAVERING: &[Call] = &[
+    Call::Export,
+    Call::Export,
+    Call::Export,
+    Call::Flush,
+    Call::ShutDown,
+    Call::Export,
+];
+
+fn wavering_answers(alloc: Global, sample: &SampleBatch) -> Result<String, Fail> {
+    let mut exporter = WaveringExporter::new(alloc, 2);
+    answers(alloc, &mut exporter, sample, WAVERING)
+}
+
 #[test]
 fn an_exporter_may_go_on(rt: HostRuntime) -> Result<(), Fail> {
-    let mut exporter = WaveringExporter::new(rt.alloc(), 2);
-    let calls = [
-        Call::Export,
-        Call::Export,
-        Call::Export,
-        Call::Flush,
-        Call::ShutDown,
-        Call::Export,
-    ];
-    let told = answers(rt.alloc(), &mut exporter, &calls)?;
+    let sample = SampleBatch::new(rt.alloc())?;
+    let told = wavering_answers(rt.alloc(), &sample)?;
     assert_eq!(rt; told.as_str(), "ok 1 Write ok ok ok 2 ShutDown ");
     Ok(())
 }
 
 #[test]
 fn a_batch_is_written(rt: HostRuntime) -> Result<(), Fail> {
+    let sample = SampleBatch::new(rt.alloc())?;
     let mut sink = CutSink::new(rt.alloc(), None).in_pieces(7);
-    let answer = write_batch(
-        rt.alloc(),
-        &mut sink,
-        &plan(rt.alloc())?,
-        &batch(rt.alloc())?,
-    );
+    let answer = write_batch(rt.alloc(), &mut sink, &sample.plan, &sample.batch);
     assert_eq!(rt; answer, Ok(()));
     assert_eq!(rt; sink.taken(), TEXT.as_bytes());
     Ok(())

@@ -1,12 +1,16 @@
 //! A provider with its seats, and what they answer to events.
-ghost use Rattle.std.specs.Prelude.{IsTrue};
+ghost use Rattle.std.specs.Prelude.{◌≡◌, IfOk, IsTrue, length, map};
+ghost use Rattle.std.specs.List.{range_with_len};
+ghost use Rattle.metric_provider.specs.Seats.{new_recorder, provider_of};
 
+use crate::samples::{BOTH, HITS};
 use crate::texts::write_reply;
 use metric_book::Book;
 use metric_catalogue::{Attr, OwnedAttr};
 use metric_history::{Event, Reply};
 use metric_plan::Plan;
-use metric_provider::{Collector, NoGate, Provider, Recorder, start};
+use metric_provider::{Collector, FinishFault, NoGate, Provider, Recorder, Totals, start};
+use metric_sdk::certified_plan;
 use std::alloc::{AllocError, Global};
 use std::sync::Wait;
 use std::test::Fail;
@@ -28,6 +32,10 @@ pub(crate) fn seated<R: Wait, B: Book>(
     run: u64,
 ) -> Result<Seats<B>, Fail>
     requires { IsTrue plan.is_certified }
+    ensures provider { IfOk result (λ seats. seats.provider ≡ provider_of plan run) }
+    ensures recorders { IfOk result (λ seats. seats.recorders.items
+        ≡ map (new_recorder run (length plan.facts.instruments))
+        (range_with_len 0 (length plan.facts.contents.recorders))) }
 {
     match start(rt, alloc, plan, since, run, NoGate) {
         Ok((provider, recorders, collectors)) => Ok(Seats {
@@ -37,6 +45,30 @@ pub(crate) fn seated<R: Wait, B: Book>(
         }),
         Err((_, _, refused)) => Err(Fail::from(refused)),
     }
+}
+
+/// A provider of a catalogue and a config, with its seats.
+pub(crate) fn seats_of<R: Wait, B: Book>(
+    rt: &R,
+    alloc: Global,
+    catalogue: &str,
+    config: &str,
+    since: u64,
+    run: u64,
+) -> Result<Seats<B>, Fail> {
+    let plan = certified_plan(alloc, catalogue, config)?;
+    seated(rt, alloc, plan, since, run)
+}
+
+/// A counter for two readers, in the run of a number, after a recording of 5.
+pub(crate) fn hit_once<R: Wait, B: Book>(
+    rt: &R,
+    alloc: Global,
+    run: u64,
+) -> Result<Seats<B>, Fail> {
+    let mut seats: Seats<B> = seats_of(rt, alloc, HITS, BOTH, 0, run)?;
+    seats.hit(rt)?;
+    Ok(seats)
 }
 
 fn borrowed(alloc: Global, owned: &[OwnedAttr]) -> Result<Vec<Attr<'_>>, AllocError> {
@@ -51,6 +83,14 @@ fn borrowed(alloc: Global, owned: &[OwnedAttr]) -> Result<Vec<Attr<'_>>, AllocEr
 }
 
 impl<B: Book> Seats<B> {
+    // A recording of 5 that is to be accepted.
+    fn hit<R: Wait>(&mut self, rt: &R) -> Result<(), Fail> {
+        match self.record(rt, 0, 0, &[], 5)? {
+            Reply::Accepted => Ok(()),
+            _ => Err(Fail::from("not accepted")),
+        }
+    }
+
     /// The answer to a recording by the recorder of a number.
     pub(crate) fn record<R: Wait>(
         &mut self,
@@ -132,5 +172,37 @@ impl<B: Book> Seats<B> {
             write_reply(&mut out, &self.answer(rt, alloc, event)?)?;
         }
         Ok(out)
+    }
+
+    /// What the recordings come to, or the fault with all that is handed back.
+    pub(crate) fn finish<R: Wait>(
+        self,
+        rt: &R,
+        alloc: Global,
+    ) -> Result<Totals, (Seats<B>, FinishFault)> {
+        let Seats {
+            provider,
+            recorders,
+            collectors,
+        } = self;
+        match provider.finish(rt, alloc, recorders) {
+            Ok(totals) => Ok(totals),
+            Err((provider, recorders, fault)) => {
+                let seats = Seats {
+                    provider,
+                    recorders,
+                    collectors,
+                };
+                Err((seats, fault))
+            }
+        }
+    }
+
+    /// What the recordings come to.
+    pub(crate) fn totals<R: Wait>(self, rt: &R, alloc: Global) -> Result<Totals, Fail> {
+        match self.finish(rt, alloc) {
+            Ok(totals) => Ok(totals),
+            Err((_, fault)) => Err(Fail::from(fault)),
+        }
     }
 }

@@ -2,7 +2,6 @@
 use metric_aggregate::PointValue;
 use metric_catalogue::Refusal;
 use metric_history::{Batch, Point, Reply};
-use std::alloc::Global;
 use std::test::Fail;
 
 // The set key and the sum of a point; only sums are recorded here.
@@ -66,11 +65,10 @@ pub(crate) fn write_reply(out: &mut String, reply: &Reply) -> Result<(), Fail> {
     }
 }
 
-/// A line for each batch.
-pub(crate) fn batches(alloc: Global, batches: &[Batch]) -> Result<String, Fail> {
-    let mut out = String::new(alloc);
+/// Writes a line for each batch.
+pub(crate) fn write_batches(out: &mut String, batches: &[Batch]) -> Result<(), Fail> {
     for batch in batches {
-        write_batch(&mut out, batch)?;
+        write_batch(out, batch)?;
     }
-    Ok(out)
+    Ok(())
 }
