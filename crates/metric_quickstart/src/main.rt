@@ -41,23 +41,29 @@ fn main(rt: HostRuntime) -> anyhow::Result<()> {
 fn run<R: Wait + Print>(rt: &R, alloc: Global, plan: Plan) -> anyhow::Result<()>
     requires { IsTrue plan.is_certified }
 {
-    let Ok((provider, recorders, collectors)) = start::<R, Marked, NoGate>(
-        rt, alloc, plan, 0, 0, NoGate,
-    ) else {
-        bail!("no memory");
-    };
-    sell(rt, alloc, &provider, recorders, collectors)
+    match start::<R, Marked, NoGate>(rt, alloc, plan, 0, 0, NoGate) {
+        Ok((provider, mut recorders, mut collectors)) => {
+            serve(rt, alloc, &provider, &mut recorders, &mut collectors)
+        }
+        Err(_) => bail!("no memory"),
+    }
 }
 
-// Records each order, collects the counter 1,000 nanoseconds after the start, and prints the batch.
-fn sell<R: Wait + Print>(
+fn serve<R: Wait + Print>(
     rt: &R,
     alloc: Global,
     provider: &MeterProvider,
-    mut recorders: Vec<Recorder>,
-    mut collectors: Vec<Collector>,
+    recorders: &mut [Recorder],
+    collectors: &mut [Collector],
 ) -> anyhow::Result<()> {
-    let mut recorder = recorders.pop().context("no recorder")?;
+    let recorder = recorders.first_mut().context("no recorder")?;
+    sell(rt, provider, recorder)?;
+    let collector = collectors.first_mut().context("no reader")?;
+    print_orders(rt, alloc, provider, collector)
+}
+
+// Records each order.
+fn sell<R: Wait>(rt: &R, provider: &MeterProvider, recorder: &mut Recorder) -> anyhow::Result<()> {
     for (country, articles) in ORDERS {
         let country = Attr {
             key: "country",
@@ -65,7 +71,16 @@ fn sell<R: Wait + Print>(
         };
         recorder.record(rt, provider, 0, &[country], articles)?;
     }
-    let mut collector = collectors.pop().context("no reader")?;
+    Ok(())
+}
+
+// Collects the counter 1,000 nanoseconds after the start, and prints the batch.
+fn print_orders<R: Wait + Print>(
+    rt: &R,
+    alloc: Global,
+    provider: &MeterProvider,
+    collector: &mut Collector,
+) -> anyhow::Result<()> {
     let batch = collector.collect(rt, alloc, provider, 0, 1_000)?;
     let mut sink = StdSink::new(io::writer(rt));
     write_batch(alloc, &mut sink, provider.plan(), &batch)?;

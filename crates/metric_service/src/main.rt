@@ -10,8 +10,8 @@ mod worker;
 
 use anyhow::bail;
 use metric_sdk::{
-    ClockTicker, Collector, Marked, MeterProvider, NoGate, Periodic, Plan, Recorder, StdSink,
-    StopFlag, TextExporter, certified_plan, start, write_batch,
+    Batch, ClockTicker, Collector, Marked, MeterProvider, NoGate, Periodic, Plan, Recorder,
+    StdSink, StopFlag, TextExporter, Total, certified_plan, start, write_batch,
 };
 use std::alloc::Global;
 use std::io::{self, Stderr};
@@ -64,18 +64,31 @@ where
     R: Threads + Wait + Clock + Print + Sync,
     requires { IsTrue plan.is_certified }
 {
-    let Ok((provider, recorders, mut collectors)) = start::<R, Marked, NoGate>(
-        rt, alloc, plan, START, RUN, NoGate,
-    ) else {
-        bail!("no memory for a provider");
-    };
+    match start::<R, Marked, NoGate>(rt, alloc, plan, START, RUN, NoGate) {
+        Ok((provider, recorders, mut collectors)) => {
+            let recorders = serve_all(rt, alloc, &provider, recorders, &mut collectors, log)?;
+            print_totals(rt, alloc, provider, recorders)
+        }
+        Err(_) => bail!("no memory for a provider"),
+    }
+}
+
+// Serves until the workers have ended, and collects a last time. The seats of the workers.
+fn serve_all<R: Threads + Wait + Clock + Print + Sync>(
+    rt: &R,
+    alloc: Global,
+    provider: &MeterProvider,
+    recorders: Vec<Recorder>,
+    collectors: &mut Vec<Collector>,
+    log: Log,
+) -> anyhow::Result<Vec<Recorder>> {
     // The readers stand in the order of the config.
     let (Some(reader), Some(last)) = (collectors.pop(), collectors.pop()) else {
         bail!("the config needs two readers");
     };
-    let recorders = serve(rt, alloc, &provider, recorders, reader, log)?;
-    print_last(rt, alloc, &provider, last)?;
-    print_totals(rt, alloc, provider, recorders)
+    let recorders = serve(rt, alloc, provider, recorders, reader, log)?;
+    print_last(rt, alloc, provider, last)?;
+    Ok(recorders)
 }
 
 // Lets each worker serve in a thread of its own, and exports in one more until they have ended. The seats of the workers.
@@ -117,12 +130,21 @@ fn print_last<R: Wait + Print>(
     provider: &MeterProvider,
     last: Collector,
 ) -> anyhow::Result<()> {
-    let Ok(batches) = last.shutdown(rt, alloc, provider, END) else {
-        bail!("no memory for the last collection");
-    };
+    match last.shutdown(rt, alloc, provider, END) {
+        Ok(batches) => print_batches(rt, alloc, provider.plan(), &batches),
+        Err(_) => bail!("no memory for the last collection"),
+    }
+}
+
+fn print_batches<R: Print>(
+    rt: &R,
+    alloc: Global,
+    plan: &Plan,
+    batches: &[Batch],
+) -> anyhow::Result<()> {
     let mut sink = StdSink::new(io::writer(rt));
-    for batch in batches.iter() {
-        write_batch(alloc, &mut sink, provider.plan(), batch)?;
+    for batch in batches {
+        write_batch(alloc, &mut sink, plan, batch)?;
     }
     Ok(())
 }
@@ -134,11 +156,14 @@ fn print_totals<R: Wait + Print>(
     provider: MeterProvider,
     recorders: Vec<Recorder>,
 ) -> anyhow::Result<()> {
-    let totals = match provider.finish(rt, alloc, recorders) {
-        Ok(totals) => totals,
+    match provider.finish(rt, alloc, recorders) {
+        Ok(totals) => print_each(rt, &totals.instruments),
         Err((_, _, fault)) => bail!("{fault}"),
-    };
-    for (number, total) in totals.instruments.iter().enumerate() {
+    }
+}
+
+fn print_each<R: Print>(rt: &R, totals: &[Total]) -> anyhow::Result<()> {
+    for (number, total) in totals.iter().enumerate() {
         let (count, sum) = (total.count, total.sum);
         println!(rt; "instrument {number}: {count} recordings, sum {sum}")?;
     }
