@@ -1,5 +1,6 @@
 //! Command lines: those that are taken, and the words that are refused.
 use metric_command::{Line, LineFault, command_of, lines_are_taken, others_are_refused};
+use std::alloc::{AllocError, Global};
 use std::test::Fail;
 
 const TRIAL: Result<Line, LineFault> = Ok(Line::Replay { trial: true });
@@ -69,11 +70,16 @@ const LINES: &[(&str, Result<Line, LineFault>)] = &[
     ("metric_kit replay --each 1", MISUSE),
 ];
 
+// What a text is as a command line.
+fn line_of(alloc: Global, text: &str) -> Result<Result<Line, LineFault>, AllocError> {
+    let words: Vec<&str> = text.split(' ').collect(alloc)?;
+    Ok(command_of(alloc, &words))
+}
+
 #[test]
 fn a_command_line_is_read_or_is_a_misuse(rt: HostRuntime) -> Result<(), Fail> {
     for (text, line) in LINES {
-        let words: Vec<&str> = text.split(' ').collect(rt.alloc())?;
-        assert_eq!(rt; command_of(rt.alloc(), &words), *line, "{text}");
+        assert_eq!(rt; line_of(rt.alloc(), text)?, *line, "{text}");
     }
     Ok(())
 }
@@ -88,7 +94,7 @@ fn a_line_without_the_name_asks_for_a_trial(rt: HostRuntime) {
 #[test]
 fn each_fault_has_its_text(rt: HostRuntime) -> Result<(), Fail> {
     for (fault, text) in [(LineFault::Usage, "usage"), (LineFault::Memory, "memory")] {
-        assert_eq!(rt; format!(in rt.alloc(); "{fault}")?.as_str(), text);
+        assert_eq!(rt; fault.to_string(rt.alloc())?.as_str(), text);
     }
     Ok(())
 }

@@ -3,6 +3,7 @@ use metric_io::{
     Broken, CutSink, CutSource, MAX_BYTES, ReadFault, Sink, Source, SourceFault, StdSink,
     StdSource, read_all, write_all,
 };
+use std::alloc::{AllocError, Global};
 use std::io;
 use std::io::{ErrorKind, Read, Write};
 use std::test::Fail;
@@ -79,29 +80,89 @@ impl Write for Full {
     }
 }
 
-// Bytes, the read that fails, the one that is interrupted, the most of one read; whether all is read, after how many
-// reads, and what is left.
-const READS: &[(&[u8], Option<u64>, u64, usize, bool, u64, &[u8])] = &[
-    (b"", None, 0, 3, true, 1, b""),
-    (ALPHABET, None, 0, 3, true, 10, b""),
-    (ALPHABET, None, 3, 10, true, 5, b""),
-    (ALPHABET, Some(3), 2, 10, false, 3, b"klmnopqrstuvwxyz"),
-    (ALPHABET, Some(3), 0, 10, false, 3, b"uvwxyz"),
-    (ALPHABET, Some(1), 1, 10, false, 1, ALPHABET),
+// An input and what is read of it.
+struct Reading {
+    bytes: &'static [u8],
+    // The read that fails, and the one that is interrupted.
+    fail_at: Option<u64>,
+    interrupt_at: u64,
+    most_at_once: usize,
+    is_whole: bool,
+    reads: u64,
+    rest: &'static [u8],
+}
+
+const WHOLE: Reading = Reading {
+    bytes: ALPHABET,
+    fail_at: None,
+    interrupt_at: 0,
+    most_at_once: 10,
+    is_whole: true,
+    reads: 10,
+    rest: b"",
+};
+
+const READS: &[Reading] = &[
+    Reading {
+        bytes: b"",
+        most_at_once: 3,
+        reads: 1,
+        ..WHOLE
+    },
+    Reading {
+        most_at_once: 3,
+        ..WHOLE
+    },
+    Reading {
+        interrupt_at: 3,
+        reads: 5,
+        ..WHOLE
+    },
+    Reading {
+        fail_at: Some(3),
+        interrupt_at: 2,
+        is_whole: false,
+        reads: 3,
+        rest: b"klmnopqrstuvwxyz",
+        ..WHOLE
+    },
+    Reading {
+        fail_at: Some(3),
+        is_whole: false,
+        reads: 3,
+        rest: b"uvwxyz",
+        ..WHOLE
+    },
+    Reading {
+        fail_at: Some(1),
+        interrupt_at: 1,
+        is_whole: false,
+        reads: 1,
+        rest: ALPHABET,
+        ..WHOLE
+    },
 ];
+
+fn source_of(reading: &Reading) -> CutSource<'static> {
+    CutSource::new(reading.bytes, reading.fail_at)
+        .in_pieces(reading.most_at_once.max(1))
+        .interrupted_at(reading.interrupt_at)
+}
+
+// Whether an input is read so.
+fn is_read(alloc: Global, source: &mut CutSource<'_>, reading: &Reading) -> bool {
+    match read_all(alloc, source) {
+        Ok(all) => reading.is_whole && all.as_slice() == reading.bytes,
+        Err(fault) => !reading.is_whole && fault == ReadFault::Read,
+    }
+}
 
 #[test]
 fn an_input_is_read_whole_or_up_to_a_failure(rt: HostRuntime) {
-    for (bytes, fail_at, interrupt_at, most, is_whole, reads, rest) in READS {
-        let mut source = CutSource::new(bytes, *fail_at)
-            .in_pieces((*most).max(1))
-            .interrupted_at(*interrupt_at);
-        match read_all(rt.alloc(), &mut source) {
-            Ok(all) => assert!(rt; *is_whole && all.as_slice() == *bytes),
-            Err(fault) => assert!(rt; !*is_whole && fault == ReadFault::Read),
-        }
-        assert_eq!(rt; source.reads(), *reads);
-        assert_eq!(rt; source.rest(), *rest);
+    for reading in READS {
+        let mut source = source_of(reading);
+        assert!(rt; is_read(rt.alloc(), &mut source, reading));
+        assert!(rt; source.reads() == reading.reads && source.rest() == reading.rest);
     }
 }
 
@@ -121,40 +182,69 @@ fn a_source_that_failed_goes_on_failing(rt: HostRuntime) {
     }
 }
 
-#[test]
-fn what_a_signal_interrupts_is_tried_again(rt: HostRuntime) -> Result<(), Fail> {
+fn read_with_halts(alloc: Global) -> Result<Vec<u8>, ReadFault> {
     let mut source = StdSource::new(Halting {
         is_halted: false,
         device: ALPHABET,
     });
-    assert_eq!(rt; read_all(rt.alloc(), &mut source)?.as_slice(), ALPHABET);
+    read_all(alloc, &mut source)
+}
+
+#[test]
+fn a_read_that_a_signal_interrupts_is_tried_again(rt: HostRuntime) -> Result<(), Fail> {
+    assert_eq!(rt; read_with_halts(rt.alloc())?.as_slice(), ALPHABET);
+    Ok(())
+}
+
+// A vector to which the alphabet was written.
+fn written_with_halts(alloc: Global) -> Result<Vec<u8>, Broken> {
     let mut sink = StdSink::new(Halting {
         is_halted: false,
-        device: Vec::new(rt.alloc()),
+        device: Vec::new(alloc),
     });
-    write_all(&mut sink, ALPHABET)?;
-    sink.flush()?;
-    assert_eq!(rt; sink.into_inner().device.as_slice(), ALPHABET);
+    write_and_flush(&mut sink)?;
+    Ok(sink.into_inner().device)
+}
+
+fn write_and_flush<S: Sink>(sink: &mut S) -> Result<(), Broken> {
+    write_all(sink, ALPHABET)?;
+    sink.flush()
+}
+
+#[test]
+fn a_write_that_a_signal_interrupts_is_tried_again(rt: HostRuntime) -> Result<(), Fail> {
+    assert_eq!(rt; written_with_halts(rt.alloc())?.as_slice(), ALPHABET);
     Ok(())
+}
+
+// How many bytes are read, where they are read whole.
+fn length_read<S: Source>(alloc: Global, source: &mut S) -> Option<usize> {
+    match read_all(alloc, source) {
+        Ok(all) => Some(all.len()),
+        Err(_) => None,
+    }
 }
 
 #[test]
 fn an_input_may_have_as_many_bytes_as_the_limit(rt: HostRuntime) {
     for (more, read) in [(0, Some(MAX_BYTES)), (1, None)] {
         let bytes = io::repeat(b'a').take(MAX_BYTES as u64 + more);
-        let all = read_all(rt.alloc(), &mut StdSource::new(bytes));
-        assert_eq!(rt; all.ok().map(|all| all.len()), read);
+        assert_eq!(rt; length_read(rt.alloc(), &mut StdSource::new(bytes)), read);
     }
+}
+
+// How many of so many bytes are read one by one, and by how many reads.
+fn read_by_bytes(alloc: Global, count: usize) -> Result<(Option<usize>, u64), AllocError> {
+    let bytes = vec![in alloc; b'a'; count]?;
+    let mut source = CutSource::new(&bytes, None).in_pieces(1);
+    let length = length_read(alloc, &mut source);
+    Ok((length, source.reads()))
 }
 
 #[test]
 fn the_read_that_finds_the_end_is_one_of_the_limit(rt: HostRuntime) -> Result<(), Fail> {
     for (count, read) in [(4_194_303, Some(4_194_303)), (4_194_304, None)] {
-        let bytes = vec![in rt.alloc(); b'a'; count]?;
-        let mut source = CutSource::new(&bytes, None).in_pieces(1);
-        let all = read_all(rt.alloc(), &mut source);
-        assert_eq!(rt; all.ok().map(|all| all.len()), read);
-        assert_eq!(rt; source.reads(), 4_194_304);
+        assert_eq!(rt; read_by_bytes(rt.alloc(), count)?, (read, 4_194_304));
     }
     Ok(())
 }
@@ -163,9 +253,12 @@ fn the_read_that_finds_the_end_is_one_of_the_limit(rt: HostRuntime) -> Result<()
 fn readers_of_std_are_sources(rt: HostRuntime) {
     let mut source = StdSource::new(ALPHABET);
     let mut first = [0; 4];
-    assert_eq!(rt; source.read(&mut first), Ok(4));
-    assert_eq!(rt; first.as_slice(), b"abcd".as_slice());
+    assert!(rt; source.read(&mut first) == Ok(4) && first == *b"abcd");
     assert_eq!(rt; source.into_inner(), &ALPHABET[4..]);
+}
+
+#[test]
+fn a_reader_without_its_device_fails(rt: HostRuntime) {
     let fault = read_all(rt.alloc(), &mut StdSource::new(Unplugged)).err();
     assert_eq!(rt; fault, Some(ReadFault::Read));
 }
@@ -180,35 +273,50 @@ const WRITES: &[(Option<usize>, usize, &[u8])] = &[
     (Some(20), 26, b"abcdefghijklmnopqrst"),
 ];
 
+// Whether a sink takes so much of the alphabet, and tells whether it took all.
+fn takes(sink: &mut CutSink, taken: &[u8]) -> bool {
+    let is_whole = write_all(sink, ALPHABET).is_ok();
+    sink.taken() == taken && is_whole == (taken == ALPHABET)
+}
+
 #[test]
 fn a_sink_takes_all_or_fails_after_a_prefix(rt: HostRuntime) {
     for (room, most, taken) in WRITES {
         let mut sink = CutSink::new(rt.alloc(), *room).in_pieces(*most);
-        let is_whole = write_all(&mut sink, ALPHABET).is_ok();
-        assert_eq!(rt; sink.taken(), *taken);
-        assert_eq!(rt; is_whole, *taken == ALPHABET);
+        assert!(rt; takes(&mut sink, taken));
     }
 }
 
+// Whether a full sink whose flush fails refuses a byte, and takes none.
+fn fails_to_flush(sink: &mut CutSink) -> bool {
+    sink.flush() == Err(Broken) && sink.write(b"d") == Err(Broken) && sink.write(b"") == Ok(0)
+}
+
 #[test]
-fn a_flush_fails_apart_from_the_writes(rt: HostRuntime) -> Result<(), Fail> {
+fn a_flush_fails_apart_from_the_writes(rt: HostRuntime) {
     let mut sink = CutSink::new(rt.alloc(), Some(3)).with_failing_flush();
-    write_all(&mut sink, b"abc")?;
-    assert_eq!(rt; sink.flush(), Err(Broken));
-    assert_eq!(rt; sink.write(b"d"), Err(Broken));
-    assert_eq!(rt; sink.write(b""), Ok(0));
+    assert!(rt; write_all(&mut sink, b"abc").is_ok() && fails_to_flush(&mut sink));
     assert_eq!(rt; sink.taken(), b"abc".as_slice());
-    Ok(())
+}
+
+fn written(alloc: Global) -> Result<Vec<u8>, Broken> {
+    let mut sink = StdSink::new(Vec::new(alloc));
+    write_and_flush(&mut sink)?;
+    Ok(sink.into_inner())
 }
 
 #[test]
 fn writers_of_std_are_sinks(rt: HostRuntime) -> Result<(), Fail> {
-    let mut sink = StdSink::new(Vec::new(rt.alloc()));
-    write_all(&mut sink, ALPHABET)?;
-    sink.flush()?;
-    assert_eq!(rt; sink.into_inner().as_slice(), ALPHABET);
-    assert_eq!(rt; StdSink::new(Unplugged).flush(), Err(Broken));
-    assert_eq!(rt; write_all(&mut StdSink::new(Unplugged), b"a"), Err(Broken));
-    assert_eq!(rt; write_all(&mut StdSink::new(Full), b"a"), Err(Broken));
+    assert_eq!(rt; written(rt.alloc())?.as_slice(), ALPHABET);
     Ok(())
+}
+
+fn is_broken<S: Sink>(sink: &mut S) -> bool {
+    write_all(sink, b"a") == Err(Broken)
+}
+
+#[test]
+fn writers_that_fail_are_broken(rt: HostRuntime) {
+    assert_eq!(rt; StdSink::new(Unplugged).flush(), Err(Broken));
+    assert!(rt; is_broken(&mut StdSink::new(Unplugged)) && is_broken(&mut StdSink::new(Full)));
 }

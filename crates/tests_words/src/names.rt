@@ -3,16 +3,20 @@ use metric_base::{Copied, Text, is_same};
 use metric_names::{
     AttrValue, Name, NameFault, Unit, UnitFault, ValueRef, first_other_than_printable,
 };
-use std::alloc::Global;
+use std::alloc::{AllocError, Global};
 use std::cmp::Ordering;
-use std::process::Abort;
 use std::test::Fail;
 
+// What the copy of a name is.
+fn copied_name(alloc: Global, name: &Name) -> Result<String, AllocError> {
+    String::from_str(alloc, name.copy(alloc)?.as_str())
+}
+
 // What a text is as a name: the name itself, or the fault as it is printed.
-fn as_name(alloc: Global, text: &str) -> Result<String, Fail> {
+fn as_name(alloc: Global, text: &str) -> Result<String, AllocError> {
     match Name::parse(alloc, text) {
-        Ok(name) => Ok(String::from_str(alloc, name.copy(alloc)?.as_str())?),
-        Err(fault) => Ok(format!(in alloc; "{fault}")?),
+        Ok(name) => copied_name(alloc, &name),
+        Err(fault) => fault.to_string(alloc),
     }
 }
 
@@ -29,11 +33,16 @@ const NAMES: &[(&str, usize, &str, &str)] = &[
     ("k", 255, "", "4 TooLong"),
 ];
 
+// Three texts as one, of which the second is digits.
+fn with_digits(alloc: Global, letter: &str, count: usize, end: &str) -> Result<String, AllocError> {
+    let digits = "7".repeat(alloc, count.min(300))?;
+    format!(in alloc; "{letter}{digits}{end}")
+}
+
 #[test]
 fn a_name_is_a_letter_and_up_to_254_name_characters(rt: HostRuntime) -> Result<(), Fail> {
     for (letter, count, end, fault) in NAMES {
-        let digits = "7".repeat(rt.alloc(), (*count).min(300))?;
-        let text = format!(in rt.alloc(); "{letter}{digits}{end}")?;
+        let text = with_digits(rt.alloc(), letter, *count, end)?;
         let wanted = if fault.is_empty() {
             text.as_str()
         } else {
@@ -52,22 +61,32 @@ const ORDERS: &[(&str, &str, Ordering)] = &[
     ("http.requests", "http_requests", Ordering::Less),
 ];
 
+// How two names compare, and whether they are the same.
+fn compared(alloc: Global, one: &str, other: &str) -> Result<(Ordering, bool), NameFault> {
+    let one = Name::parse(alloc, one)?;
+    let other = Name::parse(alloc, other)?;
+    Ok((one.fold_order(&other), one.same(&other)))
+}
+
 #[test]
 fn names_are_compared_without_case(rt: HostRuntime) -> Result<(), Fail> {
     for (one, other, order) in ORDERS {
-        let one = Name::parse(rt.alloc(), one)?;
-        let other = Name::parse(rt.alloc(), other)?;
         let is_same = *order == Ordering::Equal;
-        assert!(rt; one.fold_order(&other) == *order && one.same(&other) == is_same);
+        assert!(rt; compared(rt.alloc(), one, other)? == (*order, is_same));
     }
     Ok(())
 }
 
+// What the copy of a unit is.
+fn copied_unit(alloc: Global, unit: &Unit) -> Result<String, AllocError> {
+    String::from_str(alloc, unit.copy(alloc)?.as_str())
+}
+
 // What a text is as a unit: the unit itself, or the fault as it is printed.
-fn as_unit(alloc: Global, text: &str) -> Result<String, Fail> {
+fn as_unit(alloc: Global, text: &str) -> Result<String, AllocError> {
     match Unit::parse(alloc, text) {
-        Ok(unit) => Ok(String::from_str(alloc, unit.copy(alloc)?.as_str())?),
-        Err(fault) => Ok(format!(in alloc; "{fault}")?),
+        Ok(unit) => copied_unit(alloc, &unit),
+        Err(fault) => fault.to_string(alloc),
     }
 }
 
@@ -97,10 +116,14 @@ fn a_unit_is_up_to_63_printable_characters(rt: HostRuntime) -> Result<(), Fail> 
 
 #[test]
 fn want_of_memory_is_printed(rt: HostRuntime) -> Result<(), Fail> {
-    let name = NameFault::Memory.to_string(rt.alloc())?;
-    assert_eq!(rt; name.as_str(), "5 Memory");
-    let unit = UnitFault::Memory.to_string(rt.alloc())?;
-    assert_eq!(rt; unit.as_str(), "3 Memory");
+    assert_eq!(rt;
+        NameFault::Memory.to_string(rt.alloc())?.as_str(),
+        "5 Memory"
+    );
+    assert_eq!(rt;
+        UnitFault::Memory.to_string(rt.alloc())?.as_str(),
+        "3 Memory"
+    );
     Ok(())
 }
 
@@ -111,30 +134,46 @@ fn printable_characters_are_told(rt: HostRuntime) {
     }
 }
 
-#[test]
-fn values_are_equal_in_type_and_value(rt: HostRuntime) -> Result<(), Fail> {
-    let empty = AttrValue::Text(Text::new(rt.alloc(), "")?);
-    let digit = AttrValue::Text(Text::new(rt.alloc(), "1")?);
-    let values = [
-        &empty,
-        &digit,
-        &AttrValue::Whole(1),
-        &AttrValue::Whole(0),
-        &AttrValue::Flag(true),
-        &AttrValue::Flag(false),
-    ];
-    for (at, value) in values.iter().enumerate() {
-        expect_equal_only_at(&rt, value, &values, at);
-        assert!(rt; is_same(&value.copy(rt.alloc())?, *value));
+const VALUES: &[ValueRef<'static>] = &[
+    ValueRef::Text(""),
+    ValueRef::Text("1"),
+    ValueRef::Whole(1),
+    ValueRef::Whole(0),
+    ValueRef::Flag(true),
+    ValueRef::Flag(false),
+];
+
+/// The value that a borrowed one is.
+pub(crate) fn owned(alloc: Global, value: ValueRef<'_>) -> Result<AttrValue, AllocError> {
+    match value {
+        ValueRef::Text(text) => Ok(AttrValue::Text(Text::new(alloc, text)?)),
+        ValueRef::Whole(number) => Ok(AttrValue::Whole(number)),
+        ValueRef::Flag(flag) => Ok(AttrValue::Flag(flag)),
     }
-    assert!(rt; ValueRef::Text("1").is(&digit));
-    Ok(())
 }
 
-// The value is the same as the one at this place, and as no other.
-fn expect_equal_only_at(rt: &impl Abort, value: &AttrValue, values: &[&AttrValue], at: usize) {
-    for (i, other) in values.iter().enumerate() {
-        assert_eq!(rt; is_same(value, *other), i == at);
-        assert_eq!(rt; value.as_ref().is(other), i == at);
+// Whether all ways to compare answer that two values are the same, or that they are not.
+fn is_told(value: &AttrValue, other: &AttrValue, wanted: ValueRef<'_>, are_same: bool) -> bool {
+    is_same(value, other) == are_same
+        && value.as_ref().is(other) == are_same
+        && wanted.is(value) == are_same
+}
+
+// Whether a value is the same as the one at this place, as its own copy, and as no other.
+fn is_equal_only_at(alloc: Global, value: &AttrValue, at: usize) -> Result<bool, AllocError> {
+    for (place, other) in VALUES.iter().enumerate() {
+        if !is_told(value, &owned(alloc, *other)?, *other, place == at) {
+            return Ok(false);
+        }
     }
+    Ok(is_same(&value.copy(alloc)?, value))
+}
+
+#[test]
+fn values_are_equal_in_type_and_value(rt: HostRuntime) -> Result<(), Fail> {
+    for (at, value) in VALUES.iter().enumerate() {
+        let value = owned(rt.alloc(), *value)?;
+        assert!(rt; is_equal_only_at(rt.alloc(), &value, at)?);
+    }
+    Ok(())
 }

@@ -25,40 +25,50 @@ const REPLAY: Needs = Needs {
 };
 
 // The lines of a script with their numbers, and the number after the last.
-fn shown_script(alloc: Global, script: &Script<'_>) -> Result<String, Fail> {
-    let mut out = String::new(alloc);
+fn write_script(out: &mut String, script: &Script<'_>) -> Result<(), Fail> {
     for (place, line) in script.lines().iter().enumerate() {
         let number = script.line_number(place);
         let text = str::from_utf8(line)?;
         write!(out, "{number}:{text} ")?;
     }
     let end = script.line_number(script.lines().len());
-    write!(out, "{end}")?;
-    Ok(out)
+    Ok(write!(out, "{end}")?)
 }
 
-// Each part as it was read, `-` where there is none.
-fn shown(alloc: Global, parts: &Parts<'_>) -> Result<String, Fail> {
+// The parts that not every command needs, `-` where there is none.
+fn write_others(out: &mut String, parts: &Parts<'_>) -> Result<(), Fail> {
     let certificate = match &parts.certificate {
         Some(text) => text.as_str(),
         None => "-",
     };
-    let script = match &parts.script {
-        Some(script) => shown_script(alloc, script)?,
-        None => String::from_str(alloc, "-")?,
-    };
-    let catalogue = parts.catalogue.as_str();
-    let config = parts.config.as_str();
-    Ok(format!(in alloc; "[{catalogue}][{config}][{certificate}][{script}]")?)
+    write!(out, "[{certificate}][")?;
+    match &parts.script {
+        Some(script) => write_script(out, script)?,
+        None => out.push('-')?,
+    }
+    Ok(out.push(']')?)
 }
 
-// What is read of an input, or its fault as it is printed.
+// Each part as it was read.
+fn shown(alloc: Global, parts: &Parts<'_>) -> Result<String, Fail> {
+    let catalogue = parts.catalogue.as_str();
+    let config = parts.config.as_str();
+    let mut out = format!(in alloc; "[{catalogue}][{config}]")?;
+    write_others(&mut out, parts)?;
+    Ok(out)
+}
+
+// What is read of lines, or their fault as it is printed.
+fn told_of(alloc: Global, lines: &[&[u8]], needs: Needs) -> Result<String, Fail> {
+    match parts_of(alloc, lines, needs) {
+        Ok(parts) => shown(alloc, &parts),
+        Err(fault) => Ok(fault.to_string(alloc)?),
+    }
+}
+
 fn told(alloc: Global, input: &[u8], needs: Needs) -> Result<String, Fail> {
     let lines = lines(alloc, input)?;
-    match parts_of(alloc, &lines, needs) {
-        Ok(parts) => shown(alloc, &parts),
-        Err(fault) => Ok(format!(in alloc; "{fault}")?),
-    }
+    told_of(alloc, &lines, needs)
 }
 
 const ALL: &str =
@@ -122,8 +132,11 @@ const READ: &[(&str, Needs, &str)] = &[
 #[test]
 fn the_parts_that_are_needed_are_read(rt: HostRuntime) -> Result<(), Fail> {
     for (text, needs, wanted) in READ {
-        let told = told(rt.alloc(), text.as_bytes(), *needs)?;
-        assert_eq!(rt; told.as_str(), *wanted, "{text:?}");
+        assert_eq!(rt;
+            told(rt.alloc(), text.as_bytes(), *needs)?.as_str(),
+            *wanted,
+            "{text:?}"
+        );
     }
     Ok(())
 }
@@ -260,8 +273,11 @@ const FAULTY: &[(&[u8], Needs, &str)] = &[
 #[test]
 fn the_first_line_with_which_no_input_goes_on_is_told(rt: HostRuntime) -> Result<(), Fail> {
     for (input, needs, wanted) in FAULTY {
-        let told = told(rt.alloc(), input, *needs)?;
-        assert_eq!(rt; told.as_str(), *wanted, "{input:?}");
+        assert_eq!(rt;
+            told(rt.alloc(), input, *needs)?.as_str(),
+            *wanted,
+            "{input:?}"
+        );
     }
     Ok(())
 }
@@ -269,7 +285,9 @@ fn the_first_line_with_which_no_input_goes_on_is_told(rt: HostRuntime) -> Result
 #[test]
 fn want_of_memory_is_printed(rt: HostRuntime) -> Result<(), Fail> {
     one_reading();
-    let memory = InputFault::Memory.to_string(rt.alloc())?;
-    assert_eq!(rt; memory.as_str(), "memory");
+    assert_eq!(rt;
+        InputFault::Memory.to_string(rt.alloc())?.as_str(),
+        "memory"
+    );
     Ok(())
 }

@@ -1,13 +1,14 @@
 //! The fields of a table, read by each reader, with its faults.
+use metric_base::Items;
 use metric_table::{
     FieldFaults, flag_or, format_field, integer_of, integers_of, list_of, member, only,
     optional_text, required, short_text, table_of, tables_field, text_field, text_of, texts_of,
 };
-use std::alloc::Global;
+use std::alloc::{AllocError, Global};
 use std::test::Fail;
 use toml::{Table, Value};
 
-#[derive(Clone, Copy, Debug, PartialEq, Eq)]
+#[derive(Clone, Copy, Debug, PartialEq)]
 enum Fault {
     Missing,
     WrongKind,
@@ -32,6 +33,16 @@ fn table(alloc: Global) -> Result<Table, Fail> {
     )?)
 }
 
+// Whether a field is read so, where it is needed and where it is optional.
+fn reads_text(
+    table: &Table,
+    name: &str,
+    needed: Result<&str, Fault>,
+    optional: Result<Option<&str>, Fault>,
+) -> bool {
+    text_field(table, name, &FAULTS) == needed && optional_text(table, name, &FAULTS) == optional
+}
+
 #[test]
 fn texts_are_read(rt: HostRuntime) -> Result<(), Fail> {
     let table = table(rt.alloc())?;
@@ -40,9 +51,7 @@ fn texts_are_read(rt: HostRuntime) -> Result<(), Fail> {
         ("flag", Err(Fault::WrongKind), Err(Fault::WrongKind)),
         ("absent", Err(Fault::Missing), Ok(None)),
     ] {
-        let read = text_field(&table, name, &FAULTS) == needed
-            && optional_text(&table, name, &FAULTS) == optional;
-        assert!(rt; read, "{name}");
+        assert!(rt; reads_text(&table, name, needed, optional), "{name}");
     }
     Ok(())
 }
@@ -60,25 +69,40 @@ fn flags_are_read(rt: HostRuntime) -> Result<(), Fail> {
     Ok(())
 }
 
+const ALL: &[&str] = &["format", "name", "flag", "numbers", "texts", "row"];
+
 #[test]
 fn other_fields_are_refused(rt: HostRuntime) -> Result<(), Fail> {
     let table = table(rt.alloc())?;
-    let names = ["format", "name", "flag", "numbers", "texts", "row"];
-    assert_eq!(rt; only(&table, &names, &FAULTS), Ok(()));
-    assert_eq!(rt; only(&table, &["format"], &FAULTS), Err(Fault::Unknown));
-    assert_eq!(rt; format_field(&table, &FAULTS), Ok(()));
-    assert!(rt; member(&table, "absent").is_none());
+    for (names, wanted) in [(ALL, Ok(())), (&["format"], Err(Fault::Unknown))] {
+        assert_eq!(rt; only(&table, names, &FAULTS), wanted);
+    }
     Ok(())
 }
 
+fn has_format_alone(table: &Table) -> bool {
+    format_field(table, &FAULTS).is_ok() && member(table, "absent").is_none()
+}
+
+#[test]
+fn the_format_is_read(rt: HostRuntime) -> Result<(), Fail> {
+    let table = table(rt.alloc())?;
+    assert!(rt; has_format_alone(&table));
+    Ok(())
+}
+
+fn integers(alloc: Global, table: &Table, name: &str, most: usize) -> Result<Items<i64>, Fault> {
+    integers_of(alloc, required(table, name, &FAULTS)?, most, &FAULTS)
+}
+
 // The integers of a list, or the fault.
-fn integers(alloc: Global, value: &Value, most: usize) -> Result<String, Fail> {
-    match integers_of(alloc, value, most, &FAULTS) {
+fn told(alloc: Global, table: &Table, name: &str, most: usize) -> Result<String, AllocError> {
+    match integers(alloc, table, name, most) {
         Ok(numbers) => {
             let numbers = numbers.as_slice();
-            Ok(format!(in alloc; "{numbers:?}")?)
+            format!(in alloc; "{numbers:?}")
         }
-        Err(fault) => Ok(format!(in alloc; "{fault:?}")?),
+        Err(fault) => format!(in alloc; "{fault:?}"),
     }
 }
 
@@ -91,10 +115,16 @@ fn lists_of_integers_are_read(rt: HostRuntime) -> Result<(), Fail> {
         ("texts", 2, "WrongKind"),
         ("flag", 2, "WrongKind"),
     ] {
-        let value = required(&table, name, &FAULTS)?;
-        assert_eq!(rt; integers(rt.alloc(), value, most)?.as_str(), wanted);
+        assert_eq!(rt; told(rt.alloc(), &table, name, most)?.as_str(), wanted);
     }
     Ok(())
+}
+
+// Whether a value is read so as an integer and as a text, and is no table.
+fn reads_value(value: &Value, integer: Result<i64, Fault>, text: Result<&str, Fault>) -> bool {
+    integer_of(value, &FAULTS) == integer
+        && text_of(value, &FAULTS) == text
+        && table_of(value, &FAULTS).is_err()
 }
 
 #[test]
@@ -106,10 +136,18 @@ fn values_have_one_kind(rt: HostRuntime) -> Result<(), Fail> {
         ("row", Err(Fault::WrongKind), Err(Fault::WrongKind)),
     ] {
         let value = required(&table, name, &FAULTS)?;
-        assert!(rt; integer_of(value, &FAULTS) == integer && text_of(value, &FAULTS) == text);
-        assert!(rt; table_of(value, &FAULTS).is_err());
+        assert!(rt; reads_value(value, integer, text), "{name}");
     }
     Ok(())
+}
+
+// How many texts a list has, which is one of at most two values.
+fn count_of_texts(alloc: Global, table: &Table, name: &str, most: usize) -> Result<usize, Fault> {
+    let value = required(table, name, &FAULTS)?;
+    if list_of(value, 2, &FAULTS).is_err() {
+        return Err(Fault::Unknown);
+    }
+    Ok(texts_of(alloc, value, most, &FAULTS)?.len())
 }
 
 #[test]
@@ -120,12 +158,17 @@ fn lists_of_texts_are_read(rt: HostRuntime) -> Result<(), Fail> {
         ("texts", 1, Err(Fault::TooMany)),
         ("numbers", 2, Err(Fault::WrongKind)),
     ] {
-        let value = required(&table, name, &FAULTS)?;
-        assert!(rt; list_of(value, 2, &FAULTS).is_ok());
-        let texts = texts_of(rt.alloc(), value, most, &FAULTS);
-        assert_eq!(rt; texts.map(|texts| texts.len()), wanted, "{name}");
+        assert_eq!(rt;
+            count_of_texts(rt.alloc(), &table, name, most),
+            wanted,
+            "{name}"
+        );
     }
     Ok(())
+}
+
+fn count_of_tables(alloc: Global, table: &Table, name: &str) -> Result<usize, Fault> {
+    Ok(tables_field(alloc, table, name, 2, &FAULTS)?.len())
 }
 
 #[test]
@@ -136,17 +179,21 @@ fn lists_of_tables_are_read(rt: HostRuntime) -> Result<(), Fail> {
         ("absent", Ok(0)),
         ("numbers", Err(Fault::WrongKind)),
     ] {
-        let rows = tables_field(rt.alloc(), &table, name, 2, &FAULTS);
-        assert_eq!(rt; rows.map(|rows| rows.len()), wanted, "{name}");
+        assert_eq!(rt; count_of_tables(rt.alloc(), &table, name), wanted, "{name}");
     }
     Ok(())
+}
+
+// The fault of a free text of so many characters.
+fn fault_of(alloc: Global, count: usize) -> Result<Option<Fault>, AllocError> {
+    let text = "é".repeat(alloc, count.min(2000))?;
+    Ok(short_text(&text, &FAULTS).err())
 }
 
 #[test]
 fn free_texts_have_at_most_1023_characters(rt: HostRuntime) -> Result<(), Fail> {
     for (count, fault) in [(1023, None), (1024, Some(Fault::TooMany))] {
-        let text = "é".repeat(rt.alloc(), count)?;
-        assert_eq!(rt; short_text(&text, &FAULTS).err(), fault);
+        assert_eq!(rt; fault_of(rt.alloc(), count)?, fault);
     }
     Ok(())
 }

@@ -1,13 +1,14 @@
 //! Spellings from outside, written and read back.
+use crate::names::owned;
 use metric_base::{Text, is_same};
-use metric_names::AttrValue;
+use metric_names::{AttrValue, ValueRef};
 use metric_text::{
     Pair, SpellingFault, after_byte, after_keyword, each_number_has_one_spelling,
     each_value_has_one_spelling, i64_at, i64_of, lines, push_byte, push_joined, push_labelled,
     push_list, push_numbered, push_quoted, push_text, push_value, quoted_at, u32_at, u32_of,
     u64_of, value_at, word_at,
 };
-use std::alloc::Global;
+use std::alloc::{AllocError, Global};
 use std::test::Fail;
 
 // Texts, and how they are quoted.
@@ -18,14 +19,27 @@ const QUOTED: &[(&str, &str)] = &[
     ("\t\r é\u{1}", "\"\\t\\r é\u{1}\""),
 ];
 
-// Whether a text is written so, and read back where more follows.
-fn is_read_back(alloc: Global, text: &str, spelled: &str) -> Result<bool, Fail> {
+// A text in quotes, and more that follows.
+fn quoted_with_more(alloc: Global, text: &str) -> Result<Vec<u8>, AllocError> {
     let mut out = Vec::new(alloc);
     push_quoted(&mut out, text)?;
-    let is_spelled = out.as_slice() == spelled.as_bytes();
     push_text(&mut out, "=1")?;
-    let (read, rest) = quoted_at(alloc, &out)?;
-    Ok(is_spelled && read.as_str() == text && rest == b"=1".as_slice())
+    Ok(out)
+}
+
+// Whether this text is read, and the rest is left.
+fn reads_quoted(alloc: Global, bytes: &[u8], text: &str) -> bool {
+    match quoted_at(alloc, bytes) {
+        Ok((read, rest)) => read.as_str() == text && rest == b"=1".as_slice(),
+        Err(_) => false,
+    }
+}
+
+// Whether a text is written so, and read back where more follows.
+fn is_read_back(alloc: Global, text: &str, spelled: &str) -> Result<bool, AllocError> {
+    let bytes = quoted_with_more(alloc, text)?;
+    let is_spelled = bytes.strip_suffix(b"=1") == Some(spelled.as_bytes());
+    Ok(is_spelled && reads_quoted(alloc, &bytes, text))
 }
 
 #[test]
@@ -137,24 +151,41 @@ fn words_are_read_one_after_the_other(rt: HostRuntime) {
     }
 }
 
+const VALUES: &[ValueRef<'static>] = &[
+    ValueRef::Text("7"),
+    ValueRef::Whole(7),
+    ValueRef::Whole(i64::MIN),
+    ValueRef::Flag(true),
+    ValueRef::Flag(false),
+];
+
+// A value, and a space after it.
+fn written(alloc: Global, value: &AttrValue) -> Result<Vec<u8>, AllocError> {
+    let mut out = Vec::new(alloc);
+    push_value(&mut out, value)?;
+    push_byte(&mut out, b' ')?;
+    Ok(out)
+}
+
+// Whether this value is read, and the space is left.
+fn reads_value(alloc: Global, bytes: &[u8], value: &AttrValue) -> bool {
+    match value_at(alloc, bytes) {
+        Ok((read, rest)) => is_same(&read, value) && rest == b" ".as_slice(),
+        Err(_) => false,
+    }
+}
+
+fn is_value_read_back(alloc: Global, value: &AttrValue) -> Result<bool, AllocError> {
+    Ok(reads_value(alloc, &written(alloc, value)?, value))
+}
+
 #[test]
 fn values_are_written_and_read_back(rt: HostRuntime) -> Result<(), Fail> {
-    let values = [
-        AttrValue::Text(Text::new(rt.alloc(), "7")?),
-        AttrValue::Whole(7),
-        AttrValue::Whole(i64::MIN),
-        AttrValue::Flag(true),
-        AttrValue::Flag(false),
-    ];
     each_value_has_one_spelling();
     each_number_has_one_spelling();
-    for value in &values {
-        let mut out = Vec::new(rt.alloc());
-        push_value(&mut out, value)?;
-        push_byte(&mut out, b' ')?;
-        let (read, rest) = value_at(rt.alloc(), &out)?;
-        assert!(rt; is_same(&read, value));
-        assert_eq!(rt; rest, b" ".as_slice());
+    for value in VALUES {
+        let value = owned(rt.alloc(), *value)?;
+        assert!(rt; is_value_read_back(rt.alloc(), &value)?);
     }
     Ok(())
 }
@@ -171,28 +202,46 @@ fn other_values_are_refused(rt: HostRuntime) {
     }
 }
 
-#[test]
-fn lists_have_commas_between(rt: HostRuntime) -> Result<(), Fail> {
-    let values = [
-        AttrValue::Text(Text::new(rt.alloc(), "7")?),
-        AttrValue::Whole(i64::MIN),
-        AttrValue::Flag(false),
-    ];
-    let mut out = Vec::new(rt.alloc());
-    push_joined(&mut out, &values)?;
-    push_joined(&mut out, &[1u64, 20])?;
-    push_list(&mut out, &[-1i64, 2])?;
+fn push_values(out: &mut Vec<u8>, alloc: Global) -> Result<(), AllocError> {
+    let text = owned(alloc, ValueRef::Text("7"))?;
+    push_joined(
+        out,
+        &[text, AttrValue::Whole(i64::MIN), AttrValue::Flag(false)],
+    )
+}
+
+fn push_numbers(out: &mut Vec<u8>) -> Result<(), AllocError> {
+    push_joined(out, &[1u64, 20])?;
+    push_list(out, &[-1i64, 2])
+}
+
+fn push_nothing(out: &mut Vec<u8>) -> Result<(), AllocError> {
     let none: [u64; 0] = [];
-    push_list(&mut out, &none)?;
-    push_joined(&mut out, &none)?;
-    push_joined(&mut out, &[Text::new(rt.alloc(), "k")?])?;
-    let wanted = b"\"7\",-9223372036854775808,false1,20[-1,2][]\"k\"".as_slice();
-    assert_eq!(rt; out.as_slice(), wanted);
-    Ok(())
+    push_list(out, &none)?;
+    push_joined(out, &none)
+}
+
+fn push_one_text(out: &mut Vec<u8>, alloc: Global) -> Result<(), AllocError> {
+    push_joined(out, &[Text::new(alloc, "k")?])
+}
+
+fn lists(alloc: Global) -> Result<Vec<u8>, AllocError> {
+    let mut out = Vec::new(alloc);
+    push_values(&mut out, alloc)?;
+    push_numbers(&mut out)?;
+    push_nothing(&mut out)?;
+    push_one_text(&mut out, alloc)?;
+    Ok(out)
 }
 
 #[test]
-fn labels_and_keys_stand_before_what_they_name(rt: HostRuntime) -> Result<(), Fail> {
+fn lists_have_commas_between(rt: HostRuntime) -> Result<(), Fail> {
+    let wanted = b"\"7\",-9223372036854775808,false1,20[-1,2][]\"k\"".as_slice();
+    assert_eq!(rt; lists(rt.alloc())?.as_slice(), wanted);
+    Ok(())
+}
+
+fn push_pairs(out: &mut Vec<u8>) -> Result<(), AllocError> {
     let value = AttrValue::Flag(true);
     let overflow = Pair {
         key: "otel.metric.overflow",
@@ -202,12 +251,21 @@ fn labels_and_keys_stand_before_what_they_name(rt: HostRuntime) -> Result<(), Fa
         key: "a",
         value: &value,
     };
-    let mut out = Vec::new(rt.alloc());
+    push_joined(out, &[overflow, a])
+}
+
+fn labelled(alloc: Global) -> Result<Vec<u8>, AllocError> {
+    let mut out = Vec::new(alloc);
     push_labelled(&mut out, "name=", "a\"b")?;
     push_numbered(&mut out, " limit=", 2000)?;
-    push_joined(&mut out, &[overflow, a])?;
+    push_pairs(&mut out)?;
+    Ok(out)
+}
+
+#[test]
+fn labels_and_keys_stand_before_what_they_name(rt: HostRuntime) -> Result<(), Fail> {
     let wanted = b"name=\"a\\\"b\" limit=2000\"otel.metric.overflow\"=true,\"a\"=true".as_slice();
-    assert_eq!(rt; out.as_slice(), wanted);
+    assert_eq!(rt; labelled(rt.alloc())?.as_slice(), wanted);
     Ok(())
 }
 
@@ -221,15 +279,25 @@ const LINES: &[(&str, &str)] = &[
     ("\r", "\r|"),
 ];
 
+fn push_lines(out: &mut Vec<u8>, lines: &[&[u8]]) -> Result<(), AllocError> {
+    for line in lines {
+        out.extend_from_slice(line)?;
+        push_byte(out, b'|')?;
+    }
+    Ok(())
+}
+
+fn lines_shown(alloc: Global, input: &[u8]) -> Result<Vec<u8>, AllocError> {
+    let lines = lines(alloc, input)?;
+    let mut out = Vec::new(alloc);
+    push_lines(&mut out, &lines)?;
+    Ok(out)
+}
+
 #[test]
 fn lines_end_with_line_feeds(rt: HostRuntime) -> Result<(), Fail> {
     for (input, wanted) in LINES {
-        let lines = lines(rt.alloc(), input.as_bytes())?;
-        let mut shown = Vec::new(rt.alloc());
-        for line in &lines {
-            shown.extend_from_slice(line)?;
-            shown.push(b'|')?;
-        }
+        let shown = lines_shown(rt.alloc(), input.as_bytes())?;
         assert_eq!(rt; shown.as_slice(), wanted.as_bytes(), "{input:?}");
     }
     Ok(())
