@@ -1,10 +1,11 @@
 //! A catalogue in which every field is given, lists at their limits, and faults with their places.
-use crate::encoding::read;
 use crate::tables::{write_integers, write_many, write_name};
 use crate::words::kind_word;
-use metric_catalogue::{Catalogue, CatalogueFault, CataloguePlace, Instrument, Key, Recorder};
+use metric_catalogue::{
+    Catalogue, CatalogueFault, CataloguePlace, Instrument, Key, Meter, Recorder,
+};
 use metric_names::AttrValue;
-use std::alloc::Global;
+use std::alloc::{AllocError, Global};
 use std::test::Fail;
 
 const SHOP: &str = r#"
@@ -92,104 +93,123 @@ Gate 1:1 0:2 2:3
 é
 ";
 
-fn write_value(out: &mut String, value: &AttrValue) -> Result<(), Fail> {
+fn write_value(out: &mut String, value: &AttrValue) -> Result<(), AllocError> {
     match value {
         AttrValue::Text(text) => {
             let text = text.as_str();
-            Ok(write!(out, " '{text}'")?)
+            write!(out, " '{text}'")
         }
-        AttrValue::Whole(number) => Ok(write!(out, " {number}")?),
-        AttrValue::Flag(flag) => Ok(write!(out, " {flag}")?),
+        AttrValue::Whole(number) => write!(out, " {number}"),
+        AttrValue::Flag(flag) => write!(out, " {flag}"),
     }
 }
 
-fn write_key(out: &mut String, key: &Key) -> Result<(), Fail> {
-    let name = key.name.as_str();
-    let need = if key.optional { "optional" } else { "needed" };
-    write!(out, " {name} {need}")?;
-    for value in key.values.as_slice() {
+fn write_values(out: &mut String, values: &[AttrValue]) -> Result<(), AllocError> {
+    for value in values {
         write_value(out, value)?;
     }
-    out.push('\n')?;
     Ok(())
 }
 
-fn write_instrument(out: &mut String, instrument: &Instrument) -> Result<(), Fail> {
+fn write_key(out: &mut String, key: &Key) -> Result<(), AllocError> {
+    let name = key.name.as_str();
+    let need = if key.optional { "optional" } else { "needed" };
+    write!(out, " {name} {need}")?;
+    write_values(out, key.values.as_slice())?;
+    writeln!(out)
+}
+
+fn write_keys(out: &mut String, keys: &[Key]) -> Result<(), AllocError> {
+    for key in keys {
+        write_key(out, key)?;
+    }
+    Ok(())
+}
+
+fn write_texts(out: &mut String, instrument: &Instrument) -> Result<(), AllocError> {
     let meter = instrument.meter;
     let name = instrument.name.get().as_str();
     let kind = kind_word(instrument.kind);
     let unit = instrument.unit.get().as_str();
     let description = instrument.description.get().as_str();
-    write!(out, "{meter} {name} {kind}|{unit}|{description}|")?;
+    write!(out, "{meter} {name} {kind}|{unit}|{description}|")
+}
+
+fn write_range(out: &mut String, instrument: &Instrument) -> Result<(), AllocError> {
     let lo = instrument.lo;
     let hi = instrument.hi;
+    write!(out, " {lo}..{hi}")?;
     match &instrument.advice {
         Some(advice) => {
             let advice = advice.get().as_slice();
-            writeln!(out, " {lo}..{hi} {advice:?}")?;
+            writeln!(out, " {advice:?}")
         }
-        None => writeln!(out, " {lo}..{hi} -")?,
+        None => writeln!(out, " -"),
     }
-    Ok(())
 }
 
-fn write_recorder(out: &mut String, recorder: &Recorder) -> Result<(), Fail> {
+fn write_instrument(out: &mut String, instrument: &Instrument) -> Result<(), AllocError> {
+    write_texts(out, instrument)?;
+    write_range(out, instrument)?;
+    write_keys(out, instrument.keys.as_slice())
+}
+
+fn write_recorder(out: &mut String, recorder: &Recorder) -> Result<(), AllocError> {
     out.push_str(recorder.name.as_str())?;
     for budget in recorder.budgets.as_slice() {
         let instrument = budget.instrument;
         let amount = budget.amount;
         write!(out, " {instrument}:{amount}")?;
     }
-    out.push('\n')?;
-    Ok(())
+    writeln!(out)
 }
 
-fn write_meters(out: &mut String, catalogue: &Catalogue) -> Result<(), Fail> {
-    for meter in catalogue.meters() {
-        let name = meter.name.as_str();
-        let version = meter.version.as_str();
-        let schema_url = meter.schema_url.as_str();
-        writeln!(out, "meter {name}|{version}|{schema_url}")?;
+fn write_meter(out: &mut String, meter: &Meter) -> Result<(), AllocError> {
+    let name = meter.name.as_str();
+    let version = meter.version.as_str();
+    let schema_url = meter.schema_url.as_str();
+    writeln!(out, "meter {name}|{version}|{schema_url}")
+}
+
+fn write_meters(out: &mut String, meters: &[Meter]) -> Result<(), AllocError> {
+    for meter in meters {
+        write_meter(out, meter)?;
     }
     Ok(())
 }
 
-fn write_keys(out: &mut String, instrument: &Instrument) -> Result<(), Fail> {
-    for key in instrument.keys.as_slice() {
-        write_key(out, key)?;
-    }
-    Ok(())
-}
-
-fn write_instruments(out: &mut String, catalogue: &Catalogue) -> Result<(), Fail> {
-    for instrument in catalogue.instruments() {
+fn write_instruments(out: &mut String, instruments: &[Instrument]) -> Result<(), AllocError> {
+    for instrument in instruments {
         write_instrument(out, instrument)?;
-        write_keys(out, instrument)?;
     }
     Ok(())
 }
 
-fn write_recorders(out: &mut String, catalogue: &Catalogue) -> Result<(), Fail> {
-    for recorder in catalogue.recorders() {
+fn write_recorders(out: &mut String, recorders: &[Recorder]) -> Result<(), AllocError> {
+    for recorder in recorders {
         write_recorder(out, recorder)?;
     }
     Ok(())
 }
 
+fn write_catalogue(out: &mut String, catalogue: &Catalogue) -> Result<(), AllocError> {
+    write_meters(out, catalogue.meters())?;
+    write_instruments(out, catalogue.instruments())?;
+    write_recorders(out, catalogue.recorders())
+}
+
 // All that a catalogue declares.
-fn shown(alloc: Global, catalogue: &Catalogue) -> Result<String, Fail> {
+fn shown(alloc: Global, catalogue: &Catalogue) -> Result<String, AllocError> {
     let mut out = String::new(alloc);
-    write_meters(&mut out, catalogue)?;
-    write_instruments(&mut out, catalogue)?;
-    write_recorders(&mut out, catalogue)?;
+    write_catalogue(&mut out, catalogue)?;
     Ok(out)
 }
 
 // The same of the catalogue that a text is, or its fault as it is printed.
-fn told(alloc: Global, text: &str) -> Result<String, Fail> {
+fn told(alloc: Global, text: &str) -> Result<String, AllocError> {
     match Catalogue::read(alloc, text) {
         Ok(catalogue) => shown(alloc, &catalogue),
-        Err(fault) => Ok(fault.to_string(alloc)?),
+        Err(fault) => fault.to_string(alloc),
     }
 }
 
@@ -201,16 +221,25 @@ fn every_field_is_read(rt: HostRuntime) -> Result<(), Fail> {
     Ok(())
 }
 
+// The budget of a recorder on an instrument, where the text is a catalogue.
+fn budget_of(
+    alloc: Global,
+    text: &str,
+    recorder: u32,
+    instrument: u32,
+) -> Result<u64, CatalogueFault> {
+    Ok(Catalogue::read(alloc, text)?.budget(recorder, instrument))
+}
+
 #[test]
 fn budgets_are_of_recorder_and_instrument(rt: HostRuntime) -> Result<(), Fail> {
-    let catalogue = read(rt.alloc(), SHOP)?;
     for (recorder, instrument, amount) in [(0, 0, 7), (3, 0, 2), (3, 2, 3), (2, 0, 0), (9, 0, 0)] {
-        assert_eq!(rt; catalogue.budget(recorder, instrument), amount);
+        assert_eq!(rt; budget_of(rt.alloc(), SHOP, recorder, instrument)?, amount);
     }
     Ok(())
 }
 
-fn write_many_instruments(out: &mut String, count: usize) -> Result<(), Fail> {
+fn write_many_instruments(out: &mut String, count: usize) -> Result<(), AllocError> {
     for number in 0..count {
         write_name(out, "meter.instrument", number)?;
         writeln!(out, "kind = 'gauge'\nrange = [0, 9]")?;
@@ -218,7 +247,7 @@ fn write_many_instruments(out: &mut String, count: usize) -> Result<(), Fail> {
     Ok(())
 }
 
-fn write_many_keys(out: &mut String, keys: usize, values: usize) -> Result<(), Fail> {
+fn write_many_keys(out: &mut String, keys: usize, values: usize) -> Result<(), AllocError> {
     for number in 0..keys {
         write_name(out, "meter.instrument.key", number)?;
         write_integers(out, "values", values)?;
@@ -226,7 +255,7 @@ fn write_many_keys(out: &mut String, keys: usize, values: usize) -> Result<(), F
     Ok(())
 }
 
-fn write_many_budgets(out: &mut String, count: usize) -> Result<(), Fail> {
+fn write_many_budgets(out: &mut String, count: usize) -> Result<(), AllocError> {
     for instrument in 0..count {
         writeln!(
             out,
@@ -259,19 +288,23 @@ const LIMITS: Counts = Counts {
 };
 
 /// A catalogue that is at each limit.
-pub(crate) fn at_limits(alloc: Global) -> Result<String, Fail> {
+pub(crate) fn at_limits(alloc: Global) -> Result<String, AllocError> {
     with_counts(alloc, LIMITS)
 }
 
+fn write_counts(out: &mut String, counts: Counts) -> Result<(), AllocError> {
+    write_many(out, "meter", counts.meters)?;
+    write_many_instruments(out, counts.instruments)?;
+    write_integers(out, "boundaries", counts.boundaries)?;
+    write_many_keys(out, counts.keys, counts.values)?;
+    write_many(out, "recorder", counts.recorders)?;
+    write_many_budgets(out, counts.budgets)
+}
+
 // A catalogue whose last meter has all instruments, the last of them the keys, and whose last recorder has the budgets.
-fn with_counts(alloc: Global, counts: Counts) -> Result<String, Fail> {
+fn with_counts(alloc: Global, counts: Counts) -> Result<String, AllocError> {
     let mut out = String::from_str(alloc, "format = 1\n")?;
-    write_many(&mut out, "meter", counts.meters)?;
-    write_many_instruments(&mut out, counts.instruments)?;
-    write_integers(&mut out, "boundaries", counts.boundaries)?;
-    write_many_keys(&mut out, counts.keys, counts.values)?;
-    write_many(&mut out, "recorder", counts.recorders)?;
-    write_many_budgets(&mut out, counts.budgets)?;
+    write_counts(&mut out, counts)?;
     Ok(out)
 }
 
@@ -323,28 +356,34 @@ const COUNTS: &[(Counts, &str)] = &[
 ];
 
 // How many meters, instruments and recorders there are, and the last budget.
-fn sizes(alloc: Global) -> Result<(usize, usize, usize, u64), Fail> {
-    let text = at_limits(alloc)?;
-    let catalogue = read(alloc, &text)?;
-    Ok((
+fn sizes_of(catalogue: &Catalogue) -> (usize, usize, usize, u64) {
+    (
         catalogue.meters().len(),
         catalogue.instruments().len(),
         catalogue.recorders().len(),
         catalogue.budget(63, 511),
-    ))
+    )
+}
+
+fn sizes(alloc: Global, text: &str) -> Result<(usize, usize, usize, u64), CatalogueFault> {
+    Ok(sizes_of(&Catalogue::read(alloc, text)?))
 }
 
 #[test]
 fn lists_are_taken_up_to_their_limits(rt: HostRuntime) -> Result<(), Fail> {
-    assert_eq!(rt; sizes(rt.alloc())?, (64, 512, 64, 1));
+    let text = at_limits(rt.alloc())?;
+    assert_eq!(rt; sizes(rt.alloc(), &text)?, (64, 512, 64, 1));
     Ok(())
+}
+
+fn told_with(alloc: Global, counts: Counts) -> Result<String, AllocError> {
+    told(alloc, &with_counts(alloc, counts)?)
 }
 
 #[test]
 fn one_more_than_a_limit_is_refused(rt: HostRuntime) -> Result<(), Fail> {
     for (counts, wanted) in COUNTS {
-        let text = with_counts(rt.alloc(), *counts)?;
-        assert_eq!(rt; told(rt.alloc(), &text)?.as_str(), *wanted);
+        assert_eq!(rt; told_with(rt.alloc(), *counts)?.as_str(), *wanted);
     }
     Ok(())
 }
@@ -454,17 +493,9 @@ fn faults_are_printed(rt: HostRuntime) -> Result<(), Fail> {
     Ok(())
 }
 
-// The budget of the first recorder on the first instrument.
-fn first_budget(alloc: Global, text: &str) -> Result<u64, CatalogueFault> {
-    let catalogue = Catalogue::read(alloc, text)?;
-    Ok(catalogue.budget(0, 0))
-}
-
 // With each allocation refused in turn, as with none, this passes.
 #[test]
 fn a_refused_allocation_is_a_fault_of_memory(rt: HostRuntime) {
-    match first_budget(rt.alloc(), SHOP) {
-        Ok(amount) => assert_eq!(rt; amount, 7),
-        Err(fault) => assert!(rt; fault == CatalogueFault::Memory),
-    }
+    let budget = budget_of(rt.alloc(), SHOP, 0, 0);
+    assert!(rt; matches!(&budget, Ok(7) | Err(CatalogueFault::Memory)));
 }

@@ -4,7 +4,7 @@ use crate::words::{aggregation_word, kind_word, temporality_word};
 use metric_base::{Few, Text};
 use metric_catalogue::Kind;
 use metric_views::{Config, ConfigPlace, Criteria, Reader, Settings, View, ViewFault};
-use std::alloc::Global;
+use std::alloc::{AllocError, Global};
 use std::test::Fail;
 
 const FULL: &str = r#"
@@ -86,30 +86,42 @@ of - -|-|-|-|-|
  -|-| - - keep - exclude - -
 ";
 
-const KINDS: [Kind; 4] = [
+const KINDS: &[Kind] = &[
     Kind::Counter,
     Kind::UpDownCounter,
     Kind::Histogram,
     Kind::Gauge,
 ];
 
-fn write_reader(out: &mut String, reader: &Reader) -> Result<(), Fail> {
-    out.push_str(reader.name.as_str())?;
+fn write_temporalities(out: &mut String, reader: &Reader) -> Result<(), AllocError> {
     for kind in KINDS {
-        let temporality = temporality_word(reader.temporality.of(kind));
+        let temporality = temporality_word(reader.temporality.of(*kind));
         write!(out, " {temporality}")?;
     }
-    out.push_str(" /")?;
+    out.push_str(" /")
+}
+
+fn write_aggregations(out: &mut String, reader: &Reader) -> Result<(), AllocError> {
     for kind in KINDS {
-        let aggregation = aggregation_word(reader.aggregation.of(kind));
+        let aggregation = aggregation_word(reader.aggregation.of(*kind));
         write!(out, " {aggregation}")?;
     }
-    out.push_str(" /")?;
+    out.push_str(" /")
+}
+
+fn write_limits(out: &mut String, reader: &Reader) -> Result<(), AllocError> {
     for kind in KINDS {
-        let limit = reader.limit.of(kind);
+        let limit = reader.limit.of(*kind);
         write!(out, " {limit}")?;
     }
-    Ok(writeln!(out)?)
+    writeln!(out)
+}
+
+fn write_reader(out: &mut String, reader: &Reader) -> Result<(), AllocError> {
+    out.push_str(reader.name.as_str())?;
+    write_temporalities(out, reader)?;
+    write_aggregations(out, reader)?;
+    write_limits(out, reader)
 }
 
 // A text that a view may give.
@@ -120,7 +132,7 @@ fn word_of(text: &Option<Text>) -> &str {
     }
 }
 
-fn write_criteria(out: &mut String, criteria: &Criteria) -> Result<(), Fail> {
+fn write_selection(out: &mut String, criteria: &Criteria) -> Result<(), AllocError> {
     let name = match &criteria.instrument_name {
         Some(pattern) => pattern.as_str(),
         None => "-",
@@ -129,31 +141,40 @@ fn write_criteria(out: &mut String, criteria: &Criteria) -> Result<(), Fail> {
         Some(kind) => kind_word(kind),
         None => "-",
     };
-    write!(out, "of {name} {kind}")?;
-    for text in [
-        &criteria.instrument_unit,
-        &criteria.meter_name,
-        &criteria.meter_version,
-        &criteria.meter_schema_url,
-    ] {
-        let word = word_of(text);
-        write!(out, "|{word}")?;
-    }
-    Ok(writeln!(out, "|")?)
+    write!(out, "of {name} {kind}")
 }
 
-fn write_keys(out: &mut String, keys: &Option<Few<Text, 64>>) -> Result<(), Fail> {
-    let Some(keys) = keys else {
-        return Ok(write!(out, " -")?);
-    };
-    for key in keys.as_slice() {
+fn write_criteria(out: &mut String, criteria: &Criteria) -> Result<(), AllocError> {
+    write_selection(out, criteria)?;
+    let unit = word_of(&criteria.instrument_unit);
+    let meter = word_of(&criteria.meter_name);
+    let version = word_of(&criteria.meter_version);
+    let schema_url = word_of(&criteria.meter_schema_url);
+    writeln!(out, "|{unit}|{meter}|{version}|{schema_url}|")
+}
+
+fn write_keys(out: &mut String, keys: &[Text]) -> Result<(), AllocError> {
+    for key in keys {
         let key = key.as_str();
         write!(out, " '{key}'")?;
     }
     Ok(())
 }
 
-fn write_names(out: &mut String, settings: &Settings) -> Result<(), Fail> {
+// A word, and the keys that a view may give.
+fn write_given(
+    out: &mut String,
+    word: &str,
+    keys: &Option<Few<Text, 64>>,
+) -> Result<(), AllocError> {
+    out.push_str(word)?;
+    match keys {
+        Some(keys) => write_keys(out, keys.as_slice()),
+        None => out.push_str(" -"),
+    }
+}
+
+fn write_names(out: &mut String, settings: &Settings) -> Result<(), AllocError> {
     let name = match &settings.stream_name {
         Some(name) => name.get().as_str(),
         None => "-",
@@ -162,10 +183,10 @@ fn write_names(out: &mut String, settings: &Settings) -> Result<(), Fail> {
         Some(description) => description.get().as_str(),
         None => "-",
     };
-    Ok(write!(out, " {name}|{description}|")?)
+    write!(out, " {name}|{description}|")
 }
 
-fn write_aggregation(out: &mut String, settings: &Settings) -> Result<(), Fail> {
+fn write_aggregation(out: &mut String, settings: &Settings) -> Result<(), AllocError> {
     let aggregation = match settings.aggregation {
         Some(aggregation) => aggregation_word(aggregation),
         None => "-",
@@ -174,26 +195,28 @@ fn write_aggregation(out: &mut String, settings: &Settings) -> Result<(), Fail> 
     match &settings.boundaries {
         Some(boundaries) => {
             let boundaries = boundaries.get().as_slice();
-            Ok(write!(out, " {boundaries:?}")?)
+            write!(out, " {boundaries:?}")
         }
-        None => Ok(write!(out, " -")?),
+        None => out.push_str(" -"),
     }
 }
 
-fn write_settings(out: &mut String, settings: &Settings) -> Result<(), Fail> {
+fn write_limit(out: &mut String, limit: Option<u32>) -> Result<(), AllocError> {
+    match limit {
+        Some(limit) => writeln!(out, " {limit}"),
+        None => writeln!(out, " -"),
+    }
+}
+
+fn write_settings(out: &mut String, settings: &Settings) -> Result<(), AllocError> {
     write_names(out, settings)?;
     write_aggregation(out, settings)?;
-    out.push_str(" keep")?;
-    write_keys(out, &settings.keep)?;
-    out.push_str(" exclude")?;
-    write_keys(out, &settings.exclude)?;
-    match settings.limit {
-        Some(limit) => Ok(writeln!(out, " {limit}")?),
-        None => Ok(writeln!(out, " -")?),
-    }
+    write_given(out, " keep", &settings.keep)?;
+    write_given(out, " exclude", &settings.exclude)?;
+    write_limit(out, settings.limit)
 }
 
-fn write_views(out: &mut String, views: &[View]) -> Result<(), Fail> {
+fn write_views(out: &mut String, views: &[View]) -> Result<(), AllocError> {
     for view in views {
         write_criteria(out, &view.criteria)?;
         write_settings(out, &view.settings)?;
@@ -201,26 +224,30 @@ fn write_views(out: &mut String, views: &[View]) -> Result<(), Fail> {
     Ok(())
 }
 
-fn write_readers(out: &mut String, readers: &[Reader]) -> Result<(), Fail> {
+fn write_readers(out: &mut String, readers: &[Reader]) -> Result<(), AllocError> {
     for reader in readers {
         write_reader(out, reader)?;
     }
     Ok(())
 }
 
+fn write_config(out: &mut String, config: &Config) -> Result<(), AllocError> {
+    write_readers(out, config.readers())?;
+    write_views(out, config.views())
+}
+
 // All that a config says.
-fn shown(alloc: Global, config: &Config) -> Result<String, Fail> {
+fn shown(alloc: Global, config: &Config) -> Result<String, AllocError> {
     let mut out = String::new(alloc);
-    write_readers(&mut out, config.readers())?;
-    write_views(&mut out, config.views())?;
+    write_config(&mut out, config)?;
     Ok(out)
 }
 
 // The same of the config that a text is, or its fault as it is printed.
-fn told(alloc: Global, text: &str) -> Result<String, Fail> {
+fn told(alloc: Global, text: &str) -> Result<String, AllocError> {
     match Config::read(alloc, text) {
         Ok(config) => shown(alloc, &config),
-        Err(fault) => Ok(fault.to_string(alloc)?),
+        Err(fault) => fault.to_string(alloc),
     }
 }
 
@@ -232,19 +259,19 @@ fn every_field_is_read(rt: HostRuntime) -> Result<(), Fail> {
     Ok(())
 }
 
-fn write_many_views(out: &mut String, count: usize) -> Result<(), Fail> {
+fn write_many_views(out: &mut String, count: usize) -> Result<(), AllocError> {
     for _ in 0..count {
         writeln!(out, "[[view]]")?;
     }
     Ok(())
 }
 
-fn write_texts(out: &mut String, field: &str, count: usize) -> Result<(), Fail> {
+fn write_texts(out: &mut String, field: &str, count: usize) -> Result<(), AllocError> {
     write!(out, "{field} = [")?;
     for number in 0..count {
         write!(out, "'k{number}',")?;
     }
-    Ok(writeln!(out, "]")?)
+    writeln!(out, "]")
 }
 
 // How many there are of a thing.
@@ -265,19 +292,23 @@ const LIMITS: Counts = Counts {
     exclude: 64,
 };
 
+fn write_counts(out: &mut String, counts: Counts) -> Result<(), AllocError> {
+    write_many(out, "reader", counts.readers)?;
+    write_many_views(out, counts.views)?;
+    write_integers(out, "boundaries", counts.boundaries)?;
+    write_texts(out, "keep", counts.keep)?;
+    write_texts(out, "exclude", counts.exclude)
+}
+
 // A config whose last view has the lists.
-fn with_counts(alloc: Global, counts: Counts) -> Result<String, Fail> {
+fn with_counts(alloc: Global, counts: Counts) -> Result<String, AllocError> {
     let mut out = String::from_str(alloc, "format = 1\n")?;
-    write_many(&mut out, "reader", counts.readers)?;
-    write_many_views(&mut out, counts.views)?;
-    write_integers(&mut out, "boundaries", counts.boundaries)?;
-    write_texts(&mut out, "keep", counts.keep)?;
-    write_texts(&mut out, "exclude", counts.exclude)?;
+    write_counts(&mut out, counts)?;
     Ok(out)
 }
 
 /// A config of sixteen readers without views.
-pub(crate) fn of_readers(alloc: Global) -> Result<String, Fail> {
+pub(crate) fn of_readers(alloc: Global) -> Result<String, AllocError> {
     let mut out = String::from_str(alloc, "format = 1\n")?;
     write_many(&mut out, "reader", 16)?;
     Ok(out)
@@ -317,23 +348,29 @@ const COUNTS: &[(Counts, &str)] = &[
 ];
 
 // How many readers and views there are.
-fn sizes(alloc: Global, counts: Counts) -> Result<(usize, usize), Fail> {
-    let text = with_counts(alloc, counts)?;
-    let config = Config::read(alloc, &text)?;
-    Ok((config.readers().len(), config.views().len()))
+fn sizes_of(config: &Config) -> (usize, usize) {
+    (config.readers().len(), config.views().len())
+}
+
+fn sizes(alloc: Global, text: &str) -> Result<(usize, usize), ViewFault> {
+    Ok(sizes_of(&Config::read(alloc, text)?))
 }
 
 #[test]
 fn lists_are_taken_up_to_their_limits(rt: HostRuntime) -> Result<(), Fail> {
-    assert_eq!(rt; sizes(rt.alloc(), LIMITS)?, (16, 256));
+    let text = with_counts(rt.alloc(), LIMITS)?;
+    assert_eq!(rt; sizes(rt.alloc(), &text)?, (16, 256));
     Ok(())
+}
+
+fn told_with(alloc: Global, counts: Counts) -> Result<String, AllocError> {
+    told(alloc, &with_counts(alloc, counts)?)
 }
 
 #[test]
 fn one_more_than_a_limit_is_refused(rt: HostRuntime) -> Result<(), Fail> {
     for (counts, wanted) in COUNTS {
-        let text = with_counts(rt.alloc(), *counts)?;
-        assert_eq!(rt; told(rt.alloc(), &text)?.as_str(), *wanted);
+        assert_eq!(rt; told_with(rt.alloc(), *counts)?.as_str(), *wanted);
     }
     Ok(())
 }

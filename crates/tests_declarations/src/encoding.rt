@@ -1,11 +1,10 @@
 //! The set keys and refusals of attributes.
 use metric_base::{Items, Text};
 use metric_catalogue::{
-    Attr, Catalogue, Key, Kind, OwnedAttr, Refusal, SetKey, encode_ignores_order,
+    Attr, Catalogue, CatalogueFault, Kind, OwnedAttr, Refusal, SetKey, encode_ignores_order,
 };
 use metric_names::{AttrValue, ValueRef};
-use std::alloc::Global;
-use std::process::Abort;
+use std::alloc::{AllocError, Global};
 use std::test::Fail;
 
 const SHOP: &str = r#"
@@ -29,9 +28,9 @@ values = [true]
 optional = true
 "#;
 
-/// Promises nothing of the catalogue, so that no test is proved by the parts of its text.
-pub(crate) fn read(alloc: Global, text: &str) -> Result<Catalogue, Fail> {
-    Ok(Catalogue::read(alloc, text)?)
+// Promises nothing of the catalogue, so that no test is proved by the parts of its text.
+fn shop(alloc: Global) -> Result<Catalogue, CatalogueFault> {
+    Catalogue::read(alloc, SHOP)
 }
 
 const A: Attr<'static> = Attr {
@@ -84,7 +83,24 @@ const ENCODED: &[(u32, &[Attr<'static>], Result<SetKey, Refusal>)] = &[
     (0, &[], Err(Refusal::MissingKey)),
 ];
 
-fn owned_value(alloc: Global, value: ValueRef<'_>) -> Result<AttrValue, Fail> {
+fn encoded(
+    alloc: Global,
+    instrument: u32,
+    attrs: &[Attr<'_>],
+) -> Result<Result<SetKey, Refusal>, CatalogueFault> {
+    Ok(shop(alloc)?.encode(instrument, attrs))
+}
+
+#[test]
+fn attributes_name_a_set_key_or_are_refused(rt: HostRuntime) -> Result<(), Fail> {
+    encode_ignores_order();
+    for (instrument, attrs, wanted) in ENCODED {
+        assert!(rt; encoded(rt.alloc(), *instrument, attrs)? == *wanted);
+    }
+    Ok(())
+}
+
+fn owned_value(alloc: Global, value: ValueRef<'_>) -> Result<AttrValue, AllocError> {
     match value {
         ValueRef::Text(text) => Ok(AttrValue::Text(Text::new(alloc, text)?)),
         ValueRef::Whole(number) => Ok(AttrValue::Whole(number)),
@@ -92,13 +108,18 @@ fn owned_value(alloc: Global, value: ValueRef<'_>) -> Result<AttrValue, Fail> {
     }
 }
 
-fn owned(alloc: Global, attrs: &[Attr<'_>]) -> Result<Items<OwnedAttr>, Fail> {
+fn owned_attr(alloc: Global, attr: Attr<'_>) -> Result<OwnedAttr, AllocError> {
+    let key = Text::new(alloc, attr.key)?;
+    Ok(OwnedAttr {
+        key,
+        value: owned_value(alloc, attr.value)?,
+    })
+}
+
+fn owned(alloc: Global, attrs: &[Attr<'_>]) -> Result<Items<OwnedAttr>, AllocError> {
     let mut owned = Items::new(alloc);
     for attr in attrs {
-        owned.push(OwnedAttr {
-            key: Text::new(alloc, attr.key)?,
-            value: owned_value(alloc, attr.value)?,
-        })?;
+        owned.push(owned_attr(alloc, *attr)?)?;
     }
     Ok(owned)
 }
@@ -108,48 +129,28 @@ fn encoded_with_room(
     shop: &Catalogue,
     instrument: u32,
     attrs: &[OwnedAttr],
-) -> Result<Result<SetKey, Refusal>, Fail> {
+) -> Result<Result<SetKey, Refusal>, AllocError> {
     let mut room = Vec::with_capacity(alloc, attrs.len())?;
     Ok(shop.encode_with_room(instrument, attrs, &mut room))
 }
 
-#[test]
-fn attributes_name_a_set_key_or_are_refused(rt: HostRuntime) -> Result<(), Fail> {
-    let shop = read(rt.alloc(), SHOP)?;
-    encode_ignores_order();
-    for (instrument, attrs, wanted) in ENCODED {
-        assert!(rt; shop.encode(*instrument, attrs) == *wanted);
-    }
-    Ok(())
-}
-
-// Both ways to encode owned attributes answer this.
-fn expect_encoded(
-    rt: &impl Abort,
+// Whether both ways to encode owned attributes answer this.
+fn are_encoded(
     alloc: Global,
-    shop: &Catalogue,
     instrument: u32,
     attrs: &[OwnedAttr],
     wanted: Result<SetKey, Refusal>,
-) -> Result<(), Fail> {
-    assert!(rt; shop.encode_owned(instrument, attrs) == wanted);
-    assert!(rt; encoded_with_room(alloc, shop, instrument, attrs)? == wanted);
-    Ok(())
+) -> Result<bool, Fail> {
+    let shop = shop(alloc)?;
+    let is_encoded = shop.encode_owned(instrument, attrs) == wanted;
+    Ok(is_encoded && encoded_with_room(alloc, &shop, instrument, attrs)? == wanted)
 }
 
 #[test]
 fn owned_attributes_are_encoded_alike(rt: HostRuntime) -> Result<(), Fail> {
-    let shop = read(rt.alloc(), SHOP)?;
     for (instrument, attrs, wanted) in ENCODED {
         let attrs = owned(rt.alloc(), attrs)?;
-        expect_encoded(
-            &rt,
-            rt.alloc(),
-            &shop,
-            *instrument,
-            attrs.as_slice(),
-            *wanted,
-        )?;
+        assert!(rt; are_encoded(rt.alloc(), *instrument, attrs.as_slice(), *wanted)?);
     }
     Ok(())
 }
@@ -157,48 +158,52 @@ fn owned_attributes_are_encoded_alike(rt: HostRuntime) -> Result<(), Fail> {
 // Keys that no instrument declares.
 const STRANGE: &[&str] = &["s0", "s1", "s2", "s3", "s4", "s5", "s6", "s7", "s8", "s9"];
 
-fn flag(alloc: Global, key: &str) -> Result<OwnedAttr, Fail> {
-    let key = Text::new(alloc, key)?;
-    Ok(OwnedAttr {
-        key,
-        value: AttrValue::Flag(true),
-    })
+fn push_flag(attrs: &mut Items<OwnedAttr>, alloc: Global, key: &str) -> Result<(), AllocError> {
+    let value = ValueRef::Flag(true);
+    attrs.push(owned_attr(alloc, Attr { key, value })?)
+}
+
+fn push_strange(attrs: &mut Items<OwnedAttr>, alloc: Global) -> Result<(), AllocError> {
+    for key in STRANGE {
+        push_flag(attrs, alloc, key)?;
+    }
+    Ok(())
 }
 
 // Attributes of strange keys, and of one more.
-fn strange(alloc: Global, last: &str) -> Result<Items<OwnedAttr>, Fail> {
+fn strange(alloc: Global, last: &str) -> Result<Items<OwnedAttr>, AllocError> {
     let mut attrs = Items::new(alloc);
-    for key in STRANGE {
-        attrs.push(flag(alloc, key)?)?;
-    }
-    attrs.push(flag(alloc, last)?)?;
+    push_strange(&mut attrs, alloc)?;
+    push_flag(&mut attrs, alloc, last)?;
     Ok(attrs)
 }
 
 #[test]
 fn long_lists_are_refused_alike(rt: HostRuntime) -> Result<(), Fail> {
-    let shop = read(rt.alloc(), SHOP)?;
     for (last, refusal) in [
         ("s7", Refusal::DuplicateKey),
         ("s10", Refusal::UnknownKey),
         ("route", Refusal::UnknownKey),
     ] {
         let attrs = strange(rt.alloc(), last)?;
-        expect_encoded(&rt, rt.alloc(), &shop, 0, attrs.as_slice(), Err(refusal))?;
+        assert!(rt; are_encoded(rt.alloc(), 0, attrs.as_slice(), Err(refusal))?);
     }
     Ok(())
 }
 
-// The number of a value of the key with this name.
-fn number_of(alloc: Global, name: &str, value: ValueRef<'_>) -> Result<Option<u16>, Fail> {
-    let shop = read(alloc, SHOP)?;
-    let hits = shop.instruments().first().ok_or("no instrument")?;
-    Ok(number_in(hits.keys.as_slice(), name, value))
-}
-
-fn number_in(keys: &[Key], name: &str, value: ValueRef<'_>) -> Option<u16> {
+// The number of a value of the key with this name, of the first instrument.
+fn number_in(shop: &Catalogue, name: &str, value: ValueRef<'_>) -> Option<u16> {
+    let keys = shop.instruments().first()?.keys.as_slice();
     let key = keys.iter().find(|key| key.name.as_str() == name)?;
     key.values.number_of(value)
+}
+
+fn number_of(
+    alloc: Global,
+    name: &str,
+    value: ValueRef<'_>,
+) -> Result<Option<u16>, CatalogueFault> {
+    Ok(number_in(&shop(alloc)?, name, value))
 }
 
 #[test]
@@ -238,16 +243,19 @@ fn refusals_have_numbers_and_names(rt: HostRuntime) -> Result<(), Fail> {
     Ok(())
 }
 
+// Names, and the kinds that they name.
+const KINDS: &[(&str, Option<Kind>)] = &[
+    ("counter", Some(Kind::Counter)),
+    ("up_down_counter", Some(Kind::UpDownCounter)),
+    ("histogram", Some(Kind::Histogram)),
+    ("gauge", Some(Kind::Gauge)),
+    ("Gauge", None),
+];
+
 #[test]
 fn kinds_have_names(rt: HostRuntime) {
-    for (text, kind) in [
-        ("counter", Some(Kind::Counter)),
-        ("up_down_counter", Some(Kind::UpDownCounter)),
-        ("histogram", Some(Kind::Histogram)),
-        ("gauge", Some(Kind::Gauge)),
-        ("Gauge", None),
-    ] {
-        assert!(rt; Kind::named(text) == kind);
+    for (text, kind) in KINDS {
+        assert!(rt; Kind::named(text) == *kind);
     }
     assert!(rt; Kind::Counter.is_monotonic() && !Kind::UpDownCounter.is_monotonic());
 }

@@ -5,25 +5,34 @@ use metric_names::Name;
 use std::alloc::{AllocError, Global};
 use std::test::Fail;
 
-fn write_numbers(out: &mut String, numbers: &[u16]) -> Result<(), Fail> {
-    Ok(write!(out, " {numbers:?}")?)
+fn write_numbers(out: &mut String, numbers: &[u16]) -> Result<(), AllocError> {
+    write!(out, " {numbers:?}")
 }
 
-// A reason as a text.
-fn shown(alloc: Global, reason: &Reason) -> Result<String, Fail> {
-    let mut out = String::new(alloc);
+fn write_rows(out: &mut String, rows: &[Items<u16>]) -> Result<(), AllocError> {
+    for row in rows {
+        write_numbers(out, row.as_slice())?;
+    }
+    Ok(())
+}
+
+fn write_reason(out: &mut String, reason: &Reason) -> Result<(), AllocError> {
     match reason {
         Reason::Takes(takes) => {
             out.push_str("takes")?;
-            write_numbers(&mut out, takes.as_slice())?;
+            write_numbers(out, takes.as_slice())
         }
         Reason::Rows(rows) => {
             out.push_str("rows")?;
-            for row in rows.as_slice() {
-                write_numbers(&mut out, row.as_slice())?;
-            }
+            write_rows(out, rows.as_slice())
         }
     }
+}
+
+// A reason as a text.
+fn shown(alloc: Global, reason: &Reason) -> Result<String, AllocError> {
+    let mut out = String::new(alloc);
+    write_reason(&mut out, reason)?;
     Ok(out)
 }
 
@@ -47,30 +56,53 @@ const REASONS: &[(&str, &str, &str)] = &[
     ("?", "ab", "rows [0] [1] []"),
 ];
 
-// Why a name matches a pattern or does not.
-fn why(alloc: Global, pattern: &str, name: &str) -> Result<String, Fail> {
+// A pattern, and a name that is matched with it.
+#[derive(Drop)]
+struct Pair {
+    pattern: Pattern,
+    name: Name,
+}
+
+fn pair_of(alloc: Global, pattern: &str, name: &str) -> Result<Pair, Fail> {
     let pattern = Pattern::parse(alloc, pattern)?;
     let name = Name::parse(alloc, name)?;
-    let reason = pattern.why(alloc, &name)?;
-    shown(alloc, &reason)
+    Ok(Pair { pattern, name })
+}
+
+// Why a name matches a pattern or does not.
+fn why(alloc: Global, pair: &Pair) -> Result<String, AllocError> {
+    shown(alloc, &pair.pattern.why(alloc, &pair.name)?)
 }
 
 // Whether a name matches a pattern, where the reason is confirmed.
-fn does_match(alloc: Global, pattern: &str, name: &str) -> Result<Option<bool>, Fail> {
-    let pattern = Pattern::parse(alloc, pattern)?;
-    let name = Name::parse(alloc, name)?;
-    let reason = pattern.why(alloc, &name)?;
+fn is_matched(alloc: Global, pair: &Pair) -> Result<Option<bool>, AllocError> {
+    let reason = pair.pattern.why(alloc, &pair.name)?;
     let does_match = matches!(reason, Reason::Takes(_));
-    let is_told = pattern.confirms(&name, &reason) && pattern.matches(&name) == does_match;
+    let is_confirmed = pair.pattern.confirms(&pair.name, &reason);
+    let is_told = is_confirmed && pair.pattern.matches(&pair.name) == does_match;
     Ok(is_told.then_some(does_match))
+}
+
+fn does_match(alloc: Global, pattern: &str, name: &str) -> Result<Option<bool>, Fail> {
+    let pair = pair_of(alloc, pattern, name)?;
+    Ok(is_matched(alloc, &pair)?)
+}
+
+// Why a name matches or does not, where all ways to ask agree on it.
+fn told(alloc: Global, pattern: &str, name: &str) -> Result<String, Fail> {
+    let pair = pair_of(alloc, pattern, name)?;
+    let told = why(alloc, &pair)?;
+    if is_matched(alloc, &pair)? == Some(told.as_str().starts_with("takes")) {
+        Ok(told)
+    } else {
+        Err(Fail::from("the answers differ"))
+    }
 }
 
 #[test]
 fn a_reason_says_why_a_name_matches_or_does_not(rt: HostRuntime) -> Result<(), Fail> {
     for (pattern, name, wanted) in REASONS {
-        assert_eq!(rt; why(rt.alloc(), pattern, name)?.as_str(), *wanted);
-        let does_match = does_match(rt.alloc(), pattern, name)?;
-        assert_eq!(rt; does_match, Some(wanted.starts_with("takes")));
+        assert_eq!(rt; told(rt.alloc(), pattern, name)?.as_str(), *wanted);
     }
     Ok(())
 }
@@ -86,16 +118,18 @@ enum Stated {
     Rows(&'static [&'static [u16]]),
 }
 
+fn rows_of(alloc: Global, lists: &[&[u16]]) -> Result<Items<Items<u16>>, AllocError> {
+    let mut rows = Items::new(alloc);
+    for list in lists {
+        rows.push(items(alloc, list)?)?;
+    }
+    Ok(rows)
+}
+
 fn reason_of(alloc: Global, stated: Stated) -> Result<Reason, AllocError> {
     match stated {
         Stated::Takes(takes) => Ok(Reason::Takes(items(alloc, takes)?)),
-        Stated::Rows(lists) => {
-            let mut rows = Items::new(alloc);
-            for list in lists {
-                rows.push(items(alloc, list)?)?;
-            }
-            Ok(Reason::Rows(rows))
-        }
+        Stated::Rows(lists) => Ok(Reason::Rows(rows_of(alloc, lists)?)),
     }
 }
 
@@ -117,11 +151,13 @@ const STATED: &[(&str, &str, Stated, bool)] = &[
     ("b*", "a", Stated::Rows(&[&[0, 2, 3, 65535], &[0, 7]]), true),
 ];
 
+fn is_confirmed(pair: &Pair, reason: &Reason) -> bool {
+    pair.pattern.confirms(&pair.name, reason)
+}
+
 fn confirms(alloc: Global, pattern: &str, name: &str, stated: Stated) -> Result<bool, Fail> {
-    let pattern = Pattern::parse(alloc, pattern)?;
-    let name = Name::parse(alloc, name)?;
-    let reason = reason_of(alloc, stated)?;
-    Ok(pattern.confirms(&name, &reason))
+    let pair = pair_of(alloc, pattern, name)?;
+    Ok(is_confirmed(&pair, &reason_of(alloc, stated)?))
 }
 
 #[test]
@@ -133,22 +169,32 @@ fn only_true_reasons_are_confirmed(rt: HostRuntime) -> Result<(), Fail> {
     Ok(())
 }
 
+// So many times a text, and what follows.
+fn repeated(alloc: Global, part: &str, count: usize, end: &str) -> Result<String, AllocError> {
+    let front = part.repeat(alloc, count.min(256))?;
+    format!(in alloc; "{front}{end}")
+}
+
 #[test]
 fn the_longest_patterns_answer_at_once(rt: HostRuntime) -> Result<(), Fail> {
-    let name = "a".repeat(rt.alloc(), 255)?;
-    let stars = "*".repeat(rt.alloc(), 254)?;
+    let name = repeated(rt.alloc(), "a", 255, "")?;
     for (last, wanted) in [("*", true), ("b", false)] {
-        let pattern = format!(in rt.alloc(); "{stars}{last}")?;
+        let pattern = repeated(rt.alloc(), "*", 254, last)?;
         assert_eq!(rt; does_match(rt.alloc(), &pattern, &name)?, Some(wanted));
     }
     Ok(())
 }
 
+// What the copy of a pattern is.
+fn copied(alloc: Global, pattern: &Pattern) -> Result<String, AllocError> {
+    String::from_str(alloc, pattern.copy(alloc)?.as_str())
+}
+
 // What a text is as a pattern: the pattern itself, or the fault as it is printed.
-fn as_pattern(alloc: Global, text: &str) -> Result<String, Fail> {
+fn as_pattern(alloc: Global, text: &str) -> Result<String, AllocError> {
     match Pattern::parse(alloc, text) {
-        Ok(pattern) => Ok(String::from_str(alloc, pattern.copy(alloc)?.as_str())?),
-        Err(fault) => Ok(format!(in alloc; "{fault}")?),
+        Ok(pattern) => copied(alloc, &pattern),
+        Err(fault) => fault.to_string(alloc),
     }
 }
 
@@ -167,8 +213,7 @@ const PATTERNS: &[(&str, usize, &str, &str)] = &[
 #[test]
 fn a_pattern_is_up_to_255_printable_characters(rt: HostRuntime) -> Result<(), Fail> {
     for (part, count, end, fault) in PATTERNS {
-        let front = part.repeat(rt.alloc(), (*count).min(256))?;
-        let text = format!(in rt.alloc(); "{front}{end}")?;
+        let text = repeated(rt.alloc(), part, *count, end)?;
         let wanted = if fault.is_empty() {
             text.as_str()
         } else {
@@ -181,7 +226,9 @@ fn a_pattern_is_up_to_255_printable_characters(rt: HostRuntime) -> Result<(), Fa
 
 #[test]
 fn want_of_memory_is_printed(rt: HostRuntime) -> Result<(), Fail> {
-    let memory = PatternFault::Memory.to_string(rt.alloc())?;
-    assert_eq!(rt; memory.as_str(), "4 Memory");
+    assert_eq!(rt;
+        PatternFault::Memory.to_string(rt.alloc())?.as_str(),
+        "4 Memory"
+    );
     Ok(())
 }

@@ -1,5 +1,4 @@
 //! What views select, what they and the defaults make of instruments, and the warnings.
-use crate::encoding::read;
 use crate::words::{kind_word, temporality_word};
 use crate::{catalogue, config};
 use metric_base::Copied;
@@ -9,7 +8,7 @@ use metric_resolve::{
     streams_are_what_views_give, unfit_views_sum_gauges,
 };
 use metric_views::{Config, Fill, Stream, StreamAggregation, fill};
-use std::alloc::Global;
+use std::alloc::{AllocError, Global};
 use std::cmp::Ordering;
 use std::test::Fail;
 
@@ -98,77 +97,110 @@ collision 3 4
 collision 9 10
 ";
 
-fn write_texts(out: &mut String, stream: &Stream) -> Result<(), Fail> {
-    let reader = stream.reader;
-    let instrument = stream.instrument;
-    match stream.view {
-        Some(view) => write!(out, "{reader} {instrument} {view}")?,
-        None => write!(out, "{reader} {instrument} -")?,
-    }
-    let name = stream.name.get().as_str();
-    let description = stream.description.get().as_str();
-    let unit = stream.unit.get().as_str();
-    Ok(write!(out, " {name}|{description}|{unit}|")?)
+// A catalogue and a config.
+#[derive(Drop)]
+struct Declared {
+    catalogue: Catalogue,
+    config: Config,
 }
 
-fn write_aggregation(out: &mut String, aggregation: &StreamAggregation) -> Result<(), Fail> {
-    match aggregation {
-        StreamAggregation::Sum => Ok(write!(out, " sum")?),
-        StreamAggregation::LastValue => Ok(write!(out, " last")?),
-        StreamAggregation::Histogram(boundaries) => {
-            let boundaries = boundaries.get().as_slice();
-            Ok(write!(out, " {boundaries:?}")?)
-        }
-    }
-}
-
-fn write_stream(out: &mut String, stream: &Stream) -> Result<(), Fail> {
-    write_texts(out, stream)?;
-    let kind = kind_word(stream.kind);
-    write!(out, " {kind}")?;
-    write_aggregation(out, &stream.aggregation)?;
-    let kept = stream.kept.get().as_slice();
-    let limit = stream.limit;
-    let temporality = temporality_word(stream.temporality);
-    Ok(writeln!(out, " {kept:?} {limit} {temporality}")?)
-}
-
-fn write_warnings(out: &mut String, warnings: &[Warning]) -> Result<(), Fail> {
-    for warning in warnings {
-        match *warning {
-            Warning::Unfit { view, instrument } => writeln!(out, "unfit {view} {instrument}")?,
-            Warning::Collision { a, b } => writeln!(out, "collision {a} {b}")?,
-        }
-    }
-    Ok(())
-}
-
-// Promises nothing of the config, so that no test is proved by the parts of its text.
-fn config_of(alloc: Global, text: &str) -> Result<Config, Fail> {
-    Ok(Config::read(alloc, text)?)
+// Promises nothing of either, so that no test is proved by the parts of their texts.
+fn read_both(alloc: Global, catalogue: &str, config: &str) -> Result<Declared, Fail> {
+    let catalogue = Catalogue::read(alloc, catalogue)?;
+    let config = Config::read(alloc, config)?;
+    Ok(Declared { catalogue, config })
 }
 
 // What a catalogue and a config give.
 fn resolved(alloc: Global, catalogue: &str, config: &str) -> Result<Streams, Fail> {
-    let catalogue = Catalogue::read(alloc, catalogue)?;
-    let config = Config::read(alloc, config)?;
-    Ok(resolve(alloc, &catalogue, &config)?)
+    let declared = read_both(alloc, catalogue, config)?;
+    Ok(resolve(alloc, &declared.catalogue, &declared.config)?)
 }
 
-fn write_streams(out: &mut String, alloc: Global, streams: &[Stream]) -> Result<(), Fail> {
+// The number of a stream's view.
+fn write_view(out: &mut String, view: Option<u32>) -> Result<(), AllocError> {
+    match view {
+        Some(view) => write!(out, "{view}"),
+        None => out.push_str("-"),
+    }
+}
+
+fn write_numbers(out: &mut String, stream: &Stream) -> Result<(), AllocError> {
+    let reader = stream.reader;
+    let instrument = stream.instrument;
+    write!(out, "{reader} {instrument} ")?;
+    write_view(out, stream.view)
+}
+
+fn write_texts(out: &mut String, stream: &Stream) -> Result<(), AllocError> {
+    let name = stream.name.get().as_str();
+    let description = stream.description.get().as_str();
+    let unit = stream.unit.get().as_str();
+    let kind = kind_word(stream.kind);
+    write!(out, " {name}|{description}|{unit}| {kind}")
+}
+
+fn write_aggregation(out: &mut String, aggregation: &StreamAggregation) -> Result<(), AllocError> {
+    match aggregation {
+        StreamAggregation::Sum => out.push_str(" sum"),
+        StreamAggregation::LastValue => out.push_str(" last"),
+        StreamAggregation::Histogram(boundaries) => {
+            let boundaries = boundaries.get().as_slice();
+            write!(out, " {boundaries:?}")
+        }
+    }
+}
+
+fn write_kept(out: &mut String, stream: &Stream) -> Result<(), AllocError> {
+    let kept = stream.kept.get().as_slice();
+    let limit = stream.limit;
+    let temporality = temporality_word(stream.temporality);
+    writeln!(out, " {kept:?} {limit} {temporality}")
+}
+
+fn write_stream(out: &mut String, stream: &Stream) -> Result<(), AllocError> {
+    write_numbers(out, stream)?;
+    write_texts(out, stream)?;
+    write_aggregation(out, &stream.aggregation)?;
+    write_kept(out, stream)
+}
+
+fn write_warning(out: &mut String, warning: Warning) -> Result<(), AllocError> {
+    match warning {
+        Warning::Unfit { view, instrument } => writeln!(out, "unfit {view} {instrument}"),
+        Warning::Collision { a, b } => writeln!(out, "collision {a} {b}"),
+    }
+}
+
+fn write_warnings(out: &mut String, warnings: &[Warning]) -> Result<(), AllocError> {
+    for warning in warnings {
+        write_warning(out, *warning)?;
+    }
+    Ok(())
+}
+
+fn write_copy(out: &mut String, alloc: Global, stream: &Stream) -> Result<(), AllocError> {
+    write_stream(out, &stream.copy(alloc)?)
+}
+
+fn write_streams(out: &mut String, alloc: Global, streams: &[Stream]) -> Result<(), AllocError> {
     for stream in streams {
-        write_stream(out, &stream.copy(alloc)?)?;
+        write_copy(out, alloc, stream)?;
     }
     Ok(())
 }
 
 // Each stream by a line, and each warning.
-fn shown(alloc: Global, catalogue: &str, config: &str) -> Result<String, Fail> {
-    let streams = resolved(alloc, catalogue, config)?;
+fn shown_of(alloc: Global, streams: &Streams) -> Result<String, AllocError> {
     let mut out = String::new(alloc);
     write_streams(&mut out, alloc, streams.list())?;
     write_warnings(&mut out, streams.warnings())?;
     Ok(out)
+}
+
+fn shown(alloc: Global, catalogue: &str, config: &str) -> Result<String, Fail> {
+    let streams = resolved(alloc, catalogue, config)?;
+    Ok(shown_of(alloc, &streams)?)
 }
 
 #[test]
@@ -182,13 +214,17 @@ fn every_part_of_the_streams_is_given(rt: HostRuntime) -> Result<(), Fail> {
     Ok(())
 }
 
+// How many streams and warnings a catalogue and a config give.
+fn counts_of(alloc: Global, catalogue: &str, config: &str) -> Result<(usize, usize), Fail> {
+    let streams = resolved(alloc, catalogue, config)?;
+    Ok((streams.list().len(), streams.warnings().len()))
+}
+
 #[test]
 fn each_reader_has_a_stream_of_each_instrument(rt: HostRuntime) -> Result<(), Fail> {
     let catalogue = catalogue::at_limits(rt.alloc())?;
     let config = config::of_readers(rt.alloc())?;
-    let streams = resolved(rt.alloc(), &catalogue, &config)?;
-    assert_eq!(rt; streams.list().len(), 8192);
-    assert!(rt; streams.warnings().is_empty());
+    assert_eq!(rt; counts_of(rt.alloc(), &catalogue, &config)?, (8192, 0));
     Ok(())
 }
 
@@ -222,18 +258,30 @@ const CRITERIA: &[(&str, [Option<u32>; 4])] = &[
     ),
 ];
 
-// The view of each stream, where there is one reader and this view.
-fn views_of(alloc: Global, view: &str) -> Result<Vec<Option<u32>>, Fail> {
-    let config = format!(in alloc; "format = 1\n[[reader]]\nname = 'r'\n[[view]]\n{view}\n")?;
-    let streams = resolved(alloc, SHOP, &config)?;
-    Ok(streams.list().iter().map(|s| s.view).collect(alloc)?)
+// A config of one reader and this view.
+fn with_view(alloc: Global, view: &str) -> Result<String, AllocError> {
+    format!(in alloc; "format = 1\n[[reader]]\nname = 'r'\n[[view]]\n{view}\n")
+}
+
+// Whether these are the views of the streams.
+fn has_views(streams: &[Stream], views: &[Option<u32>]) -> bool {
+    streams.len() == views.len()
+        && streams
+            .iter()
+            .zip(views)
+            .all(|(stream, view)| stream.view == *view)
+}
+
+fn selects(alloc: Global, config: &str, views: &[Option<u32>]) -> Result<bool, Fail> {
+    let streams = resolved(alloc, SHOP, config)?;
+    Ok(has_views(streams.list(), views))
 }
 
 #[test]
 fn a_view_selects_by_all_its_criteria(rt: HostRuntime) -> Result<(), Fail> {
     for (view, wanted) in CRITERIA {
-        let views = views_of(rt.alloc(), view)?;
-        assert_eq!(rt; views.as_slice(), wanted.as_slice(), "{view}");
+        let config = with_view(rt.alloc(), view)?;
+        assert!(rt; selects(rt.alloc(), &config, wanted)?, "{view}");
     }
     Ok(())
 }
@@ -266,25 +314,25 @@ const SMALL: &[(&str, &str)] = &[
     ),
 ];
 
-fn write_numbers(out: &mut String, streams: &[Stream]) -> Result<(), Fail> {
+fn write_all_numbers(out: &mut String, streams: &[Stream]) -> Result<(), AllocError> {
     for stream in streams {
-        let reader = stream.reader;
-        let instrument = stream.instrument;
-        match stream.view {
-            Some(view) => write!(out, "{reader} {instrument} {view}, ")?,
-            None => write!(out, "{reader} {instrument} -, ")?,
-        }
+        write_numbers(out, stream)?;
+        out.push_str(", ")?;
     }
     Ok(())
+}
+
+fn numbers_of(alloc: Global, streams: &Streams) -> Result<String, AllocError> {
+    let mut out = String::new(alloc);
+    write_all_numbers(&mut out, streams.list())?;
+    write_warnings(&mut out, streams.warnings())?;
+    Ok(out)
 }
 
 fn numbers(alloc: Global, tables: &str) -> Result<String, Fail> {
     let config = format!(in alloc; "format = 1\n{tables}")?;
     let streams = resolved(alloc, TWO, &config)?;
-    let mut out = String::new(alloc);
-    write_numbers(&mut out, streams.list())?;
-    write_warnings(&mut out, streams.warnings())?;
-    Ok(out)
+    Ok(numbers_of(alloc, &streams)?)
 }
 
 #[test]
@@ -295,15 +343,15 @@ fn streams_stand_by_reader_instrument_and_view(rt: HostRuntime) -> Result<(), Fa
     Ok(())
 }
 
-// What the view of this number, or the default, makes of an instrument for the first reader.
-fn write_fill(
-    out: &mut String,
+// What the view of this number, or the default, makes of an instrument for the first reader, where these are there.
+fn fill_of(
     alloc: Global,
-    catalogue: &Catalogue,
-    config: &Config,
+    declared: &Declared,
     instrument: u32,
     view: Option<u32>,
-) -> Result<(), Fail> {
+) -> Result<Option<Fill>, AllocError> {
+    let catalogue = &declared.catalogue;
+    let config = &declared.config;
     let has_view = match view {
         Some(number) => (number as usize) < config.views().len(),
         None => true,
@@ -312,20 +360,35 @@ fn write_fill(
         || instrument as usize >= catalogue.instruments().len()
         || !has_view
     {
-        return Err(Fail::from("no such number"));
+        return Ok(None);
     }
-    match fill(alloc, catalogue, config, 0, instrument, view)? {
-        Fill::Unfit => Ok(out.push_str("unfit\n")?),
-        Fill::Dropped => Ok(out.push_str("dropped\n")?),
-        Fill::Kept(stream) => write_stream(out, &stream),
+    Ok(Some(fill(alloc, catalogue, config, 0, instrument, view)?))
+}
+
+fn write_fill(out: &mut String, fill: &Fill) -> Result<(), AllocError> {
+    match fill {
+        Fill::Unfit => out.push_str("unfit\n"),
+        Fill::Dropped => out.push_str("dropped\n"),
+        Fill::Kept(stream) => write_stream(out, stream),
+    }
+}
+
+fn write_filled(
+    out: &mut String,
+    alloc: Global,
+    instrument: u32,
+    view: Option<u32>,
+) -> Result<(), Fail> {
+    let declared = read_both(alloc, SHOP, CONFIG)?;
+    match fill_of(alloc, &declared, instrument, view)? {
+        Some(fill) => Ok(write_fill(out, &fill)?),
+        None => Err(Fail::from("no such number")),
     }
 }
 
 fn filled(alloc: Global, instrument: u32, view: Option<u32>) -> Result<String, Fail> {
-    let catalogue = read(alloc, SHOP)?;
-    let config = config_of(alloc, CONFIG)?;
     let mut out = String::new(alloc);
-    write_fill(&mut out, alloc, &catalogue, &config, instrument, view)?;
+    write_filled(&mut out, alloc, instrument, view)?;
     Ok(out)
 }
 
@@ -348,8 +411,7 @@ const FILLS: &[(u32, Option<u32>, &str)] = &[
 #[test]
 fn one_view_makes_one_stream_of_an_instrument(rt: HostRuntime) -> Result<(), Fail> {
     for (instrument, view, wanted) in FILLS {
-        let filled = filled(rt.alloc(), *instrument, *view)?;
-        assert_eq!(rt; filled.as_str(), *wanted);
+        assert_eq!(rt; filled(rt.alloc(), *instrument, *view)?.as_str(), *wanted);
     }
     Ok(())
 }
@@ -377,9 +439,9 @@ fn order_in(
 
 // How two streams stand by their identities.
 fn order_of(alloc: Global, left: usize, right: usize) -> Result<Option<Ordering>, Fail> {
-    let catalogue = read(alloc, SHOP)?;
-    let streams = resolved(alloc, SHOP, CONFIG)?;
-    Ok(order_in(&catalogue, streams.list(), left, right))
+    let declared = read_both(alloc, SHOP, CONFIG)?;
+    let streams = resolve(alloc, &declared.catalogue, &declared.config)?;
+    Ok(order_in(&declared.catalogue, streams.list(), left, right))
 }
 
 #[test]
@@ -391,8 +453,7 @@ fn identities_stand_by_reader_meter_and_name(rt: HostRuntime) -> Result<(), Fail
         (4, 6, Ordering::Less),
         (1, 2, Ordering::Greater),
     ] {
-        let order = order_of(rt.alloc(), left, right)?;
-        assert!(rt; order == Some(wanted));
+        assert!(rt; order_of(rt.alloc(), left, right)? == Some(wanted));
     }
     Ok(())
 }
