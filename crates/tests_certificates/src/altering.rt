@@ -1,6 +1,5 @@
 //! Texts that differ from another in one place.
 use std::alloc::{AllocError, Global};
-use std::test::Fail;
 
 /// Where a piece of a text begins, and where it ends.
 type Piece = (usize, usize);
@@ -27,15 +26,23 @@ const LISTS: &[(&str, &str)] = &[
 ];
 
 /// All texts that differ from this one in one number, one word, one line, one list or one table.
-pub fn altered(alloc: Global, text: &str) -> Result<Vec<String>, Fail> {
+pub fn altered(alloc: Global, text: &str) -> Result<Vec<String>, AllocError> {
     let mut out = Vec::new(alloc);
-    add_counts(alloc, text, &mut out)?;
-    add_moves(alloc, text, ", ", &numbers_of(alloc, text)?, &mut out)?;
-    add_pieces(alloc, text, "\n", &mut out)?;
-    add_pieces(alloc, text, "\n\n", &mut out)?;
-    add_lists(alloc, text, &mut out)?;
-    add_words(alloc, text, &mut out)?;
+    add_all(&mut out, alloc, text)?;
     Ok(out)
+}
+
+fn add_all(out: &mut Vec<String>, alloc: Global, text: &str) -> Result<(), AllocError> {
+    add_numbers(out, alloc, text)?;
+    add_pieces(out, alloc, text, "\n")?;
+    add_pieces(out, alloc, text, "\n\n")?;
+    add_lists(out, alloc, text)?;
+    add_words(out, alloc, text)
+}
+
+fn add(out: &mut Vec<String>, text: String) -> Result<(), AllocError> {
+    out.push(text)?;
+    Ok(())
 }
 
 // Three texts as one.
@@ -51,7 +58,7 @@ fn replaced(alloc: Global, text: &str, piece: Piece, new: &str) -> Result<String
 }
 
 // Where the numbers stand, without their signs.
-fn numbers_of(alloc: Global, text: &str) -> Result<Vec<Piece>, Fail> {
+fn numbers_of(alloc: Global, text: &str) -> Result<Vec<Piece>, AllocError> {
     let mut numbers = Vec::new(alloc);
     let mut begun = None;
     for (place, byte) in text.as_bytes().iter().enumerate() {
@@ -68,7 +75,7 @@ fn numbers_of(alloc: Global, text: &str) -> Result<Vec<Piece>, Fail> {
 }
 
 // Where the pieces between joints stand.
-fn pieces_of(alloc: Global, text: &str, joint: &str) -> Result<Vec<Piece>, Fail> {
+fn pieces_of(alloc: Global, text: &str, joint: &str) -> Result<Vec<Piece>, AllocError> {
     let mut pieces = Vec::new(alloc);
     let mut start: usize = 0;
     for piece in text.split(joint) {
@@ -79,53 +86,75 @@ fn pieces_of(alloc: Global, text: &str, joint: &str) -> Result<Vec<Piece>, Fail>
     Ok(pieces)
 }
 
+// Each number altered, removed, doubled, and swapped with the next.
+fn add_numbers(out: &mut Vec<String>, alloc: Global, text: &str) -> Result<(), AllocError> {
+    let numbers = numbers_of(alloc, text)?;
+    add_counts(out, alloc, text, &numbers)?;
+    add_moves(out, alloc, text, ", ", &numbers)
+}
+
 // Each number one more, one less, and twice as much.
-fn add_counts(alloc: Global, text: &str, out: &mut Vec<String>) -> Result<(), Fail> {
-    for piece in &numbers_of(alloc, text)? {
-        add_counts_at(alloc, text, *piece, out)?;
+fn add_counts(
+    out: &mut Vec<String>,
+    alloc: Global,
+    text: &str,
+    numbers: &[Piece],
+) -> Result<(), AllocError> {
+    for piece in numbers {
+        let digits = text.get(piece.0..piece.1).unwrap_or("");
+        let number = digits.parse::<u128>().unwrap_or(0);
+        add_count(out, alloc, text, *piece, number.saturating_add(1))?;
+        add_count(out, alloc, text, *piece, number.saturating_sub(1))?;
+        add_count(out, alloc, text, *piece, number.saturating_mul(2))?;
     }
     Ok(())
 }
 
-fn add_counts_at(
+fn add_count(
+    out: &mut Vec<String>,
     alloc: Global,
     text: &str,
     piece: Piece,
-    out: &mut Vec<String>,
+    count: u128,
 ) -> Result<(), AllocError> {
-    let digits = text.get(piece.0..piece.1).unwrap_or("");
-    let number = digits.parse::<u128>().unwrap_or(0);
-    for count in [
-        number.saturating_add(1),
-        number.saturating_sub(1),
-        number.saturating_mul(2),
-    ] {
-        let count = count.to_string(alloc)?;
-        out.push(replaced(alloc, text, piece, count.as_str())?)?;
-    }
-    Ok(())
+    let count = count.to_string(alloc)?;
+    add(out, replaced(alloc, text, piece, count.as_str())?)
 }
 
 // Each piece between joints moved.
-fn add_pieces(alloc: Global, text: &str, joint: &str, out: &mut Vec<String>) -> Result<(), Fail> {
+fn add_pieces(
+    out: &mut Vec<String>,
+    alloc: Global,
+    text: &str,
+    joint: &str,
+) -> Result<(), AllocError> {
     let pieces = pieces_of(alloc, text, joint)?;
-    add_moves(alloc, text, joint, &pieces, out)
+    add_moves(out, alloc, text, joint, &pieces)
 }
 
 // Each piece removed, doubled, and swapped with the next.
 fn add_moves(
+    out: &mut Vec<String>,
     alloc: Global,
     text: &str,
     joint: &str,
     pieces: &[Piece],
-    out: &mut Vec<String>,
-) -> Result<(), Fail> {
+) -> Result<(), AllocError> {
     for piece in pieces {
-        out.push(without(alloc, text, joint, *piece)?)?;
-        out.push(doubled(alloc, text, joint, *piece)?)?;
+        add(out, without(alloc, text, joint, *piece)?)?;
+        add(out, doubled(alloc, text, joint, *piece)?)?;
     }
+    add_swaps(out, alloc, text, pieces)
+}
+
+fn add_swaps(
+    out: &mut Vec<String>,
+    alloc: Global,
+    text: &str,
+    pieces: &[Piece],
+) -> Result<(), AllocError> {
     for pair in pieces.windows(2) {
-        out.push(swapped(alloc, text, pair[0], pair[1])?)?;
+        add(out, swapped(alloc, text, pair[0], pair[1])?)?;
     }
     Ok(())
 }
@@ -160,45 +189,56 @@ fn swapped(alloc: Global, text: &str, first: Piece, second: Piece) -> Result<Str
     replaced(alloc, moved.as_str(), first, later)
 }
 
-// Each place of one text with another in it.
-fn add_others(
+// Each place between pieces with another text in it.
+fn add_between(
+    out: &mut Vec<String>,
     alloc: Global,
     text: &str,
-    old: &str,
+    pieces: &[Piece],
     new: &str,
-    out: &mut Vec<String>,
-) -> Result<(), Fail> {
-    let between = pieces_of(alloc, text, old)?;
-    for pair in between.as_slice().windows(2) {
-        out.push(replaced(alloc, text, (pair[0].1, pair[1].0), new)?)?;
+) -> Result<(), AllocError> {
+    for pair in pieces.windows(2) {
+        add(out, replaced(alloc, text, (pair[0].1, pair[1].0), new)?)?;
     }
     Ok(())
 }
 
+// Each place of one text with another in it.
+fn add_others(
+    out: &mut Vec<String>,
+    alloc: Global,
+    text: &str,
+    old: &str,
+    new: &str,
+) -> Result<(), AllocError> {
+    let between = pieces_of(alloc, text, old)?;
+    add_between(out, alloc, text, &between, new)
+}
+
 // Each list less, more, or joined.
-fn add_lists(alloc: Global, text: &str, out: &mut Vec<String>) -> Result<(), Fail> {
+fn add_lists(out: &mut Vec<String>, alloc: Global, text: &str) -> Result<(), AllocError> {
     for (old, new) in LISTS {
-        add_others(alloc, text, old, new, out)?;
+        add_others(out, alloc, text, old, new)?;
     }
     Ok(())
 }
 
 // Each place of each word with another in it.
-fn add_words(alloc: Global, text: &str, out: &mut Vec<String>) -> Result<(), Fail> {
+fn add_words(out: &mut Vec<String>, alloc: Global, text: &str) -> Result<(), AllocError> {
     for word in WORDS {
-        add_other_words(alloc, text, word, out)?;
+        add_other_words(out, alloc, text, word)?;
     }
     Ok(())
 }
 
 fn add_other_words(
+    out: &mut Vec<String>,
     alloc: Global,
     text: &str,
     word: &str,
-    out: &mut Vec<String>,
-) -> Result<(), Fail> {
+) -> Result<(), AllocError> {
     for other in WORDS {
-        add_others(alloc, text, word, other, out)?;
+        add_others(out, alloc, text, word, other)?;
     }
     Ok(())
 }

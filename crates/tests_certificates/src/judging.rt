@@ -2,11 +2,9 @@
 use crate::altering::altered;
 use crate::made::{A_STAR, ONE_COUNTER, TWO_COUNTERS, TWO_READERS};
 use crate::plain::is_valid;
-use crate::telling::made;
-use metric_catalogue::Catalogue;
+use crate::telling::{Declared, made, read_both};
 use metric_cert::Certificate;
 use metric_check::check;
-use metric_views::Config;
 use std::alloc::Global;
 use std::test::Fail;
 
@@ -56,7 +54,7 @@ enum Outcome {
 }
 
 // How often each came.
-#[derive(Drop)]
+#[derive(Clone, Copy)]
 struct Counts {
     unread: usize,
     accepted: usize,
@@ -66,23 +64,24 @@ struct Counts {
 
 impl Counts {
     fn add(&mut self, outcome: Outcome) {
-        let count = match outcome {
-            Outcome::Unread => &mut self.unread,
-            Outcome::Accepted => &mut self.accepted,
-            Outcome::Refused => &mut self.refused,
-            Outcome::Misjudged => &mut self.misjudged,
-        };
-        *count = count.saturating_add(1);
+        match outcome {
+            Outcome::Unread => self.unread = self.unread.saturating_add(1),
+            Outcome::Accepted => self.accepted = self.accepted.saturating_add(1),
+            Outcome::Refused => self.refused = self.refused.saturating_add(1),
+            Outcome::Misjudged => self.misjudged = self.misjudged.saturating_add(1),
+        }
     }
 }
 
-fn is_accepted(
-    alloc: Global,
-    catalogue: Catalogue,
-    config: Config,
-    certificate: &Certificate,
-) -> bool {
-    check(alloc, catalogue, config, certificate).is_ok()
+const NONE: Counts = Counts {
+    unread: 0,
+    accepted: 0,
+    refused: 0,
+    misjudged: 0,
+};
+
+fn is_accepted(alloc: Global, declared: Declared, certificate: &Certificate) -> bool {
+    check(alloc, declared.catalogue, declared.config, certificate).is_ok()
 }
 
 // What comes of a certificate for a catalogue and a config.
@@ -92,11 +91,9 @@ fn judged(
     config: &str,
     certificate: &Certificate,
 ) -> Result<Outcome, Fail> {
-    let catalogue = Catalogue::read(alloc, catalogue)?;
-    let config = Config::read(alloc, config)?;
-    let is_valid = is_valid(alloc, &catalogue, &config, certificate)?;
-    let is_accepted = is_accepted(alloc, catalogue, config, certificate);
-    Ok(outcome_of(is_accepted, is_valid))
+    let declared = read_both(alloc, catalogue, config)?;
+    let is_valid = is_valid(alloc, &declared, certificate)?;
+    Ok(outcome_of(is_accepted(alloc, declared, certificate), is_valid))
 }
 
 fn outcome_of(is_accepted: bool, is_valid: bool) -> Outcome {
@@ -122,36 +119,44 @@ fn counts_of(
     config: &str,
     texts: &[String],
 ) -> Result<Counts, Fail> {
-    let mut counts = Counts {
-        unread: 0,
-        accepted: 0,
-        refused: 0,
-        misjudged: 0,
-    };
+    let mut counts = NONE;
     for text in texts {
         counts.add(judged_text(alloc, catalogue, config, text.as_str())?);
     }
     Ok(counts)
 }
 
+// The certificate for a catalogue and a config, altered.
+fn altered_of(alloc: Global, catalogue: &str, config: &str) -> Result<Vec<String>, Fail> {
+    let text = made(alloc, catalogue, config)?;
+    Ok(altered(alloc, text.as_str())?)
+}
+
+fn altered_counts(alloc: Global, catalogue: &str, config: &str) -> Result<Counts, Fail> {
+    let texts = altered_of(alloc, catalogue, config)?;
+    counts_of(alloc, catalogue, config, &texts)
+}
+
 // A certificate that differs in one place from one that was made is accepted exactly where it is valid all the same.
 #[test]
 fn what_is_altered_is_accepted_where_valid(rt: HostRuntime) -> Result<(), Fail> {
     for (catalogue, config) in DECLARED {
-        let text = made(rt.alloc(), catalogue, config)?;
-        let texts = altered(rt.alloc(), text.as_str())?;
-        let counts = counts_of(rt.alloc(), catalogue, config, &texts)?;
+        let counts = altered_counts(rt.alloc(), catalogue, config)?;
         assert_eq!(rt; counts.misjudged, 0);
         assert!(rt; counts.accepted > 0 && counts.refused > 0 && counts.unread > 0);
     }
     Ok(())
 }
 
+fn judged_as_made(alloc: Global, catalogue: &str, config: &str) -> Result<Outcome, Fail> {
+    let text = made(alloc, catalogue, config)?;
+    judged_text(alloc, catalogue, config, text.as_str())
+}
+
 #[test]
 fn what_is_made_is_accepted(rt: HostRuntime) -> Result<(), Fail> {
     for (catalogue, config) in DECLARED {
-        let text = made(rt.alloc(), catalogue, config)?;
-        let outcome = judged_text(rt.alloc(), catalogue, config, text.as_str())?;
+        let outcome = judged_as_made(rt.alloc(), catalogue, config)?;
         assert!(rt; matches!(outcome, Outcome::Accepted));
     }
     Ok(())

@@ -1,5 +1,5 @@
 //! Whether the entries of streams and the bounds of instruments are right.
-use metric_catalogue::{Catalogue, Instrument, Kind};
+use metric_catalogue::{Budget, Catalogue, Instrument, Key, Kind};
 use metric_cert::{By, InstrumentBound, StreamSets};
 use metric_views::{Stream, StreamAggregation};
 
@@ -26,18 +26,16 @@ fn is_entry(catalogue: &Catalogue, stream: &Stream, entry: &StreamSets) -> bool 
 
 // How many sets of the kept keys there are.
 fn sets_of(catalogue: &Catalogue, stream: &Stream) -> i128 {
-    let Some(instrument) = catalogue.instruments().get(stream.instrument as usize) else {
-        return 0;
-    };
+    match catalogue.instruments().get(stream.instrument as usize) {
+        Some(instrument) => sets_by(stream.kept.get().as_slice(), instrument.keys.as_slice()),
+        None => 0,
+    }
+}
+
+fn sets_by(kept: &[bool], keys: &[Key]) -> i128 {
     let mut sets: i128 = 1;
-    for (kept, key) in stream
-        .kept
-        .get()
-        .as_slice()
-        .iter()
-        .zip(instrument.keys.as_slice())
-    {
-        if *kept {
+    for (is_kept, key) in kept.iter().zip(keys) {
+        if *is_kept {
             let values = (key.values.len() as i128).saturating_add(i128::from(key.optional));
             sets = sets.saturating_mul(values);
         }
@@ -49,10 +47,16 @@ fn sets_of(catalogue: &Catalogue, stream: &Stream) -> i128 {
 fn total_of(catalogue: &Catalogue, instrument: u32) -> i128 {
     let mut total: i128 = 0;
     for recorder in catalogue.recorders() {
-        for budget in recorder.budgets.as_slice() {
-            if budget.instrument == instrument {
-                total = total.saturating_add(i128::from(budget.amount));
-            }
+        total = total.saturating_add(budget_in(recorder.budgets.as_slice(), instrument));
+    }
+    total
+}
+
+fn budget_in(budgets: &[Budget], instrument: u32) -> i128 {
+    let mut total: i128 = 0;
+    for budget in budgets {
+        if budget.instrument == instrument {
+            total = total.saturating_add(i128::from(budget.amount));
         }
     }
     total
@@ -62,17 +66,24 @@ fn total_of(catalogue: &Catalogue, instrument: u32) -> i128 {
 pub fn are_bounds(catalogue: &Catalogue, streams: &[Stream], bounds: &[InstrumentBound]) -> bool {
     let instruments = catalogue.instruments();
     for (number, (instrument, bound)) in instruments.iter().zip(bounds).enumerate() {
-        if bound.instrument as usize != number {
-            return false;
-        }
         let total = total_of(catalogue, bound.instrument);
-        let is_summed = streams.iter().any(|stream| stream.instrument == bound.instrument
-            && keeps_sum(stream));
-        if !is_bound(total, instrument, is_summed, bound) {
+        let is_summed = is_summed(streams, bound.instrument);
+        let is_due = bound.instrument as usize == number;
+        if !is_due || !is_bound(total, instrument, is_summed, bound) {
             return false;
         }
     }
     bounds.len() == instruments.len()
+}
+
+// Whether a stream keeps a sum of an instrument.
+fn is_summed(streams: &[Stream], instrument: u32) -> bool {
+    for stream in streams {
+        if stream.instrument == instrument && keeps_sum(stream) {
+            return true;
+        }
+    }
+    false
 }
 
 // Whether a stream keeps a sum: a histogram does where no value is below 0.

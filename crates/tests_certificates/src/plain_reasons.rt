@@ -5,7 +5,7 @@ use metric_cert::{Criterion, Evidence, SelectionReason};
 use metric_glob::Reason;
 use metric_views::{Config, Criteria};
 
-const CRITERIA: [Criterion; 5] = [
+const CRITERIA: &[Criterion] = &[
     Criterion::InstrumentType,
     Criterion::InstrumentUnit,
     Criterion::MeterName,
@@ -19,10 +19,8 @@ pub fn are_reasons(catalogue: &Catalogue, config: &Config, reasons: &[SelectionR
     for (place, reason) in reasons.iter().enumerate() {
         let view = place.checked_div(instruments).unwrap_or(0);
         let instrument = place.checked_rem(instruments).unwrap_or(0);
-        if reason.view as usize != view || reason.instrument as usize != instrument {
-            return false;
-        }
-        if !is_true(catalogue, config, reason) {
+        let is_due = reason.view as usize == view && reason.instrument as usize == instrument;
+        if !is_due || !is_true(catalogue, config, reason) {
             return false;
         }
     }
@@ -56,15 +54,21 @@ fn is_shown(
     match evidence {
         Evidence::Miss(criterion) => !holds(criteria, meter, instrument, *criterion),
         Evidence::Name(Reason::Takes(takes)) => {
-            spells(pattern, name, takes.as_slice())
-                && CRITERIA
-                    .iter()
-                    .all(|criterion| holds(criteria, meter, instrument, *criterion))
+            spells(pattern, name, takes.as_slice()) && all_hold(criteria, meter, instrument)
         }
         Evidence::Name(Reason::Rows(rows)) => {
             rows.len() == name.len().saturating_add(1) && shuts_out(pattern, name, rows.as_slice())
         }
     }
+}
+
+fn all_hold(criteria: &Criteria, meter: &Meter, instrument: &Instrument) -> bool {
+    for criterion in CRITERIA {
+        if !holds(criteria, meter, instrument, *criterion) {
+            return false;
+        }
+    }
+    true
 }
 
 // Whether a criterion is not given, or holds.
@@ -148,13 +152,21 @@ fn are_closed(pattern: &str, name: &str, rows: &[Items<u16>]) -> bool {
     for (at, row) in rows.iter().enumerate() {
         let found = name.as_bytes().get(at).copied();
         let next = rows.get(at.saturating_add(1));
-        if !row.as_slice().iter().all(|place| stays(
-            pattern,
-            found,
-            row,
-            next,
-            usize::from(*place),
-        )) {
+        if !is_closed(pattern, found, row, next) {
+            return false;
+        }
+    }
+    true
+}
+
+fn is_closed(
+    pattern: &str,
+    found: Option<u8>,
+    row: &Items<u16>,
+    next: Option<&Items<u16>>,
+) -> bool {
+    for place in row.as_slice() {
+        if !stays(pattern, found, row, next, usize::from(*place)) {
             return false;
         }
     }

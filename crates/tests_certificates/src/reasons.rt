@@ -1,5 +1,5 @@
 //! Reasons of the longest names and patterns, and the criteria in their order.
-use crate::telling::{made, read};
+use crate::telling::made_and_read;
 use std::alloc::{AllocError, Global};
 use std::test::Fail;
 
@@ -12,56 +12,76 @@ fn repeated(alloc: Global, text: &str, count: usize) -> Result<String, AllocErro
     Ok(out)
 }
 
-// The first line of the certificate for a counter of this name and a view of that pattern.
-fn first_reason(alloc: Global, name: &str, pattern: &str) -> Result<String, Fail> {
-    let catalogue = format!(in alloc;
+// A catalogue of a counter whose name is 255 letters.
+fn of_a_long_name(alloc: Global) -> Result<String, AllocError> {
+    let name = repeated(alloc, "a", 255)?;
+    let name = name.as_str();
+    format!(in alloc;
         "format = 1\n[[meter]]\nname = \"m\"\ninstrument = [{{ name = \"{name}\", kind = \"counter\", range = [0, 1] }}]\n"
-    )?;
-    let config = format!(in alloc; "format = 1\nview = [{{ instrument_name = \"{pattern}\" }}]\n")?;
-    let text = made(alloc, catalogue.as_str(), config.as_str())?;
-    let told = read(alloc, text.as_str())?;
-    match told.as_str().split_once("\n") {
-        Some((line, _)) => Ok(String::from_str(alloc, line)?),
-        None => Ok(told),
+    )
+}
+
+// A config of a view whose pattern is so many stars, and what follows.
+fn of_stars(alloc: Global, count: usize, end: &str) -> Result<String, AllocError> {
+    let stars = repeated(alloc, "*", count)?;
+    let stars = stars.as_str();
+    format!(in alloc; "format = 1\nview = [{{ instrument_name = \"{stars}{end}\" }}]\n")
+}
+
+// The lines of the certificate for that name and this pattern.
+fn told(alloc: Global, count: usize, end: &str) -> Result<String, Fail> {
+    let catalogue = of_a_long_name(alloc)?;
+    let config = of_stars(alloc, count, end)?;
+    made_and_read(alloc, catalogue.as_str(), config.as_str())
+}
+
+fn first_line(text: &str) -> &str {
+    match text.split_once("\n") {
+        Some((line, _)) => line,
+        None => text,
     }
+}
+
+// Takes of nothing for each star but the last, which takes the whole name.
+fn takes_due(alloc: Global) -> Result<String, AllocError> {
+    let zeros = repeated(alloc, "0, ", 254)?;
+    let zeros = zeros.as_str();
+    format!(in alloc; "reason 0 0 takes [{zeros}255]")
 }
 
 // The first takes in list order: each `*` takes as little as it can, and the last takes the rest.
 #[test]
 fn stars_take_as_little_as_they_can(rt: HostRuntime) -> Result<(), Fail> {
-    let name = repeated(rt.alloc(), "a", 255)?;
-    let pattern = repeated(rt.alloc(), "*", 255)?;
-    let zeros = repeated(rt.alloc(), "0, ", 254)?;
-    let zeros = zeros.as_str();
-    let due = format!(in rt.alloc(); "reason 0 0 takes [{zeros}255]")?;
-    let told = first_reason(rt.alloc(), name.as_str(), pattern.as_str())?;
-    assert_eq!(rt; told.as_str(), due.as_str());
+    let told = told(rt.alloc(), 255, "")?;
+    let due = takes_due(rt.alloc())?;
+    assert_eq!(rt; first_line(told.as_str()), due.as_str());
     Ok(())
 }
 
 // The row of the places below this one.
-fn row_below(alloc: Global, end: usize) -> Result<String, Fail> {
+fn row_below(alloc: Global, end: usize) -> Result<String, AllocError> {
     let mut row = String::from_str(alloc, " [0")?;
     for place in 1..end {
         write!(row, ", {place}")?;
     }
-    row.push(']')?;
+    row.push_str("]")?;
     Ok(row)
+}
+
+// The same row for each place of the name.
+fn rows_due(alloc: Global) -> Result<String, AllocError> {
+    let row = row_below(alloc, 255)?;
+    let rows = repeated(alloc, row.as_str(), 256)?;
+    let rows = rows.as_str();
+    format!(in alloc; "reason 0 0 rows{rows}")
 }
 
 // Every place of the stars is reached before each character, and the end never is.
 #[test]
 fn rows_shut_out_the_end(rt: HostRuntime) -> Result<(), Fail> {
-    let name = repeated(rt.alloc(), "a", 255)?;
-    let stars = repeated(rt.alloc(), "*", 254)?;
-    let stars = stars.as_str();
-    let pattern = format!(in rt.alloc(); "{stars}b")?;
-    let told = first_reason(rt.alloc(), name.as_str(), pattern.as_str())?;
-    let row = row_below(rt.alloc(), 255)?;
-    let rows = repeated(rt.alloc(), row.as_str(), 256)?;
-    let rows = rows.as_str();
-    let due = format!(in rt.alloc(); "reason 0 0 rows{rows}")?;
-    assert_eq!(rt; told.as_str(), due.as_str());
+    let told = told(rt.alloc(), 254, "b")?;
+    let due = rows_due(rt.alloc())?;
+    assert_eq!(rt; first_line(told.as_str()), due.as_str());
     Ok(())
 }
 
@@ -82,22 +102,23 @@ const CRITERIA: &[(&str, &str)] = &[
 fn config_without(alloc: Global, count: usize) -> Result<String, AllocError> {
     let mut config = String::from_str(alloc, "format = 1\nview = [{ ")?;
     for (criterion, _) in CRITERIA.iter().skip(count) {
-        config.push_str(criterion)?;
-        config.push_str(", ")?;
+        write!(config, "{criterion}, ")?;
     }
     config.push_str("limit = 1 }]")?;
     Ok(config)
+}
+
+fn told_without(alloc: Global, count: usize) -> Result<String, Fail> {
+    let config = config_without(alloc, count)?;
+    made_and_read(alloc, OF_ONE_METER, config.as_str())
 }
 
 // The first criterion that fails is named, whatever else fails.
 #[test]
 fn criteria_are_tried_in_order(rt: HostRuntime) -> Result<(), Fail> {
     for (first, (_, due)) in CRITERIA.iter().enumerate() {
-        let config = config_without(rt.alloc(), first)?;
-        let text = made(rt.alloc(), OF_ONE_METER, config.as_str())?;
-        let told = read(rt.alloc(), text.as_str())?;
         let due = format!(in rt.alloc(); "reason 0 0 {due}\nbound 0 0 0 0 0\n")?;
-        assert_eq!(rt; told.as_str(), due.as_str());
+        assert_eq!(rt; told_without(rt.alloc(), first)?.as_str(), due.as_str());
     }
     Ok(())
 }

@@ -1,123 +1,159 @@
 //! A certificate as lines, to be compared as a whole.
+use metric_base::Items;
 use metric_catalogue::Catalogue;
 use metric_cert::{
     By, Certificate, Evidence, InstrumentBound, ReaderOrder, SelectionReason, StreamSets, make,
 };
 use metric_glob::Reason;
 use metric_views::Config;
-use std::alloc::Global;
+use std::alloc::{AllocError, Global};
 use std::test::Fail;
 
-fn write_evidence(out: &mut String, evidence: &Evidence) -> Result<(), Fail> {
-    match evidence {
-        Evidence::Name(Reason::Takes(takes)) => {
-            let takes = takes.as_slice();
-            write!(out, " takes {takes:?}")?;
-        }
-        Evidence::Name(Reason::Rows(rows)) => {
-            out.push_str(" rows")?;
-            for row in rows.as_slice() {
-                let row = row.as_slice();
-                write!(out, " {row:?}")?;
-            }
-        }
-        Evidence::Miss(criterion) => {
-            let name = criterion.name();
-            write!(out, " miss {name}")?;
-        }
+fn write_rows(out: &mut String, rows: &[Items<u16>]) -> Result<(), AllocError> {
+    out.push_str(" rows")?;
+    for row in rows {
+        let row = row.as_slice();
+        write!(out, " {row:?}")?;
     }
     Ok(())
 }
 
-fn write_reason(out: &mut String, reason: &SelectionReason) -> Result<(), Fail> {
+fn write_evidence(out: &mut String, evidence: &Evidence) -> Result<(), AllocError> {
+    match evidence {
+        Evidence::Name(Reason::Takes(takes)) => {
+            let takes = takes.as_slice();
+            write!(out, " takes {takes:?}")
+        }
+        Evidence::Name(Reason::Rows(rows)) => write_rows(out, rows.as_slice()),
+        Evidence::Miss(criterion) => {
+            let name = criterion.name();
+            write!(out, " miss {name}")
+        }
+    }
+}
+
+fn write_reason(out: &mut String, reason: &SelectionReason) -> Result<(), AllocError> {
     let view = reason.view;
     let instrument = reason.instrument;
     write!(out, "reason {view} {instrument}")?;
     write_evidence(out, &reason.evidence)?;
-    out.push('\n')?;
+    writeln!(out)
+}
+
+fn write_reasons(out: &mut String, reasons: &[SelectionReason]) -> Result<(), AllocError> {
+    for reason in reasons {
+        write_reason(out, reason)?;
+    }
     Ok(())
 }
 
-fn write_stream(out: &mut String, stream: &StreamSets) -> Result<(), Fail> {
+fn write_view(out: &mut String, view: Option<u32>) -> Result<(), AllocError> {
+    match view {
+        Some(view) => write!(out, " {view}"),
+        None => out.push_str(" -"),
+    }
+}
+
+fn write_stream(out: &mut String, stream: &StreamSets) -> Result<(), AllocError> {
     let reader = stream.reader;
     let instrument = stream.instrument;
     write!(out, "stream {reader} {instrument}")?;
-    match stream.view {
-        Some(view) => write!(out, " {view}")?,
-        None => out.push_str(" -")?,
-    }
+    write_view(out, stream.view)?;
     let by = match stream.by {
         By::Product => "product",
         By::Budget => "budget",
     };
     let sets = stream.sets;
-    writeln!(out, " {by} {sets}")?;
-    Ok(())
+    writeln!(out, " {by} {sets}")
 }
 
-fn write_bound(out: &mut String, bound: &InstrumentBound) -> Result<(), Fail> {
-    let instrument = bound.instrument;
-    let total = bound.total;
-    let amount = bound.amount;
-    let low = bound.low;
-    let high = bound.high;
-    writeln!(out, "bound {instrument} {total} {amount} {low} {high}")?;
-    Ok(())
-}
-
-fn write_order(out: &mut String, order: &ReaderOrder) -> Result<(), Fail> {
-    let reader = order.reader;
-    let streams = order.streams.as_slice();
-    writeln!(out, "order {reader} {streams:?}")?;
-    Ok(())
-}
-
-fn write_streams(out: &mut String, streams: &[StreamSets]) -> Result<(), Fail> {
+fn write_streams(out: &mut String, streams: &[StreamSets]) -> Result<(), AllocError> {
     for stream in streams {
         write_stream(out, stream)?;
     }
     Ok(())
 }
 
-fn write_bounds(out: &mut String, bounds: &[InstrumentBound]) -> Result<(), Fail> {
+fn write_bound(out: &mut String, bound: &InstrumentBound) -> Result<(), AllocError> {
+    let instrument = bound.instrument;
+    let total = bound.total;
+    let amount = bound.amount;
+    let low = bound.low;
+    let high = bound.high;
+    writeln!(out, "bound {instrument} {total} {amount} {low} {high}")
+}
+
+fn write_bounds(out: &mut String, bounds: &[InstrumentBound]) -> Result<(), AllocError> {
     for bound in bounds {
         write_bound(out, bound)?;
     }
     Ok(())
 }
 
-/// Each entry of a certificate as a line.
-pub fn lines_of(alloc: Global, certificate: &Certificate) -> Result<String, Fail> {
+fn write_order(out: &mut String, order: &ReaderOrder) -> Result<(), AllocError> {
+    let reader = order.reader;
+    let streams = order.streams.as_slice();
+    writeln!(out, "order {reader} {streams:?}")
+}
+
+fn write_orders(out: &mut String, orders: &[ReaderOrder]) -> Result<(), AllocError> {
+    for order in orders {
+        write_order(out, order)?;
+    }
+    Ok(())
+}
+
+fn write_certificate(out: &mut String, certificate: &Certificate) -> Result<(), AllocError> {
+    write_reasons(out, certificate.reasons.as_slice())?;
+    write_streams(out, certificate.streams.as_slice())?;
+    write_bounds(out, certificate.bounds.as_slice())?;
+    write_orders(out, certificate.orders.as_slice())
+}
+
+// Each entry of a certificate as a line.
+fn lines_of(alloc: Global, certificate: &Certificate) -> Result<String, AllocError> {
     let mut out = String::new(alloc);
-    for reason in certificate.reasons.as_slice() {
-        write_reason(&mut out, reason)?;
-    }
-    write_streams(&mut out, certificate.streams.as_slice())?;
-    write_bounds(&mut out, certificate.bounds.as_slice())?;
-    for order in certificate.orders.as_slice() {
-        write_order(&mut out, order)?;
-    }
+    write_certificate(&mut out, certificate)?;
     Ok(out)
 }
 
 /// The lines of the certificate that a text is, or its fault as it is printed.
-pub fn read(alloc: Global, text: &str) -> Result<String, Fail> {
+pub fn read(alloc: Global, text: &str) -> Result<String, AllocError> {
     match Certificate::read(alloc, text) {
         Ok(certificate) => lines_of(alloc, &certificate),
-        Err(fault) => Ok(format!(in alloc; "{fault}")?),
+        Err(fault) => fault.to_string(alloc),
+    }
+}
+
+/// A catalogue and a config.
+#[derive(Drop)]
+pub struct Declared {
+    pub catalogue: Catalogue,
+    pub config: Config,
+}
+
+/// The catalogue and the config that two texts are.
+pub fn read_both(alloc: Global, catalogue: &str, config: &str) -> Result<Declared, Fail> {
+    let catalogue = Catalogue::read(alloc, catalogue)?;
+    let config = Config::read(alloc, config)?;
+    Ok(Declared { catalogue, config })
+}
+
+fn made_of(alloc: Global, declared: &Declared) -> Result<String, AllocError> {
+    match make(alloc, &declared.catalogue, &declared.config) {
+        Ok(certificate) => certificate.write(alloc),
+        Err(fault) => fault.to_string(alloc),
     }
 }
 
 /// The certificate for a catalogue and a config as a text, or the fault as it is printed.
 pub fn made(alloc: Global, catalogue: &str, config: &str) -> Result<String, Fail> {
-    let Ok(catalogue) = Catalogue::read(alloc, catalogue) else {
-        return Ok(String::from_str(alloc, "no catalogue")?);
-    };
-    let Ok(config) = Config::read(alloc, config) else {
-        return Ok(String::from_str(alloc, "no config")?);
-    };
-    match make(alloc, &catalogue, &config) {
-        Ok(certificate) => Ok(certificate.write(alloc)?),
-        Err(fault) => Ok(format!(in alloc; "{fault}")?),
-    }
+    let declared = read_both(alloc, catalogue, config)?;
+    Ok(made_of(alloc, &declared)?)
+}
+
+/// The lines of the certificate that is made, written and read back.
+pub fn made_and_read(alloc: Global, catalogue: &str, config: &str) -> Result<String, Fail> {
+    let text = made(alloc, catalogue, config)?;
+    Ok(read(alloc, text.as_str())?)
 }
