@@ -1,27 +1,34 @@
 //! Worked values, each aggregator through its trait.
-use crate::points::shown;
+use crate::points::write_value;
 use metric_aggregate::{Aggregate, BucketAgg, LastAgg, PointValue, SumAgg};
 use metric_base::{Boundaries, Copied, Few, copy_all, is_rising, is_same};
 use std::alloc::Global;
 use std::test::Fail;
 
-// What an aggregator reads of the values that fit; the first that does not is told before.
-fn told<A: Aggregate>(alloc: Global, aggregate: &mut A, values: &[i64]) -> Result<String, Fail> {
-    let mut out = String::new(alloc);
+// Adds the values that fit, and tells the first that does not.
+fn add_all<A: Aggregate>(out: &mut String, aggregate: &mut A, values: &[i64]) -> Result<(), Fail> {
     for value in values {
-        let value = *value;
-        if !aggregate.fits(value) {
-            write!(out, "no room for {value}, ")?;
-            break;
+        if !aggregate.fits(*value) {
+            return Ok(write!(out, "no room for {value}, ")?);
         }
-        aggregate.add(value);
+        aggregate.add(*value);
     }
+    Ok(())
+}
+
+fn write_read<A: Aggregate>(out: &mut String, alloc: Global, aggregate: &A) -> Result<(), Fail> {
     if aggregate.is_empty() {
-        out.push_str("none")?;
-        return Ok(out);
+        return Ok(out.push_str("none")?);
     }
     let value = aggregate.read(alloc)?;
-    out.push_str(&shown(alloc, &value)?)?;
+    write_value(out, &value)
+}
+
+// What an aggregator reads of values.
+fn told<A: Aggregate>(alloc: Global, aggregate: &mut A, values: &[i64]) -> Result<String, Fail> {
+    let mut out = String::new(alloc);
+    add_all(&mut out, aggregate, values)?;
+    write_read(&mut out, alloc, aggregate)?;
     Ok(out)
 }
 
@@ -141,18 +148,26 @@ fn values_fall_between_boundaries(rt: HostRuntime) -> Result<(), Fail> {
     Ok(())
 }
 
-#[test]
-fn equal_point_values_are_the_same(rt: HostRuntime) -> Result<(), Fail> {
+// Whether a value is the same as its copy and as one of another kind, and as equal and other sums.
+fn sameness(alloc: Global) -> Result<[bool; 4], Fail> {
     let value = PointValue::Buckets {
         count: 1,
-        counts: copy_all(rt.alloc(), &[1u64, 0])?,
+        counts: copy_all(alloc, &[1u64, 0])?,
         sum: None,
         min: 3,
         max: 3,
     };
-    assert!(rt; is_same(&value, &value.copy(rt.alloc())?));
-    assert!(rt; !is_same(&value, &PointValue::Last(3)));
-    assert!(rt; is_same(&PointValue::Sum(3), &PointValue::Sum(3)));
-    assert!(rt; !is_same(&PointValue::Sum(3), &PointValue::Last(3)));
+    let copy = value.copy(alloc)?;
+    Ok([
+        is_same(&value, &copy),
+        is_same(&value, &PointValue::Last(3)),
+        is_same(&PointValue::Sum(3), &PointValue::Sum(3)),
+        is_same(&PointValue::Sum(3), &PointValue::Last(3)),
+    ])
+}
+
+#[test]
+fn equal_point_values_are_the_same(rt: HostRuntime) -> Result<(), Fail> {
+    assert_eq!(rt; sameness(rt.alloc())?, [true, false, true, false]);
     Ok(())
 }

@@ -16,38 +16,52 @@ enum Command {
     Show,
 }
 
-fn run(
+// The fault of a command where there is one.
+fn fault_of(
     alloc: Global,
     command: Command,
     source: &mut CutSource<'_>,
     sink: &mut CutSink,
-) -> Result<(), KitFault> {
+) -> Option<KitFault> {
     match command {
-        Command::Trial => replay(alloc, ReplayOptions { trial: true }, source, sink),
-        Command::Replay => replay(alloc, ReplayOptions { trial: false }, source, sink),
-        Command::Check => check_run(alloc, source, sink),
-        Command::Show => show_run(alloc, source, sink),
+        Command::Trial => replay(alloc, ReplayOptions { trial: true }, source, sink).err(),
+        Command::Replay => replay(alloc, ReplayOptions { trial: false }, source, sink).err(),
+        Command::Check => check_run(alloc, source, sink).err(),
+        Command::Show => show_run(alloc, source, sink).err(),
     }
 }
 
-// What is written, and then the line and the status of the fault where there is one.
+// The line and the status of a fault.
+fn write_fault(out: &mut String, alloc: Global, fault: KitFault) -> Result<(), Fail> {
+    let line = fault.line(alloc)?;
+    Ok(write!(out, "{line}, {}", fault.status())?)
+}
+
+// What is written, and then the fault where there is one.
 fn told(
     alloc: Global,
     command: Command,
     source: &mut CutSource<'_>,
     sink: &mut CutSink,
 ) -> Result<String, Fail> {
-    let fault = run(alloc, command, source, sink).err();
+    let fault = fault_of(alloc, command, source, sink);
     let mut out = String::from_str(alloc, str::from_utf8(sink.taken())?)?;
     if let Some(fault) = fault {
-        let line = fault.line(alloc)?;
-        let status = fault.status();
-        write!(out, "{line}, {status}")?;
+        write_fault(&mut out, alloc, fault)?;
     }
     Ok(out)
 }
 
-// The same of an input of these parts.
+fn told_whole(alloc: Global, command: Command, input: &str) -> Result<String, Fail> {
+    let mut source = CutSource::new(input.as_bytes(), None);
+    told(alloc, command, &mut source, &mut CutSink::new(alloc, None))
+}
+
+fn input_of(alloc: Global, catalogue: &str, config: &str, script: &str) -> Result<String, Fail> {
+    Ok(format!(in alloc; "%% catalogue\n{catalogue}%% config\n{config}%% script\n{script}")?)
+}
+
+// What is told of an input of these parts.
 fn told_of(
     alloc: Global,
     command: Command,
@@ -55,11 +69,8 @@ fn told_of(
     config: &str,
     script: &str,
 ) -> Result<String, Fail> {
-    let input = format!(in alloc;
-        "%% catalogue\n{catalogue}%% config\n{config}%% script\n{script}"
-    )?;
-    let mut source = CutSource::new(input.as_bytes(), None);
-    told(alloc, command, &mut source, &mut CutSink::new(alloc, None))
+    let input = input_of(alloc, catalogue, config, script)?;
+    told_whole(alloc, command, &input)
 }
 
 const HITS: &str = "format = 1
@@ -339,12 +350,19 @@ const DECLARED: &[(&str, &str, &str)] = &[
 ];
 
 #[test]
-fn a_faulty_declaration_is_told(rt: HostRuntime) -> Result<(), Fail> {
+fn a_trial_tells_a_faulty_declaration(rt: HostRuntime) -> Result<(), Fail> {
     for (catalogue, config, wanted) in DECLARED {
-        for command in [Command::Trial, Command::Show] {
-            let told = told_of(rt.alloc(), command, catalogue, config, RUN)?;
-            assert_eq!(rt; told.as_str(), *wanted);
-        }
+        let told = told_of(rt.alloc(), Command::Trial, catalogue, config, RUN)?;
+        assert_eq!(rt; told.as_str(), *wanted);
+    }
+    Ok(())
+}
+
+#[test]
+fn show_tells_a_faulty_declaration(rt: HostRuntime) -> Result<(), Fail> {
+    for (catalogue, config, wanted) in DECLARED {
+        let told = told_of(rt.alloc(), Command::Show, catalogue, config, RUN)?;
+        assert_eq!(rt; told.as_str(), *wanted);
     }
     Ok(())
 }
@@ -470,102 +488,109 @@ fn the_first_fault_is_told(rt: HostRuntime) -> Result<(), Fail> {
     Ok(())
 }
 
-fn input_of(alloc: Global, script: &str) -> Result<String, Fail> {
-    Ok(format!(in alloc; "%% catalogue\n{HITS}%% config\n{MAIN}%% script\n{script}")?)
-}
-
 // Whether a sink with this room has what goes into it of the output, and the fault tells so.
-fn is_cut(alloc: Global, input: &str, room: usize) -> bool {
+fn is_cut(alloc: Global, room: usize) -> Result<bool, Fail> {
+    let input = input_of(alloc, HITS, MAIN, RUN)?;
     let mut source = CutSource::new(input.as_bytes(), None);
     let mut sink = CutSink::new(alloc, Some(room));
-    let fault = run(alloc, Command::Trial, &mut source, &mut sink).err();
-    fault == Some(KitFault::Write) && OUTPUT.as_bytes().get(..room) == Some(sink.taken())
+    let fault = fault_of(alloc, Command::Trial, &mut source, &mut sink);
+    Ok(fault == Some(KitFault::Write) && OUTPUT.as_bytes().get(..room) == Some(sink.taken()))
 }
 
 #[test]
 fn a_writer_that_fails_has_a_prefix(rt: HostRuntime) -> Result<(), Fail> {
-    let input = input_of(rt.alloc(), RUN)?;
     for room in 0..OUTPUT.len() {
-        assert!(rt; is_cut(rt.alloc(), &input, room), "{room}");
+        assert!(rt; is_cut(rt.alloc(), room)?, "{room}");
     }
     Ok(())
 }
 
 // What is told where this read fails.
-fn told_up_to(alloc: Global, command: Command, input: &str, failing: u64) -> Result<String, Fail> {
+fn told_up_to(alloc: Global, command: Command, failing: u64) -> Result<String, Fail> {
+    let input = input_of(alloc, HITS, MAIN, RUN)?;
     let mut source = CutSource::new(input.as_bytes(), Some(failing)).in_pieces(50);
     told(alloc, command, &mut source, &mut CutSink::new(alloc, None))
 }
 
+// The first failing read after which anything else is told.
+fn first_untold(alloc: Global, command: Command) -> Result<Option<u64>, Fail> {
+    for failing in 1..10 {
+        if told_up_to(alloc, command, failing)?.as_str() != "refused: input, 3" {
+            return Ok(Some(failing));
+        }
+    }
+    Ok(None)
+}
+
+const COMMANDS: &[Command] = &[
+    Command::Trial,
+    Command::Replay,
+    Command::Check,
+    Command::Show,
+];
+
 #[test]
 fn a_reader_that_fails_writes_nothing(rt: HostRuntime) -> Result<(), Fail> {
-    let input = input_of(rt.alloc(), RUN)?;
-    for command in [
-        Command::Trial,
-        Command::Replay,
-        Command::Check,
-        Command::Show,
-    ] {
-        for failing in 1..10 {
-            let told = told_up_to(rt.alloc(), command, &input, failing)?;
-            assert_eq!(rt; told.as_str(), "refused: input, 3");
-        }
+    for command in COMMANDS {
+        let untold = first_untold(rt.alloc(), *command)?;
+        assert_eq!(rt; untold, None, "{command:?}");
     }
     Ok(())
 }
 
 // The fault of a command whose sink can not be flushed.
-fn unflushed(alloc: Global, command: Command, input: &str) -> Option<KitFault> {
+fn unflushed(alloc: Global, command: Command) -> Result<Option<KitFault>, Fail> {
+    let input = input_of(alloc, HITS, MAIN, "start 0\n")?;
     let mut source = CutSource::new(input.as_bytes(), None);
     let mut sink = CutSink::new(alloc, None).with_failing_flush();
-    run(alloc, command, &mut source, &mut sink).err()
+    Ok(fault_of(alloc, command, &mut source, &mut sink))
 }
 
 #[test]
 fn a_flush_that_fails_is_a_write(rt: HostRuntime) -> Result<(), Fail> {
-    let input = input_of(rt.alloc(), "start 0\n")?;
     for command in [Command::Trial, Command::Show] {
-        assert!(rt; unflushed(rt.alloc(), command, &input) == Some(KitFault::Write));
+        assert!(rt; unflushed(rt.alloc(), command)? == Some(KitFault::Write));
     }
     Ok(())
 }
 
-const PRINTED: &[(KitFault, &str, u8)] = &[
-    (KitFault::Read, "refused: input", 3),
-    (KitFault::Input { line: 7 }, "refused: input line 7", 3),
+const PRINTED: &[(KitFault, &str)] = &[
+    (KitFault::Read, "refused: input, 3"),
+    (KitFault::Input { line: 7 }, "refused: input line 7, 3"),
     (
         KitFault::Catalogue(CatalogueFault::TooMany {
             at: CataloguePlace::Meter(2),
         }),
-        "refused: catalogue 17 TooMany at meter 2",
-        1,
+        "refused: catalogue 17 TooMany at meter 2, 1",
     ),
     (
         KitFault::Config(ViewFault::BadPattern {
             at: ConfigPlace::View(2),
         }),
-        "refused: config 5 BadPattern at view 2",
-        1,
+        "refused: config 5 BadPattern at view 2, 1",
     ),
     (
         KitFault::Check(CheckFault::CountRange),
-        "refused: check 12 CountRange",
-        1,
+        "refused: check 12 CountRange, 1",
     ),
     (
         KitFault::Certificate(CertFault::Shape),
-        "refused: certificate 2 Shape",
-        1,
+        "refused: certificate 2 Shape, 1",
     ),
-    (KitFault::Write, "refused: write", 5),
-    (KitFault::Memory, "refused: memory", 4),
+    (KitFault::Write, "refused: write, 5"),
+    (KitFault::Memory, "refused: memory, 4"),
 ];
+
+fn printed(alloc: Global, fault: KitFault) -> Result<String, Fail> {
+    let mut out = String::new(alloc);
+    write_fault(&mut out, alloc, fault)?;
+    Ok(out)
+}
 
 #[test]
 fn faults_have_lines_and_statuses(rt: HostRuntime) -> Result<(), Fail> {
-    for (fault, line, status) in PRINTED {
-        assert_eq!(rt; fault.line(rt.alloc())?.as_str(), *line);
-        assert_eq!(rt; fault.status(), *status);
+    for (fault, wanted) in PRINTED {
+        assert_eq!(rt; printed(rt.alloc(), *fault)?.as_str(), *wanted);
     }
     Ok(())
 }

@@ -138,11 +138,11 @@ fn each_instrument_has_its_facts(rt: HostRuntime) -> Result<(), Fail> {
 
 #[test]
 fn an_event_is_of_one_instrument(rt: HostRuntime) {
-    assert_eq!(rt; Event::Close { instrument: 7 }.instrument(), 7);
+    let close = Event::Close { instrument: 7 }.instrument();
     let collect = Event::Collect {
         reader: 1,
         instrument: 8,
         now: 2,
     };
-    assert_eq!(rt; collect.instrument(), 8);
+    assert_eq!(rt; [close, collect.instrument()], [7, 8]);
 }

@@ -1,29 +1,17 @@
 //! Scripts: the events that their lines spell, and the lines that spell none.
+use crate::input::read;
+use crate::words::push_numbers;
 use metric_catalogue::OwnedAttr;
 use metric_history::Event;
-use metric_parts::{InputFault, Needs, parts_of};
-use metric_script::{ScriptEvents, events_of, one_script};
-use metric_text::{lines, push_number, push_pair, push_signed, push_text};
+use metric_script::{ScriptEvents, one_script};
+use metric_text::{push_pair, push_signed, push_text};
 use std::alloc::Global;
 use std::test::Fail;
-
-const TRIAL: Needs = Needs {
-    certificate: false,
-    script: true,
-};
 
 fn write_attributes(out: &mut Vec<u8>, attrs: &[OwnedAttr]) -> Result<(), Fail> {
     for attr in attrs {
         push_text(out, " ")?;
         push_pair(out, attr.key.as_str(), &attr.value)?;
-    }
-    Ok(())
-}
-
-fn write_numbers(out: &mut Vec<u8>, numbers: &[u64]) -> Result<(), Fail> {
-    for number in numbers {
-        push_text(out, " ")?;
-        push_number(out, *number)?;
     }
     Ok(())
 }
@@ -37,55 +25,49 @@ fn write_event(out: &mut Vec<u8>, event: &Event) -> Result<(), Fail> {
             attrs,
             value,
         } => {
-            push_text(out, "record")?;
-            write_numbers(out, &[u64::from(*recorder), u64::from(*instrument)])?;
+            push_numbers(
+                out,
+                "record",
+                &[u64::from(*recorder), u64::from(*instrument)],
+            )?;
             push_text(out, " ")?;
             push_signed(out, *value)?;
-            write_attributes(out, attrs.as_slice())?;
+            write_attributes(out, attrs.as_slice())
         }
         Event::Collect {
             reader,
             instrument,
             now,
-        } => {
-            push_text(out, "collect")?;
-            write_numbers(out, &[u64::from(*reader), u64::from(*instrument), *now])?;
-        }
-        Event::Close { instrument } => {
-            push_text(out, "close")?;
-            write_numbers(out, &[u64::from(*instrument)])?;
-        }
+        } => push_numbers(
+            out,
+            "collect",
+            &[u64::from(*reader), u64::from(*instrument), *now],
+        ),
+        Event::Close { instrument } => push_numbers(out, "close", &[u64::from(*instrument)]),
+    }
+}
+
+fn write_script(out: &mut Vec<u8>, script: &ScriptEvents) -> Result<(), Fail> {
+    push_numbers(out, "start", &[script.start])?;
+    for event in script.events.as_slice() {
+        push_text(out, "\n")?;
+        write_event(out, event)?;
     }
     Ok(push_text(out, "\n")?)
 }
 
-fn read_input(alloc: Global, input: &[u8]) -> Result<Result<ScriptEvents, InputFault>, Fail> {
-    let lines = lines(alloc, input)?;
-    let parts = parts_of(alloc, &lines, TRIAL)?;
-    let script = parts.script.ok_or("no script")?;
-    Ok(events_of(alloc, &script))
-}
-
-/// What is read of a script whose first line is the fourth of the input.
-pub(crate) fn read(alloc: Global, script: &str) -> Result<Result<ScriptEvents, InputFault>, Fail> {
-    let input = format!(in alloc; "%% catalogue\n%% config\n%% script\n{script}")?;
-    read_input(alloc, input.as_bytes())
+fn spelled(alloc: Global, script: &ScriptEvents) -> Result<String, Fail> {
+    let mut out = Vec::new(alloc);
+    write_script(&mut out, script)?;
+    Ok(String::from_utf8(out)?)
 }
 
 // The start and the events of a script as they are spelled, or the fault.
 fn told(alloc: Global, script: &str) -> Result<String, Fail> {
-    let read = match read(alloc, script)? {
-        Ok(read) => read,
-        Err(fault) => return Ok(format!(in alloc; "{fault}")?),
-    };
-    let mut out = Vec::new(alloc);
-    push_text(&mut out, "start")?;
-    write_numbers(&mut out, &[read.start])?;
-    push_text(&mut out, "\n")?;
-    for event in read.events.as_slice() {
-        write_event(&mut out, event)?;
+    match read(alloc, script)? {
+        Ok(script) => spelled(alloc, &script),
+        Err(fault) => Ok(fault.to_string(alloc)?),
     }
-    Ok(String::from_utf8(out)?)
 }
 
 // Scripts, and what they say without lines that are passed over.
@@ -112,7 +94,8 @@ const SCRIPTS: &[(&str, &str)] = &[
 fn each_line_spells_one_event(rt: HostRuntime) -> Result<(), Fail> {
     one_script();
     for (script, wanted) in SCRIPTS {
-        assert_eq!(rt; told(rt.alloc(), script)?.as_str(), *wanted, "{script:?}");
+        let told = told(rt.alloc(), script)?;
+        assert_eq!(rt; told.as_str(), *wanted, "{script:?}");
     }
     Ok(())
 }
@@ -151,15 +134,16 @@ const OUTSIDE: &[&str] = &[
     "record\t1 2 3",
 ];
 
+fn told_after_start(alloc: Global, line: &str) -> Result<String, Fail> {
+    let script = format!(in alloc; "start 0\n{line}\n")?;
+    told(alloc, &script)
+}
+
 #[test]
 fn lines_outside_the_grammar_are_refused(rt: HostRuntime) -> Result<(), Fail> {
     for line in OUTSIDE {
-        let script = format!(in rt.alloc(); "start 0\n{line}\n")?;
-        assert_eq!(rt;
-            told(rt.alloc(), &script)?.as_str(),
-            "input line 5",
-            "{line:?}"
-        );
+        let told = told_after_start(rt.alloc(), line)?;
+        assert_eq!(rt; told.as_str(), "input line 5", "{line:?}");
     }
     Ok(())
 }

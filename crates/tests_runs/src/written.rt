@@ -1,11 +1,12 @@
 //! Batches, streams and warnings as texts.
+use crate::input::plan_of;
 use metric_aggregate::PointValue;
 use metric_base::{Items, copy_all};
-use metric_catalogue::{Catalogue, SetKey};
+use metric_catalogue::SetKey;
 use metric_history::{Batch, Point, StreamPoints};
 use metric_lines::{push_batch, push_shown, push_warning};
-use metric_resolve::{Warning, resolve};
-use metric_views::{Config, Stream};
+use metric_plan::Plan;
+use metric_resolve::Warning;
 use std::alloc::Global;
 use std::test::Fail;
 
@@ -67,41 +68,52 @@ enum Number {
     Buckets(&'static [u64], Option<i64>),
 }
 
-fn point_of(alloc: Global, set: Option<SetKey>, number: Number) -> Result<Point, Fail> {
-    let value = match number {
-        Number::Sum(sum) => PointValue::Sum(sum),
-        Number::Last(last) => PointValue::Last(last),
-        Number::Buckets(counts, sum) => PointValue::Buckets {
+fn value_of(alloc: Global, number: Number) -> Result<PointValue, Fail> {
+    match number {
+        Number::Sum(sum) => Ok(PointValue::Sum(sum)),
+        Number::Last(last) => Ok(PointValue::Last(last)),
+        Number::Buckets(counts, sum) => Ok(PointValue::Buckets {
             count: 3,
             counts: copy_all(alloc, counts)?,
             sum,
             min: -4,
             max: 6,
-        },
-    };
-    Ok(Point { set, value })
+        }),
+    }
 }
 
-// A batch with the points of one stream, and one stream before it without points.
+fn points_of(alloc: Global, given: &[(Option<SetKey>, Number)]) -> Result<Items<Point>, Fail> {
+    let mut points = Items::new(alloc);
+    for (set, number) in given {
+        let value = value_of(alloc, *number)?;
+        points.push(Point { set: *set, value })?;
+    }
+    Ok(points)
+}
+
+// A stream without points, and then one with these.
+fn push_streams(
+    streams: &mut Items<StreamPoints>,
+    alloc: Global,
+    stream: u32,
+    points: &[(Option<SetKey>, Number)],
+) -> Result<(), Fail> {
+    streams.push(StreamPoints {
+        stream: 0,
+        points: Items::new(alloc),
+    })?;
+    let points = points_of(alloc, points)?;
+    Ok(streams.push(StreamPoints { stream, points })?)
+}
+
 fn batch_of(
     alloc: Global,
     instrument: u32,
     stream: u32,
     points: &[(Option<SetKey>, Number)],
 ) -> Result<Batch, Fail> {
-    let mut given = Items::new(alloc);
-    for (set, number) in points {
-        given.push(point_of(alloc, *set, *number)?)?;
-    }
     let mut streams = Items::new(alloc);
-    streams.push(StreamPoints {
-        stream: 0,
-        points: Items::new(alloc),
-    })?;
-    streams.push(StreamPoints {
-        stream,
-        points: given,
-    })?;
+    push_streams(&mut streams, alloc, stream, points)?;
     Ok(Batch {
         reader: 0,
         instrument,
@@ -113,21 +125,28 @@ fn batch_of(
     })
 }
 
-fn read_shop(alloc: Global, text: &str) -> Result<Catalogue, Fail> {
-    Ok(Catalogue::read(alloc, text)?)
-}
-
-fn read_config(alloc: Global, text: &str) -> Result<Config, Fail> {
-    Ok(Config::read(alloc, text)?)
-}
-
+// The text of a batch of the shop's plan.
 fn text_of(alloc: Global, batch: &Batch) -> Result<Vec<u8>, Fail> {
-    let catalogue = read_shop(alloc, SHOP)?;
-    let config = read_config(alloc, CONFIG)?;
-    let plan = resolve(alloc, &catalogue, &config)?;
+    let plan = plan_of(alloc, SHOP, CONFIG)?;
     let mut out = Vec::new(alloc);
-    push_batch(&mut out, &catalogue, &config, plan.list(), batch)?;
+    push_batch(
+        &mut out,
+        plan.catalogue(),
+        plan.config(),
+        plan.streams(),
+        batch,
+    )?;
     Ok(out)
+}
+
+fn told(
+    alloc: Global,
+    instrument: u32,
+    stream: u32,
+    points: &[(Option<SetKey>, Number)],
+) -> Result<Vec<u8>, Fail> {
+    let batch = batch_of(alloc, instrument, stream, points)?;
+    text_of(alloc, &batch)
 }
 
 // An instrument, a stream, its points, and the text of the batch.
@@ -189,9 +208,8 @@ point {} start=5 time=20 value=-1
 #[test]
 fn a_batch_is_written(rt: HostRuntime) -> Result<(), Fail> {
     for (instrument, stream, points, wanted) in BATCHES {
-        let batch = batch_of(rt.alloc(), *instrument, *stream, points)?;
-        let text = text_of(rt.alloc(), &batch)?;
-        assert_eq!(rt; text.as_slice(), wanted.as_bytes());
+        let told = told(rt.alloc(), *instrument, *stream, points)?;
+        assert_eq!(rt; told.as_slice(), wanted.as_bytes());
     }
     Ok(())
 }
@@ -204,25 +222,18 @@ stream 3 reader=\"main\" instrument=2 view=- name=\"stock\" kind=sum monotonic=n
 stream 4 reader=\"main\" instrument=3 view=- name=\"level\" kind=last temporality=cumulative limit=2000 keys=[]
 ";
 
-fn push_streams(
-    out: &mut Vec<u8>,
-    catalogue: &Catalogue,
-    config: &Config,
-    streams: &[Stream],
-) -> Result<(), Fail> {
-    for (number, stream) in streams.iter().enumerate() {
-        push_shown(out, catalogue, config, number as u64, stream)?;
+fn push_listing(out: &mut Vec<u8>, plan: &Plan) -> Result<(), Fail> {
+    for (number, stream) in plan.streams().iter().enumerate() {
+        push_shown(out, plan.catalogue(), plan.config(), number as u64, stream)?;
     }
     Ok(())
 }
 
 // The lines of all streams.
 fn listing(alloc: Global) -> Result<Vec<u8>, Fail> {
-    let catalogue = read_shop(alloc, SHOP)?;
-    let config = read_config(alloc, CONFIG)?;
-    let streams = resolve(alloc, &catalogue, &config)?;
+    let plan = plan_of(alloc, SHOP, CONFIG)?;
     let mut out = Vec::new(alloc);
-    push_streams(&mut out, &catalogue, &config, streams.list())?;
+    push_listing(&mut out, &plan)?;
     Ok(out)
 }
 
@@ -232,18 +243,25 @@ fn a_stream_has_a_line(rt: HostRuntime) -> Result<(), Fail> {
     Ok(())
 }
 
+const WARNINGS: &[Warning] = &[
+    Warning::Unfit {
+        view: 7,
+        instrument: 4294967295,
+    },
+    Warning::Collision { a: 0, b: 10 },
+];
+
+fn push_warnings(out: &mut Vec<u8>) -> Result<(), Fail> {
+    for warning in WARNINGS {
+        push_warning(out, *warning)?;
+    }
+    Ok(())
+}
+
 #[test]
 fn a_warning_has_a_line(rt: HostRuntime) -> Result<(), Fail> {
     let mut out = Vec::new(rt.alloc());
-    for warning in [
-        Warning::Unfit {
-            view: 7,
-            instrument: 4294967295,
-        },
-        Warning::Collision { a: 0, b: 10 },
-    ] {
-        push_warning(&mut out, warning)?;
-    }
+    push_warnings(&mut out)?;
     let wanted = b"warning Unfit view=7 instrument=4294967295\nwarning Collision streams=0,10\n";
     assert_eq!(rt; out.as_slice(), wanted.as_slice());
     Ok(())

@@ -2,9 +2,19 @@
 use metric_history::{Batch, Reply};
 use metric_lines::push_batch;
 use metric_plan::Plan;
-use metric_text::{push_numbered, push_text};
+use metric_text::{push_number, push_numbered, push_text};
 use std::alloc::Global;
 use std::test::Fail;
+
+/// Writes a word and the numbers after it.
+pub(crate) fn push_numbers(out: &mut Vec<u8>, word: &str, numbers: &[u64]) -> Result<(), Fail> {
+    push_text(out, word)?;
+    for number in numbers {
+        push_text(out, " ")?;
+        push_number(out, *number)?;
+    }
+    Ok(())
+}
 
 /// Writes which recordings a batch covers, and its text.
 pub(crate) fn push_covered(out: &mut Vec<u8>, plan: &Plan, batch: &Batch) -> Result<(), Fail> {

@@ -1,8 +1,9 @@
 //! Scripts that a seed chooses, for the instruments of a catalogue.
 use crate::declarations::{INSTRUMENTS, READERS, RECORDERS};
 use crate::dice::Dice;
+use crate::words::push_numbers;
 use metric_catalogue::{Catalogue, Instrument, Key};
-use metric_text::{push_number, push_pair, push_signed, push_text};
+use metric_text::{push_pair, push_signed, push_text};
 use std::alloc::Global;
 use std::test::Fail;
 
@@ -62,15 +63,6 @@ fn push_attributes(out: &mut Vec<u8>, dice: &mut Dice, keys: &[Key]) -> Result<(
     Ok(())
 }
 
-fn push_numbers(out: &mut Vec<u8>, word: &str, numbers: &[u64]) -> Result<(), Fail> {
-    push_text(out, word)?;
-    for number in numbers {
-        push_text(out, " ")?;
-        push_number(out, *number)?;
-    }
-    Ok(())
-}
-
 // The value and the attributes of a recording.
 fn push_recorded(out: &mut Vec<u8>, dice: &mut Dice, instrument: &Instrument) -> Result<(), Fail> {
     push_text(out, " ")?;
@@ -103,17 +95,23 @@ fn push_event(out: &mut Vec<u8>, dice: &mut Dice, catalogue: &Catalogue) -> Resu
     }
 }
 
-/// The text of a script.
-pub(crate) fn script(
-    alloc: Global,
-    dice: &mut Dice,
-    catalogue: &Catalogue,
-) -> Result<String, Fail> {
-    let mut out = Vec::new(alloc);
-    push_numbers(&mut out, "start", &[dice.roll(1000)])?;
+fn push_script(out: &mut Vec<u8>, dice: &mut Dice, catalogue: &Catalogue) -> Result<(), Fail> {
+    push_numbers(out, "start", &[dice.roll(1000)])?;
     for _ in 0..EVENTS {
-        push_text(&mut out, "\n")?;
-        push_event(&mut out, dice, catalogue)?;
+        push_text(out, "\n")?;
+        push_event(out, dice, catalogue)?;
     }
+    Ok(())
+}
+
+fn script_of(alloc: Global, dice: &mut Dice, catalogue: &Catalogue) -> Result<String, Fail> {
+    let mut out = Vec::new(alloc);
+    push_script(&mut out, dice, catalogue)?;
     Ok(String::from_utf8(out)?)
+}
+
+/// The text of a script for a catalogue.
+pub(crate) fn script_for(alloc: Global, dice: &mut Dice, catalogue: &str) -> Result<String, Fail> {
+    let catalogue = Catalogue::read(alloc, catalogue)?;
+    script_of(alloc, dice, &catalogue)
 }

@@ -6,9 +6,9 @@ use Rattle.metric_book.specs.Journals.{MayAnswer}
 use Rattle.metric_catalogue.specs.declared.refusal.Refusal.TheVariants.{Memory}
 use Rattle.metric_history.specs.declared.entry.Entry.{Entry}
 use Rattle.metric_history.specs.Windows.{fits_all}
-use Rattle.tests_books.specs.Refusing.{RefusingValue}
-use Rattle.tests_books.proofs.FirstFits.{first_fits, high_of, low_of}
-use Rattle.tests_books.proofs.refusing.RefusingBook.push.Goals as goal
+use Rattle.tests_runs.specs.Refusing.{RefusingValue}
+use Rattle.tests_runs.proofs.FirstFits.{first_fits, high_of, low_of}
+use Rattle.tests_runs.proofs.refusing.RefusingBook.push.Goals as goal
 
 pub returns-then-self-2-clause-answer : goal.returns-then-self-2-clause-answer
 returns-then-self-2-clause-answer c = λ facts journal marks stands.

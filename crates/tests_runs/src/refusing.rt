@@ -2,11 +2,11 @@
 //!
 //! No test can have one allocation of its process refused, so a book refuses in its place, as it would where a
 //! table can not grow.
-use crate::input::{core_of, plan_of, read_script};
+use crate::input::plan_of;
+use crate::runs::{Trial, replies};
 use crate::words::shown;
 use metric_book::{Book, Window};
 use metric_catalogue::Refusal;
-use metric_core::Core;
 use metric_history::Entry;
 use metric_marked::Marked;
 use metric_plan::Plan;
@@ -24,7 +24,7 @@ struct Refusing {
 }
 
 impl Model for Refusing {
-    ghost use Rattle.tests_books.specs.Refusing.{RefusingValue};
+    ghost use Rattle.tests_runs.specs.Refusing.{RefusingValue};
 
     ghost Value = { RefusingValue };
 
@@ -32,7 +32,7 @@ impl Model for Refusing {
 }
 
 impl Book for Refusing {
-    ghost use Rattle.tests_books.specs.Refusing.{StandsRefusing};
+    ghost use Rattle.tests_runs.specs.Refusing.{StandsRefusing};
 
     ghost stands = { StandsRefusing };
 
@@ -110,12 +110,16 @@ stream reader=\"main\" meter=\"m\" version=\"\" schema=\"\" name=\"hits\" unit=\
 point {\"k\"=\"y\"} start=10 time=20 value=1
 ";
 
+const TRIAL: Trial<'static> = Trial {
+    catalogue: ROUTES,
+    config: DELTA,
+    script: SCRIPT,
+};
+
 fn told(alloc: Global) -> Result<String, Fail> {
-    let script = read_script(alloc, SCRIPT)?;
+    let replies = replies::<Refusing>(alloc, TRIAL, usize::MAX)?;
     let plan = plan_of(alloc, ROUTES, DELTA)?;
-    let mut core: Core<Refusing> = core_of(alloc, plan, script.start)?;
-    let replies = core.run(alloc, script.events.as_slice())?;
-    shown(alloc, core.plan(), &replies)
+    shown(alloc, &plan, &replies)
 }
 
 #[test]

@@ -4,7 +4,7 @@ use Rattle.std.specs.Prelude.{◌==◌}
 use Rattle.std.specs.List.{list_all}
 use Rattle.metric_history.specs.Facts.{is_entry, is_full_set}
 use Rattle.metric_history.specs.declared.facts.KeyFacts.{KeyFacts}
-use Rattle.tests_books.proofs.cells.+is_full.Goals as goal
+use Rattle.tests_runs.proofs.cells.+is_full.Goals as goal
 
 without_keys : (keys : List KeyFacts) (set : List ℕ) → length keys ≡ 0 → list_all (λ entry. entry == 0) set ≡ is_full_set keys set
 without_keys [] set none = refl

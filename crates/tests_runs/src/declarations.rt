@@ -1,6 +1,5 @@
 //! Catalogues and configs, put together of lines that a seed chooses.
 use crate::dice::Dice;
-use std::alloc::Global;
 use std::test::Fail;
 
 /// How many instruments a catalogue has.
@@ -146,12 +145,11 @@ fn push_recorders(out: &mut String, dice: &mut Dice) -> Result<(), Fail> {
     Ok(())
 }
 
-/// The text of a catalogue.
-pub(crate) fn catalogue(alloc: Global, dice: &mut Dice) -> Result<String, Fail> {
-    let mut out = String::from_str(alloc, "format = 1\n[[meter]]\nname = 'm'\n")?;
-    push_instruments(&mut out, dice)?;
-    push_recorders(&mut out, dice)?;
-    Ok(out)
+/// Writes a catalogue.
+pub(crate) fn write_catalogue(out: &mut String, dice: &mut Dice) -> Result<(), Fail> {
+    out.push_str("format = 1\n[[meter]]\nname = 'm'\n")?;
+    push_instruments(out, dice)?;
+    push_recorders(out, dice)
 }
 
 fn push_readers(out: &mut String, dice: &mut Dice) -> Result<(), Fail> {
@@ -170,10 +168,9 @@ fn push_views(out: &mut String, dice: &mut Dice) -> Result<(), Fail> {
     Ok(())
 }
 
-/// The text of a config.
-pub(crate) fn config(alloc: Global, dice: &mut Dice) -> Result<String, Fail> {
-    let mut out = String::from_str(alloc, "format = 1\n")?;
-    push_readers(&mut out, dice)?;
-    push_views(&mut out, dice)?;
-    Ok(out)
+/// Writes a config.
+pub(crate) fn write_config(out: &mut String, dice: &mut Dice) -> Result<(), Fail> {
+    out.push_str("format = 1\n")?;
+    push_readers(out, dice)?;
+    push_views(out, dice)
 }

@@ -1,58 +1,7 @@
-//! Whether replies are the same in all their parts, and which parts there are.
+//! Which parts there are in replies.
 use metric_aggregate::PointValue;
-use metric_history::{Batch, Point, Reply, StreamPoints};
+use metric_history::{Batch, Point, Reply};
 use std::test::Fail;
-
-fn same_points(left: &[Point], right: &[Point]) -> bool {
-    for (a, b) in left.iter().zip(right) {
-        if a.set != b.set || a.value != b.value {
-            return false;
-        }
-    }
-    left.len() == right.len()
-}
-
-fn same_streams(left: &[StreamPoints], right: &[StreamPoints]) -> bool {
-    for (a, b) in left.iter().zip(right) {
-        if a.stream != b.stream || !same_points(a.points.as_slice(), b.points.as_slice()) {
-            return false;
-        }
-    }
-    left.len() == right.len()
-}
-
-fn same_batches(left: &Batch, right: &Batch) -> bool {
-    left.reader == right.reader
-        && left.instrument == right.instrument
-        && left.from == right.from
-        && left.mark == right.mark
-        && left.start == right.start
-        && left.time == right.time
-        && same_streams(left.streams.as_slice(), right.streams.as_slice())
-}
-
-fn same_reply(left: &Reply, right: &Reply) -> bool {
-    match (left, right) {
-        (Reply::Accepted, Reply::Accepted) | (Reply::Done, Reply::Done) => true,
-        (Reply::Refused(a), Reply::Refused(b)) => a == b,
-        (Reply::Collected(a), Reply::Collected(b)) => same_batches(a, b),
-        _ => false,
-    }
-}
-
-/// How many replies the lists have in common before they differ; none where they are the same.
-pub(crate) fn difference(left: &[Reply], right: &[Reply]) -> Option<usize> {
-    for (place, (a, b)) in left.iter().zip(right).enumerate() {
-        if !same_reply(a, b) {
-            return Some(place);
-        }
-    }
-    if left.len() == right.len() {
-        None
-    } else {
-        Some(left.len().min(right.len()))
-    }
-}
 
 // Puts a word last where it is not there.
 fn note(seen: &mut Vec<&'static str>, word: &'static str) -> Result<(), Fail> {
