@@ -1,36 +1,48 @@
 //! Works measured one after the other, and the table that tells of them.
 use crate::floors::Floor;
-use crate::watch::{Measured, Watch, least};
-use std::alloc::Global;
-use std::time::Clock;
+use crate::watch::Measured;
+use std::alloc::{AllocError, Global};
 
 /// What a figure counts.
 #[derive(Clone, Copy)]
-pub(crate) enum Unit<'a> {
-    /// Nanoseconds for one of these.
-    Nanoseconds(&'a str),
+pub(crate) enum Unit {
+    /// So much for each operation, as `ns a recording`.
+    Each(&'static str),
     /// Megabytes in a second, where each operation is a byte.
     Speed,
-    /// Bytes of memory for one of these.
-    Bytes(&'a str),
-    /// How many times as fast as this.
-    Times(&'a str),
+}
+
+impl Unit {
+    fn name(self) -> &'static str {
+        match self {
+            Unit::Each(name) => name,
+            Unit::Speed => "MB/s",
+        }
+    }
+
+    // The figure of one operation, in thousandths.
+    fn figure(self, each: u64) -> u64 {
+        match self {
+            Unit::Each(_) => each,
+            Unit::Speed => speed(each),
+        }
+    }
 }
 
 /// What a line tells: of what and in which state, a size, how many operations the work has, and what a figure counts.
 #[derive(Clone, Copy)]
-pub(crate) struct Row<'a> {
-    pub name: &'a str,
-    pub state: &'a str,
+pub(crate) struct Row {
+    pub name: &'static str,
+    pub state: &'static str,
     pub size: u64,
     pub operations: u64,
-    pub unit: Unit<'a>,
-    pub floor: Floor<'a>,
+    pub unit: Unit,
+    pub floor: Floor,
 }
 
-impl<'a> Row<'a> {
+impl Row {
     /// A work with as many operations as its size.
-    pub(crate) fn new(name: &'a str, size: u64, unit: Unit<'a>, floor: Floor<'a>) -> Row<'a> {
+    pub(crate) fn new(name: &'static str, size: u64, unit: Unit, floor: Floor) -> Row {
         Row {
             name,
             state: "",
@@ -47,20 +59,21 @@ const NAMES: usize = 34;
 
 const UNITS: usize = 28;
 
-/// Works measured one after the other, and the text of their table.
+// The last columns of a title.
+const COLUMNS: &str = "      figure  unit                             floor    times  beside\n";
+
+/// The table of what was measured, and a number in which the results of all works are.
 #[derive(Drop)]
-pub(crate) struct Bench<'a, R> {
-    pub rt: &'a R,
+pub(crate) struct Bench {
     pub alloc: Global,
     text: String,
     tally: u64,
 }
 
-impl<'a, R: Clock> Bench<'a, R> {
+impl Bench {
     /// Nothing is measured yet.
-    pub(crate) fn new(rt: &'a R, alloc: Global) -> Bench<'a, R> {
+    pub(crate) fn new(alloc: Global) -> Bench {
         Bench {
-            rt,
             alloc,
             text: String::new(alloc),
             tally: 0,
@@ -68,24 +81,12 @@ impl<'a, R: Clock> Bench<'a, R> {
     }
 
     /// Begins a part of the table: its title, and what a size counts in it.
-    pub(crate) fn begin(&mut self, title: &str, size: &str) -> anyhow::Result<()> {
-        let unit = "unit";
-        writeln!(
-            self.text,
-            "\n{title:<36}{size:>12}      figure  {unit:<28}     floor    times  beside"
-        )?;
-        Ok(())
+    pub(crate) fn begin(&mut self, title: &str, size: &str) -> Result<(), AllocError> {
+        push_title(&mut self.text, title, size)
     }
 
-    /// Measures a work, and adds its line to the table.
-    pub(crate) fn measure<W: FnMut(&mut Watch<'a, R>) -> anyhow::Result<u64>>(
-        &mut self,
-        row: Row<'_>,
-        work: W,
-    ) -> anyhow::Result<()>
-        requires { W.IsAlwaysCallable work }
-    {
-        let measured = least(self.rt, work)?;
+    /// Adds the line of measured work, whose result goes into the tally.
+    pub(crate) fn tell(&mut self, row: &Row, measured: Measured) -> Result<(), AllocError> {
         let nanoseconds = self.take(measured);
         self.add(row, nanoseconds)
     }
@@ -97,51 +98,18 @@ impl<'a, R: Clock> Bench<'a, R> {
     }
 
     /// Adds a line: of nanoseconds for all operations, of their bytes, or of as many times.
-    pub(crate) fn add(&mut self, row: Row<'_>, all: u64) -> anyhow::Result<()> {
-        let each = each(all, row.operations);
-        let Row {
-            name,
-            state,
-            size,
-            floor,
-            ..
-        } = row;
-        let rest = NAMES.saturating_sub(name.len());
-        write!(self.text, "  {name}{state:<rest$}{size:>12}")?;
-        match row.unit {
-            Unit::Nanoseconds(one) => self.figures(each, floor.each, "ns a ", one)?,
-            Unit::Bytes(one) => self.figures(each, floor.each, "B a ", one)?,
-            Unit::Times(one) => self.figures(each, floor.each, "times ", one)?,
-            Unit::Speed => self.figures(speed(each), speed(floor.each), "MB/s", "")?,
-        }
-        let times = each.saturating_mul(100) / floor.each.max(1);
-        let whole = times / 100;
-        let rest = times % 100;
-        let beside = floor.name;
-        writeln!(self.text, "{whole:>6}.{rest:02}  {beside}")?;
-        Ok(())
+    pub(crate) fn add(&mut self, row: &Row, all: u64) -> Result<(), AllocError> {
+        push_row(&mut self.text, row, each(all, row.operations))
     }
 
-    // A figure and its floor, in thousandths.
-    fn figures(&mut self, each: u64, floor: u64, unit: &str, one: &str) -> anyhow::Result<()> {
-        let whole = each / 1000;
-        let rest = each % 1000 / 10;
-        let width = UNITS.saturating_sub(unit.len());
-        let floor_whole = floor / 1000;
-        let floor_rest = floor % 1000 / 10;
-        write!(
-            self.text,
-            "{whole:>9}.{rest:02}  {unit}{one:<width$}{floor_whole:>7}.{floor_rest:02}"
-        )?;
-        Ok(())
+    /// Ends the table by a line with the number in which the results of all works are.
+    pub(crate) fn end(&mut self) -> Result<(), AllocError> {
+        push_tally(&mut self.text, self.tally)
     }
 
-    /// The table. Its last line has a number in which the results of all works are.
-    pub(crate) fn finish(self) -> anyhow::Result<String> {
-        let tally = self.tally;
-        let mut text = self.text;
-        writeln!(text, "\ntally {tally}")?;
-        Ok(text)
+    /// The table.
+    pub(crate) fn text(&self) -> &str {
+        self.text.as_str()
     }
 }
 
@@ -154,4 +122,61 @@ pub(crate) fn each(all: u64, operations: u64) -> u64 {
 // Thousandths of a megabyte in a second, where a byte takes so many thousandths of a nanosecond.
 fn speed(each: u64) -> u64 {
     1_000_000_000 / each.max(1)
+}
+
+fn push_title(out: &mut String, title: &str, size: &str) -> Result<(), AllocError> {
+    out.push_str("\n")?;
+    push_left(out, title, 36)?;
+    write!(out, "{size:>12}")?;
+    out.push_str(COLUMNS)
+}
+
+fn push_tally(out: &mut String, tally: u64) -> Result<(), AllocError> {
+    writeln!(out, "\ntally {tally}")
+}
+
+// A line, by what one operation takes, in thousandths.
+fn push_row(out: &mut String, row: &Row, each: u64) -> Result<(), AllocError> {
+    push_name(out, row)?;
+    push_figures(out, row, each)?;
+    push_beside(out, row, each)
+}
+
+// What was measured, and its size.
+fn push_name(out: &mut String, row: &Row) -> Result<(), AllocError> {
+    let size = row.size;
+    let rest = NAMES.saturating_sub(row.name.len());
+    out.push_str("  ")?;
+    out.push_str(row.name)?;
+    push_left(out, row.state, rest)?;
+    write!(out, "{size:>12}")
+}
+
+// The figure with its unit, and that of the floor.
+fn push_figures(out: &mut String, row: &Row, each: u64) -> Result<(), AllocError> {
+    push_hundredths(out, row.unit.figure(each) / 10, 9)?;
+    out.push_str("  ")?;
+    push_left(out, row.unit.name(), UNITS)?;
+    push_hundredths(out, row.unit.figure(row.floor.each) / 10, 7)
+}
+
+// How many times the floor it is, and what the floor is.
+fn push_beside(out: &mut String, row: &Row, each: u64) -> Result<(), AllocError> {
+    let floor = row.floor;
+    push_hundredths(out, each.saturating_mul(100) / floor.each.max(1), 6)?;
+    out.push_str("  ")?;
+    out.push_str(floor.name)?;
+    out.push_str("\n")
+}
+
+// A text at the left of a column.
+fn push_left(out: &mut String, text: &str, width: usize) -> Result<(), AllocError> {
+    write!(out, "{text:<width$}")
+}
+
+// A number of hundredths, whose whole ones are at the right of a column.
+fn push_hundredths(out: &mut String, hundredths: u64, width: usize) -> Result<(), AllocError> {
+    let whole = hundredths / 100;
+    let rest = hundredths % 100;
+    write!(out, "{whole:>width$}.{rest:02}")
 }

@@ -1,20 +1,19 @@
 //! What a collection costs while threads record.
 use crate::bench::{Bench, Row, Unit};
-use crate::callers::{Caller, UntilStopped, caller_of};
 use crate::floors::{Floor, look_up};
-use crate::inputs::value_names;
-use crate::seats::{Seats, Shared};
-use crate::tasks::{Runner, Task, run_all, runners_of};
-use crate::threads::{SERIES, seats_of};
-use crate::watch::Watch;
+use crate::seats::{Rounds, Seats};
+use crate::sizes::THREADS_SERIES;
+use crate::tasks::{Runner, Task, UntilOver, run_all};
+use crate::threads::{caller_of, seats_of};
+use crate::watch::{Measured, Watch, least};
 use anyhow::Context;
-use metric_provider::{Collector, Recorder};
+use metric_sdk::{Collector, MeterProvider, Recorder};
 use std::alloc::{AllocError, Global};
 use std::sync::Wait;
 use std::sync::atomic::{AtomicBool, Ordering};
-use std::thread;
 use std::thread::Threads;
 use std::time::Clock;
+use std::{mem, thread};
 
 // How many collections are measured at once.
 const COLLECTIONS: u32 = 50;
@@ -26,18 +25,18 @@ const THREADS: &[u32] = &[0, 1, 4];
 #[derive(Drop)]
 struct Collections<'a> {
     alloc: Global,
-    provider: &'a Shared,
-    collector: Collector,
+    provider: &'a MeterProvider,
+    collector: &'a mut Collector,
     is_over: &'a AtomicBool,
 }
 
 impl Collections<'_> {
     // Collects all instruments so many times, and then tells the others that it is over. How many batches there were,
     // or nothing where a collection failed.
-    fn collect<R: Wait + Clock>(&mut self, rt: &R, watch: &mut Watch<'_, R>) -> Option<u64> {
-        watch.start();
+    fn collect<R: Wait + Clock>(&mut self, rt: &R, watch: &mut Watch) -> Option<u64> {
+        watch.start(rt);
         let batches = self.repeat(rt);
-        watch.stop();
+        watch.stop(rt);
         self.is_over.store(true, Ordering::SeqCst);
         batches
     }
@@ -52,53 +51,67 @@ impl Collections<'_> {
     }
 }
 
-/// Measures collections while threads record.
+/// Measures collections while threads record values with these names.
 pub(crate) fn measure<R: Threads + Wait + Clock + Sync>(
-    bench: &mut Bench<'_, R>,
+    rt: &R,
+    bench: &mut Bench,
+    names: &[String],
 ) -> anyhow::Result<()> {
-    let floor = look_up(bench.rt, bench.alloc, SERIES)?;
+    let floor = look_up(rt, bench.alloc, THREADS_SERIES)?;
     bench.begin("collect_all of 1000 series beside", "threads")?;
     for threads in THREADS {
-        measure_beside(bench, *threads, floor.many(u64::from(SERIES)))?;
+        let measured = measured_beside(rt, bench.alloc, names, *threads)?;
+        bench.tell(&row_of(*threads, floor), measured)?;
     }
     Ok(())
 }
 
+fn row_of(threads: u32, floor: Floor) -> Row {
+    Row {
+        name: "recordings on its instrument",
+        state: "",
+        size: u64::from(threads),
+        operations: u64::from(COLLECTIONS),
+        unit: Unit::Each("ns a collection"),
+        floor: floor.many(u64::from(THREADS_SERIES)),
+    }
+}
+
 // Collections while so many threads record. A recorder more than these has recorded each series before.
-fn measure_beside<R: Threads + Wait + Clock + Sync>(
-    bench: &mut Bench<'_, R>,
+fn measured_beside<R: Threads + Wait + Clock + Sync>(
+    rt: &R,
+    alloc: Global,
+    names: &[String],
     threads: u32,
-    floor: Floor<'_>,
-) -> anyhow::Result<()> {
-    let rt = bench.rt;
-    let names = value_names(bench.alloc)?;
-    let mut seats = seats_of(rt, bench.alloc, threads.saturating_add(1))?;
-    caller_of(&mut seats, &names, 0, SERIES)?.repeat(rt, SERIES);
+) -> anyhow::Result<Measured> {
+    let mut seats = seats_of(rt, alloc, threads.saturating_add(1))?;
+    let rounds = Rounds {
+        names,
+        instrument: 0,
+        series: THREADS_SERIES,
+    };
+    rounds.repeat_by_last(rt, &mut seats, THREADS_SERIES)?;
+    seats.recorders.pop();
+    collections_measured(rt, alloc, names, &mut seats)
+}
+
+fn collections_measured<R: Threads + Wait + Clock + Sync>(
+    rt: &R,
+    alloc: Global,
+    names: &[String],
+    seats: &mut Seats,
+) -> anyhow::Result<Measured> {
     let is_over = AtomicBool::new(false);
-    let Seats {
-        provider,
-        recorders,
-        mut collectors,
-    } = seats;
-    let tasks = tasks(bench.alloc, &provider, &names, &is_over, recorders)?;
-    let mut runners = runners_of(bench.alloc, tasks)?;
+    let recorders = mem::replace(&mut seats.recorders, Vec::new(alloc));
+    let mut runners = runners_of(alloc, &seats.provider, names, &is_over, recorders)?;
     let mut collections = Collections {
-        alloc: bench.alloc,
-        provider: &provider,
-        collector: collectors.pop().context("no reader")?,
+        alloc,
+        provider: &seats.provider,
+        collector: seats.collectors.first_mut().context("no reader")?,
         is_over: &is_over,
     };
-    let row = Row {
-        operations: u64::from(COLLECTIONS),
-        ..Row::new(
-            "recordings on its instrument",
-            u64::from(threads),
-            Unit::Nanoseconds("collection"),
-            floor,
-        )
-    };
-    bench.measure(
-        row,
+    least(
+        rt,
         |watch| collect_beside(rt, &mut collections, &mut runners, watch),
     )
 }
@@ -108,7 +121,7 @@ fn collect_beside<R: Threads + Wait + Clock + Sync>(
     rt: &R,
     collections: &mut Collections<'_>,
     runners: &mut Vec<Runner<'_>>,
-    watch: &mut Watch<'_, R>,
+    watch: &mut Watch,
 ) -> anyhow::Result<u64> {
     collections.is_over.store(false, Ordering::SeqCst);
     let (batches, _) = thread::join(
@@ -120,23 +133,17 @@ fn collect_beside<R: Threads + Wait + Clock + Sync>(
 }
 
 // Recordings of each recorder until it is over.
-fn tasks<'a>(
+fn runners_of<'a>(
     alloc: Global,
-    provider: &'a Shared,
+    provider: &'a MeterProvider,
     names: &'a [String],
     is_over: &'a AtomicBool,
     recorders: Vec<Recorder>,
-) -> Result<Vec<Task<'a>>, AllocError> {
-    let mut tasks = Vec::new(alloc);
+) -> Result<Vec<Runner<'a>>, AllocError> {
+    let mut runners = Vec::new(alloc);
     for recorder in recorders {
-        let caller = Caller {
-            provider,
-            recorder,
-            names,
-            instrument: 0,
-            series: SERIES,
-        };
-        tasks.push(Task::RecordUntil(UntilStopped { caller, is_over }))?;
+        let caller = caller_of(provider, names, recorder, 0);
+        runners.push(Runner::new(Task::RecordUntil(UntilOver { caller, is_over })))?;
     }
-    Ok(tasks)
+    Ok(runners)
 }

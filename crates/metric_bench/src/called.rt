@@ -1,69 +1,92 @@
 //! What a recording by a seat costs, with its attributes at the call.
 use crate::bench::{Bench, Row};
-use crate::callers::{Caller, caller_of};
-use crate::floors::{Floor, recording};
-use crate::inputs::{KINDS, WIDE_KEYS, kind_name, kinds, readers, value_names};
-use crate::recording::{
-    ATTRIBUTES, LISTS, RECORDING, SERIES, lists, rounds_of, row_of_held, row_of_new,
-};
-use crate::seats::{Seats, Shared, seated};
+use crate::floors::{Floor, locked};
+use crate::inputs::{KINDS, WIDE_KEYS, lists};
+use crate::seats::{Rounds, Seats, seats_of_kinds};
+use crate::sizes::{ATTRIBUTES, Case, LISTS, RECORDING, SERIES};
 use crate::walk::Walk;
+use crate::watch::{Measured, Watch, least};
 use crate::words::Words;
 use anyhow::Context;
-use metric_catalogue::Attr;
-use metric_provider::Recorder;
+use metric_sdk::{Attr, MeterProvider, Recorder};
 use std::alloc::Global;
 use std::sync::Wait;
 use std::time::Clock;
 
-/// Measures recordings by seats.
+/// Measures recordings by seats, of values with these names.
 pub(crate) fn measure<R: Wait + Clock>(
-    bench: &mut Bench<'_, R>,
+    rt: &R,
+    bench: &mut Bench,
     words: &Words,
+    names: &[String],
 ) -> anyhow::Result<()> {
-    let names = value_names(bench.alloc)?;
-    let floor = recording(bench.rt, bench.alloc, LISTS, 1)?;
-    bench.begin("a seat, one stream", "attributes")?;
-    for count in words.attributes_or(ATTRIBUTES) {
-        measure_attributes(bench, &names, *count, words.events, floor)?;
-    }
+    measure_lists(rt, bench, words, names)?;
+    let events = words.events;
     for series in words.series_or(SERIES) {
-        measure_streams(bench, &names, *series, 1, words.events)?;
-        measure_streams(bench, &names, *series, 3, words.events)?;
+        measure_streams(rt, bench, names, Case::new(*series, 1, events))?;
+        measure_streams(rt, bench, names, Case::new(*series, 3, events))?;
     }
     Ok(())
 }
 
+fn measure_lists<R: Wait + Clock>(
+    rt: &R,
+    bench: &mut Bench,
+    words: &Words,
+    names: &[String],
+) -> anyhow::Result<()> {
+    let floor = locked(rt, bench.alloc, LISTS, 1)?;
+    bench.begin("a seat, one stream", "attributes")?;
+    for count in words.attributes_or(ATTRIBUTES) {
+        let measured = attributes_measured(rt, bench.alloc, names, *count, words.events)?;
+        bench.tell(&row_of_lists(*count, words.events, floor), measured)?;
+    }
+    Ok(())
+}
+
+fn row_of_lists(count: u32, events: u32, floor: Floor) -> Row {
+    Row {
+        name: "sum",
+        state: ", held",
+        size: u64::from(count),
+        operations: u64::from(events),
+        unit: RECORDING,
+        floor,
+    }
+}
+
 // Recordings with so many attributes.
-fn measure_attributes<R: Wait + Clock>(
-    bench: &mut Bench<'_, R>,
+fn attributes_measured<R: Wait + Clock>(
+    rt: &R,
+    alloc: Global,
     names: &[String],
     count: u32,
     events: u32,
-    floor: Floor<'_>,
-) -> anyhow::Result<()> {
-    let catalogue = kinds(bench.alloc, count)?;
-    let config = readers(bench.alloc, 1)?;
-    let lists = lists(bench.alloc, names, count)?;
-    let mut seats = seated(bench.rt, bench.alloc, &catalogue, &config)?;
+) -> anyhow::Result<Measured> {
+    let lists = lists(alloc, names, count)?;
+    let mut seats = seats_of_kinds(rt, alloc, count, 1)?;
+    lists_measured(rt, &mut seats, &lists, events)
+}
+
+fn lists_measured<R: Wait + Clock>(
+    rt: &R,
+    seats: &mut Seats,
+    lists: &[Vec<Attr<'_>>],
+    events: u32,
+) -> anyhow::Result<Measured> {
     let recorder = seats.recorders.first_mut().context("no recorder")?;
-    let row = Row {
-        state: ", held",
-        operations: u64::from(events),
-        ..Row::new("sum", u64::from(count), RECORDING, floor)
-    };
-    let (rt, provider) = (bench.rt, &seats.provider);
+    let provider = &seats.provider;
     let walk = Walk::new();
-    bench.measure(
-        row,
-        |_| record_lists(rt, provider, recorder, &lists, &walk, events),
+    least(
+        rt,
+        |_| record_lists(rt, provider, recorder, lists, &walk, events),
     )
 }
 
 // Recordings with one list of attributes after the other.
 fn record_lists<R: Wait>(
     rt: &R,
-    provider: &Shared,
+    provider: &MeterProvider,
     recorder: &mut Recorder,
     lists: &[Vec<Attr<'_>>],
     walk: &Walk,
@@ -79,19 +102,17 @@ fn record_lists<R: Wait>(
     Ok(u64::from(events))
 }
 
-// So many series of instruments of each kind with so many streams.
+// Instruments of each kind.
 fn measure_streams<R: Wait + Clock>(
-    bench: &mut Bench<'_, R>,
+    rt: &R,
+    bench: &mut Bench,
     names: &[String],
-    series: u32,
-    streams: u32,
-    events: u32,
+    case: Case,
 ) -> anyhow::Result<()> {
-    let floor = recording(bench.rt, bench.alloc, series, streams)?;
-    bench.begin(title_of(streams), "series")?;
+    let floor = locked(rt, bench.alloc, case.series, case.streams)?;
+    bench.begin(title_of(case.streams), "series")?;
     for kind in 0..KINDS {
-        measure_new(bench, names, kind, series, streams, floor)?;
-        measure_held(bench, names, kind, series, streams, events, floor)?;
+        measure_kind(rt, bench, names, case.with_kind(kind), floor)?;
     }
     Ok(())
 }
@@ -103,48 +124,68 @@ fn title_of(streams: u32) -> &'static str {
     }
 }
 
-// A provider of an instrument of each kind with so many streams, with its seats.
-fn seats_of<R: Wait>(rt: &R, alloc: Global, streams: u32) -> anyhow::Result<Seats> {
-    let catalogue = kinds(alloc, WIDE_KEYS)?;
-    let config = readers(alloc, streams)?;
-    seated(rt, alloc, &catalogue, &config)
+fn measure_kind<R: Wait + Clock>(
+    rt: &R,
+    bench: &mut Bench,
+    names: &[String],
+    case: Case,
+    floor: Floor,
+) -> anyhow::Result<()> {
+    let rounds = Rounds {
+        names,
+        instrument: case.kind,
+        series: case.series,
+    };
+    let new = new_measured(rt, bench.alloc, &rounds, case.streams)?;
+    bench.tell(&case.row_of_new(floor), new)?;
+    let held = held_measured(rt, bench.alloc, &rounds, case)?;
+    bench.tell(&case.row_of_held(", held", floor), held)?;
+    Ok(())
 }
 
 // Recordings that are each the first of their series.
-fn measure_new<R: Wait + Clock>(
-    bench: &mut Bench<'_, R>,
-    names: &[String],
-    kind: u32,
-    series: u32,
+fn new_measured<R: Wait + Clock>(
+    rt: &R,
+    alloc: Global,
+    rounds: &Rounds<'_>,
     streams: u32,
-    floor: Floor<'_>,
-) -> anyhow::Result<()> {
-    let (rt, alloc) = (bench.rt, bench.alloc);
-    bench.measure(row_of_new(kind_name(kind), series, floor), |watch| {
-        let mut seats = seats_of(rt, alloc, streams)?;
-        let mut caller = caller_of(&mut seats, names, kind, series)?;
-        watch.start();
-        let accepted = caller.repeat(rt, series);
-        watch.stop();
-        Ok(accepted)
-    })
+) -> anyhow::Result<Measured> {
+    least(rt, |watch| record_new(rt, alloc, rounds, streams, watch))
+}
+
+fn record_new<R: Wait + Clock>(
+    rt: &R,
+    alloc: Global,
+    rounds: &Rounds<'_>,
+    streams: u32,
+    watch: &mut Watch,
+) -> anyhow::Result<u64> {
+    let mut seats = seats_of_kinds(rt, alloc, WIDE_KEYS, streams)?;
+    watch.start(rt);
+    let accepted = rounds.repeat_by_last(rt, &mut seats, rounds.series);
+    watch.stop(rt);
+    accepted
 }
 
 // Recordings whose series are held.
-fn measure_held<R: Wait + Clock>(
-    bench: &mut Bench<'_, R>,
-    names: &[String],
-    kind: u32,
-    series: u32,
-    streams: u32,
-    events: u32,
-    floor: Floor<'_>,
-) -> anyhow::Result<()> {
-    let rt = bench.rt;
-    let mut seats = seats_of(rt, bench.alloc, streams)?;
-    let mut caller = caller_of(&mut seats, names, kind, series)?;
-    caller.repeat(rt, series);
-    let all = rounds_of(events, series).saturating_mul(series);
-    let row = row_of_held(kind_name(kind), series, events, floor);
-    bench.measure(row, |_| Ok(caller.repeat(rt, all)))
+fn held_measured<R: Wait + Clock>(
+    rt: &R,
+    alloc: Global,
+    rounds: &Rounds<'_>,
+    case: Case,
+) -> anyhow::Result<Measured> {
+    let mut seats = seats_of_kinds(rt, alloc, WIDE_KEYS, case.streams)?;
+    rounds_measured(rt, &mut seats, rounds, case.rounds())
+}
+
+// Recordings of each series so many times, after one of each.
+fn rounds_measured<R: Wait + Clock>(
+    rt: &R,
+    seats: &mut Seats,
+    rounds: &Rounds<'_>,
+    times: u32,
+) -> anyhow::Result<Measured> {
+    rounds.repeat_by_last(rt, seats, rounds.series)?;
+    let all = times.saturating_mul(rounds.series);
+    least(rt, |_| rounds.repeat_by_last(rt, seats, all))
 }

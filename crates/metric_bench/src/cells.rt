@@ -4,11 +4,9 @@ ghost use Rattle.std.specs.List.{list_all};
 ghost use Rattle.metric_history.specs.Facts.{in_bounds, is_entry, is_full_set};
 
 use crate::inputs::{set_of, value_of};
-use metric_catalogue::SetKey;
 use metric_core::Cell;
 use metric_history::{Facts, KeyFacts};
-use metric_marked::Marked;
-use metric_plan::Plan;
+use metric_sdk::{Marked, Plan, SetKey};
 use std::alloc::{AllocError, Global};
 
 /// A recording with its set key.

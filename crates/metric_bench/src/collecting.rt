@@ -1,47 +1,61 @@
 //! What a collection costs: the points of an instrument's streams.
 use crate::bench::{Bench, Row, Unit};
 use crate::cells::Instrument;
-use crate::floors::{Floor, look_up};
-use crate::inputs::{KINDS, kind_name, kinds_plan};
-use crate::recording::SERIES;
+use crate::floors::look_up;
+use crate::inputs::{KINDS, WIDE_KEYS, kind_name, kinds_plan};
+use crate::sizes::SERIES;
+use crate::watch::{Measured, least};
 use crate::words::Words;
-use metric_plan::Plan;
+use metric_sdk::Plan;
+use std::alloc::Global;
 use std::time::Clock;
 
 /// Measures collections.
-pub(crate) fn measure<R: Clock>(bench: &mut Bench<'_, R>, words: &Words) -> anyhow::Result<()> {
-    let plan = kinds_plan(bench.alloc, 1)?;
+pub(crate) fn measure<R: Clock>(rt: &R, bench: &mut Bench, words: &Words) -> anyhow::Result<()> {
+    let plan = kinds_plan(bench.alloc, WIDE_KEYS, 1)?;
+    measure_sizes(rt, bench, words, &plan)
+}
+
+fn measure_sizes<R: Clock>(
+    rt: &R,
+    bench: &mut Bench,
+    words: &Words,
+    plan: &Plan,
+) -> anyhow::Result<()> {
     bench.begin("a collection", "series")?;
     for series in words.series_or(SERIES) {
-        measure_kinds(bench, &plan, *series)?;
+        measure_kinds(rt, bench, plan, *series)?;
     }
     Ok(())
 }
 
 // An instrument of each kind with so many series.
 fn measure_kinds<R: Clock>(
-    bench: &mut Bench<'_, R>,
+    rt: &R,
+    bench: &mut Bench,
     plan: &Plan,
     series: u32,
 ) -> anyhow::Result<()> {
-    let floor = look_up(bench.rt, bench.alloc, series)?;
-    for number in 0..KINDS {
-        measure_collection(bench, plan, number, series, floor)?;
+    let floor = look_up(rt, bench.alloc, series)?;
+    for kind in 0..KINDS {
+        let measured = collection_measured(rt, bench.alloc, plan, kind, series)?;
+        let unit = Unit::Each("ns a point");
+        bench.tell(
+            &Row::new(kind_name(kind), u64::from(series), unit, floor),
+            measured,
+        )?;
     }
     Ok(())
 }
 
-fn measure_collection<R: Clock>(
-    bench: &mut Bench<'_, R>,
+fn collection_measured<R: Clock>(
+    rt: &R,
+    alloc: Global,
     plan: &Plan,
-    number: u32,
+    kind: u32,
     series: u32,
-    floor: Floor<'_>,
-) -> anyhow::Result<()> {
-    let alloc = bench.alloc;
-    let mut instrument = Instrument::new(alloc, plan, number, series)?;
+) -> anyhow::Result<Measured> {
+    let mut instrument = Instrument::new(alloc, plan, kind, series)?;
     instrument.record_all();
-    let unit = Unit::Nanoseconds("point");
-    let row = Row::new(kind_name(number), u64::from(series), unit, floor);
-    bench.measure(row, |_| instrument.points(alloc, 0))
+    least(rt, |_| instrument.points(alloc, 0))
 }

@@ -4,36 +4,28 @@ use crate::inputs::sets;
 use crate::walk::Walk;
 use crate::watch::least;
 use indexmap::IndexMap;
-use metric_catalogue::SetKey;
+use metric_sdk::SetKey;
 use std::alloc::{AllocError, Global};
 use std::sync::{Mutex, Wait};
 use std::time::Clock;
 
 /// What the machine takes at least for one operation.
 #[derive(Clone, Copy)]
-pub(crate) struct Floor<'a> {
+pub(crate) struct Floor {
     /// What it does.
-    pub name: &'a str,
+    pub name: &'static str,
     /// The thousandths of one.
     pub each: u64,
 }
 
-impl<'a> Floor<'a> {
-    /// This one and then the other.
-    pub(crate) fn and(self, name: &'a str, other: Floor<'_>) -> Floor<'a> {
-        Floor {
-            name,
-            each: self.each.saturating_add(other.each),
-        }
-    }
-
+impl Floor {
     /// The floor of one that has this many of them.
-    pub(crate) fn many(self, count: u64) -> Floor<'a> {
+    pub(crate) fn many(self, count: u64) -> Floor {
         self.shared(count, 1)
     }
 
     /// The floor of one of so many which together have this many of them.
-    pub(crate) fn shared(self, count: u64, among: u64) -> Floor<'a> {
+    pub(crate) fn shared(self, count: u64, among: u64) -> Floor {
         let all = u128::from(self.each) * u128::from(count);
         let each = all / u128::from(among.max(1));
         Floor {
@@ -49,14 +41,11 @@ const BYTES: usize = 1_048_576;
 // How often an operation is done in one measurement.
 const EVENTS: u32 = 200_000;
 
-/// Additions under a lock that nobody else takes.
-pub(crate) fn addition<R: Wait + Clock>(rt: &R) -> anyhow::Result<Floor<'static>> {
+// The thousandths of a nanosecond that an addition takes under a lock that nobody else takes.
+fn addition<R: Wait + Clock>(rt: &R) -> anyhow::Result<u64> {
     let sum = Mutex::new(0);
     let measured = least(rt, |_| Ok(add_all(rt, &sum, EVENTS)))?;
-    Ok(Floor {
-        name: "a lock with an addition",
-        each: each(measured.nanoseconds, u64::from(EVENTS)),
-    })
+    Ok(each(measured.nanoseconds, u64::from(EVENTS)))
 }
 
 /// Makes so many additions under a lock. The sum.
@@ -69,26 +58,29 @@ pub(crate) fn add_all<R: Wait>(rt: &R, sum: &Mutex<u64>, events: u32) -> u64 {
 }
 
 /// What a recording takes at least that has to look up each of its series under a lock.
-pub(crate) fn recording<R: Wait + Clock>(
+pub(crate) fn locked<R: Wait + Clock>(
     rt: &R,
     alloc: Global,
     series: u32,
     streams: u32,
-) -> anyhow::Result<Floor<'static>> {
+) -> anyhow::Result<Floor> {
     let look_ups = look_up(rt, alloc, series)?.many(u64::from(streams));
-    Ok(addition(rt)?.and("a lock, a look-up for each stream, an addition", look_ups))
+    Ok(Floor {
+        name: "a lock, a look-up for each stream, an addition",
+        each: addition(rt)?.saturating_add(look_ups.each),
+    })
 }
 
 /// A look-up in a map of so many set keys.
-pub(crate) fn look_up<R: Clock>(
-    rt: &R,
-    alloc: Global,
-    count: u32,
-) -> anyhow::Result<Floor<'static>> {
+pub(crate) fn look_up<R: Clock>(rt: &R, alloc: Global, count: u32) -> anyhow::Result<Floor> {
     let sets = sets(alloc, count)?;
-    let map = map_of(alloc, &sets)?;
+    look_up_in(rt, alloc, &sets)
+}
+
+fn look_up_in<R: Clock>(rt: &R, alloc: Global, sets: &[SetKey]) -> anyhow::Result<Floor> {
+    let map = map_of(alloc, sets)?;
     let walk = Walk::new();
-    let measured = least(rt, |_| Ok(look_all_up(&map, &sets, &walk)))?;
+    let measured = least(rt, |_| Ok(look_all_up(&map, sets, &walk)))?;
     Ok(Floor {
         name: "a look-up by a set key",
         each: each(measured.nanoseconds, u64::from(EVENTS)),
@@ -118,16 +110,23 @@ pub(crate) fn map_of(alloc: Global, sets: &[SetKey]) -> Result<IndexMap<SetKey, 
 }
 
 /// A copy of a byte.
-pub(crate) fn copy<R: Clock>(rt: &R, alloc: Global) -> anyhow::Result<Floor<'static>> {
+pub(crate) fn copy<R: Clock>(rt: &R, alloc: Global) -> anyhow::Result<Floor> {
     let from: Vec<u8> = vec![in alloc; 1; BYTES]?;
+    copy_of(rt, alloc, &from)
+}
+
+fn copy_of<R: Clock>(rt: &R, alloc: Global, from: &[u8]) -> anyhow::Result<Floor> {
     let mut to: Vec<u8> = Vec::with_capacity(alloc, BYTES)?;
-    let measured = least(rt, |_| {
-        to.clear();
-        to.extend_from_slice(&from)?;
-        Ok(u64::from(to.last().copied().unwrap_or(0)))
-    })?;
+    let measured = least(rt, |_| copy_into(&mut to, from))?;
     Ok(Floor {
         name: "a copy of the bytes",
         each: each(measured.nanoseconds, BYTES as u64),
     })
+}
+
+// Copies all bytes. The last one.
+fn copy_into(to: &mut Vec<u8>, from: &[u8]) -> anyhow::Result<u64> {
+    to.clear();
+    to.extend_from_slice(from)?;
+    Ok(u64::from(to.last().copied().unwrap_or(0)))
 }

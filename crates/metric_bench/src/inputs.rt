@@ -1,9 +1,6 @@
 //! Catalogues and configs of a size, set keys and attributes.
-use crate::seats::certified;
-use metric_catalogue::{Attr, Catalogue, SetKey};
-use metric_names::ValueRef;
-use metric_plan::Plan;
-use metric_views::Config;
+use crate::sizes::{LISTS, Size};
+use metric_sdk::{Attr, Plan, SetKey, ValueRef, certified_plan};
 use std::alloc::{AllocError, Global};
 
 /// How many instruments [`kinds`] has.
@@ -39,6 +36,9 @@ const MANY_VALUES: u32 = 64;
 
 // How many values a key has in a catalogue that is read and checked.
 const SOME_VALUES: u32 = 8;
+
+// How many keys an instrument has in such a catalogue.
+const KEYS_OF_COUNTERS: u32 = 4;
 
 const HEAD: &str = "format = 1\n[[meter]]\nname = 'm'\n";
 
@@ -154,8 +154,8 @@ pub(crate) fn readers(alloc: Global, count: u32) -> Result<String, AllocError> {
     Ok(out)
 }
 
-/// A config of one reader and so many views, each of which selects one instrument by its name.
-pub(crate) fn views(alloc: Global, count: u32) -> Result<String, AllocError> {
+// A config of one reader and so many views, each of which selects one instrument by its name.
+fn views(alloc: Global, count: u32) -> Result<String, AllocError> {
     let mut out = readers(alloc, 1)?;
     for number in 0..count {
         writeln!(out, "[[view]]\ninstrument_name = 'hits.{number}'")?;
@@ -164,21 +164,25 @@ pub(crate) fn views(alloc: Global, count: u32) -> Result<String, AllocError> {
     Ok(out)
 }
 
-/// The certified plan of [`kinds`] with three keys, for so many readers.
-pub(crate) fn kinds_plan(alloc: Global, count: u32) -> anyhow::Result<Plan> {
-    let catalogue = kinds(alloc, WIDE_KEYS)?;
-    let config = readers(alloc, count)?;
-    certified(alloc, &catalogue, &config)
+/// A catalogue and a config.
+#[derive(Drop)]
+pub(crate) struct Texts {
+    pub catalogue: String,
+    pub config: String,
 }
 
-/// The plan of a trial.
-pub(crate) fn trial(alloc: Global, catalogue: &str, config: &str) -> anyhow::Result<Plan> {
-    let catalogue = Catalogue::read(alloc, catalogue)?;
-    let config = Config::read(alloc, config)?;
-    match Plan::trial(alloc, catalogue, config) {
-        Ok(plan) => Ok(plan),
-        Err((_, _, fault)) => Err(fault.into()),
-    }
+/// A catalogue and a config of a size.
+pub(crate) fn texts_of(alloc: Global, size: Size) -> Result<Texts, AllocError> {
+    let catalogue = counters(alloc, size.instruments, KEYS_OF_COUNTERS)?;
+    let config = views(alloc, size.views)?;
+    Ok(Texts { catalogue, config })
+}
+
+/// The certified plan of [`kinds`] with so many keys, for so many readers.
+pub(crate) fn kinds_plan(alloc: Global, keys: u32, count: u32) -> anyhow::Result<Plan> {
+    let catalogue = kinds(alloc, keys)?;
+    let config = readers(alloc, count)?;
+    Ok(certified_plan(alloc, &catalogue, &config)?)
 }
 
 /// So many different set keys of three keys.
@@ -250,8 +254,8 @@ fn key_name(place: usize) -> &'static str {
     }
 }
 
-/// So many attributes, one for each key, whose first values are the digits of a number.
-pub(crate) fn attributes<'a>(
+// So many attributes, one for each key, whose first values are the digits of a number.
+fn attributes<'a>(
     alloc: Global,
     names: &'a [String],
     count: u32,
@@ -266,4 +270,17 @@ pub(crate) fn attributes<'a>(
         rest /= MANY_VALUES;
     }
     Ok(attributes)
+}
+
+/// Lists of so many attributes, with different values.
+pub(crate) fn lists<'a>(
+    alloc: Global,
+    names: &'a [String],
+    count: u32,
+) -> Result<Vec<Vec<Attr<'a>>>, AllocError> {
+    let mut lists = Vec::new(alloc);
+    for number in 0..LISTS {
+        lists.push(attributes(alloc, names, count, number)?)?;
+    }
+    Ok(lists)
 }

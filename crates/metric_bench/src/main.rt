@@ -8,7 +8,6 @@
 mod bench;
 mod busy;
 mod called;
-mod callers;
 mod cells;
 mod checking;
 mod collecting;
@@ -16,10 +15,10 @@ mod floors;
 mod histograms;
 mod inputs;
 mod memory;
-mod reading;
 mod recording;
 mod replaying;
 mod seats;
+mod sizes;
 mod slots;
 mod tasks;
 mod threads;
@@ -28,8 +27,8 @@ mod watch;
 mod words;
 
 use crate::bench::Bench;
+use crate::inputs::value_names;
 use crate::words::{Part, Words};
-use std::alloc::Global;
 use std::process::ExitCode;
 use std::rt::Files;
 use std::sync::Wait;
@@ -38,51 +37,69 @@ use std::time::Clock;
 
 fn main(rt: HostRuntime) -> anyhow::Result<ExitCode> {
     let owned: Vec<String> = std::env::args(&rt)?.collect(rt.alloc())?;
-    let words = match words::words_of(rt.alloc(), owned.as_slice()) {
-        Ok(words) => words,
+    match words::words_of(rt.alloc(), owned.as_slice()) {
+        Ok(words) => print_table(&rt, &words),
         Err(error) => {
             error.print(&rt)?;
-            return Ok(ExitCode::from(2));
+            Ok(ExitCode::from(2))
         }
-    };
-    if let Some(part) = words.part {
-        let table = measured(&rt, rt.alloc(), part, &words)?;
-        print!(&rt; "{table}")?;
     }
+}
+
+// Prints the table of the part that the words name.
+fn print_table<R: Files + Print + AllocGlobal + Threads + Wait + Clock + Sync>(
+    rt: &R,
+    words: &Words,
+) -> anyhow::Result<ExitCode> {
+    let Some(part) = words.part else {
+        return Ok(ExitCode::SUCCESS);
+    };
+    let mut bench = Bench::new(rt.alloc());
+    measure(rt, &mut bench, part, words)?;
+    print!(rt; "{}", bench.text())?;
     Ok(ExitCode::SUCCESS)
 }
 
-// The table of a part.
-fn measured<R: Files + AllocGlobal + Threads + Wait + Clock + Sync>(
+fn measure<R: Files + AllocGlobal + Threads + Wait + Clock + Sync>(
     rt: &R,
-    alloc: Global,
+    bench: &mut Bench,
     part: Part,
     words: &Words,
-) -> anyhow::Result<String> {
-    let mut bench = Bench::new(rt, alloc);
+) -> anyhow::Result<()> {
     if part.covers(Part::Memory) {
-        memory::measure(&mut bench)?;
+        memory::measure(rt, bench)?;
     }
-    if part.covers(Part::Record) {
-        recording::measure(&mut bench, words)?;
-        called::measure(&mut bench, words)?;
-    }
-    if part.covers(Part::Histogram) {
-        histograms::measure(&mut bench, words.events)?;
-    }
-    if part.covers(Part::Collect) {
-        collecting::measure(&mut bench, words)?;
-    }
-    if part.covers(Part::Threads) {
-        threads::measure(&mut bench, words)?;
-        busy::measure(&mut bench)?;
-    }
+    measure_recordings(rt, bench, part, words)?;
     if part.covers(Part::Check) {
-        reading::measure(&mut bench)?;
-        checking::measure(&mut bench)?;
+        checking::measure(rt, bench)?;
     }
     if part.covers(Part::Replay) {
-        replaying::measure(&mut bench)?;
+        replaying::measure(rt, bench)?;
     }
-    bench.finish()
+    bench.end()?;
+    Ok(())
+}
+
+fn measure_recordings<R: Threads + Wait + Clock + Sync>(
+    rt: &R,
+    bench: &mut Bench,
+    part: Part,
+    words: &Words,
+) -> anyhow::Result<()> {
+    let names = value_names(bench.alloc)?;
+    if part.covers(Part::Record) {
+        recording::measure(rt, bench, words, &names)?;
+        called::measure(rt, bench, words, &names)?;
+    }
+    if part.covers(Part::Histogram) {
+        histograms::measure(rt, bench, words.events)?;
+    }
+    if part.covers(Part::Collect) {
+        collecting::measure(rt, bench, words)?;
+    }
+    if part.covers(Part::Threads) {
+        threads::measure(rt, bench, words, &names)?;
+        busy::measure(rt, bench, &names)?;
+    }
+    Ok(())
 }

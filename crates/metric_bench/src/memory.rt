@@ -2,12 +2,11 @@
 use crate::bench::{Bench, Row, Unit, each};
 use crate::cells::Instrument;
 use crate::floors::{Floor, map_of};
-use crate::inputs::{KINDS, kind_name, kinds_plan, sets};
-use metric_plan::Plan;
+use crate::inputs::{KINDS, WIDE_KEYS, kind_name, kinds_plan, sets};
+use metric_sdk::{Plan, SetKey};
 use std::alloc::Global;
 use std::fs;
 use std::rt::Files;
-use std::time::Clock;
 
 // How many series there are, so many that pages of memory and what a map keeps in reserve weigh little.
 const SERIES: u32 = 100_000;
@@ -17,49 +16,69 @@ const PAGE: u64 = 4_096;
 
 /// Measures the memory of series: of each kind, and beside it that of a map of as many set keys to numbers. It is
 /// the memory that the process has in use, before and after the series came, so this is measured first.
-pub(crate) fn measure<R: Files + AllocGlobal + Clock>(
-    bench: &mut Bench<'_, R>,
+pub(crate) fn measure<R: Files + AllocGlobal>(rt: &R, bench: &mut Bench) -> anyhow::Result<()> {
+    let plan = kinds_plan(bench.alloc, WIDE_KEYS, 1)?;
+    let floor = floor_of_map(rt, bench.alloc)?;
+    measure_plan(rt, bench, &plan, floor)
+}
+
+fn measure_plan<R: Files + AllocGlobal>(
+    rt: &R,
+    bench: &mut Bench,
+    plan: &Plan,
+    floor: Floor,
 ) -> anyhow::Result<()> {
-    let plan = kinds_plan(bench.alloc, 1)?;
-    let floor = map_memory(bench.rt, bench.alloc)?;
     bench.begin("memory", "series")?;
-    for number in 0..KINDS {
-        measure_kind(bench, &plan, number, floor)?;
+    for kind in 0..KINDS {
+        let bytes = bytes_of_series(rt, bench.alloc, plan, kind)?;
+        let unit = Unit::Each("B a series");
+        bench.add(
+            &Row::new(kind_name(kind), u64::from(SERIES), unit, floor),
+            bytes,
+        )?;
     }
     Ok(())
 }
 
-fn measure_kind<R: Files + AllocGlobal + Clock>(
-    bench: &mut Bench<'_, R>,
+fn bytes_of_series<R: Files + AllocGlobal>(
+    rt: &R,
+    alloc: Global,
     plan: &Plan,
-    number: u32,
-    floor: Floor<'_>,
-) -> anyhow::Result<()> {
-    let mut instrument = Instrument::new(bench.alloc, plan, number, SERIES)?;
-    let before = in_use(bench.rt)?;
+    kind: u32,
+) -> anyhow::Result<u64> {
+    let mut instrument = Instrument::new(alloc, plan, kind, SERIES)?;
+    let before = in_use(rt)?;
     instrument.record_all();
-    let after = in_use(bench.rt)?;
-    let unit = Unit::Bytes("series");
-    let row = Row::new(kind_name(number), u64::from(SERIES), unit, floor);
-    bench.add(row, after.saturating_sub(before))
+    Ok(in_use(rt)?.saturating_sub(before))
 }
 
 // The memory of a map of set keys.
-fn map_memory<R: Files + AllocGlobal>(rt: &R, alloc: Global) -> anyhow::Result<Floor<'static>> {
+fn floor_of_map<R: Files + AllocGlobal>(rt: &R, alloc: Global) -> anyhow::Result<Floor> {
     let sets = sets(alloc, SERIES)?;
-    let before = in_use(rt)?;
-    let map = map_of(alloc, &sets)?;
-    let after = in_use(rt)?;
-    let bytes = after.saturating_sub(before);
+    let bytes = bytes_of_map(rt, alloc, &sets)?;
     Ok(Floor {
         name: "a map of set keys",
-        each: each(bytes, map.len() as u64),
+        each: each(bytes, u64::from(SERIES)),
     })
+}
+
+fn bytes_of_map<R: Files + AllocGlobal>(
+    rt: &R,
+    alloc: Global,
+    sets: &[SetKey],
+) -> anyhow::Result<u64> {
+    let before = in_use(rt)?;
+    let _map = map_of(alloc, sets)?;
+    Ok(in_use(rt)?.saturating_sub(before))
 }
 
 // How many bytes the process has in use.
 fn in_use<R: Files + AllocGlobal>(rt: &R) -> anyhow::Result<u64> {
     let text = fs::read_to_string(rt, "/proc/self/statm")?;
+    pages_in(&text)
+}
+
+fn pages_in(text: &str) -> anyhow::Result<u64> {
     let Some(word) = text.split_ascii_whitespace().nth(1) else {
         anyhow::bail!("the system does not tell the memory in use");
     };

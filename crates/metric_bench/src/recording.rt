@@ -2,61 +2,74 @@
 use crate::bench::{Bench, Row, Unit};
 use crate::cells::Instrument;
 use crate::floors::{Floor, look_up};
-use crate::inputs::{KINDS, attributes, kind_name, kinds, kinds_plan, value_names};
+use crate::inputs::{KINDS, WIDE_KEYS, kinds, kinds_plan, lists};
+use crate::sizes::{ATTRIBUTES, Case, SERIES};
 use crate::slots::InSlot;
 use crate::walk::Walk;
+use crate::watch::{Measured, Watch, least};
 use crate::words::Words;
-use metric_catalogue::{Attr, Catalogue};
-use metric_plan::Plan;
-use std::alloc::{AllocError, Global};
+use metric_sdk::{Attr, Catalogue, Plan};
+use std::alloc::Global;
 use std::time::Clock;
 
-/// How many series there are, where no word says it.
-pub(crate) const SERIES: &[u32] = &[1, 1_000, 100_000];
-
-/// How many attributes a recording has, where no word says it.
-pub(crate) const ATTRIBUTES: &[u32] = &[0, 1, 3, 8];
-
-/// How many lists of attributes there are to choose from.
-pub(crate) const LISTS: u32 = 64;
-
-pub(crate) const RECORDING: Unit<'static> = Unit::Nanoseconds("recording");
-
-/// Measures set keys and recordings.
-pub(crate) fn measure<R: Clock>(bench: &mut Bench<'_, R>, words: &Words) -> anyhow::Result<()> {
-    let floor = look_up(bench.rt, bench.alloc, 1)?;
-    bench.begin("attributes at the call", "attributes")?;
-    for count in words.attributes_or(ATTRIBUTES) {
-        measure_encoding(bench, *count, words.events, floor)?;
-    }
+/// Measures set keys and recordings, of values with these names.
+pub(crate) fn measure<R: Clock>(
+    rt: &R,
+    bench: &mut Bench,
+    words: &Words,
+    names: &[String],
+) -> anyhow::Result<()> {
+    measure_lists(rt, bench, words, names)?;
     for series in words.series_or(SERIES) {
-        measure_streams(bench, *series, 1, words.events)?;
-        measure_streams(bench, *series, 3, words.events)?;
+        measure_streams(rt, bench, Case::new(*series, 1, words.events))?;
+        measure_streams(rt, bench, Case::new(*series, 3, words.events))?;
     }
     Ok(())
 }
 
+fn measure_lists<R: Clock>(
+    rt: &R,
+    bench: &mut Bench,
+    words: &Words,
+    names: &[String],
+) -> anyhow::Result<()> {
+    let floor = look_up(rt, bench.alloc, 1)?;
+    bench.begin("attributes at the call", "attributes")?;
+    for count in words.attributes_or(ATTRIBUTES) {
+        let measured = encoding_measured(rt, bench.alloc, names, *count, words.events)?;
+        bench.tell(&row_of_lists(*count, words.events, floor), measured)?;
+    }
+    Ok(())
+}
+
+fn row_of_lists(count: u32, events: u32, floor: Floor) -> Row {
+    Row {
+        name: "set key of attributes",
+        state: "",
+        size: u64::from(count),
+        operations: u64::from(events),
+        unit: Unit::Each("ns a set key"),
+        floor,
+    }
+}
+
 // Set keys of so many attributes.
-fn measure_encoding<R: Clock>(
-    bench: &mut Bench<'_, R>,
+fn encoding_measured<R: Clock>(
+    rt: &R,
+    alloc: Global,
+    names: &[String],
     count: u32,
     events: u32,
-    floor: Floor<'_>,
-) -> anyhow::Result<()> {
-    let names = value_names(bench.alloc)?;
-    let lists = lists(bench.alloc, &names, count)?;
-    let catalogue = Catalogue::read(bench.alloc, &kinds(bench.alloc, count)?)?;
-    let row = Row {
-        operations: u64::from(events),
-        ..Row::new(
-            "set key of attributes",
-            u64::from(count),
-            Unit::Nanoseconds("set key"),
-            floor,
-        )
-    };
+) -> anyhow::Result<Measured> {
+    let lists = lists(alloc, names, count)?;
+    let catalogue = catalogue_of(alloc, count)?;
     let walk = Walk::new();
-    bench.measure(row, |_| encode_all(&catalogue, &lists, &walk, events))
+    least(rt, |_| encode_all(&catalogue, &lists, &walk, events))
+}
+
+fn catalogue_of(alloc: Global, count: u32) -> anyhow::Result<Catalogue> {
+    let text = kinds(alloc, count)?;
+    Ok(Catalogue::read(alloc, &text)?)
 }
 
 // The set keys of one list of attributes after the other. The sum of their first entries.
@@ -78,62 +91,28 @@ fn encode_all(
     Ok(sum)
 }
 
-/// Lists of so many attributes, with different values.
-pub(crate) fn lists<'a>(
-    alloc: Global,
-    names: &'a [String],
-    count: u32,
-) -> Result<Vec<Vec<Attr<'a>>>, AllocError> {
-    let mut lists = Vec::new(alloc);
-    for number in 0..LISTS {
-        lists.push(attributes(alloc, names, count, number)?)?;
-    }
-    Ok(lists)
+// So many series of instruments with so many streams.
+fn measure_streams<R: Clock>(rt: &R, bench: &mut Bench, case: Case) -> anyhow::Result<()> {
+    let floor = look_up(rt, bench.alloc, case.series)?.many(u64::from(case.streams));
+    let plan = kinds_plan(bench.alloc, WIDE_KEYS, case.streams)?;
+    measure_plan(rt, bench, &plan, case, floor)
 }
 
-/// How often so many series are gone through, so that about as many recordings are made as there are events.
-pub(crate) fn rounds_of(events: u32, series: u32) -> u32 {
-    (events / series.max(1)).max(1)
-}
-
-/// The row of recordings of as many series, which are held, as come to about as many as there are events.
-pub(crate) fn row_of_held<'a>(
-    name: &'a str,
-    series: u32,
-    events: u32,
-    floor: Floor<'a>,
-) -> Row<'a> {
-    Row {
-        state: ", held",
-        operations: u64::from(rounds_of(events, series)) * u64::from(series),
-        ..Row::new(name, u64::from(series), RECORDING, floor)
-    }
-}
-
-/// The row of the first recordings of so many series.
-pub(crate) fn row_of_new<'a>(name: &'a str, series: u32, floor: Floor<'a>) -> Row<'a> {
-    Row {
-        state: ", new series",
-        ..Row::new(name, u64::from(series), RECORDING, floor)
-    }
-}
-
-// So many series of instruments with so many streams: new ones and held ones of each kind, and held ones of a counter
-// as it stands behind a lock.
-fn measure_streams<R: Clock>(
-    bench: &mut Bench<'_, R>,
-    series: u32,
-    streams: u32,
-    events: u32,
+// New series and held ones of each kind, and held ones of a counter as it stands behind a lock.
+fn measure_plan<R: Clock>(
+    rt: &R,
+    bench: &mut Bench,
+    plan: &Plan,
+    case: Case,
+    floor: Floor,
 ) -> anyhow::Result<()> {
-    let floor = look_up(bench.rt, bench.alloc, series)?.many(u64::from(streams));
-    let plan = kinds_plan(bench.alloc, streams)?;
-    bench.begin(title_of(streams), "series")?;
-    for number in 0..KINDS {
-        measure_new(bench, &plan, number, series, floor)?;
-        measure_held(bench, &plan, number, series, events, floor)?;
+    bench.begin(title_of(case.streams), "series")?;
+    for kind in 0..KINDS {
+        measure_kind(rt, bench, plan, case.with_kind(kind), floor)?;
     }
-    measure_slot(bench, &plan, series, events, floor)
+    let measured = slot_measured(rt, bench.alloc, plan, case)?;
+    bench.tell(&case.row_of_held(", held, in a slot", floor), measured)?;
+    Ok(())
 }
 
 fn title_of(streams: u32) -> &'static str {
@@ -143,52 +122,66 @@ fn title_of(streams: u32) -> &'static str {
     }
 }
 
-// Recordings that are each the first of their series.
-fn measure_new<R: Clock>(
-    bench: &mut Bench<'_, R>,
+fn measure_kind<R: Clock>(
+    rt: &R,
+    bench: &mut Bench,
     plan: &Plan,
-    number: u32,
-    series: u32,
-    floor: Floor<'_>,
+    case: Case,
+    floor: Floor,
 ) -> anyhow::Result<()> {
-    let alloc = bench.alloc;
-    bench.measure(row_of_new(kind_name(number), series, floor), |watch| {
-        let mut instrument = Instrument::new(alloc, plan, number, series)?;
-        watch.start();
-        let accepted = instrument.record_all();
-        watch.stop();
-        Ok(accepted)
-    })
+    let new = new_measured(rt, bench.alloc, plan, case)?;
+    bench.tell(&case.row_of_new(floor), new)?;
+    let held = held_measured(rt, bench.alloc, plan, case)?;
+    bench.tell(&case.row_of_held(", held", floor), held)?;
+    Ok(())
+}
+
+// Recordings that are each the first of their series.
+fn new_measured<R: Clock>(
+    rt: &R,
+    alloc: Global,
+    plan: &Plan,
+    case: Case,
+) -> anyhow::Result<Measured> {
+    least(rt, |watch| record_new(rt, alloc, plan, case, watch))
+}
+
+fn record_new<R: Clock>(
+    rt: &R,
+    alloc: Global,
+    plan: &Plan,
+    case: Case,
+    watch: &mut Watch,
+) -> anyhow::Result<u64> {
+    let mut instrument = Instrument::new(alloc, plan, case.kind, case.series)?;
+    watch.start(rt);
+    let accepted = instrument.record_all();
+    watch.stop(rt);
+    Ok(accepted)
 }
 
 // Recordings whose series are held.
-fn measure_held<R: Clock>(
-    bench: &mut Bench<'_, R>,
+fn held_measured<R: Clock>(
+    rt: &R,
+    alloc: Global,
     plan: &Plan,
-    number: u32,
-    series: u32,
-    events: u32,
-    floor: Floor<'_>,
-) -> anyhow::Result<()> {
-    let mut instrument = Instrument::new(bench.alloc, plan, number, series)?;
+    case: Case,
+) -> anyhow::Result<Measured> {
+    let mut instrument = Instrument::new(alloc, plan, case.kind, case.series)?;
+    let rounds = case.rounds();
     instrument.record_all();
-    let row = row_of_held(kind_name(number), series, events, floor);
-    bench.measure(row, |_| Ok(instrument.repeat(rounds_of(events, series))))
+    least(rt, |_| Ok(instrument.repeat(rounds)))
 }
 
 // Recordings whose series are held, on a counter as it stands behind a lock.
-fn measure_slot<R: Clock>(
-    bench: &mut Bench<'_, R>,
+fn slot_measured<R: Clock>(
+    rt: &R,
+    alloc: Global,
     plan: &Plan,
-    series: u32,
-    events: u32,
-    floor: Floor<'_>,
-) -> anyhow::Result<()> {
-    let mut in_slot = InSlot::new(bench.alloc, plan, 0, series)?;
+    case: Case,
+) -> anyhow::Result<Measured> {
+    let mut in_slot = InSlot::new(alloc, plan, case.kind, case.series)?;
+    let rounds = case.rounds();
     in_slot.repeat(1)?;
-    let row = Row {
-        state: ", held, in a slot",
-        ..row_of_held("sum", series, events, floor)
-    };
-    bench.measure(row, |_| in_slot.repeat(rounds_of(events, series)))
+    least(rt, |_| in_slot.repeat(rounds))
 }

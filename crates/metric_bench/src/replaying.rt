@@ -2,13 +2,14 @@
 use crate::bench::{Bench, Row, Unit};
 use crate::floors::{Floor, copy};
 use crate::inputs::{counters, readers};
+use crate::watch::least;
 use metric_commands::{ReplayOptions, replay};
-use metric_io::{CutSink, CutSource};
+use metric_sdk::{CutSink, CutSource};
 use std::alloc::{AllocError, Global};
 use std::time::Clock;
 
 // How many events there are, with a name of their number.
-const EVENTS: &[(u32, &str)] = &[
+const EVENTS: &[(u32, &'static str)] = &[
     (100, "100 events"),
     (10_000, "10000 events"),
     (100_000, "100000 events"),
@@ -18,25 +19,28 @@ const EVENTS: &[(u32, &str)] = &[
 const BETWEEN: u32 = 100;
 
 /// Measures replays.
-pub(crate) fn measure<R: Clock>(bench: &mut Bench<'_, R>) -> anyhow::Result<()> {
-    let floor = copy(bench.rt, bench.alloc)?;
+pub(crate) fn measure<R: Clock>(rt: &R, bench: &mut Bench) -> anyhow::Result<()> {
+    let floor = copy(rt, bench.alloc)?;
     bench.begin("replays, by the bytes read", "bytes")?;
     for (count, name) in EVENTS {
-        measure_replay(bench, *count, name, floor)?;
+        let input = input(bench.alloc, *count)?;
+        measure_replay(rt, bench, &input, name, floor)?;
     }
     Ok(())
 }
 
-fn measure_replay<'a, R: Clock>(
-    bench: &mut Bench<'_, R>,
-    count: u32,
-    name: &'a str,
-    floor: Floor<'a>,
+fn measure_replay<R: Clock>(
+    rt: &R,
+    bench: &mut Bench,
+    input: &str,
+    name: &'static str,
+    floor: Floor,
 ) -> anyhow::Result<()> {
     let alloc = bench.alloc;
-    let input = input(alloc, count)?;
-    let row = Row::new(name, input.len() as u64, Unit::Speed, floor);
-    bench.measure(row, |_| replayed(alloc, &input))
+    let measured = least(rt, |_| replayed(alloc, input))?;
+    let bytes = input.len() as u64;
+    bench.tell(&Row::new(name, bytes, Unit::Speed, floor), measured)?;
+    Ok(())
 }
 
 // Replays an input. How many bytes it writes.

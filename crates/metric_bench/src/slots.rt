@@ -4,9 +4,8 @@ ghost use Rattle.metric_history.specs.Facts.{in_bounds, is_full_set};
 
 use crate::cells::{Recording, are_sound, recordings};
 use metric_history::Facts;
-use metric_marked::Marked;
-use metric_plan::Plan;
-use metric_slot::{Slot, Told};
+use metric_sdk::{Marked, Plan, Told};
+use metric_slot::Slot;
 use std::alloc::Global;
 
 /// Recordings of the first recorder into a slot.

@@ -1,10 +1,10 @@
 //! What several threads do at once.
-use crate::callers::{Caller, UntilStopped};
 use crate::floors::add_all;
+use crate::seats::Rounds;
 use crate::watch::{Measured, Watch};
 use anyhow::Context;
-use std::alloc::{AllocError, Global};
-use std::sync::atomic::{AtomicU64, Ordering};
+use metric_sdk::{MeterProvider, Recorder};
+use std::sync::atomic::{AtomicBool, AtomicU64, Ordering};
 use std::sync::{Mutex, Wait};
 use std::thread;
 use std::thread::Threads;
@@ -16,13 +16,60 @@ pub(crate) const REPETITIONS: u32 = 5;
 // How often a thread looks whether the others have started.
 const TURNS: u32 = 1_000_000;
 
+/// A seat that records one series after the other.
+#[derive(Drop)]
+pub(crate) struct Caller<'a> {
+    pub provider: &'a MeterProvider,
+    pub recorder: Recorder,
+    pub rounds: Rounds<'a>,
+}
+
+impl Caller<'_> {
+    // Makes a recording of the series of this number. Whether it was accepted.
+    fn record<R: Wait>(&mut self, rt: &R, number: u32) -> bool {
+        self.rounds
+            .record(rt, self.provider, &mut self.recorder, number)
+    }
+
+    // Makes so many recordings. How many were accepted.
+    fn repeat<R: Wait>(&mut self, rt: &R, events: u32) -> u64 {
+        self.rounds
+            .repeat(rt, self.provider, &mut self.recorder, events)
+    }
+}
+
+/// A caller that records until it is over.
+#[derive(Drop)]
+pub(crate) struct UntilOver<'a> {
+    pub caller: Caller<'a>,
+    pub is_over: &'a AtomicBool,
+}
+
+impl UntilOver<'_> {
+    // Makes recordings until then. How many were accepted.
+    fn repeat<R: Wait>(&mut self, rt: &R) -> u64 {
+        let mut accepted: u64 = 0;
+        let mut number: u32 = 0;
+        for _ in 0..u32::MAX {
+            if self.is_over.load(Ordering::SeqCst) {
+                break;
+            }
+            if self.caller.record(rt, number) {
+                accepted = accepted.wrapping_add(1);
+            }
+            number = self.caller.rounds.after(number);
+        }
+        accepted
+    }
+}
+
 /// What a thread does.
 #[derive(Drop)]
 pub(crate) enum Task<'a> {
     /// Recordings.
     Record(Caller<'a>),
-    /// Recordings until it is told to stop.
-    RecordUntil(UntilStopped<'a>),
+    /// Recordings until it is over.
+    RecordUntil(UntilOver<'a>),
     /// Additions under a lock.
     Add(&'a Mutex<u64>),
 }
@@ -35,17 +82,30 @@ pub(crate) struct Runner<'a> {
     nanoseconds: Option<u64>,
 }
 
-impl Runner<'_> {
+impl<'a> Runner<'a> {
+    /// Nothing came of the task yet.
+    pub(crate) fn new(task: Task<'a>) -> Runner<'a> {
+        Runner {
+            task,
+            number: 0,
+            nanoseconds: None,
+        }
+    }
+
     // Does the task so many times, once so many threads have started.
     fn run<R: Wait + Clock>(&mut self, rt: &R, started: &AtomicU64, threads: u64, events: u32) {
         wait_for_all(started, threads);
         let watch = Watch::new(rt);
-        self.number = match &mut self.task {
+        self.number = self.work(rt, events);
+        self.nanoseconds = watch.took(rt);
+    }
+
+    fn work<R: Wait>(&mut self, rt: &R, events: u32) -> u64 {
+        match &mut self.task {
             Task::Record(caller) => caller.repeat(rt, events),
             Task::RecordUntil(caller) => caller.repeat(rt),
             Task::Add(sum) => add_all(rt, sum, events),
-        };
-        self.nanoseconds = watch.took();
+        }
     }
 }
 
@@ -58,22 +118,6 @@ fn wait_for_all(started: &AtomicU64, threads: u64) {
         }
         thread::yield_now();
     }
-}
-
-/// A runner for each task.
-pub(crate) fn runners_of<'a>(
-    alloc: Global,
-    tasks: Vec<Task<'a>>,
-) -> Result<Vec<Runner<'a>>, AllocError> {
-    let mut runners = Vec::with_capacity(alloc, tasks.len())?;
-    for task in tasks {
-        runners.push(Runner {
-            task,
-            number: 0,
-            nanoseconds: None,
-        })?;
-    }
-    Ok(runners)
 }
 
 /// Lets each runner do its task in a thread of its own, so many times.

@@ -1,23 +1,19 @@
 //! What recordings cost that several threads make at once.
 use crate::bench::{Bench, Row, Unit, each};
-use crate::callers::Caller;
 use crate::floors::Floor;
-use crate::inputs::{readers, threaded, value_names};
-use crate::seats::{Seats, Shared, seated};
-use crate::tasks::{Task, least_together, runners_of};
+use crate::inputs::{readers, threaded};
+use crate::seats::{Rounds, Seats, seated};
+use crate::sizes::{THREADS, THREADS_SERIES};
+use crate::tasks::{Caller, Runner, Task, least_together};
+use crate::watch::Measured;
 use crate::words::Words;
 use crossbeam_utils::CachePadded;
-use metric_provider::Recorder;
+use metric_sdk::{MeterProvider, Recorder};
 use std::alloc::{AllocError, Global};
+use std::mem;
 use std::sync::{Mutex, Wait};
 use std::thread::Threads;
 use std::time::Clock;
-
-// How many threads record, where no word says it.
-const THREADS: &[u32] = &[1, 2, 4];
-
-/// How many series the threads record.
-pub(crate) const SERIES: u32 = 1_000;
 
 // How often as much a bare lock is taken as recordings are made.
 const MORE: u32 = 8;
@@ -49,15 +45,16 @@ impl Sharing {
     }
 }
 
-/// Measures recordings of threads.
+/// Measures recordings of threads, of values with these names.
 pub(crate) fn measure<R: Threads + Wait + Clock + Sync>(
-    bench: &mut Bench<'_, R>,
+    rt: &R,
+    bench: &mut Bench,
     words: &Words,
+    names: &[String],
 ) -> anyhow::Result<()> {
-    let names = value_names(bench.alloc)?;
     bench.begin("threads, 3 attributes, 1000 series", "threads")?;
-    measure_sharing(bench, words, &names, Sharing::One)?;
-    measure_sharing(bench, words, &names, Sharing::Each)
+    measure_sharing(rt, bench, words, names, Sharing::One)?;
+    measure_sharing(rt, bench, words, names, Sharing::Each)
 }
 
 // What one operation costs each of so many threads, in thousandths of a nanosecond.
@@ -69,57 +66,57 @@ struct Figures {
 }
 
 fn measure_sharing<R: Threads + Wait + Clock + Sync>(
-    bench: &mut Bench<'_, R>,
+    rt: &R,
+    bench: &mut Bench,
     words: &Words,
     names: &[String],
     sharing: Sharing,
 ) -> anyhow::Result<()> {
-    let one = figures_of(bench, words.events, names, sharing, 1)?;
+    let one = figures_of(rt, bench, words.events, names, sharing, 1)?;
     for threads in words.threads_or(THREADS) {
         let several = match *threads {
             1 => one,
-            threads => figures_of(bench, words.events, names, sharing, threads)?,
+            threads => figures_of(rt, bench, words.events, names, sharing, threads)?,
         };
-        add_figures(bench, sharing, one, several)?;
+        bench.add(&row_of_time(sharing, several), several.recording)?;
+        let throughput = times(one.recording, several.recording, several.threads);
+        bench.add(&row_of_throughput(sharing, one, several), throughput)?;
     }
     Ok(())
 }
 
-// Lines of the time of a recording, and of how many are made beside one thread.
-fn add_figures<R: Clock>(
-    bench: &mut Bench<'_, R>,
-    sharing: Sharing,
-    one: Figures,
-    several: Figures,
-) -> anyhow::Result<()> {
-    let size = u64::from(several.threads);
-    let name = LOCK;
-    let row = Row {
+// The row of the time of a recording.
+fn row_of_time(sharing: Sharing, several: Figures) -> Row {
+    Row {
         name: sharing.name(),
         state: "",
-        size,
+        size: u64::from(several.threads),
         operations: 1000,
-        unit: Unit::Nanoseconds("recording of each thread"),
+        unit: Unit::Each("ns a recording of each thread"),
         floor: Floor {
-            name,
+            name: LOCK,
             each: several.lock,
         },
-    };
-    bench.add(row, several.recording)?;
-    let row = Row {
+    }
+}
+
+// The row of how many recordings are made beside one thread.
+fn row_of_throughput(sharing: Sharing, one: Figures, several: Figures) -> Row {
+    Row {
+        name: sharing.name(),
         state: ", throughput",
-        unit: Unit::Times("one thread"),
+        size: u64::from(several.threads),
+        operations: 1000,
+        unit: Unit::Each("times one thread"),
         floor: Floor {
-            name,
-            each: times(one.lock, several.lock, size),
+            name: LOCK,
+            each: times(one.lock, several.lock, several.threads),
         },
-        ..row
-    };
-    bench.add(row, times(one.recording, several.recording, size))
+    }
 }
 
 // How many times as much so many threads do as one, in thousandths, by what one operation takes each of them.
-fn times(one: u64, several: u64, threads: u64) -> u64 {
+fn times(one: u64, several: u64, threads: u32) -> u64 {
     let all = u128::from(one)
         .saturating_mul(u128::from(threads))
         .saturating_mul(1000);
@@ -128,47 +125,47 @@ fn times(one: u64, several: u64, threads: u64) -> u64 {
 }
 
 fn figures_of<R: Threads + Wait + Clock + Sync>(
-    bench: &mut Bench<'_, R>,
+    rt: &R,
+    bench: &mut Bench,
     events: u32,
     names: &[String],
     sharing: Sharing,
     threads: u32,
 ) -> anyhow::Result<Figures> {
-    let seats = seats_of(bench.rt, bench.alloc, threads)?;
-    let recording = recording(bench, events, names, sharing, seats)?;
-    let lock = lock(bench, events.saturating_mul(MORE), sharing, threads)?;
+    let more = events.saturating_mul(MORE);
+    let recording = recordings_measured(rt, bench.alloc, events, names, sharing, threads)?;
+    let lock = lock_measured(rt, bench.alloc, more, sharing, threads)?;
     Ok(Figures {
         threads,
-        recording,
-        lock,
+        recording: each(bench.take(recording), u64::from(events)),
+        lock: each(bench.take(lock), u64::from(more)),
     })
 }
 
-fn recording<R: Threads + Wait + Clock + Sync>(
-    bench: &mut Bench<'_, R>,
+fn recordings_measured<R: Threads + Wait + Clock + Sync>(
+    rt: &R,
+    alloc: Global,
     events: u32,
     names: &[String],
     sharing: Sharing,
-    seats: Seats,
-) -> anyhow::Result<u64> {
-    let Seats {
-        provider,
-        recorders,
-        collectors: _collectors,
-    } = seats;
-    let tasks = recordings_of(bench.alloc, &provider, names, recorders, sharing)?;
-    together(bench, tasks, events)
+    threads: u32,
+) -> anyhow::Result<Measured> {
+    let mut seats = seats_of(rt, alloc, threads)?;
+    let recorders = mem::replace(&mut seats.recorders, Vec::new(alloc));
+    let mut runners = runners_of(alloc, &seats.provider, names, recorders, sharing)?;
+    least_together(rt, &mut runners, events)
 }
 
-fn lock<R: Threads + Wait + Clock + Sync>(
-    bench: &mut Bench<'_, R>,
+fn lock_measured<R: Threads + Wait + Clock + Sync>(
+    rt: &R,
+    alloc: Global,
     events: u32,
     sharing: Sharing,
     threads: u32,
-) -> anyhow::Result<u64> {
-    let sums = sums(bench.alloc, threads)?;
-    let tasks = additions_of(bench.alloc, &sums, threads, sharing)?;
-    together(bench, tasks, events)
+) -> anyhow::Result<Measured> {
+    let sums = sums(alloc, threads)?;
+    let mut runners = adders_of(alloc, &sums, threads, sharing)?;
+    least_together(rt, &mut runners, events)
 }
 
 /// A provider with a recorder and an instrument for each thread.
@@ -178,25 +175,38 @@ pub(crate) fn seats_of<R: Wait>(rt: &R, alloc: Global, threads: u32) -> anyhow::
     seated(rt, alloc, &catalogue, &config)
 }
 
-fn recordings_of<'a>(
+fn runners_of<'a>(
     alloc: Global,
-    provider: &'a Shared,
+    provider: &'a MeterProvider,
     names: &'a [String],
     recorders: Vec<Recorder>,
     sharing: Sharing,
-) -> Result<Vec<Task<'a>>, AllocError> {
-    let mut tasks = Vec::new(alloc);
+) -> Result<Vec<Runner<'a>>, AllocError> {
+    let mut runners = Vec::new(alloc);
     for recorder in recorders {
         let instrument = sharing.number(recorder.number());
-        tasks.push(Task::Record(Caller {
-            provider,
-            recorder,
+        let caller = caller_of(provider, names, recorder, instrument);
+        runners.push(Runner::new(Task::Record(caller)))?;
+    }
+    Ok(runners)
+}
+
+/// A caller that records the series of threads.
+pub(crate) fn caller_of<'a>(
+    provider: &'a MeterProvider,
+    names: &'a [String],
+    recorder: Recorder,
+    instrument: u32,
+) -> Caller<'a> {
+    Caller {
+        provider,
+        recorder,
+        rounds: Rounds {
             names,
             instrument,
-            series: SERIES,
-        }))?;
+            series: THREADS_SERIES,
+        },
     }
-    Ok(tasks)
 }
 
 // So many sums, each behind a lock.
@@ -208,28 +218,17 @@ fn sums(alloc: Global, count: u32) -> Result<Vec<CachePadded<Mutex<u64>>>, Alloc
     Ok(sums)
 }
 
-fn additions_of<'a>(
+fn adders_of<'a>(
     alloc: Global,
     sums: &'a [CachePadded<Mutex<u64>>],
     threads: u32,
     sharing: Sharing,
-) -> Result<Vec<Task<'a>>, AllocError> {
-    let mut tasks = Vec::new(alloc);
+) -> Result<Vec<Runner<'a>>, AllocError> {
+    let mut runners = Vec::new(alloc);
     for thread in 0..threads {
         if let Some(sum) = sums.get(sharing.number(thread) as usize) {
-            tasks.push(Task::Add(sum))?;
+            runners.push(Runner::new(Task::Add(sum)))?;
         }
     }
-    Ok(tasks)
-}
-
-// What one of so many operations costs each of the threads that do the tasks, in thousandths of a nanosecond.
-fn together<R: Threads + Wait + Clock + Sync>(
-    bench: &mut Bench<'_, R>,
-    tasks: Vec<Task<'_>>,
-    events: u32,
-) -> anyhow::Result<u64> {
-    let mut runners = runners_of(bench.alloc, tasks)?;
-    let measured = least_together(bench.rt, &mut runners, events)?;
-    Ok(each(bench.take(measured), u64::from(events)))
+    Ok(runners)
 }

@@ -13,37 +13,35 @@ const ENOUGH: u64 = 300_000_000;
 /// Takes the time of work that is done once: from its beginning, or from where it starts the watch, to its end, or to
 /// where it stops the watch. So what has to be made ready, and what is left over, is not measured.
 #[derive(Drop)]
-pub(crate) struct Watch<'a, R> {
-    rt: &'a R,
+pub(crate) struct Watch {
     start: Option<Instant>,
     took: Option<u64>,
 }
 
-impl<'a, R: Clock> Watch<'a, R> {
+impl Watch {
     /// Started now.
-    pub(crate) fn new(rt: &'a R) -> Watch<'a, R> {
+    pub(crate) fn new<R: Clock>(rt: &R) -> Watch {
         Watch {
-            rt,
             start: Instant::now(rt).ok(),
             took: None,
         }
     }
 
     /// Starts once more: what was before is not measured.
-    pub(crate) fn start(&mut self) {
-        self.start = Instant::now(self.rt).ok();
+    pub(crate) fn start<R: Clock>(&mut self, rt: &R) {
+        self.start = Instant::now(rt).ok();
     }
 
     /// Stops: what comes is not measured.
-    pub(crate) fn stop(&mut self) {
-        self.took = nanoseconds_since(self.rt, self.start);
+    pub(crate) fn stop<R: Clock>(&mut self, rt: &R) {
+        self.took = nanoseconds_since(rt, self.start);
     }
 
     /// The nanoseconds from start to stop, or to now; nothing where the clock failed.
-    pub(crate) fn took(&self) -> Option<u64> {
+    pub(crate) fn took<R: Clock>(&self, rt: &R) -> Option<u64> {
         match self.took {
             Some(nanoseconds) => Some(nanoseconds),
-            None => nanoseconds_since(self.rt, self.start),
+            None => nanoseconds_since(rt, self.start),
         }
     }
 }
@@ -63,8 +61,8 @@ pub(crate) struct Measured {
 }
 
 /// The least time that work takes whose number depends on all of it.
-pub(crate) fn least<'a, R: Clock, W: FnMut(&mut Watch<'a, R>) -> anyhow::Result<u64>>(
-    rt: &'a R,
+pub(crate) fn least<R: Clock, W: FnMut(&mut Watch) -> anyhow::Result<u64>>(
+    rt: &R,
     mut work: W,
 ) -> anyhow::Result<Measured>
     requires { W.IsAlwaysCallable work }
@@ -78,7 +76,7 @@ pub(crate) fn least<'a, R: Clock, W: FnMut(&mut Watch<'a, R>) -> anyhow::Result<
         }
         let mut watch = Watch::new(rt);
         let one = work(&mut watch)?;
-        let took = watch.took().context("the clock failed")?;
+        let took = watch.took(rt).context("the clock failed")?;
         spent = spent.saturating_add(took);
         least = least.min(took);
         number = number.wrapping_add(one);

@@ -89,32 +89,70 @@ const EVENTS: u32 = 100_000;
 /// What the words ask for. The first of them is the program's name.
 pub(crate) fn words_of(alloc: Global, owned: &[String]) -> Result<Words, Error> {
     let matches = command(alloc)?.try_get_matches_from(owned)?;
-    Ok(Words {
-        part: part_of(&matches),
+    Ok(words_in(&matches))
+}
+
+fn words_in(matches: &ArgMatches<'_>) -> Words {
+    Words {
+        part: part_of(matches),
         series: matches.get_one::<u32>("series"),
         attributes: matches.get_one::<u32>("attributes"),
         threads: matches.get_one::<u32>("threads"),
         events: matches.get_one::<u32>("events").unwrap_or(EVENTS),
-    })
-}
-
-fn command<'a>(alloc: Global) -> Result<Command<'a>, Error> {
-    let part = Arg::new(alloc, "part")
-        .action(ArgAction::Set)
-        .value_parser(PARTS);
-    let command = Command::new(alloc, "metric_bench").arg(part)?;
-    let series = size(alloc, "series", 1, MOST_SETS);
-    let attributes = size(alloc, "attributes", 0, 8);
-    let threads = size(alloc, "threads", 1, MOST_THREADS);
-    let events = size(alloc, "events", 1, 100_000_000);
-    let command = command.arg(series)?.arg(attributes)?;
-    Ok(command.arg(threads)?.arg(events)?)
+    }
 }
 
 // A word with a number in a range.
-fn size<'a>(alloc: Global, name: &'a str, least: u32, most: u32) -> Arg<'a> {
-    let range = value_parser!(u32).range(i64::from(least)..i64::from(most).saturating_add(1));
-    Arg::new(alloc, name).long(name).value_parser(range)
+#[derive(Clone, Copy)]
+struct Number {
+    name: &'static str,
+    least: u32,
+    most: u32,
+}
+
+const NUMBERS: &[Number] = &[
+    Number {
+        name: "series",
+        least: 1,
+        most: MOST_SETS,
+    },
+    Number {
+        name: "attributes",
+        least: 0,
+        most: 8,
+    },
+    Number {
+        name: "threads",
+        least: 1,
+        most: MOST_THREADS,
+    },
+    Number {
+        name: "events",
+        least: 1,
+        most: 100_000_000,
+    },
+];
+
+fn command<'a>(alloc: Global) -> Result<Command<'a>, Error> {
+    let mut command = Command::new(alloc, "metric_bench").arg(part_argument(alloc))?;
+    for number in NUMBERS {
+        command = command.arg(number_of(alloc, *number))?;
+    }
+    Ok(command)
+}
+
+fn part_argument<'a>(alloc: Global) -> Arg<'a> {
+    Arg::new(alloc, "part")
+        .action(ArgAction::Set)
+        .value_parser(PARTS)
+}
+
+fn number_of<'a>(alloc: Global, number: Number) -> Arg<'a> {
+    let end = i64::from(number.most).saturating_add(1);
+    let range = value_parser!(u32).range(i64::from(number.least)..end);
+    Arg::new(alloc, number.name)
+        .long(number.name)
+        .value_parser(range)
 }
 
 fn part_of(matches: &ArgMatches<'_>) -> Option<Part> {
