@@ -376,19 +376,24 @@ fn write_fill(out: &mut String, fill: &Fill) -> Result<(), AllocError> {
 fn write_filled(
     out: &mut String,
     alloc: Global,
+    declared: &Declared,
     instrument: u32,
     view: Option<u32>,
 ) -> Result<(), Fail> {
-    let declared = read_both(alloc, SHOP, CONFIG)?;
-    match fill_of(alloc, &declared, instrument, view)? {
+    match fill_of(alloc, declared, instrument, view)? {
         Some(fill) => Ok(write_fill(out, &fill)?),
         None => Err(Fail::from("no such number")),
     }
 }
 
-fn filled(alloc: Global, instrument: u32, view: Option<u32>) -> Result<String, Fail> {
+fn filled(
+    alloc: Global,
+    declared: &Declared,
+    instrument: u32,
+    view: Option<u32>,
+) -> Result<String, Fail> {
     let mut out = String::new(alloc);
-    write_filled(&mut out, alloc, instrument, view)?;
+    write_filled(&mut out, alloc, declared, instrument, view)?;
     Ok(out)
 }
 
@@ -410,8 +415,10 @@ const FILLS: &[(u32, Option<u32>, &str)] = &[
 
 #[test]
 fn one_view_makes_one_stream_of_an_instrument(rt: HostRuntime) -> Result<(), Fail> {
+    let declared = read_both(rt.alloc(), SHOP, CONFIG)?;
     for (instrument, view, wanted) in FILLS {
-        assert_eq!(rt; filled(rt.alloc(), *instrument, *view)?.as_str(), *wanted);
+        let filled = filled(rt.alloc(), &declared, *instrument, *view)?;
+        assert_eq!(rt; filled.as_str(), *wanted);
     }
     Ok(())
 }
@@ -438,14 +445,19 @@ fn order_in(
 }
 
 // How two streams stand by their identities.
-fn order_of(alloc: Global, left: usize, right: usize) -> Result<Option<Ordering>, Fail> {
-    let declared = read_both(alloc, SHOP, CONFIG)?;
+fn order_of(
+    alloc: Global,
+    declared: &Declared,
+    left: usize,
+    right: usize,
+) -> Result<Option<Ordering>, Fail> {
     let streams = resolve(alloc, &declared.catalogue, &declared.config)?;
     Ok(order_in(&declared.catalogue, streams.list(), left, right))
 }
 
 #[test]
 fn identities_stand_by_reader_meter_and_name(rt: HostRuntime) -> Result<(), Fail> {
+    let declared = read_both(rt.alloc(), SHOP, CONFIG)?;
     for (left, right, wanted) in [
         (3, 4, Ordering::Equal),
         (0, 3, Ordering::Less),
@@ -453,7 +465,7 @@ fn identities_stand_by_reader_meter_and_name(rt: HostRuntime) -> Result<(), Fail
         (4, 6, Ordering::Less),
         (1, 2, Ordering::Greater),
     ] {
-        assert!(rt; order_of(rt.alloc(), left, right)? == Some(wanted));
+        assert!(rt; order_of(rt.alloc(), &declared, left, right)? == Some(wanted));
     }
     Ok(())
 }
