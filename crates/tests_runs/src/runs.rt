@@ -4,6 +4,7 @@ use metric_book::Book;
 use metric_core::Core;
 use metric_history::{Event, Reply};
 use metric_plan::Plan;
+use metric_script::ScriptEvents;
 use std::alloc::Global;
 use std::test::Fail;
 
@@ -52,6 +53,28 @@ fn push_runs<B: Book>(
     Ok(())
 }
 
+fn push_replies<B: Book>(
+    all: &mut Vec<Reply>,
+    alloc: Global,
+    trial: Trial<'_>,
+    script: &ScriptEvents,
+    size: usize,
+) -> Result<(), Fail> {
+    let mut core: Core<B> = core_of(alloc, trial, script.start)?;
+    push_runs(all, alloc, &mut core, script.events.as_slice(), size)
+}
+
+fn replies_to<B: Book>(
+    alloc: Global,
+    trial: Trial<'_>,
+    script: &ScriptEvents,
+    size: usize,
+) -> Result<Vec<Reply>, Fail> {
+    let mut all = Vec::new(alloc);
+    push_replies::<B>(&mut all, alloc, trial, script, size)?;
+    Ok(all)
+}
+
 /// The replies of a new core to the events, where each run has at most so many of them.
 pub(crate) fn replies<B: Book>(
     alloc: Global,
@@ -59,8 +82,5 @@ pub(crate) fn replies<B: Book>(
     size: usize,
 ) -> Result<Vec<Reply>, Fail> {
     let script = read(alloc, trial.script)??;
-    let mut core: Core<B> = core_of(alloc, trial, script.start)?;
-    let mut all = Vec::new(alloc);
-    push_runs(&mut all, alloc, &mut core, script.events.as_slice(), size)?;
-    Ok(all)
+    replies_to::<B>(alloc, trial, &script, size)
 }

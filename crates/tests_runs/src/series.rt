@@ -127,11 +127,21 @@ fn write_steps(
     Ok(())
 }
 
+fn write_run(
+    out: &mut String,
+    alloc: Global,
+    aggregation: &str,
+    limit: u32,
+    steps: &[Step],
+) -> Result<(), Fail> {
+    let mut table = table_of(alloc, aggregation, limit)?;
+    write_steps(out, alloc, &mut table, steps)
+}
+
 // The points of a new table after each step.
 fn told(alloc: Global, aggregation: &str, limit: u32, steps: &[Step]) -> Result<String, Fail> {
-    let mut table = table_of(alloc, aggregation, limit)?;
     let mut out = String::new(alloc);
-    write_steps(&mut out, alloc, &mut table, steps)?;
+    write_run(&mut out, alloc, aggregation, limit, steps)?;
     Ok(out)
 }
 

@@ -125,17 +125,16 @@ fn batch_of(
     })
 }
 
+fn push_shop_batch(out: &mut Vec<u8>, alloc: Global, batch: &Batch) -> Result<(), Fail> {
+    let plan = plan_of(alloc, SHOP, CONFIG)?;
+    push_batch(out, plan.catalogue(), plan.config(), plan.streams(), batch)?;
+    Ok(())
+}
+
 // The text of a batch of the shop's plan.
 fn text_of(alloc: Global, batch: &Batch) -> Result<Vec<u8>, Fail> {
-    let plan = plan_of(alloc, SHOP, CONFIG)?;
     let mut out = Vec::new(alloc);
-    push_batch(
-        &mut out,
-        plan.catalogue(),
-        plan.config(),
-        plan.streams(),
-        batch,
-    )?;
+    push_shop_batch(&mut out, alloc, batch)?;
     Ok(out)
 }
 
@@ -229,11 +228,15 @@ fn push_listing(out: &mut Vec<u8>, plan: &Plan) -> Result<(), Fail> {
     Ok(())
 }
 
+fn push_shop_listing(out: &mut Vec<u8>, alloc: Global) -> Result<(), Fail> {
+    let plan = plan_of(alloc, SHOP, CONFIG)?;
+    push_listing(out, &plan)
+}
+
 // The lines of all streams.
 fn listing(alloc: Global) -> Result<Vec<u8>, Fail> {
-    let plan = plan_of(alloc, SHOP, CONFIG)?;
     let mut out = Vec::new(alloc);
-    push_listing(&mut out, &plan)?;
+    push_shop_listing(&mut out, alloc)?;
     Ok(out)
 }
 
