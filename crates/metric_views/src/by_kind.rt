@@ -19,42 +19,46 @@ use toml::{Table, Value};
 // The cardinality limit where the config gives none (Metrics SDK, cardinality limits).
 const DEFAULT_LIMIT: u32 = 2000;
 
-// What a reader can choose for a kind of instrument.
-pub(crate) trait Choice: Copy + Drop {
+// What a reader can choose for a kind of instrument. It is no type that crates above see: they would all carry what TOML's
+// values are.
+pub(crate) trait Choice {
+    // What is chosen.
+    type Chosen: Copy + Drop;
+
     // The choice where the config gives none.
-    ghost usual: { Self };
+    ghost usual: { Self.Chosen };
 
     // The choice that a value gives for a kind, or its first fault.
-    ghost chosen: { ConfigPlace → Kind → Data → Result Self ViewFault };
+    ghost chosen: { ConfigPlace → Kind → Data → Result Self.Chosen ViewFault };
 
     // The choice where the config gives none.
-    fn when_absent() -> Self
+    fn when_absent() -> Self::Chosen
         ensures { result ≡ usual };
 
     // The choice that a value gives for a kind.
-    fn read(value: &Value, kind: Kind, at: ConfigPlace) -> Result<Self, ViewFault>
+    fn read(value: &Value, kind: Kind, at: ConfigPlace) -> Result<Self::Chosen, ViewFault>
         ensures { result ≡ chosen at kind (view value.now) };
 }
 
 // The choices of a reader's field.
 #[tactic(auto, unfolding(crate::specs::Readers::choices_field))]
-pub(crate) fn choices_field<T: Choice>(
+pub(crate) fn choices_field<C: Choice>(
     table: &Table,
     name: &str,
     at: ConfigPlace,
-) -> Result<ByKind<T>, ViewFault>
-    ensures { result ≡ choices_field T.usual T.chosen at name.now (table_view table.now) }
+) -> Result<ByKind<C::Chosen>, ViewFault>
+    ensures { result ≡ choices_field C.usual C.chosen at name.now (table_view table.now) }
 {
     match member(table, name) {
         Some(value) => {
             let table = table_of(value, &faults_at(at))?;
-            choices_of(table, at)
+            choices_of::<C>(table, at)
         }
-        None => Ok(for_all(T::when_absent())),
+        None => Ok(for_all(C::when_absent())),
     }
 }
 
-fn for_all<T: Choice>(choice: T) -> ByKind<T>
+fn for_all<T: Copy>(choice: T) -> ByKind<T>
     ensures { result ≡ for_all choice }
 {
     ByKind {
@@ -66,14 +70,14 @@ fn for_all<T: Choice>(choice: T) -> ByKind<T>
 }
 
 #[tactic(auto, unfolding(crate::specs::Readers::choices_of))]
-fn choices_of<T: Choice>(table: &Table, at: ConfigPlace) -> Result<ByKind<T>, ViewFault>
-    ensures { result ≡ choices_of T.usual T.chosen at (table_view table.now) }
+fn choices_of<C: Choice>(table: &Table, at: ConfigPlace) -> Result<ByKind<C::Chosen>, ViewFault>
+    ensures { result ≡ choices_of C.usual C.chosen at (table_view table.now) }
 {
     only(table, &KIND_FIELDS, &faults_at(at))?;
-    let counter = choice_at(table, "counter", Kind::Counter, at)?;
-    let up_down_counter = choice_at(table, "up_down_counter", Kind::UpDownCounter, at)?;
-    let histogram = choice_at(table, "histogram", Kind::Histogram, at)?;
-    let gauge = choice_at(table, "gauge", Kind::Gauge, at)?;
+    let counter = choice_at::<C>(table, "counter", Kind::Counter, at)?;
+    let up_down_counter = choice_at::<C>(table, "up_down_counter", Kind::UpDownCounter, at)?;
+    let histogram = choice_at::<C>(table, "histogram", Kind::Histogram, at)?;
+    let gauge = choice_at::<C>(table, "gauge", Kind::Gauge, at)?;
     Ok(ByKind {
         counter,
         up_down_counter,
@@ -86,23 +90,28 @@ fn choices_of<T: Choice>(table: &Table, at: ConfigPlace) -> Result<ByKind<T>, Vi
 const KIND_FIELDS: [&str; 4] = ["counter", "up_down_counter", "histogram", "gauge"];
 
 #[tactic(auto, unfolding(crate::specs::Readers::choice_at))]
-fn choice_at<T: Choice>(
+fn choice_at<C: Choice>(
     table: &Table,
     name: &str,
     kind: Kind,
     at: ConfigPlace,
-) -> Result<T, ViewFault>
-    ensures { result ≡ choice_at T.usual (T.chosen at kind) name.now (table_view table.now) }
+) -> Result<C::Chosen, ViewFault>
+    ensures { result ≡ choice_at C.usual (C.chosen at kind) name.now (table_view table.now) }
 {
     match member(table, name) {
-        Some(value) => T::read(value, kind, at),
-        None => Ok(T::when_absent()),
+        Some(value) => C::read(value, kind, at),
+        None => Ok(C::when_absent()),
     }
 }
 
-impl Choice for Temporality {
+// How sums of a kind are reported.
+pub(crate) struct TemporalityChoice;
+
+impl Choice for TemporalityChoice {
     ghost use Rattle.metric_views.specs.declared.choices.Temporality.TheVariants.{Cumulative};
     ghost use Rattle.metric_views.specs.Readers.{temporality_of};
+
+    type Chosen = Temporality;
 
     ghost usual = { Cumulative };
 
@@ -135,9 +144,14 @@ fn temporality_named(text: &str) -> Option<Temporality>
     }
 }
 
-impl Choice for Aggregation {
+// How recordings of a kind are aggregated.
+pub(crate) struct AggregationChoice;
+
+impl Choice for AggregationChoice {
     ghost use Rattle.metric_views.specs.declared.choices.Aggregation.TheVariants.{Default};
     ghost use Rattle.metric_views.specs.Readers.{aggregation_for};
+
+    type Chosen = Aggregation;
 
     ghost usual = { Default };
 
@@ -180,8 +194,13 @@ fn aggregation_named(text: &str) -> Option<Aggregation>
     }
 }
 
-impl Choice for u32 {
+// How many series a stream of a kind can have.
+pub(crate) struct LimitChoice;
+
+impl Choice for LimitChoice {
     ghost use Rattle.metric_views.specs.Readers.{limit_of};
+
+    type Chosen = u32;
 
     ghost usual = { 2000 };
 

@@ -20,40 +20,65 @@ use metric_table::{integers_of, member, short_text, text_of, texts_of};
 use std::alloc::Global;
 use toml::{Table, Value};
 
-// What a field of a view can be.
-pub(crate) trait FieldValue: Drop {
+// A kind of field that a view can have. It is no type that crates above see: they would all carry what TOML's values are.
+pub(crate) trait Field {
+    // What such a field is read as.
+    type Read: Drop;
+
     // What a value is read as, or its first fault.
-    ghost read_as: { ConfigPlace → Data → Result Self ViewFault };
+    ghost read_as: { ConfigPlace → Data → Result Self.Read ViewFault };
 
     // What a value is read as.
-    fn read(alloc: Global, value: &Value, at: ConfigPlace) -> Result<Self, ViewFault>
-    where
-        Self: Sized,
+    fn read(alloc: Global, value: &Value, at: ConfigPlace) -> Result<Self::Read, ViewFault>
         ensures { Gives ViewFault.Memory result (read_as at (view value.now)) };
 }
 
 // The value of a field, where the table has it.
 #[tactic(auto, unfolding(crate::specs::Views::optional_field))]
-pub(crate) fn optional_field<T: FieldValue>(
+pub(crate) fn optional_field<F: Field>(
     alloc: Global,
     table: &Table,
     name: &str,
     at: ConfigPlace,
-) -> Result<Option<T>, ViewFault>
+) -> Result<Option<F::Read>, ViewFault>
     ensures { Gives ViewFault.Memory result
-        (optional_field (T.read_as at) name.now (table_view table.now)) }
+        (optional_field (F.read_as at) name.now (table_view table.now)) }
 {
     match member(table, name) {
         Some(value) => {
-            let value = T::read(alloc, value, at)?;
+            let value = F::read(alloc, value, at)?;
             Ok(Some(value))
         }
         None => Ok(None),
     }
 }
 
-impl FieldValue for Text {
+// The value of a field that streams share, where the table has it.
+pub(crate) fn shared_field<F: Field>(
+    alloc: Global,
+    table: &Table,
+    name: &str,
+    at: ConfigPlace,
+) -> Result<Option<Shared<F::Read>>, ViewFault>
+    ensures { Gives ViewFault.Memory result
+        (optional_field (F.read_as at) name.now (table_view table.now)) }
+{
+    match optional_field::<F>(alloc, table, name, at)? {
+        Some(value) => {
+            let shared = Shared::new(alloc, value)?;
+            Ok(Some(shared))
+        }
+        None => Ok(None),
+    }
+}
+
+// A text.
+pub(crate) struct TextField;
+
+impl Field for TextField {
     ghost use Rattle.metric_views.specs.Views.{text_at};
+
+    type Read = Text;
 
     ghost read_as = { text_at };
 
@@ -67,8 +92,13 @@ impl FieldValue for Text {
     }
 }
 
-impl FieldValue for Pattern {
+// A pattern.
+pub(crate) struct PatternField;
+
+impl Field for PatternField {
     ghost use Rattle.metric_views.specs.Views.{pattern_at};
+
+    type Read = Pattern;
 
     ghost read_as = { pattern_at };
 
@@ -90,8 +120,13 @@ fn pattern(alloc: Global, text: &str, at: ConfigPlace) -> Result<Pattern, ViewFa
     }
 }
 
-impl FieldValue for Name {
+// A name.
+pub(crate) struct NameField;
+
+impl Field for NameField {
     ghost use Rattle.metric_views.specs.Views.{name_at};
+
+    type Read = Name;
 
     ghost read_as = { name_at };
 
@@ -113,8 +148,13 @@ fn name(alloc: Global, text: &str, at: ConfigPlace) -> Result<Name, ViewFault>
     }
 }
 
-impl FieldValue for Kind {
+// A kind of instrument.
+pub(crate) struct KindField;
+
+impl Field for KindField {
     ghost use Rattle.metric_views.specs.Views.{kind_at};
+
+    type Read = Kind;
 
     ghost read_as = { kind_at };
 
@@ -125,8 +165,13 @@ impl FieldValue for Kind {
     }
 }
 
-impl FieldValue for Aggregation {
+// An aggregation.
+pub(crate) struct AggregationField;
+
+impl Field for AggregationField {
     ghost use Rattle.metric_views.specs.Readers.{aggregation_of};
+
+    type Read = Aggregation;
 
     ghost read_as = { aggregation_of };
 
@@ -135,8 +180,13 @@ impl FieldValue for Aggregation {
     }
 }
 
-impl FieldValue for u32 {
+// A cardinality limit.
+pub(crate) struct LimitField;
+
+impl Field for LimitField {
     ghost use Rattle.metric_views.specs.Readers.{limit_of};
+
+    type Read = u32;
 
     ghost read_as = { limit_of };
 
@@ -145,8 +195,13 @@ impl FieldValue for u32 {
     }
 }
 
-impl FieldValue for Boundaries {
+// Boundaries that rise.
+pub(crate) struct BoundariesField;
+
+impl Field for BoundariesField {
     ghost use Rattle.metric_views.specs.Views.{boundaries_at};
+
+    type Read = Boundaries;
 
     ghost read_as = { boundaries_at };
 
@@ -161,8 +216,13 @@ impl FieldValue for Boundaries {
     }
 }
 
-impl FieldValue for Few<Text, 64> {
+// Names of keys.
+pub(crate) struct KeysField;
+
+impl Field for KeysField {
     ghost use Rattle.metric_views.specs.Views.{keys_at};
+
+    type Read = Few<Text, 64>;
 
     ghost read_as = { keys_at };
 
@@ -170,15 +230,5 @@ impl FieldValue for Few<Text, 64> {
     fn read(alloc: Global, value: &Value, at: ConfigPlace) -> Result<Few<Text, 64>, ViewFault> {
         let keys = texts_of(alloc, value, 64, &faults_at(at))?;
         Ok(Few::from_items(keys))
-    }
-}
-
-impl<T: FieldValue> FieldValue for Shared<T> {
-    ghost read_as = { T.read_as };
-
-    fn read(alloc: Global, value: &Value, at: ConfigPlace) -> Result<Shared<T>, ViewFault> {
-        let value = T::read(alloc, value, at)?;
-        let shared = Shared::new(alloc, value)?;
-        Ok(shared)
     }
 }

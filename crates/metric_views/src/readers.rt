@@ -7,7 +7,7 @@ ghost use Rattle.metric_views.specs.declared.fault.ViewFault.{ViewFault};
 ghost use Rattle.metric_views.specs.Faults.{faults_at};
 ghost use Rattle.metric_views.specs.Readers.{has_reader, reader_choices, reader_name, reader_of, readers_of};
 
-use crate::by_kind::choices_field;
+use crate::by_kind::{AggregationChoice, LimitChoice, TemporalityChoice, choices_field};
 use crate::choices::{Aggregation, ByKind, Temporality};
 use crate::config::Reader;
 use crate::fault::{ConfigPlace, ViewFault, faults_at};
@@ -58,9 +58,9 @@ type Choices = (ByKind<Temporality>, ByKind<Aggregation>, ByKind<u32>);
 fn reader_choices(table: &Table, at: ConfigPlace) -> Result<Choices, ViewFault>
     ensures { result ≡ reader_choices at (table_view table.now) }
 {
-    let temporality = choices_field(table, "temporality", at)?;
-    let aggregation = choices_field(table, "aggregation", at)?;
-    let limit = choices_field(table, "limit", at)?;
+    let temporality = choices_field::<TemporalityChoice>(table, "temporality", at)?;
+    let aggregation = choices_field::<AggregationChoice>(table, "aggregation", at)?;
+    let limit = choices_field::<LimitChoice>(table, "limit", at)?;
     Ok((temporality, aggregation, limit))
 }
 

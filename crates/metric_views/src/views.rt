@@ -8,7 +8,10 @@ ghost use Rattle.metric_views.specs.Views.{criteria_of, instrument_criteria, kin
 use crate::choices::Aggregation;
 use crate::config::{Criteria, Settings, View};
 use crate::fault::{ConfigPlace, ViewFault, faults_at};
-use crate::optional::optional_field;
+use crate::optional::{
+    AggregationField, BoundariesField, KeysField, KindField, LimitField, NameField, PatternField,
+    TextField, optional_field, shared_field,
+};
 use metric_base::{Boundaries, Few, Items, Shared, Text};
 use metric_catalogue::Kind;
 use metric_glob::Pattern;
@@ -113,7 +116,7 @@ fn settings_of(alloc: Global, table: &Table, at: ConfigPlace) -> Result<Settings
 {
     let (stream_name, description, aggregation) = stream_settings(alloc, table, at)?;
     let (boundaries, keep, exclude) = list_settings(alloc, table, at)?;
-    let limit = optional_field(alloc, table, "limit", at)?;
+    let limit = optional_field::<LimitField>(alloc, table, "limit", at)?;
     Ok(Settings {
         stream_name,
         description,
@@ -155,9 +158,9 @@ type ListSettings = (
 fn list_settings(alloc: Global, table: &Table, at: ConfigPlace) -> Result<ListSettings, ViewFault>
     ensures { Gives ViewFault.Memory result (list_settings at (table_view table.now)) }
 {
-    let boundaries = optional_field(alloc, table, "boundaries", at)?;
-    let keep = optional_field(alloc, table, "keep", at)?;
-    let exclude = optional_field(alloc, table, "exclude", at)?;
+    let boundaries = shared_field::<BoundariesField>(alloc, table, "boundaries", at)?;
+    let keep = optional_field::<KeysField>(alloc, table, "keep", at)?;
+    let exclude = optional_field::<KeysField>(alloc, table, "exclude", at)?;
     Ok((boundaries, keep, exclude))
 }
 
@@ -171,7 +174,7 @@ fn pattern_field(
     ensures { Gives ViewFault.Memory result
         (optional_field (pattern_at at) name.now (table_view table.now)) }
 {
-    optional_field(alloc, table, name, at)
+    optional_field::<PatternField>(alloc, table, name, at)
 }
 
 // A kind, where the table has it.
@@ -184,7 +187,7 @@ fn kind_field(
     ensures { Gives ViewFault.Memory result
         (optional_field (kind_at at) name.now (table_view table.now)) }
 {
-    optional_field(alloc, table, name, at)
+    optional_field::<KindField>(alloc, table, name, at)
 }
 
 // A free text, where the table has it.
@@ -197,7 +200,7 @@ fn free_text_field(
     ensures { Gives ViewFault.Memory result
         (optional_field (text_at at) name.now (table_view table.now)) }
 {
-    optional_field(alloc, table, name, at)
+    optional_field::<TextField>(alloc, table, name, at)
 }
 
 // A free text that streams share, where the table has it.
@@ -210,7 +213,7 @@ fn description_field(
     ensures { Gives ViewFault.Memory result
         (optional_field (text_at at) name.now (table_view table.now)) }
 {
-    optional_field(alloc, table, name, at)
+    shared_field::<TextField>(alloc, table, name, at)
 }
 
 // A stream name, where the table has it.
@@ -223,7 +226,7 @@ fn name_field(
     ensures { Gives ViewFault.Memory result
         (optional_field (name_at at) name.now (table_view table.now)) }
 {
-    optional_field(alloc, table, name, at)
+    shared_field::<NameField>(alloc, table, name, at)
 }
 
 // An aggregation, where the table has it.
@@ -236,5 +239,5 @@ fn aggregation_field(
     ensures { Gives ViewFault.Memory result
         (optional_field (aggregation_of at) name.now (table_view table.now)) }
 {
-    optional_field(alloc, table, name, at)
+    optional_field::<AggregationField>(alloc, table, name, at)
 }
