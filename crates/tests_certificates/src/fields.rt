@@ -1,4 +1,5 @@
 //! Certificates as texts: every field, numbers at their edges, and tables of another shape.
+use crate::equal::assert_equal;
 use crate::telling::read;
 use std::alloc::{AllocError, Global};
 use std::test::Fail;
@@ -26,7 +27,7 @@ order 2 [4294967295, 0]
 
 #[test]
 fn every_field_is_read(rt: HostRuntime) -> Result<(), Fail> {
-    assert_eq!(rt; read(rt.alloc(), WHOLE)?.as_str(), LINES);
+    assert_equal(&rt, read(rt.alloc(), WHOLE)?.as_str(), LINES);
     Ok(())
 }
 
@@ -78,7 +79,11 @@ fn read_bound(alloc: Global, count: &str, sum: &str) -> Result<String, AllocErro
 fn decimals_have_one_spelling(rt: HostRuntime) -> Result<(), Fail> {
     for (count, sum, right) in DECIMALS {
         let due = told_of(rt.alloc(), count, sum, *right)?;
-        assert_eq!(rt; read_bound(rt.alloc(), count, sum)?.as_str(), due.as_str());
+        assert_equal(
+            &rt,
+            read_bound(rt.alloc(), count, sum)?.as_str(),
+            due.as_str(),
+        );
     }
     Ok(())
 }
@@ -163,7 +168,7 @@ fn read_instead(alloc: Global, old: &str, new: &str) -> Result<String, AllocErro
 #[test]
 fn other_tables_are_no_certificates(rt: HostRuntime) -> Result<(), Fail> {
     for (old, new, due) in SHAPES {
-        assert_eq!(rt; read_instead(rt.alloc(), old, new)?.as_str(), *due);
+        assert_equal(&rt, read_instead(rt.alloc(), old, new)?.as_str(), *due);
     }
     Ok(())
 }

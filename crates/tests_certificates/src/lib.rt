@@ -6,6 +6,8 @@
 #[cfg(test)]
 mod altering;
 #[cfg(test)]
+mod equal;
+#[cfg(test)]
 mod fields;
 #[cfg(test)]
 mod judging;

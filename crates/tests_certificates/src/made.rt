@@ -1,4 +1,5 @@
 //! Certificates that are made, written and read back, and each fault of what is not safe.
+use crate::equal::assert_equal;
 use crate::telling::{made, made_and_read, read};
 use std::alloc::{AllocError, Global};
 use std::test::Fail;
@@ -75,9 +76,10 @@ const MADE: &[(&str, &str, &str)] = &[
 #[test]
 fn certificates_read_back(rt: HostRuntime) -> Result<(), Fail> {
     for (catalogue, config, due) in MADE {
-        assert_eq!(rt;
+        assert_equal(
+            &rt,
             made_and_read(rt.alloc(), catalogue, config)?.as_str(),
-            *due
+            *due,
         );
     }
     Ok(())
@@ -199,7 +201,7 @@ fn what_is_not_safe_is_refused(rt: HostRuntime) -> Result<(), Fail> {
     for (kind, range, amount, view, due) in UNSAFE {
         let catalogue = catalogue_of(rt.alloc(), kind, range, amount)?;
         let made = made_with(rt.alloc(), catalogue.as_str(), view)?;
-        assert_eq!(rt; fault_of(made.as_str()), *due);
+        assert_equal(&rt, fault_of(made.as_str()), *due);
     }
     Ok(())
 }

@@ -1,4 +1,5 @@
 //! Reasons of the longest names and patterns, and the criteria in their order.
+use crate::equal::assert_equal;
 use crate::telling::made_and_read;
 use std::alloc::{AllocError, Global};
 use std::test::Fail;
@@ -54,7 +55,7 @@ fn takes_due(alloc: Global) -> Result<String, AllocError> {
 fn stars_take_as_little_as_they_can(rt: HostRuntime) -> Result<(), Fail> {
     let told = told(rt.alloc(), 255, "")?;
     let due = takes_due(rt.alloc())?;
-    assert_eq!(rt; first_line(told.as_str()), due.as_str());
+    assert_equal(&rt, first_line(told.as_str()), due.as_str());
     Ok(())
 }
 
@@ -81,7 +82,7 @@ fn rows_due(alloc: Global) -> Result<String, AllocError> {
 fn rows_shut_out_the_end(rt: HostRuntime) -> Result<(), Fail> {
     let told = told(rt.alloc(), 254, "b")?;
     let due = rows_due(rt.alloc())?;
-    assert_eq!(rt; first_line(told.as_str()), due.as_str());
+    assert_equal(&rt, first_line(told.as_str()), due.as_str());
     Ok(())
 }
 
@@ -118,7 +119,7 @@ fn told_without(alloc: Global, count: usize) -> Result<String, Fail> {
 fn criteria_are_tried_in_order(rt: HostRuntime) -> Result<(), Fail> {
     for (first, (_, due)) in CRITERIA.iter().enumerate() {
         let due = format!(in rt.alloc(); "reason 0 0 {due}\nbound 0 0 0 0 0\n")?;
-        assert_eq!(rt; told_without(rt.alloc(), first)?.as_str(), due.as_str());
+        assert_equal(&rt, told_without(rt.alloc(), first)?.as_str(), due.as_str());
     }
     Ok(())
 }

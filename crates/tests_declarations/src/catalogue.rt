@@ -1,4 +1,5 @@
 //! A catalogue in which every field is given, lists at their limits, and faults with their places.
+use crate::equal::{assert_equal, assert_equal_for};
 use crate::tables::{write_integers, write_many, write_name};
 use crate::words::kind_word;
 use metric_catalogue::{
@@ -216,7 +217,7 @@ fn told(alloc: Global, text: &str) -> Result<String, AllocError> {
 #[test]
 fn every_field_is_read(rt: HostRuntime) -> Result<(), Fail> {
     for (text, wanted) in [(SHOP, SHOWN), ("format = 1", "")] {
-        assert_eq!(rt; told(rt.alloc(), text)?.as_str(), wanted);
+        assert_equal(&rt, told(rt.alloc(), text)?.as_str(), wanted);
     }
     Ok(())
 }
@@ -234,7 +235,11 @@ fn budget_of(
 #[test]
 fn budgets_are_of_recorder_and_instrument(rt: HostRuntime) -> Result<(), Fail> {
     for (recorder, instrument, amount) in [(0, 0, 7), (3, 0, 2), (3, 2, 3), (2, 0, 0), (9, 0, 0)] {
-        assert_eq!(rt; budget_of(rt.alloc(), SHOP, recorder, instrument)?, amount);
+        assert_equal(
+            &rt,
+            budget_of(rt.alloc(), SHOP, recorder, instrument)?,
+            amount,
+        );
     }
     Ok(())
 }
@@ -372,7 +377,7 @@ fn sizes(alloc: Global, text: &str) -> Result<(usize, usize, usize, u64), Catalo
 #[test]
 fn lists_are_taken_up_to_their_limits(rt: HostRuntime) -> Result<(), Fail> {
     let text = at_limits(rt.alloc())?;
-    assert_eq!(rt; sizes(rt.alloc(), &text)?, (64, 512, 64, 1));
+    assert_equal(&rt, sizes(rt.alloc(), &text)?, (64, 512, 64, 1));
     Ok(())
 }
 
@@ -383,7 +388,7 @@ fn told_with(alloc: Global, counts: Counts) -> Result<String, AllocError> {
 #[test]
 fn one_more_than_a_limit_is_refused(rt: HostRuntime) -> Result<(), Fail> {
     for (counts, wanted) in COUNTS {
-        assert_eq!(rt; told_with(rt.alloc(), *counts)?.as_str(), *wanted);
+        assert_equal(&rt, told_with(rt.alloc(), *counts)?.as_str(), *wanted);
     }
     Ok(())
 }
@@ -469,7 +474,7 @@ const FAULTS: &[(&str, &str)] = &[
 #[test]
 fn the_first_fault_has_its_place(rt: HostRuntime) -> Result<(), Fail> {
     for (text, wanted) in FAULTS {
-        assert_eq!(rt; told(rt.alloc(), text)?.as_str(), *wanted, "of {text}");
+        assert_equal_for(&rt, text, told(rt.alloc(), text)?.as_str(), *wanted);
     }
     Ok(())
 }
@@ -488,7 +493,7 @@ const PRINTED: &[(CatalogueFault, &str)] = &[
 #[test]
 fn faults_are_printed(rt: HostRuntime) -> Result<(), Fail> {
     for (fault, printed) in PRINTED {
-        assert_eq!(rt; fault.to_string(rt.alloc())?.as_str(), *printed);
+        assert_equal(&rt, fault.to_string(rt.alloc())?.as_str(), *printed);
     }
     Ok(())
 }

@@ -1,4 +1,5 @@
 //! A config in which every field is given, lists at their limits, and faults with their places.
+use crate::equal::{assert_equal, assert_equal_for};
 use crate::tables::{write_integers, write_many};
 use crate::words::{aggregation_word, kind_word, temporality_word};
 use metric_base::{Few, Text};
@@ -254,7 +255,7 @@ fn told(alloc: Global, text: &str) -> Result<String, AllocError> {
 #[test]
 fn every_field_is_read(rt: HostRuntime) -> Result<(), Fail> {
     for (text, wanted) in [(FULL, SHOWN), ("format = 1", "")] {
-        assert_eq!(rt; told(rt.alloc(), text)?.as_str(), wanted);
+        assert_equal(&rt, told(rt.alloc(), text)?.as_str(), wanted);
     }
     Ok(())
 }
@@ -359,7 +360,7 @@ fn sizes(alloc: Global, text: &str) -> Result<(usize, usize), ViewFault> {
 #[test]
 fn lists_are_taken_up_to_their_limits(rt: HostRuntime) -> Result<(), Fail> {
     let text = with_counts(rt.alloc(), LIMITS)?;
-    assert_eq!(rt; sizes(rt.alloc(), &text)?, (16, 256));
+    assert_equal(&rt, sizes(rt.alloc(), &text)?, (16, 256));
     Ok(())
 }
 
@@ -370,7 +371,7 @@ fn told_with(alloc: Global, counts: Counts) -> Result<String, AllocError> {
 #[test]
 fn one_more_than_a_limit_is_refused(rt: HostRuntime) -> Result<(), Fail> {
     for (counts, wanted) in COUNTS {
-        assert_eq!(rt; told_with(rt.alloc(), *counts)?.as_str(), *wanted);
+        assert_equal(&rt, told_with(rt.alloc(), *counts)?.as_str(), *wanted);
     }
     Ok(())
 }
@@ -433,7 +434,7 @@ const FAULTS: &[(&str, &str)] = &[
 #[test]
 fn the_first_fault_has_its_place(rt: HostRuntime) -> Result<(), Fail> {
     for (text, wanted) in FAULTS {
-        assert_eq!(rt; told(rt.alloc(), text)?.as_str(), *wanted, "of {text}");
+        assert_equal_for(&rt, text, told(rt.alloc(), text)?.as_str(), *wanted);
     }
     Ok(())
 }
@@ -451,7 +452,7 @@ const PRINTED: &[(ViewFault, &str)] = &[
 #[test]
 fn faults_are_printed(rt: HostRuntime) -> Result<(), Fail> {
     for (fault, printed) in PRINTED {
-        assert_eq!(rt; fault.to_string(rt.alloc())?.as_str(), *printed);
+        assert_equal(&rt, fault.to_string(rt.alloc())?.as_str(), *printed);
     }
     Ok(())
 }

@@ -1,4 +1,5 @@
 //! The set keys and refusals of attributes.
+use crate::equal::assert_equal;
 use metric_base::{Items, Text};
 use metric_catalogue::{
     Attr, Catalogue, CatalogueFault, Kind, OwnedAttr, Refusal, SetKey, encode_ignores_order,
@@ -214,7 +215,7 @@ fn values_are_numbered(rt: HostRuntime) -> Result<(), Fail> {
         ("code", ValueRef::Text("200"), Some(2)),
         ("code", ValueRef::Flag(true), None),
     ] {
-        assert_eq!(rt; number_of(rt.alloc(), name, value)?, number);
+        assert_equal(&rt, number_of(rt.alloc(), name, value)?, number);
     }
     Ok(())
 }
@@ -238,7 +239,7 @@ const REFUSALS: &[(Refusal, &str)] = &[
 #[test]
 fn refusals_have_numbers_and_names(rt: HostRuntime) -> Result<(), Fail> {
     for (refusal, printed) in REFUSALS {
-        assert_eq!(rt; refusal.to_string(rt.alloc())?.as_str(), *printed);
+        assert_equal(&rt, refusal.to_string(rt.alloc())?.as_str(), *printed);
     }
     Ok(())
 }

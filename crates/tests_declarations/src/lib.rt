@@ -11,6 +11,8 @@ mod config;
 #[cfg(test)]
 mod encoding;
 #[cfg(test)]
+mod equal;
+#[cfg(test)]
 mod patterns;
 #[cfg(test)]
 mod streams;

@@ -1,4 +1,5 @@
 //! Matches, reasons and faults of name patterns.
+use crate::equal::{assert_equal, assert_equal_for};
 use metric_base::{Copied, Items};
 use metric_glob::{Pattern, PatternFault, Reason};
 use metric_names::Name;
@@ -102,7 +103,7 @@ fn told(alloc: Global, pattern: &str, name: &str) -> Result<String, Fail> {
 #[test]
 fn a_reason_says_why_a_name_matches_or_does_not(rt: HostRuntime) -> Result<(), Fail> {
     for (pattern, name, wanted) in REASONS {
-        assert_eq!(rt; told(rt.alloc(), pattern, name)?.as_str(), *wanted);
+        assert_equal(&rt, told(rt.alloc(), pattern, name)?.as_str(), *wanted);
     }
     Ok(())
 }
@@ -164,7 +165,7 @@ fn confirms(alloc: Global, pattern: &str, name: &str, stated: Stated) -> Result<
 fn only_true_reasons_are_confirmed(rt: HostRuntime) -> Result<(), Fail> {
     for (pattern, name, stated, is_true) in STATED {
         let is_confirmed = confirms(rt.alloc(), pattern, name, *stated)?;
-        assert_eq!(rt; is_confirmed, *is_true, "{stated:?}");
+        assert_equal_for(&rt, stated, is_confirmed, *is_true);
     }
     Ok(())
 }
@@ -180,7 +181,7 @@ fn the_longest_patterns_answer_at_once(rt: HostRuntime) -> Result<(), Fail> {
     let name = repeated(rt.alloc(), "a", 255, "")?;
     for (last, wanted) in [("*", true), ("b", false)] {
         let pattern = repeated(rt.alloc(), "*", 254, last)?;
-        assert_eq!(rt; does_match(rt.alloc(), &pattern, &name)?, Some(wanted));
+        assert_equal(&rt, does_match(rt.alloc(), &pattern, &name)?, Some(wanted));
     }
     Ok(())
 }
@@ -219,16 +220,17 @@ fn a_pattern_is_up_to_255_printable_characters(rt: HostRuntime) -> Result<(), Fa
         } else {
             *fault
         };
-        assert_eq!(rt; as_pattern(rt.alloc(), &text)?.as_str(), wanted);
+        assert_equal(&rt, as_pattern(rt.alloc(), &text)?.as_str(), wanted);
     }
     Ok(())
 }
 
 #[test]
 fn want_of_memory_is_printed(rt: HostRuntime) -> Result<(), Fail> {
-    assert_eq!(rt;
+    assert_equal(
+        &rt,
         PatternFault::Memory.to_string(rt.alloc())?.as_str(),
-        "4 Memory"
+        "4 Memory",
     );
     Ok(())
 }

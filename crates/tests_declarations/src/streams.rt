@@ -1,4 +1,5 @@
 //! What views select, what they and the defaults make of instruments, and the warnings.
+use crate::equal::{assert_equal, assert_equal_for};
 use crate::words::{kind_word, temporality_word};
 use crate::{catalogue, config};
 use metric_base::Copied;
@@ -209,7 +210,7 @@ fn every_part_of_the_streams_is_given(rt: HostRuntime) -> Result<(), Fail> {
     collisions_are_of_one_identity();
     unfit_views_sum_gauges();
     for (config, wanted) in [(CONFIG, SHOWN), ("format = 1", "")] {
-        assert_eq!(rt; shown(rt.alloc(), SHOP, config)?.as_str(), wanted);
+        assert_equal(&rt, shown(rt.alloc(), SHOP, config)?.as_str(), wanted);
     }
     Ok(())
 }
@@ -224,7 +225,7 @@ fn counts_of(alloc: Global, catalogue: &str, config: &str) -> Result<(usize, usi
 fn each_reader_has_a_stream_of_each_instrument(rt: HostRuntime) -> Result<(), Fail> {
     let catalogue = catalogue::at_limits(rt.alloc())?;
     let config = config::of_readers(rt.alloc())?;
-    assert_eq!(rt; counts_of(rt.alloc(), &catalogue, &config)?, (8192, 0));
+    assert_equal(&rt, counts_of(rt.alloc(), &catalogue, &config)?, (8192, 0));
     Ok(())
 }
 
@@ -338,7 +339,7 @@ fn numbers(alloc: Global, tables: &str) -> Result<String, Fail> {
 #[test]
 fn streams_stand_by_reader_instrument_and_view(rt: HostRuntime) -> Result<(), Fail> {
     for (tables, wanted) in SMALL {
-        assert_eq!(rt; numbers(rt.alloc(), tables)?.as_str(), *wanted, "{tables}");
+        assert_equal_for(&rt, tables, numbers(rt.alloc(), tables)?.as_str(), *wanted);
     }
     Ok(())
 }
@@ -418,7 +419,7 @@ fn one_view_makes_one_stream_of_an_instrument(rt: HostRuntime) -> Result<(), Fai
     let declared = read_both(rt.alloc(), SHOP, CONFIG)?;
     for (instrument, view, wanted) in FILLS {
         let filled = filled(rt.alloc(), &declared, *instrument, *view)?;
-        assert_eq!(rt; filled.as_str(), *wanted);
+        assert_equal(&rt, filled.as_str(), *wanted);
     }
     Ok(())
 }

@@ -1,4 +1,5 @@
 //! Worked values, each aggregator through its trait.
+use crate::equal::assert_equal;
 use crate::points::write_value;
 use metric_aggregate::{Aggregate, BucketAgg, LastAgg, PointValue, SumAgg};
 use metric_base::{Boundaries, Copied, Few, copy_all, is_rising, is_same};
@@ -64,7 +65,7 @@ const SUMS: &[(&[i64], &str)] = &[
 fn sums_stay_in_range(rt: HostRuntime) -> Result<(), Fail> {
     for (values, wanted) in SUMS {
         let told = told_again(rt.alloc(), &mut SumAgg::new(), values)?;
-        assert_eq!(rt; told.as_str(), *wanted);
+        assert_equal(&rt, told.as_str(), *wanted);
     }
     Ok(())
 }
@@ -75,7 +76,7 @@ const LASTS: &[(&[i64], &str)] = &[(&[], "none"), (&[7], "last 7"), (&[3, -1], "
 fn the_last_value_is_read(rt: HostRuntime) -> Result<(), Fail> {
     for (values, wanted) in LASTS {
         let told = told_again(rt.alloc(), &mut LastAgg::new(), values)?;
-        assert_eq!(rt; told.as_str(), *wanted);
+        assert_equal(&rt, told.as_str(), *wanted);
     }
     Ok(())
 }
@@ -143,7 +144,7 @@ fn told_between(
 fn values_fall_between_boundaries(rt: HostRuntime) -> Result<(), Fail> {
     for (numbers, keeps_sum, values, wanted) in HISTOGRAMS {
         let told = told_between(rt.alloc(), numbers, *keeps_sum, values)?;
-        assert_eq!(rt; told.as_str(), *wanted);
+        assert_equal(&rt, told.as_str(), *wanted);
     }
     Ok(())
 }
@@ -168,6 +169,6 @@ fn sameness(alloc: Global) -> Result<[bool; 4], Fail> {
 
 #[test]
 fn equal_point_values_are_the_same(rt: HostRuntime) -> Result<(), Fail> {
-    assert_eq!(rt; sameness(rt.alloc())?, [true, false, true, false]);
+    assert_equal(&rt, sameness(rt.alloc())?, [true, false, true, false]);
     Ok(())
 }

@@ -1,6 +1,7 @@
 //! Generated scripts, run over each book.
 use crate::declarations::{write_catalogue, write_config};
 use crate::dice::Dice;
+use crate::equal::{assert_equal, assert_equal_for};
 use crate::events::script_for;
 use crate::replies::{shown, told};
 use crate::runs::{Trial, replies};
@@ -117,8 +118,8 @@ fn books_and_pieces_give_the_same_replies(rt: HostRuntime) -> Result<(), Fail> {
     let mut seen = Vec::new(rt.alloc());
     for seed in 0..SCRIPTS {
         let found = agreement_at(&mut seen, rt.alloc(), seed)?;
-        assert_eq!(rt; found, [true, true, true], "script {seed}");
+        assert_equal_for(&rt, seed, found, [true, true, true]);
     }
-    assert_eq!(rt; first_unseen(&seen), None);
+    assert_equal(&rt, first_unseen(&seen), None);
     Ok(())
 }

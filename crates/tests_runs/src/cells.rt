@@ -3,6 +3,7 @@ ghost use Rattle.std.specs.Prelude.{◌≡◌, ◌==◌};
 ghost use Rattle.std.specs.List.{list_all};
 ghost use Rattle.metric_history.specs.Facts.{is_entry as names_value, is_full_set};
 
+use crate::equal::assert_equal;
 use crate::input::plan_of;
 use crate::words::{push_covered, push_numbers};
 use metric_book::{Book, JournalBook};
@@ -248,7 +249,7 @@ fn told<B: Book>(alloc: Global) -> Result<String, Fail> {
 
 #[test]
 fn a_cell_answers_each_call(rt: HostRuntime) -> Result<(), Fail> {
-    assert_eq!(rt; told::<JournalBook>(rt.alloc())?.as_str(), ANSWERS);
-    assert_eq!(rt; told::<Marked>(rt.alloc())?.as_str(), ANSWERS);
+    assert_equal(&rt, told::<JournalBook>(rt.alloc())?.as_str(), ANSWERS);
+    assert_equal(&rt, told::<Marked>(rt.alloc())?.as_str(), ANSWERS);
     Ok(())
 }

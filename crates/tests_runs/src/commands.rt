@@ -1,4 +1,5 @@
 //! Whole inputs replayed, shown and checked: what is written, or the line and the exit status of the fault.
+use crate::equal::{assert_equal, assert_equal_for};
 use metric_catalogue::{CatalogueFault, CataloguePlace};
 use metric_cert::CertFault;
 use metric_commands::{KitFault, ReplayOptions, check_run, one_output, replay, show_run};
@@ -307,7 +308,7 @@ fn a_sound_input_is_done(rt: HostRuntime) -> Result<(), Fail> {
     one_output();
     for (command, catalogue, config, script, wanted) in DONE {
         let told = told_of(rt.alloc(), *command, catalogue, config, script)?;
-        assert_eq!(rt; told.as_str(), *wanted);
+        assert_equal(&rt, told.as_str(), *wanted);
     }
     Ok(())
 }
@@ -353,7 +354,7 @@ const DECLARED: &[(&str, &str, &str)] = &[
 fn a_trial_tells_a_faulty_declaration(rt: HostRuntime) -> Result<(), Fail> {
     for (catalogue, config, wanted) in DECLARED {
         let told = told_of(rt.alloc(), Command::Trial, catalogue, config, RUN)?;
-        assert_eq!(rt; told.as_str(), *wanted);
+        assert_equal(&rt, told.as_str(), *wanted);
     }
     Ok(())
 }
@@ -362,7 +363,7 @@ fn a_trial_tells_a_faulty_declaration(rt: HostRuntime) -> Result<(), Fail> {
 fn show_tells_a_faulty_declaration(rt: HostRuntime) -> Result<(), Fail> {
     for (catalogue, config, wanted) in DECLARED {
         let told = told_of(rt.alloc(), Command::Show, catalogue, config, RUN)?;
-        assert_eq!(rt; told.as_str(), *wanted);
+        assert_equal(&rt, told.as_str(), *wanted);
     }
     Ok(())
 }
@@ -483,7 +484,7 @@ const REFUSED: &[(Command, &str, &str, &str, &str)] = &[
 fn the_first_fault_is_told(rt: HostRuntime) -> Result<(), Fail> {
     for (command, catalogue, config, script, wanted) in REFUSED {
         let told = told_of(rt.alloc(), *command, catalogue, config, script)?;
-        assert_eq!(rt; told.as_str(), *wanted);
+        assert_equal(&rt, told.as_str(), *wanted);
     }
     Ok(())
 }
@@ -533,7 +534,7 @@ const COMMANDS: &[Command] = &[
 fn a_reader_that_fails_writes_nothing(rt: HostRuntime) -> Result<(), Fail> {
     for command in COMMANDS {
         let untold = first_untold(rt.alloc(), *command)?;
-        assert_eq!(rt; untold, None, "{command:?}");
+        assert_equal_for(&rt, command, untold, None);
     }
     Ok(())
 }
@@ -590,7 +591,7 @@ fn printed(alloc: Global, fault: KitFault) -> Result<String, Fail> {
 #[test]
 fn faults_have_lines_and_statuses(rt: HostRuntime) -> Result<(), Fail> {
     for (fault, wanted) in PRINTED {
-        assert_eq!(rt; printed(rt.alloc(), *fault)?.as_str(), *wanted);
+        assert_equal(&rt, printed(rt.alloc(), *fault)?.as_str(), *wanted);
     }
     Ok(())
 }

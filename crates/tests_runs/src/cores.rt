@@ -1,4 +1,5 @@
 //! Runs of events on a core, and the replies that they get.
+use crate::equal::assert_equal;
 use crate::input::planned;
 use crate::replies::told;
 use crate::runs::Trial;
@@ -183,9 +184,9 @@ batch 0 0, 2 to 2, 20 to 30; stream 0;
 fn events_are_replied_to(rt: HostRuntime) -> Result<(), Fail> {
     for (trial, wanted) in RUNS {
         let listed = told::<JournalBook>(rt.alloc(), *trial, usize::MAX)?;
-        assert_eq!(rt; listed.as_str(), *wanted);
+        assert_equal(&rt, listed.as_str(), *wanted);
         let running = told::<Marked>(rt.alloc(), *trial, usize::MAX)?;
-        assert_eq!(rt; running.as_str(), *wanted);
+        assert_equal(&rt, running.as_str(), *wanted);
     }
     Ok(())
 }
@@ -215,6 +216,10 @@ fn fault_of(alloc: Global, catalogue: &str, config: &str) -> Result<String, Fail
 
 #[test]
 fn recordings_past_all_numbers_have_no_plan(rt: HostRuntime) -> Result<(), Fail> {
-    assert_eq!(rt; fault_of(rt.alloc(), MANY, MAIN)?.as_str(), "12 CountRange");
+    assert_equal(
+        &rt,
+        fault_of(rt.alloc(), MANY, MAIN)?.as_str(),
+        "12 CountRange",
+    );
     Ok(())
 }

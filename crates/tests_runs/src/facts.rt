@@ -1,4 +1,5 @@
 //! What the run of each instrument depends on.
+use crate::equal::assert_equal;
 use metric_base::Items;
 use metric_catalogue::Catalogue;
 use metric_history::{Event, Facts, all_facts};
@@ -132,7 +133,7 @@ fn shown(alloc: Global, catalogue: &str, config: &str) -> Result<String, Fail> {
 
 #[test]
 fn each_instrument_has_its_facts(rt: HostRuntime) -> Result<(), Fail> {
-    assert_eq!(rt; shown(rt.alloc(), SHOP, CONFIG)?.as_str(), SHOWN);
+    assert_equal(&rt, shown(rt.alloc(), SHOP, CONFIG)?.as_str(), SHOWN);
     Ok(())
 }
 
@@ -144,5 +145,5 @@ fn an_event_is_of_one_instrument(rt: HostRuntime) {
         instrument: 8,
         now: 2,
     };
-    assert_eq!(rt; [close, collect.instrument()], [7, 8]);
+    assert_equal(&rt, [close, collect.instrument()], [7, 8]);
 }

@@ -21,6 +21,8 @@ mod declarations;
 #[cfg(test)]
 mod dice;
 #[cfg(test)]
+mod equal;
+#[cfg(test)]
 mod events;
 #[cfg(test)]
 mod facts;

@@ -2,6 +2,7 @@
 //!
 //! No test can have one allocation of its process refused, so a book refuses in its place, as it would where a
 //! table can not grow.
+use crate::equal::assert_equal;
 use crate::input::plan_of;
 use crate::runs::{Trial, replies};
 use crate::words::shown;
@@ -124,6 +125,6 @@ fn told(alloc: Global) -> Result<String, Fail> {
 
 #[test]
 fn what_memory_refused_changes_nothing(rt: HostRuntime) -> Result<(), Fail> {
-    assert_eq!(rt; told(rt.alloc())?.as_str(), REPLIES);
+    assert_equal(&rt, told(rt.alloc())?.as_str(), REPLIES);
     Ok(())
 }

@@ -1,4 +1,5 @@
 //! Scripts: the events that their lines spell, and the lines that spell none.
+use crate::equal::assert_equal_for;
 use crate::input::read;
 use crate::words::push_numbers;
 use metric_catalogue::OwnedAttr;
@@ -95,7 +96,7 @@ fn each_line_spells_one_event(rt: HostRuntime) -> Result<(), Fail> {
     one_script();
     for (script, wanted) in SCRIPTS {
         let told = told(rt.alloc(), script)?;
-        assert_eq!(rt; told.as_str(), *wanted, "{script:?}");
+        assert_equal_for(&rt, script, told.as_str(), *wanted);
     }
     Ok(())
 }
@@ -143,7 +144,7 @@ fn told_after_start(alloc: Global, line: &str) -> Result<String, Fail> {
 fn lines_outside_the_grammar_are_refused(rt: HostRuntime) -> Result<(), Fail> {
     for line in OUTSIDE {
         let told = told_after_start(rt.alloc(), line)?;
-        assert_eq!(rt; told.as_str(), "input line 5", "{line:?}");
+        assert_equal_for(&rt, line, told.as_str(), "input line 5");
     }
     Ok(())
 }

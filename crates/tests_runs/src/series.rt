@@ -1,4 +1,5 @@
 //! Tables of series: which are held, the order of their points, the overflow point, and what is put back or emptied.
+use crate::equal::assert_equal;
 use crate::points::write_points;
 use metric_catalogue::{Catalogue, SetKey};
 use metric_series::{Place, SeriesFault, SeriesTable};
@@ -187,7 +188,7 @@ taken: 2: sum 9223372036854775807; overflow: sum 1;
 fn the_first_series_up_to_the_limit_are_held(rt: HostRuntime) -> Result<(), Fail> {
     for (limit, steps, wanted) in LIMITS {
         let told = told(rt.alloc(), "default", *limit, steps)?;
-        assert_eq!(rt; told.as_str(), *wanted);
+        assert_equal(&rt, told.as_str(), *wanted);
     }
     Ok(())
 }
@@ -254,7 +255,7 @@ const AGGREGATIONS: &[(&str, &str)] = &[
 fn a_table_made_ready_takes_or_forgets_a_value(rt: HostRuntime) -> Result<(), Fail> {
     for (aggregation, wanted) in AGGREGATIONS {
         let told = told(rt.alloc(), aggregation, 2, STEPS)?;
-        assert_eq!(rt; told.as_str(), *wanted);
+        assert_equal(&rt, told.as_str(), *wanted);
     }
     Ok(())
 }

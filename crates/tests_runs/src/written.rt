@@ -1,4 +1,5 @@
 //! Batches, streams and warnings as texts.
+use crate::equal::assert_equal;
 use crate::input::plan_of;
 use metric_aggregate::PointValue;
 use metric_base::{Items, copy_all};
@@ -208,7 +209,7 @@ point {} start=5 time=20 value=-1
 fn a_batch_is_written(rt: HostRuntime) -> Result<(), Fail> {
     for (instrument, stream, points, wanted) in BATCHES {
         let told = told(rt.alloc(), *instrument, *stream, points)?;
-        assert_eq!(rt; told.as_slice(), wanted.as_bytes());
+        assert_equal(&rt, told.as_slice(), wanted.as_bytes());
     }
     Ok(())
 }
@@ -242,7 +243,7 @@ fn listing(alloc: Global) -> Result<Vec<u8>, Fail> {
 
 #[test]
 fn a_stream_has_a_line(rt: HostRuntime) -> Result<(), Fail> {
-    assert_eq!(rt; listing(rt.alloc())?.as_slice(), LISTING.as_bytes());
+    assert_equal(&rt, listing(rt.alloc())?.as_slice(), LISTING.as_bytes());
     Ok(())
 }
 
@@ -266,6 +267,6 @@ fn a_warning_has_a_line(rt: HostRuntime) -> Result<(), Fail> {
     let mut out = Vec::new(rt.alloc());
     push_warnings(&mut out)?;
     let wanted = b"warning Unfit view=7 instrument=4294967295\nwarning Collision streams=0,10\n";
-    assert_eq!(rt; out.as_slice(), wanted.as_slice());
+    assert_equal(&rt, out.as_slice(), wanted.as_slice());
     Ok(())
 }

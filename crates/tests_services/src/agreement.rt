@@ -1,4 +1,5 @@
 //! The answers of seats in one thread beside the replies of a core.
+use crate::equal::assert_equal;
 use crate::samples::{BOTH, CODES, HITS, MAIN};
 use crate::seats::{Seats, seats_of};
 use crate::texts::write_reply;
@@ -226,9 +227,9 @@ fn other_answers<R: Wait, B: Book>(
 fn seats_answer_as_core(rt: HostRuntime) -> Result<(), Fail> {
     for sample in SAMPLES {
         let other = other_answers::<_, JournalBook>(&rt, rt.alloc(), sample)?;
-        assert_eq!(rt; other, None);
+        assert_equal(&rt, other, None);
         let other = other_answers::<_, Marked>(&rt, rt.alloc(), sample)?;
-        assert_eq!(rt; other, None);
+        assert_equal(&rt, other, None);
     }
     Ok(())
 }

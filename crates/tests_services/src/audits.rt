@@ -2,6 +2,7 @@
 ghost use Rattle.std.specs.Prelude.{◌≡◌, IsTrue, length};
 ghost use Rattle.metric_provider.specs.Totals.{AreAllSeats};
 
+use crate::equal::assert_equal;
 use crate::samples::{HITS, MAIN};
 use crate::seats::{Seats, seated};
 use crate::slots::record;
@@ -67,11 +68,16 @@ fn settled<R: Wait, B: Book>(rt: &R, alloc: Global, is_recorded: bool) -> Result
 #[test]
 fn a_recording_of_which_no_seat_was_told_is_found(rt: HostRuntime) -> Result<(), Fail> {
     let found = Some(FinishFault::AuditMismatch);
-    assert_eq!(rt;
+    assert_equal(
+        &rt,
         settled::<_, JournalBook>(&rt, rt.alloc(), true)?.err(),
-        found
+        found,
     );
-    assert_eq!(rt; settled::<_, Marked>(&rt, rt.alloc(), true)?.err(), found);
+    assert_equal(
+        &rt,
+        settled::<_, Marked>(&rt, rt.alloc(), true)?.err(),
+        found,
+    );
     Ok(())
 }
 
@@ -83,7 +89,7 @@ fn a_slot_without_recordings_comes_to_nothing(rt: HostRuntime) -> Result<(), Fai
         settled::<_, Marked>(&rt, rt.alloc(), false)?,
     ] {
         let totals = settled?;
-        assert_eq!(rt; totals.as_slice(), [nothing].as_slice());
+        assert_equal(&rt, totals.as_slice(), [nothing].as_slice());
     }
     Ok(())
 }

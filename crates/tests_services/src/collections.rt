@@ -1,4 +1,5 @@
 //! Collections of all instruments by a delta reader, beside recordings.
+use crate::equal::assert_equal;
 use crate::samples::{BOTH, PAIR};
 use crate::seats::{Seats, seats_of};
 use crate::texts::write_batches;
@@ -107,10 +108,11 @@ fn told<R: Wait, B: Book>(rt: &R, alloc: Global) -> Result<String, Fail> {
 
 #[test]
 fn collections_go_on_where_the_last_one_ended(rt: HostRuntime) -> Result<(), Fail> {
-    assert_eq!(rt;
+    assert_equal(
+        &rt,
         told::<_, JournalBook>(&rt, rt.alloc())?.as_str(),
-        COLLECTED
+        COLLECTED,
     );
-    assert_eq!(rt; told::<_, Marked>(&rt, rt.alloc())?.as_str(), COLLECTED);
+    assert_equal(&rt, told::<_, Marked>(&rt, rt.alloc())?.as_str(), COLLECTED);
     Ok(())
 }

@@ -1,4 +1,5 @@
 //! A counter with one recorder and two readers, from its first recording to its totals.
+use crate::equal::assert_equal;
 use crate::seats::{Seats, hit_once};
 use crate::texts::write_reply;
 use metric_book::{Book, JournalBook};
@@ -25,11 +26,12 @@ fn a_recorder_is_told(rt: HostRuntime) -> Result<(), Fail> {
         count: 1,
         amount: 5,
     };
-    assert_eq!(rt;
+    assert_equal(
+        &rt,
         told::<_, JournalBook>(&rt, rt.alloc())?,
-        [Some(five), None]
+        [Some(five), None],
     );
-    assert_eq!(rt; told::<_, Marked>(&rt, rt.alloc())?, [Some(five), None]);
+    assert_equal(&rt, told::<_, Marked>(&rt, rt.alloc())?, [Some(five), None]);
     Ok(())
 }
 
@@ -69,8 +71,12 @@ fn a_reader_is_told(rt: HostRuntime) -> Result<(), Fail> {
         collected::<_, JournalBook>(&rt, rt.alloc())?,
         collected::<_, Marked>(&rt, rt.alloc())?,
     ] {
-        assert_eq!(rt; batch.as_str(), "0 0, 0 to 1, 0 to 10: stream 0 [0 0] 5\n");
-        assert_eq!(rt; seen, [Some(1), None]);
+        assert_equal(
+            &rt,
+            batch.as_str(),
+            "0 0, 0 to 1, 0 to 10: stream 0 [0 0] 5\n",
+        );
+        assert_equal(&rt, seen, [Some(1), None]);
     }
     Ok(())
 }
@@ -98,8 +104,8 @@ fn closed<R: Wait, B: Book>(rt: &R, alloc: Global) -> Result<[Option<Refusal>; 3
 #[test]
 fn a_counter_is_closed_once(rt: HostRuntime) -> Result<(), Fail> {
     let answers = [None, Some(Refusal::Closed), Some(Refusal::Closed)];
-    assert_eq!(rt; closed::<_, JournalBook>(&rt, rt.alloc())?, answers);
-    assert_eq!(rt; closed::<_, Marked>(&rt, rt.alloc())?, answers);
+    assert_equal(&rt, closed::<_, JournalBook>(&rt, rt.alloc())?, answers);
+    assert_equal(&rt, closed::<_, Marked>(&rt, rt.alloc())?, answers);
     Ok(())
 }
 
@@ -117,7 +123,7 @@ fn a_counter_comes_to_its_recordings(rt: HostRuntime) -> Result<(), Fail> {
         totals::<_, JournalBook>(&rt, rt.alloc())?,
         totals::<_, Marked>(&rt, rt.alloc())?,
     ] {
-        assert_eq!(rt; totals.instruments.as_slice(), [five].as_slice());
+        assert_equal(&rt, totals.instruments.as_slice(), [five].as_slice());
         assert!(rt; totals.journals.is_empty());
         assert!(rt; totals.slips.is_empty());
     }

@@ -1,4 +1,5 @@
 //! The printed texts of faults.
+use crate::equal::assert_equal;
 use metric_export::ExportFault;
 use std::test::Fail;
 
@@ -11,9 +12,9 @@ const FAULTS: &[(ExportFault, u8, &str, &str)] = &[
 #[test]
 fn a_fault_is_printed(rt: HostRuntime) -> Result<(), Fail> {
     for (fault, number, name, text) in FAULTS {
-        assert_eq!(rt; fault.number(), *number);
-        assert_eq!(rt; fault.name(), *name);
-        assert_eq!(rt; fault.to_string(rt.alloc())?.as_str(), *text);
+        assert_equal(&rt, fault.number(), *number);
+        assert_equal(&rt, fault.name(), *name);
+        assert_equal(&rt, fault.to_string(rt.alloc())?.as_str(), *text);
     }
     Ok(())
 }

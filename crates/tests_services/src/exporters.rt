@@ -1,5 +1,6 @@
 //! Runs of calls on exporters: what each call answers, and what the sink took.
 use crate::counted_sink::sink_of;
+use crate::equal::assert_equal;
 use crate::sample_batch::{SampleBatch, TEXT};
 use crate::wavering::WaveringExporter;
 use metric_export::{ExportFault, ExporterState, MetricExporter, TextExporter, write_batch};
@@ -136,11 +137,11 @@ fn assert_run<R: Abort>(
 ) -> Result<(), Fail> {
     let mut exporter = TextExporter::new(sink_of(alloc, run.room, run.flushes));
     let told = answers(alloc, &mut exporter, sample, run.calls)?;
-    assert_eq!(rt; told.as_str(), run.answers);
-    assert_eq!(rt; exporter.state(), run.state);
-    assert_eq!(rt; exporter.sink().calls(), run.called);
+    assert_equal(rt, told.as_str(), run.answers);
+    assert_equal(rt, exporter.state(), run.state);
+    assert_equal(rt, exporter.sink().calls(), run.called);
     let sink = exporter.into_inner();
-    assert_eq!(rt; sink.taken().len(), run.held);
+    assert_equal(rt, sink.taken().len(), run.held);
     Ok(())
 }
 
@@ -162,8 +163,12 @@ fn assert_front<R: Abort>(
 ) -> Result<(), Fail> {
     let mut exporter = TextExporter::new(sink_of(alloc, Some(room), true));
     let told = answers(alloc, &mut exporter, sample, &[Call::Export])?;
-    assert_eq!(rt; told.as_str() == "ok ", room == TEXT.len());
-    assert_eq!(rt; Some(exporter.sink().taken()), TEXT.as_bytes().get(..room));
+    assert_equal(rt, told.as_str() == "ok ", room == TEXT.len());
+    assert_equal(
+        rt,
+        Some(exporter.sink().taken()),
+        TEXT.as_bytes().get(..room),
+    );
     Ok(())
 }
 
@@ -194,7 +199,7 @@ fn wavering_answers(alloc: Global, sample: &SampleBatch) -> Result<String, Fail>
 fn an_exporter_may_go_on(rt: HostRuntime) -> Result<(), Fail> {
     let sample = SampleBatch::new(rt.alloc())?;
     let told = wavering_answers(rt.alloc(), &sample)?;
-    assert_eq!(rt; told.as_str(), "ok 1 Write ok ok ok 2 ShutDown ");
+    assert_equal(&rt, told.as_str(), "ok 1 Write ok ok ok 2 ShutDown ");
     Ok(())
 }
 
@@ -203,7 +208,7 @@ fn a_batch_is_written(rt: HostRuntime) -> Result<(), Fail> {
     let sample = SampleBatch::new(rt.alloc())?;
     let mut sink = CutSink::new(rt.alloc(), None).in_pieces(7);
     let answer = write_batch(rt.alloc(), &mut sink, &sample.plan, &sample.batch);
-    assert_eq!(rt; answer, Ok(()));
-    assert_eq!(rt; sink.taken(), TEXT.as_bytes());
+    assert_equal(&rt, answer, Ok(()));
+    assert_equal(&rt, sink.taken(), TEXT.as_bytes());
     Ok(())
 }

@@ -1,6 +1,7 @@
 //! A recording that is held inside its lock, and one of another instrument.
 ghost use Rattle.std.specs.Prelude.{IsTrue};
 
+use crate::equal::assert_equal;
 use crate::samples::{MAIN, PAIR};
 use metric_catalogue::Refusal;
 use metric_marked::Marked;
@@ -143,8 +144,8 @@ fn answers<R: Threads + Wait + Sync>(
 fn second_instrument_answers_first(rt: HostRuntime) -> Result<(), Fail> {
     let flags = Flags::new();
     let (first, second) = answers(&rt, rt.alloc(), &flags)?;
-    assert_eq!(rt; first, Ok(()));
-    assert_eq!(rt; second, Ok(()));
+    assert_equal(&rt, first, Ok(()));
+    assert_equal(&rt, second, Ok(()));
     assert!(rt; flags.is_seen.load(Ordering::SeqCst));
     Ok(())
 }

@@ -16,6 +16,8 @@ mod counted_sink;
 #[cfg(test)]
 mod counter;
 #[cfg(test)]
+mod equal;
+#[cfg(test)]
 mod export_faults;
 #[cfg(test)]
 mod exporters;

@@ -1,5 +1,6 @@
 //! Runs of a periodic reader: what is exported, and how the run is counted.
 use crate::counted_sink::sink_of;
+use crate::equal::assert_equal;
 use crate::seats::{Seats, hit_once};
 use crate::wavering::WaveringExporter;
 use metric_export::{ExporterState, ListTicker, MetricExporter, TextExporter, Tick};
@@ -63,8 +64,8 @@ fn batches_are_exported(rt: HostRuntime) -> Result<(), Fail> {
     for (turns, fails_at, wanted, taken) in RUNS {
         let exporter = WaveringExporter::new(rt.alloc(), *fails_at);
         let end = end_after_hit(&rt, rt.alloc(), exporter, *turns)?;
-        assert_eq!(rt; counts(rt.alloc(), &end)?.as_str(), *wanted);
-        assert_eq!(rt; end.exporter.taken(), *taken);
+        assert_equal(&rt, counts(rt.alloc(), &end)?.as_str(), *wanted);
+        assert_equal(&rt, end.exporter.taken(), *taken);
     }
     Ok(())
 }
@@ -88,9 +89,9 @@ fn texts_are_written(rt: HostRuntime) -> Result<(), Fail> {
     for (room, flushes, wanted, held) in WRITTEN {
         let exporter = TextExporter::new(sink_of(rt.alloc(), *room, *flushes));
         let end = end_after_hit(&rt, rt.alloc(), exporter, 9)?;
-        assert_eq!(rt; counts(rt.alloc(), &end)?.as_str(), *wanted);
-        assert_eq!(rt; end.exporter.state(), ExporterState::ShutDown);
-        assert_eq!(rt; end.exporter.sink().taken(), held.as_bytes());
+        assert_equal(&rt, counts(rt.alloc(), &end)?.as_str(), *wanted);
+        assert_equal(&rt, end.exporter.state(), ExporterState::ShutDown);
+        assert_equal(&rt, end.exporter.sink().taken(), held.as_bytes());
     }
     Ok(())
 }
@@ -123,7 +124,7 @@ fn end_of_stranger<R: Wait>(rt: &R, alloc: Global) -> Result<PeriodicEnd<Waverin
 #[test]
 fn a_refused_reader_is_kept(rt: HostRuntime) -> Result<(), Fail> {
     let end = end_of_stranger(&rt, rt.alloc())?;
-    assert_eq!(rt; counts(rt.alloc(), &end)?.as_str(), "0 0 3 true true");
+    assert_equal(&rt, counts(rt.alloc(), &end)?.as_str(), "0 0 3 true true");
     assert!(rt; end.exporter.taken().is_empty());
     Ok(())
 }

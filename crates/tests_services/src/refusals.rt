@@ -1,4 +1,5 @@
 //! The refusals of a recording in the order in which they are tried, and that they change nothing.
+use crate::equal::assert_equal;
 use crate::samples::{CODES, MAIN};
 use crate::seats::{Seats, seats_of};
 use metric_book::{Book, JournalBook};
@@ -57,8 +58,8 @@ fn refuse_undeclared<R: Wait + Abort, B: Book>(
     for (instrument, attrs, value, refusal) in UNDECLARED {
         let before = recorder.accepted(0);
         let answer = recorder.record(rt, provider, *instrument, *attrs, *value);
-        assert_eq!(rt; answer, Err(*refusal));
-        assert_eq!(rt; recorder.accepted(0), before);
+        assert_equal(rt, answer, Err(*refusal));
+        assert_equal(rt, recorder.accepted(0), before);
     }
 }
 
@@ -73,8 +74,8 @@ fn record_declared<R: Wait + Abort, B: Book>(
         count: 1,
         amount: 3,
     };
-    assert_eq!(rt; recorder.record(rt, provider, 0, &[ROUTE], 3), answer);
-    assert_eq!(rt; recorder.accepted(0), Some(once));
+    assert_equal(rt, recorder.record(rt, provider, 0, &[ROUTE], 3), answer);
+    assert_equal(rt, recorder.accepted(0), Some(once));
 }
 
 fn refuse_in_turn<R: Wait + Abort, B: Book>(

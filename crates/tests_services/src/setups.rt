@@ -1,4 +1,5 @@
 //! The faults of two texts that no provider starts of.
+use crate::equal::assert_equal;
 use crate::samples::{HITS, MAIN};
 use metric_sdk::certified_plan;
 use std::alloc::Global;
@@ -41,7 +42,11 @@ fn fault_of(alloc: Global, catalogue: &str, config: &str) -> Result<String, Fail
 #[test]
 fn a_plan_is_made_of_safe_files_alone(rt: HostRuntime) -> Result<(), Fail> {
     for (catalogue, config, wanted) in FAULTS {
-        assert_eq!(rt; fault_of(rt.alloc(), catalogue, config)?.as_str(), *wanted);
+        assert_equal(
+            &rt,
+            fault_of(rt.alloc(), catalogue, config)?.as_str(),
+            *wanted,
+        );
     }
     Ok(())
 }

@@ -1,6 +1,7 @@
 //! A slot by its own calls, over each book, for a recorder and a reader that say what they were told.
 ghost use Rattle.std.specs.Prelude.{IsTrue};
 
+use crate::equal::assert_equal;
 use crate::samples::BOTH;
 use crate::texts::{write_batch, write_refusal};
 use metric_book::{Book, JournalBook};
@@ -176,7 +177,7 @@ fn told<B: Book>(alloc: Global) -> Result<String, Fail> {
 
 #[test]
 fn a_slot_answers_each_call(rt: HostRuntime) -> Result<(), Fail> {
-    assert_eq!(rt; told::<JournalBook>(rt.alloc())?.as_str(), ANSWERS);
-    assert_eq!(rt; told::<Marked>(rt.alloc())?.as_str(), ANSWERS);
+    assert_equal(&rt, told::<JournalBook>(rt.alloc())?.as_str(), ANSWERS);
+    assert_equal(&rt, told::<Marked>(rt.alloc())?.as_str(), ANSWERS);
     Ok(())
 }

@@ -1,4 +1,5 @@
 //! Seats of another run.
+use crate::equal::assert_equal;
 use crate::samples::{MAIN, PAIR};
 use crate::seats::{Seats, seats_of};
 use metric_book::{Book, JournalBook};
@@ -58,8 +59,8 @@ fn refusals<R: Wait, B: Book>(rt: &R, alloc: Global) -> Result<[Option<Refusal>;
 #[test]
 fn seats_of_another_run_are_strangers(rt: HostRuntime) -> Result<(), Fail> {
     let strangers = [Some(Refusal::Stranger); 3];
-    assert_eq!(rt; refusals::<_, JournalBook>(&rt, rt.alloc())?, strangers);
-    assert_eq!(rt; refusals::<_, Marked>(&rt, rt.alloc())?, strangers);
+    assert_equal(&rt, refusals::<_, JournalBook>(&rt, rt.alloc())?, strangers);
+    assert_equal(&rt, refusals::<_, Marked>(&rt, rt.alloc())?, strangers);
     Ok(())
 }
 
@@ -113,7 +114,7 @@ fn handed_back<R: Wait, B: Book>(rt: &R, alloc: Global) -> Result<Vec<u32>, Fail
 #[test]
 fn a_seat_too_many_is_a_stranger(rt: HostRuntime) -> Result<(), Fail> {
     let handed_back = handed_back::<_, Marked>(&rt, rt.alloc())?;
-    assert_eq!(rt; handed_back.as_slice(), [0, 1, 1].as_slice());
+    assert_equal(&rt, handed_back.as_slice(), [0, 1, 1].as_slice());
     Ok(())
 }
 
@@ -141,9 +142,9 @@ fn totals_of_all<R: Wait, B: Book>(rt: &R, alloc: Global) -> Result<Totals, Fail
 #[test]
 fn each_seat_is_needed(rt: HostRuntime) -> Result<(), Fail> {
     let all = numbers_of_all::<_, Marked>(&rt, rt.alloc())?;
-    assert_eq!(rt; all.as_slice(), [0, 1].as_slice());
+    assert_equal(&rt, all.as_slice(), [0, 1].as_slice());
     let totals = totals_of_all::<_, Marked>(&rt, rt.alloc())?;
     let none = Total { count: 0, sum: 0 };
-    assert_eq!(rt; totals.instruments.as_slice(), [none; 2].as_slice());
+    assert_equal(&rt, totals.instruments.as_slice(), [none; 2].as_slice());
     Ok(())
 }

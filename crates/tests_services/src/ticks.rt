@@ -1,4 +1,5 @@
 //! What tickers give.
+use crate::equal::assert_equal;
 use metric_export::{ClockTicker, ListTicker, StopFlag, Tick, Ticker};
 use std::alloc::Global;
 use std::sync::Wait;
@@ -36,7 +37,7 @@ fn a_list_is_handed_out(rt: HostRuntime) -> Result<(), Fail> {
     for (list, wanted) in LISTS {
         let mut ticker = ListTicker::new(list);
         let ticks = ticks_of(&rt, rt.alloc(), &mut ticker, wanted.len())?;
-        assert_eq!(rt; ticks.as_slice(), *wanted);
+        assert_equal(&rt, ticks.as_slice(), *wanted);
     }
     Ok(())
 }
@@ -60,7 +61,7 @@ fn a_clock_stops(rt: HostRuntime) -> Result<(), Fail> {
         }
         let mut ticker = ClockTicker::new(1, *most, &flag);
         let ticks = ticks_of(&rt, rt.alloc(), &mut ticker, 4)?;
-        assert_eq!(rt; stops(&ticks), *wanted);
+        assert_equal(&rt, stops(&ticks), *wanted);
     }
     Ok(())
 }

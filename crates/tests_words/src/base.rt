@@ -1,4 +1,5 @@
 //! Texts, lists, shared values and copies.
+use crate::equal::assert_equal;
 use metric_base::{
     Boundaries, Copied, Exact, Few, Items, Shared, Text, copy_all, is_rising, is_same,
 };
@@ -17,7 +18,7 @@ fn kept(alloc: Global, bytes: &str) -> Result<String, AllocError> {
 #[test]
 fn a_text_keeps_its_bytes(rt: HostRuntime) -> Result<(), Fail> {
     for (bytes, twice) in [("é\"", "é\"é\""), ("", ""), ("e", "ee")] {
-        assert_eq!(rt; kept(rt.alloc(), bytes)?.as_str(), twice);
+        assert_equal(&rt, kept(rt.alloc(), bytes)?.as_str(), twice);
     }
     Ok(())
 }
@@ -36,7 +37,7 @@ fn texts_of_the_same_bytes_are_the_same(rt: HostRuntime) -> Result<(), Fail> {
         ("é", "e", false),
         ("e", "ee", false),
     ] {
-        assert_eq!(rt; are_same(rt.alloc(), one, other)?, wanted);
+        assert_equal(&rt, are_same(rt.alloc(), one, other)?, wanted);
     }
     Ok(())
 }
@@ -87,9 +88,10 @@ fn copied_few(alloc: Global, values: [u64; 2]) -> Result<Items<u64>, AllocError>
 
 #[test]
 fn bounded_lists_keep_their_values(rt: HostRuntime) -> Result<(), Fail> {
-    assert_eq!(rt;
+    assert_equal(
+        &rt,
         copied_few(rt.alloc(), [7, 9])?.as_slice(),
-        [7, 9].as_slice()
+        [7, 9].as_slice(),
     );
     Ok(())
 }
@@ -112,7 +114,7 @@ fn numbers_are_copied(rt: HostRuntime) -> Result<(), Fail> {
 #[test]
 fn options_are_copied(rt: HostRuntime) -> Result<(), Fail> {
     for option in [Some(7u64), None] {
-        assert_eq!(rt; option.copy(rt.alloc())?, option);
+        assert_equal(&rt, option.copy(rt.alloc())?, option);
     }
     Ok(())
 }
@@ -151,7 +153,7 @@ fn length_in(
 #[test]
 fn texts_are_found_by_their_hash(rt: HostRuntime) -> Result<(), Fail> {
     let lengths = lengths_of(rt.alloc(), &["http", "é", ""])?;
-    assert_eq!(rt; length_in(rt.alloc(), &lengths, "é")?, Some(2));
+    assert_equal(&rt, length_in(rt.alloc(), &lengths, "é")?, Some(2));
     Ok(())
 }
 
@@ -185,7 +187,7 @@ fn are_boundaries(alloc: Global, numbers: &[i64]) -> Result<bool, AllocError> {
 #[test]
 fn boundaries_rise(rt: HostRuntime) -> Result<(), Fail> {
     for (numbers, rises) in NUMBERS {
-        assert_eq!(rt; are_boundaries(rt.alloc(), numbers)?, *rises);
+        assert_equal(&rt, are_boundaries(rt.alloc(), numbers)?, *rises);
     }
     Ok(())
 }

@@ -1,4 +1,5 @@
 //! Command lines: those that are taken, and the words that are refused.
+use crate::equal::{assert_equal, assert_equal_for};
 use metric_command::{Line, LineFault, command_of, lines_are_taken, others_are_refused};
 use std::alloc::{AllocError, Global};
 use std::test::Fail;
@@ -79,14 +80,14 @@ fn line_of(alloc: Global, text: &str) -> Result<Result<Line, LineFault>, AllocEr
 #[test]
 fn a_command_line_is_read_or_is_a_misuse(rt: HostRuntime) -> Result<(), Fail> {
     for (text, line) in LINES {
-        assert_eq!(rt; line_of(rt.alloc(), text)?, *line, "{text}");
+        assert_equal_for(&rt, text, line_of(rt.alloc(), text)?, *line);
     }
     Ok(())
 }
 
 #[test]
 fn a_line_without_the_name_asks_for_a_trial(rt: HostRuntime) {
-    assert_eq!(rt; command_of(rt.alloc(), &[]), TRIAL);
+    assert_equal(&rt, command_of(rt.alloc(), &[]), TRIAL);
     lines_are_taken();
     others_are_refused();
 }
@@ -94,7 +95,7 @@ fn a_line_without_the_name_asks_for_a_trial(rt: HostRuntime) {
 #[test]
 fn each_fault_has_its_text(rt: HostRuntime) -> Result<(), Fail> {
     for (fault, text) in [(LineFault::Usage, "usage"), (LineFault::Memory, "memory")] {
-        assert_eq!(rt; fault.to_string(rt.alloc())?.as_str(), text);
+        assert_equal(&rt, fault.to_string(rt.alloc())?.as_str(), text);
     }
     Ok(())
 }

@@ -1,4 +1,5 @@
 //! Sources that are read and sinks that are written, whole and with failures.
+use crate::equal::assert_equal;
 use metric_io::{
     Broken, CutSink, CutSource, MAX_BYTES, ReadFault, Sink, Source, SourceFault, StdSink,
     StdSource, read_all, write_all,
@@ -178,7 +179,7 @@ fn a_source_that_failed_goes_on_failing(rt: HostRuntime) {
         Err(SourceFault::Broken),
         Err(SourceFault::Broken),
     ] {
-        assert_eq!(rt; source.read(&mut buffer), given);
+        assert_equal(&rt, source.read(&mut buffer), given);
     }
 }
 
@@ -192,7 +193,7 @@ fn read_with_halts(alloc: Global) -> Result<Vec<u8>, ReadFault> {
 
 #[test]
 fn a_read_that_a_signal_interrupts_is_tried_again(rt: HostRuntime) -> Result<(), Fail> {
-    assert_eq!(rt; read_with_halts(rt.alloc())?.as_slice(), ALPHABET);
+    assert_equal(&rt, read_with_halts(rt.alloc())?.as_slice(), ALPHABET);
     Ok(())
 }
 
@@ -213,7 +214,7 @@ fn write_and_flush<S: Sink>(sink: &mut S) -> Result<(), Broken> {
 
 #[test]
 fn a_write_that_a_signal_interrupts_is_tried_again(rt: HostRuntime) -> Result<(), Fail> {
-    assert_eq!(rt; written_with_halts(rt.alloc())?.as_slice(), ALPHABET);
+    assert_equal(&rt, written_with_halts(rt.alloc())?.as_slice(), ALPHABET);
     Ok(())
 }
 
@@ -229,7 +230,11 @@ fn length_read<S: Source>(alloc: Global, source: &mut S) -> Option<usize> {
 fn an_input_may_have_as_many_bytes_as_the_limit(rt: HostRuntime) {
     for (more, read) in [(0, Some(MAX_BYTES)), (1, None)] {
         let bytes = io::repeat(b'a').take(MAX_BYTES as u64 + more);
-        assert_eq!(rt; length_read(rt.alloc(), &mut StdSource::new(bytes)), read);
+        assert_equal(
+            &rt,
+            length_read(rt.alloc(), &mut StdSource::new(bytes)),
+            read,
+        );
     }
 }
 
@@ -244,7 +249,7 @@ fn read_by_bytes(alloc: Global, count: usize) -> Result<(Option<usize>, u64), Al
 #[test]
 fn the_read_that_finds_the_end_is_one_of_the_limit(rt: HostRuntime) -> Result<(), Fail> {
     for (count, read) in [(4_194_303, Some(4_194_303)), (4_194_304, None)] {
-        assert_eq!(rt; read_by_bytes(rt.alloc(), count)?, (read, 4_194_304));
+        assert_equal(&rt, read_by_bytes(rt.alloc(), count)?, (read, 4_194_304));
     }
     Ok(())
 }
@@ -254,13 +259,13 @@ fn readers_of_std_are_sources(rt: HostRuntime) {
     let mut source = StdSource::new(ALPHABET);
     let mut first = [0; 4];
     assert!(rt; source.read(&mut first) == Ok(4) && first == *b"abcd");
-    assert_eq!(rt; source.into_inner(), &ALPHABET[4..]);
+    assert_equal(&rt, source.into_inner(), &ALPHABET[4..]);
 }
 
 #[test]
 fn a_reader_without_its_device_fails(rt: HostRuntime) {
     let fault = read_all(rt.alloc(), &mut StdSource::new(Unplugged)).err();
-    assert_eq!(rt; fault, Some(ReadFault::Read));
+    assert_equal(&rt, fault, Some(ReadFault::Read));
 }
 
 // The room of a sink and the most of one write; what is taken of the alphabet.
@@ -296,7 +301,7 @@ fn fails_to_flush(sink: &mut CutSink) -> bool {
 fn a_flush_fails_apart_from_the_writes(rt: HostRuntime) {
     let mut sink = CutSink::new(rt.alloc(), Some(3)).with_failing_flush();
     assert!(rt; write_all(&mut sink, b"abc").is_ok() && fails_to_flush(&mut sink));
-    assert_eq!(rt; sink.taken(), b"abc".as_slice());
+    assert_equal(&rt, sink.taken(), b"abc".as_slice());
 }
 
 fn written(alloc: Global) -> Result<Vec<u8>, Broken> {
@@ -307,7 +312,7 @@ fn written(alloc: Global) -> Result<Vec<u8>, Broken> {
 
 #[test]
 fn writers_of_std_are_sinks(rt: HostRuntime) -> Result<(), Fail> {
-    assert_eq!(rt; written(rt.alloc())?.as_slice(), ALPHABET);
+    assert_equal(&rt, written(rt.alloc())?.as_slice(), ALPHABET);
     Ok(())
 }
 
@@ -317,6 +322,6 @@ fn is_broken<S: Sink>(sink: &mut S) -> bool {
 
 #[test]
 fn writers_that_fail_are_broken(rt: HostRuntime) {
-    assert_eq!(rt; StdSink::new(Unplugged).flush(), Err(Broken));
+    assert_equal(&rt, StdSink::new(Unplugged).flush(), Err(Broken));
     assert!(rt; is_broken(&mut StdSink::new(Unplugged)) && is_broken(&mut StdSink::new(Full)));
 }

@@ -11,6 +11,8 @@ mod command;
 #[cfg(test)]
 mod devices;
 #[cfg(test)]
+mod equal;
+#[cfg(test)]
 mod names;
 #[cfg(test)]
 mod parts;

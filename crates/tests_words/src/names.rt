@@ -1,4 +1,5 @@
 //! Names, units and values, with the printed faults.
+use crate::equal::assert_equal;
 use metric_base::{Copied, Text, is_same};
 use metric_names::{
     AttrValue, Name, NameFault, Unit, UnitFault, ValueRef, first_other_than_printable,
@@ -48,7 +49,7 @@ fn a_name_is_a_letter_and_up_to_254_name_characters(rt: HostRuntime) -> Result<(
         } else {
             *fault
         };
-        assert_eq!(rt; as_name(rt.alloc(), &text)?.as_str(), wanted);
+        assert_equal(&rt, as_name(rt.alloc(), &text)?.as_str(), wanted);
     }
     Ok(())
 }
@@ -109,20 +110,22 @@ const UNITS: &[(&str, &str)] = &[
 #[test]
 fn a_unit_is_up_to_63_printable_characters(rt: HostRuntime) -> Result<(), Fail> {
     for (text, wanted) in UNITS {
-        assert_eq!(rt; as_unit(rt.alloc(), text)?.as_str(), *wanted);
+        assert_equal(&rt, as_unit(rt.alloc(), text)?.as_str(), *wanted);
     }
     Ok(())
 }
 
 #[test]
 fn want_of_memory_is_printed(rt: HostRuntime) -> Result<(), Fail> {
-    assert_eq!(rt;
+    assert_equal(
+        &rt,
         NameFault::Memory.to_string(rt.alloc())?.as_str(),
-        "5 Memory"
+        "5 Memory",
     );
-    assert_eq!(rt;
+    assert_equal(
+        &rt,
         UnitFault::Memory.to_string(rt.alloc())?.as_str(),
-        "3 Memory"
+        "3 Memory",
     );
     Ok(())
 }
@@ -130,7 +133,7 @@ fn want_of_memory_is_printed(rt: HostRuntime) -> Result<(), Fail> {
 #[test]
 fn printable_characters_are_told(rt: HostRuntime) {
     for (text, other) in [(" ~", None), ("a\u{7f}", Some(1)), ("é", Some(0))] {
-        assert_eq!(rt; first_other_than_printable(text.as_bytes()), other);
+        assert_equal(&rt, first_other_than_printable(text.as_bytes()), other);
     }
 }
 

@@ -1,4 +1,5 @@
 //! Inputs divided into their parts, and the first lines with which no input goes on.
+use crate::equal::{assert_equal, assert_equal_for};
 use metric_parts::{InputFault, Needs, Parts, Script, one_reading, parts_of};
 use metric_text::lines;
 use std::alloc::Global;
@@ -132,10 +133,11 @@ const READ: &[(&str, Needs, &str)] = &[
 #[test]
 fn the_parts_that_are_needed_are_read(rt: HostRuntime) -> Result<(), Fail> {
     for (text, needs, wanted) in READ {
-        assert_eq!(rt;
+        assert_equal_for(
+            &rt,
+            text,
             told(rt.alloc(), text.as_bytes(), *needs)?.as_str(),
             *wanted,
-            "{text:?}"
         );
     }
     Ok(())
@@ -273,10 +275,11 @@ const FAULTY: &[(&[u8], Needs, &str)] = &[
 #[test]
 fn the_first_line_with_which_no_input_goes_on_is_told(rt: HostRuntime) -> Result<(), Fail> {
     for (input, needs, wanted) in FAULTY {
-        assert_eq!(rt;
+        assert_equal_for(
+            &rt,
+            input,
             told(rt.alloc(), input, *needs)?.as_str(),
             *wanted,
-            "{input:?}"
         );
     }
     Ok(())
@@ -285,9 +288,10 @@ fn the_first_line_with_which_no_input_goes_on_is_told(rt: HostRuntime) -> Result
 #[test]
 fn want_of_memory_is_printed(rt: HostRuntime) -> Result<(), Fail> {
     one_reading();
-    assert_eq!(rt;
+    assert_equal(
+        &rt,
         InputFault::Memory.to_string(rt.alloc())?.as_str(),
-        "memory"
+        "memory",
     );
     Ok(())
 }

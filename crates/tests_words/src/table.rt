@@ -1,4 +1,5 @@
 //! The fields of a table, read by each reader, with its faults.
+use crate::equal::{assert_equal, assert_equal_for};
 use metric_base::Items;
 use metric_table::{
     FieldFaults, flag_or, format_field, integer_of, integers_of, list_of, member, only,
@@ -64,7 +65,7 @@ fn flags_are_read(rt: HostRuntime) -> Result<(), Fail> {
         ("absent", Ok(false)),
         ("name", Err(Fault::WrongKind)),
     ] {
-        assert_eq!(rt; flag_or(&table, name, false, &FAULTS), wanted, "{name}");
+        assert_equal_for(&rt, name, flag_or(&table, name, false, &FAULTS), wanted);
     }
     Ok(())
 }
@@ -75,7 +76,7 @@ const ALL: &[&str] = &["format", "name", "flag", "numbers", "texts", "row"];
 fn other_fields_are_refused(rt: HostRuntime) -> Result<(), Fail> {
     let table = table(rt.alloc())?;
     for (names, wanted) in [(ALL, Ok(())), (&["format"], Err(Fault::Unknown))] {
-        assert_eq!(rt; only(&table, names, &FAULTS), wanted);
+        assert_equal(&rt, only(&table, names, &FAULTS), wanted);
     }
     Ok(())
 }
@@ -115,7 +116,7 @@ fn lists_of_integers_are_read(rt: HostRuntime) -> Result<(), Fail> {
         ("texts", 2, "WrongKind"),
         ("flag", 2, "WrongKind"),
     ] {
-        assert_eq!(rt; told(rt.alloc(), &table, name, most)?.as_str(), wanted);
+        assert_equal(&rt, told(rt.alloc(), &table, name, most)?.as_str(), wanted);
     }
     Ok(())
 }
@@ -158,10 +159,11 @@ fn lists_of_texts_are_read(rt: HostRuntime) -> Result<(), Fail> {
         ("texts", 1, Err(Fault::TooMany)),
         ("numbers", 2, Err(Fault::WrongKind)),
     ] {
-        assert_eq!(rt;
+        assert_equal_for(
+            &rt,
+            name,
             count_of_texts(rt.alloc(), &table, name, most),
             wanted,
-            "{name}"
         );
     }
     Ok(())
@@ -179,7 +181,7 @@ fn lists_of_tables_are_read(rt: HostRuntime) -> Result<(), Fail> {
         ("absent", Ok(0)),
         ("numbers", Err(Fault::WrongKind)),
     ] {
-        assert_eq!(rt; count_of_tables(rt.alloc(), &table, name), wanted, "{name}");
+        assert_equal_for(&rt, name, count_of_tables(rt.alloc(), &table, name), wanted);
     }
     Ok(())
 }
@@ -193,7 +195,7 @@ fn fault_of(alloc: Global, count: usize) -> Result<Option<Fault>, AllocError> {
 #[test]
 fn free_texts_have_at_most_1023_characters(rt: HostRuntime) -> Result<(), Fail> {
     for (count, fault) in [(1023, None), (1024, Some(Fault::TooMany))] {
-        assert_eq!(rt; fault_of(rt.alloc(), count)?, fault);
+        assert_equal(&rt, fault_of(rt.alloc(), count)?, fault);
     }
     Ok(())
 }

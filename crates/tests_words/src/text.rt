@@ -1,4 +1,5 @@
 //! Spellings from outside, written and read back.
+use crate::equal::{assert_equal, assert_equal_for};
 use crate::names::owned;
 use metric_base::{Text, is_same};
 use metric_names::{AttrValue, ValueRef};
@@ -114,7 +115,7 @@ fn numbers_are_read_in_their_ranges(rt: HostRuntime) {
     for (word, small, large, signed) in NUMBERS {
         let bytes = word.as_bytes();
         let read = (u32_of(bytes), u64_of(bytes), i64_of(bytes));
-        assert_eq!(rt; read, (*small, *large, *signed), "{word:?}");
+        assert_equal_for(&rt, word, read, (*small, *large, *signed));
     }
 }
 
@@ -146,8 +147,8 @@ const RECORDS: &[(&[u8], &[u8], Option<(u32, i64, &[u8])>)] = &[
 #[test]
 fn words_are_read_one_after_the_other(rt: HostRuntime) {
     for (line, word, numbers) in RECORDS {
-        assert_eq!(rt; word_at(line).0, *word);
-        assert_eq!(rt; numbers_after(line), *numbers);
+        assert_equal(&rt, word_at(line).0, *word);
+        assert_equal(&rt, numbers_after(line), *numbers);
     }
 }
 
@@ -237,7 +238,7 @@ fn lists(alloc: Global) -> Result<Vec<u8>, AllocError> {
 #[test]
 fn lists_have_commas_between(rt: HostRuntime) -> Result<(), Fail> {
     let wanted = b"\"7\",-9223372036854775808,false1,20[-1,2][]\"k\"".as_slice();
-    assert_eq!(rt; lists(rt.alloc())?.as_slice(), wanted);
+    assert_equal(&rt, lists(rt.alloc())?.as_slice(), wanted);
     Ok(())
 }
 
@@ -265,7 +266,7 @@ fn labelled(alloc: Global) -> Result<Vec<u8>, AllocError> {
 #[test]
 fn labels_and_keys_stand_before_what_they_name(rt: HostRuntime) -> Result<(), Fail> {
     let wanted = b"name=\"a\\\"b\" limit=2000\"otel.metric.overflow\"=true,\"a\"=true".as_slice();
-    assert_eq!(rt; labelled(rt.alloc())?.as_slice(), wanted);
+    assert_equal(&rt, labelled(rt.alloc())?.as_slice(), wanted);
     Ok(())
 }
 
@@ -298,7 +299,7 @@ fn lines_shown(alloc: Global, input: &[u8]) -> Result<Vec<u8>, AllocError> {
 fn lines_end_with_line_feeds(rt: HostRuntime) -> Result<(), Fail> {
     for (input, wanted) in LINES {
         let shown = lines_shown(rt.alloc(), input.as_bytes())?;
-        assert_eq!(rt; shown.as_slice(), wanted.as_bytes(), "{input:?}");
+        assert_equal_for(&rt, input, shown.as_slice(), wanted.as_bytes());
     }
     Ok(())
 }
