@@ -29,7 +29,6 @@ pub struct Meter {
 
 /// An instrument (Metrics API, Instrument). What streams take from it is shared, so that a copy takes no
 /// room.
-#[derive(Drop)]
 pub struct Instrument {
     /// The number of its meter.
     pub meter: u32,
@@ -49,6 +48,23 @@ pub struct Instrument {
     pub advice: Option<Shared<Boundaries>>,
     /// The attribute keys that recordings may have, in declared order.
     pub keys: Few<Key, 8>,
+}
+
+impl Drop for Instrument {
+    // A call of its own, so that what owns an instrument does not carry the steps of dropping each part.
+    fn drop(self) {
+        let Instrument {
+            meter: _,
+            name: _name,
+            kind: _,
+            unit: _unit,
+            description: _description,
+            lo: _,
+            hi: _,
+            advice: _advice,
+            keys: _keys,
+        } = self;
+    }
 }
 
 /// An attribute key that an instrument declares.
@@ -81,7 +97,6 @@ pub struct Recorder {
 }
 
 /// All that a catalogue declares, each list in the order of the file.
-#[derive(Drop)]
 pub struct Contents {
     /// The meters.
     pub meters: Few<Meter, 64>,
@@ -89,4 +104,15 @@ pub struct Contents {
     pub instruments: Few<Instrument, 512>,
     /// The recorders.
     pub recorders: Few<Recorder, 64>,
+}
+
+impl Drop for Contents {
+    // A call of its own, so that what owns a catalogue does not carry the steps of dropping each part.
+    fn drop(self) {
+        let Contents {
+            meters: _meters,
+            instruments: _instruments,
+            recorders: _recorders,
+        } = self;
+    }
 }

@@ -20,7 +20,6 @@ use toml::Table;
 
 /// What shows that a catalogue and a config are safe. It says nothing by itself: a checker has to
 /// verify it.
-#[derive(Drop)]
 pub struct Certificate {
     /// For each view and each instrument, why the view selects it or not.
     pub reasons: Items<SelectionReason>,
@@ -30,6 +29,18 @@ pub struct Certificate {
     pub bounds: Items<InstrumentBound>,
     /// For each reader, in which order the identities of its streams rise.
     pub orders: Items<ReaderOrder>,
+}
+
+impl Drop for Certificate {
+    // A call of its own, so that what owns a certificate does not carry the steps of dropping each part.
+    fn drop(self) {
+        let Certificate {
+            reasons: _reasons,
+            streams: _streams,
+            bounds: _bounds,
+            orders: _orders,
+        } = self;
+    }
 }
 
 impl Certificate {

@@ -17,7 +17,6 @@ use std::marker::Model;
 ///
 /// A cell stands for a list of accepted recordings, oldest first, as its book does. Each call is one step on the
 /// instrument; refused, it changes nothing.
-#[derive(Drop)]
 pub struct Cell<B: Book> {
     facts: Facts,
     book: B,
@@ -28,6 +27,23 @@ pub struct Cell<B: Book> {
     count: u64,
     total: i128,
     is_closed: bool,
+}
+
+impl<B: Book> Drop for Cell<B> {
+    // A call of its own, so that what owns a cell does not carry the steps of dropping each part.
+    fn drop(self) {
+        let Cell {
+            facts: _facts,
+            book: _book,
+            start: _,
+            marks: _marks,
+            times: _times,
+            spent: _spent,
+            count: _,
+            total: _,
+            is_closed: _,
+        } = self;
+    }
 }
 
 impl<B: Book> Model for Cell<B> {

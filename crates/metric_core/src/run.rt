@@ -22,11 +22,21 @@ use std::marker::Model;
 ///
 /// A core stands for the history of the events that it has run: each reply is the one that this history
 /// asks for. A recording takes memory only once nothing else refuses it.
-#[derive(Drop)]
 pub struct Core<B: Book> {
     plan: Plan,
     start: u64,
     cells: Vec<Cell<B>>,
+}
+
+impl<B: Book> Drop for Core<B> {
+    // A call of its own, so that what owns a core does not carry the steps of dropping each part.
+    fn drop(self) {
+        let Core {
+            plan: _plan,
+            start: _,
+            cells: _cells,
+        } = self;
+    }
 }
 
 impl<B: Book> Model for Core<B> {

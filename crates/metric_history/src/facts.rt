@@ -27,7 +27,6 @@ pub struct NumberedStream {
 }
 
 /// What facts say: of the catalogue, the config and the streams that they give.
-#[derive(Drop)]
 pub struct FactsFields {
     /// Whether a certificate vouches for the instrument's limits and numbers.
     pub certified: bool,
@@ -45,6 +44,22 @@ pub struct FactsFields {
     pub delta: Items<bool>,
     /// The streams of the instrument with their numbers, in order.
     pub streams: Items<NumberedStream>,
+}
+
+impl Drop for FactsFields {
+    // A call of its own, so that what owns facts does not carry the steps of dropping each part.
+    fn drop(self) {
+        let FactsFields {
+            certified: _,
+            instrument: _,
+            keys: _keys,
+            lo: _,
+            hi: _,
+            budgets: _budgets,
+            delta: _delta,
+            streams: _streams,
+        } = self;
+    }
 }
 
 /// What the run of one instrument depends on. Beside the fields stand their bytes, made once, so that facts are

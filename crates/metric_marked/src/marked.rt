@@ -16,12 +16,23 @@ use std::marker::Model;
 /// The accepted recordings of one instrument as the running values of their series (Metrics SDK, aggregation
 /// temporality). A cumulative reader's tables are never emptied; a delta reader's are emptied by each of its
 /// collections that is answered.
-#[derive(Drop)]
 pub struct Marked {
     tables: Vec<StreamTable>,
     delta: Items<bool>,
     marks: Vec<u64>,
     count: u64,
+}
+
+impl Drop for Marked {
+    // A call of its own, so that what owns a book does not carry the steps of dropping each part.
+    fn drop(self) {
+        let Marked {
+            tables: _tables,
+            delta: _delta,
+            marks: _marks,
+            count: _,
+        } = self;
+    }
 }
 
 impl Model for Marked {

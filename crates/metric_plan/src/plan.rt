@@ -21,13 +21,25 @@ use std::marker::Model;
 /// The type of a certified plan keeps that no two of its streams share an identity, that each can have at
 /// most as many series as its limit, and that no count and no kept sum leaves 64 bits, whatever is recorded
 /// within the budgets.
-#[derive(Drop)]
 pub struct Plan {
     catalogue: Catalogue,
     config: Config,
     streams: Few<Stream, 2_097_152>,
     facts: Items<Facts>,
     is_certified: bool,
+}
+
+impl Drop for Plan {
+    // A call of its own, so that what owns a plan does not carry the steps of dropping each part.
+    fn drop(self) {
+        let Plan {
+            catalogue: _catalogue,
+            config: _config,
+            streams: _streams,
+            facts: _facts,
+            is_certified: _,
+        } = self;
+    }
 }
 
 impl Model for Plan {

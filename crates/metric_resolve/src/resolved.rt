@@ -15,10 +15,19 @@ use std::alloc::{AllocError, Global};
 use std::marker::Model;
 
 /// The streams of all readers, numbered from 0, with what is to be warned of.
-#[derive(Drop)]
 pub struct Streams {
     list: Few<Stream, 2_097_152>,
     warnings: Items<Warning>,
+}
+
+impl Drop for Streams {
+    // A call of its own, so that what owns streams does not carry the steps of dropping each part.
+    fn drop(self) {
+        let Streams {
+            list: _list,
+            warnings: _warnings,
+        } = self;
+    }
 }
 
 impl Model for Streams {

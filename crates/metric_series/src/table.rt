@@ -26,13 +26,25 @@ use std::marker::Model;
 /// The series of a stream whose values are aggregated by `A`. A clause sees the flags of the kept keys, the
 /// cardinality limit, the aggregates of the held series in the order in which they came first, and the
 /// aggregate of the overflow series.
-#[derive(Drop)]
 pub struct TableOf<A: Aggregate> {
     alloc: Global,
     kept: Shared<Few<bool, 8>>,
     limit: u32,
     series: IndexMap<SeriesKey, A, Seeded>,
     overflow: A,
+}
+
+impl<A: Aggregate> Drop for TableOf<A> {
+    // A call of its own, so that what owns a table does not carry the steps of dropping each part.
+    fn drop(self) {
+        let TableOf {
+            alloc: _,
+            kept: _kept,
+            limit: _,
+            series: _series,
+            overflow: _overflow,
+        } = self;
+    }
 }
 
 impl<A: Aggregate> Model for TableOf<A> {

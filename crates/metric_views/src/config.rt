@@ -29,7 +29,6 @@ pub struct Reader {
 
 /// The criteria by which a view selects instruments (Metrics SDK, instrument selection criteria). All
 /// that are given must hold.
-#[derive(Drop)]
 pub struct Criteria {
     /// A pattern of the instrument's name.
     pub instrument_name: Option<Pattern>,
@@ -45,9 +44,22 @@ pub struct Criteria {
     pub meter_schema_url: Option<Text>,
 }
 
+impl Drop for Criteria {
+    // A call of its own, so that what owns criteria does not carry the steps of dropping each part.
+    fn drop(self) {
+        let Criteria {
+            instrument_name: _instrument_name,
+            instrument_type: _,
+            instrument_unit: _instrument_unit,
+            meter_name: _meter_name,
+            meter_version: _meter_version,
+            meter_schema_url: _meter_schema_url,
+        } = self;
+    }
+}
+
 /// What a view gives the streams that it makes (Metrics SDK, stream configuration). What they hold of it is
 /// shared.
-#[derive(Drop)]
 pub struct Settings {
     /// The stream's name.
     pub stream_name: Option<Shared<Name>>,
@@ -65,6 +77,21 @@ pub struct Settings {
     pub limit: Option<u32>,
 }
 
+impl Drop for Settings {
+    // A call of its own, so that what owns settings does not carry the steps of dropping each part.
+    fn drop(self) {
+        let Settings {
+            stream_name: _stream_name,
+            description: _description,
+            aggregation: _,
+            boundaries: _boundaries,
+            keep: _keep,
+            exclude: _exclude,
+            limit: _,
+        } = self;
+    }
+}
+
 /// A view (Metrics SDK, View).
 #[derive(Drop)]
 pub struct View {
@@ -75,12 +102,21 @@ pub struct View {
 }
 
 /// What a config says: its readers and views, each list in the order of the file.
-#[derive(Drop)]
 pub struct Setup {
     /// The readers.
     pub readers: Few<Reader, 16>,
     /// The views.
     pub views: Few<View, 256>,
+}
+
+impl Drop for Setup {
+    // A call of its own, so that what owns a config does not carry the steps of dropping each part.
+    fn drop(self) {
+        let Setup {
+            readers: _readers,
+            views: _views,
+        } = self;
+    }
 }
 
 /// The metric readers and views of a service, which are numbered from 0 in the order of the file.

@@ -18,7 +18,6 @@ pub enum StreamAggregation {
 
 /// A stream: what one reader exports of one instrument, as one view or the default configures it
 /// (Metrics SDK, stream configuration). What streams have in common is shared, so that a copy takes no room.
-#[derive(Drop)]
 pub struct Stream {
     /// The number of the reader.
     pub reader: u32,
@@ -42,6 +41,25 @@ pub struct Stream {
     pub limit: u32,
     /// What a collection reports.
     pub temporality: Temporality,
+}
+
+impl Drop for Stream {
+    // A call of its own, so that what owns a stream does not carry the steps of dropping each part.
+    fn drop(self) {
+        let Stream {
+            reader: _,
+            instrument: _,
+            view: _,
+            name: _name,
+            description: _description,
+            unit: _unit,
+            kind: _,
+            aggregation: _,
+            kept: _kept,
+            limit: _,
+            temporality: _,
+        } = self;
+    }
 }
 
 /// What a view, or the default, makes of an instrument for a reader.
