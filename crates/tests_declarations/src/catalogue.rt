@@ -1,5 +1,5 @@
 //! A catalogue in which every field is given, lists at their limits, and faults with their places.
-use crate::equal::{assert_equal, assert_equal_for};
+use crate::equal::assert_equal;
 use crate::tables::{write_integers, write_many, write_name};
 use crate::words::kind_word;
 use metric_catalogue::{
@@ -474,7 +474,11 @@ const FAULTS: &[(&str, &str)] = &[
 #[test]
 fn the_first_fault_has_its_place(rt: HostRuntime) -> Result<(), Fail> {
     for (text, wanted) in FAULTS {
-        assert_equal_for(&rt, text, told(rt.alloc(), text)?.as_str(), *wanted);
+        assert_equal(
+            &rt,
+            (text, told(rt.alloc(), text)?.as_str()),
+            (text, *wanted),
+        );
     }
     Ok(())
 }

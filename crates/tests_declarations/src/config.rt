@@ -1,5 +1,5 @@
 //! A config in which every field is given, lists at their limits, and faults with their places.
-use crate::equal::{assert_equal, assert_equal_for};
+use crate::equal::assert_equal;
 use crate::tables::{write_integers, write_many};
 use crate::words::{aggregation_word, kind_word, temporality_word};
 use metric_base::{Few, Text};
@@ -434,7 +434,11 @@ const FAULTS: &[(&str, &str)] = &[
 #[test]
 fn the_first_fault_has_its_place(rt: HostRuntime) -> Result<(), Fail> {
     for (text, wanted) in FAULTS {
-        assert_equal_for(&rt, text, told(rt.alloc(), text)?.as_str(), *wanted);
+        assert_equal(
+            &rt,
+            (text, told(rt.alloc(), text)?.as_str()),
+            (text, *wanted),
+        );
     }
     Ok(())
 }

@@ -1,5 +1,5 @@
 //! Matches, reasons and faults of name patterns.
-use crate::equal::{assert_equal, assert_equal_for};
+use crate::equal::assert_equal;
 use metric_base::{Copied, Items};
 use metric_glob::{Pattern, PatternFault, Reason};
 use metric_names::Name;
@@ -113,7 +113,7 @@ fn items(alloc: Global, values: &[u16]) -> Result<Items<u16>, AllocError> {
 }
 
 // A reason that somebody states.
-#[derive(Clone, Copy, Debug)]
+#[derive(Clone, Copy)]
 enum Stated {
     Takes(&'static [u16]),
     Rows(&'static [&'static [u16]]),
@@ -165,7 +165,7 @@ fn confirms(alloc: Global, pattern: &str, name: &str, stated: Stated) -> Result<
 fn only_true_reasons_are_confirmed(rt: HostRuntime) -> Result<(), Fail> {
     for (pattern, name, stated, is_true) in STATED {
         let is_confirmed = confirms(rt.alloc(), pattern, name, *stated)?;
-        assert_equal_for(&rt, stated, is_confirmed, *is_true);
+        assert_equal(&rt, (name, is_confirmed), (name, *is_true));
     }
     Ok(())
 }

@@ -1,5 +1,5 @@
 //! What views select, what they and the defaults make of instruments, and the warnings.
-use crate::equal::{assert_equal, assert_equal_for};
+use crate::equal::assert_equal;
 use crate::words::{kind_word, temporality_word};
 use crate::{catalogue, config};
 use metric_base::Copied;
@@ -339,7 +339,11 @@ fn numbers(alloc: Global, tables: &str) -> Result<String, Fail> {
 #[test]
 fn streams_stand_by_reader_instrument_and_view(rt: HostRuntime) -> Result<(), Fail> {
     for (tables, wanted) in SMALL {
-        assert_equal_for(&rt, tables, numbers(rt.alloc(), tables)?.as_str(), *wanted);
+        assert_equal(
+            &rt,
+            (tables, numbers(rt.alloc(), tables)?.as_str()),
+            (tables, *wanted),
+        );
     }
     Ok(())
 }

@@ -1,7 +1,7 @@
 //! Generated scripts, run over each book.
 use crate::declarations::{write_catalogue, write_config};
 use crate::dice::Dice;
-use crate::equal::{assert_equal, assert_equal_for};
+use crate::equal::assert_equal;
 use crate::events::script_for;
 use crate::replies::{shown, told};
 use crate::runs::{Trial, replies};
@@ -118,7 +118,7 @@ fn books_and_pieces_give_the_same_replies(rt: HostRuntime) -> Result<(), Fail> {
     let mut seen = Vec::new(rt.alloc());
     for seed in 0..SCRIPTS {
         let found = agreement_at(&mut seen, rt.alloc(), seed)?;
-        assert_equal_for(&rt, seed, found, [true, true, true]);
+        assert_equal(&rt, (seed, found), (seed, [true, true, true]));
     }
     assert_equal(&rt, first_unseen(&seen), None);
     Ok(())

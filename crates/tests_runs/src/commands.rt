@@ -1,5 +1,5 @@
 //! Whole inputs replayed, shown and checked: what is written, or the line and the exit status of the fault.
-use crate::equal::{assert_equal, assert_equal_for};
+use crate::equal::assert_equal;
 use metric_catalogue::{CatalogueFault, CataloguePlace};
 use metric_cert::CertFault;
 use metric_commands::{KitFault, ReplayOptions, check_run, one_output, replay, show_run};
@@ -9,7 +9,7 @@ use metric_views::{ConfigPlace, ViewFault};
 use std::alloc::Global;
 use std::test::Fail;
 
-#[derive(Clone, Copy, Debug)]
+#[derive(Clone, Copy, Debug, PartialEq)]
 enum Command {
     Trial,
     Replay,
@@ -534,7 +534,7 @@ const COMMANDS: &[Command] = &[
 fn a_reader_that_fails_writes_nothing(rt: HostRuntime) -> Result<(), Fail> {
     for command in COMMANDS {
         let untold = first_untold(rt.alloc(), *command)?;
-        assert_equal_for(&rt, command, untold, None);
+        assert_equal(&rt, (command, untold), (command, None));
     }
     Ok(())
 }

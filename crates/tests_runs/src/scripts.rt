@@ -1,5 +1,5 @@
 //! Scripts: the events that their lines spell, and the lines that spell none.
-use crate::equal::assert_equal_for;
+use crate::equal::assert_equal;
 use crate::input::read;
 use crate::words::push_numbers;
 use metric_catalogue::OwnedAttr;
@@ -96,7 +96,7 @@ fn each_line_spells_one_event(rt: HostRuntime) -> Result<(), Fail> {
     one_script();
     for (script, wanted) in SCRIPTS {
         let told = told(rt.alloc(), script)?;
-        assert_equal_for(&rt, script, told.as_str(), *wanted);
+        assert_equal(&rt, (script, told.as_str()), (script, *wanted));
     }
     Ok(())
 }
@@ -144,7 +144,7 @@ fn told_after_start(alloc: Global, line: &str) -> Result<String, Fail> {
 fn lines_outside_the_grammar_are_refused(rt: HostRuntime) -> Result<(), Fail> {
     for line in OUTSIDE {
         let told = told_after_start(rt.alloc(), line)?;
-        assert_equal_for(&rt, line, told.as_str(), "input line 5");
+        assert_equal(&rt, (line, told.as_str()), (line, "input line 5"));
     }
     Ok(())
 }

@@ -1,5 +1,5 @@
 //! Command lines: those that are taken, and the words that are refused.
-use crate::equal::{assert_equal, assert_equal_for};
+use crate::equal::assert_equal;
 use metric_command::{Line, LineFault, command_of, lines_are_taken, others_are_refused};
 use std::alloc::{AllocError, Global};
 use std::test::Fail;
@@ -80,7 +80,7 @@ fn line_of(alloc: Global, text: &str) -> Result<Result<Line, LineFault>, AllocEr
 #[test]
 fn a_command_line_is_read_or_is_a_misuse(rt: HostRuntime) -> Result<(), Fail> {
     for (text, line) in LINES {
-        assert_equal_for(&rt, text, line_of(rt.alloc(), text)?, *line);
+        assert_equal(&rt, (text, line_of(rt.alloc(), text)?), (text, *line));
     }
     Ok(())
 }

@@ -8,13 +8,3 @@ use std::process::Abort;
 pub(crate) fn assert_equal<R: Abort, T: PartialEq + Debug + Drop>(rt: &R, told: T, wanted: T) {
     assert_eq!(rt; told, wanted);
 }
-
-/// The same of a row of a table, which is printed, too.
-pub(crate) fn assert_equal_for<R: Abort, D: Debug + Drop, T: PartialEq + Debug + Drop>(
-    rt: &R,
-    row: D,
-    told: T,
-    wanted: T,
-) {
-    assert_eq!(rt; told, wanted, "{row:?}");
-}

@@ -1,5 +1,5 @@
 //! Inputs divided into their parts, and the first lines with which no input goes on.
-use crate::equal::{assert_equal, assert_equal_for};
+use crate::equal::assert_equal;
 use metric_parts::{InputFault, Needs, Parts, Script, one_reading, parts_of};
 use metric_text::lines;
 use std::alloc::Global;
@@ -133,11 +133,10 @@ const READ: &[(&str, Needs, &str)] = &[
 #[test]
 fn the_parts_that_are_needed_are_read(rt: HostRuntime) -> Result<(), Fail> {
     for (text, needs, wanted) in READ {
-        assert_equal_for(
+        assert_equal(
             &rt,
-            text,
-            told(rt.alloc(), text.as_bytes(), *needs)?.as_str(),
-            *wanted,
+            (text, told(rt.alloc(), text.as_bytes(), *needs)?.as_str()),
+            (text, *wanted),
         );
     }
     Ok(())
@@ -275,11 +274,10 @@ const FAULTY: &[(&[u8], Needs, &str)] = &[
 #[test]
 fn the_first_line_with_which_no_input_goes_on_is_told(rt: HostRuntime) -> Result<(), Fail> {
     for (input, needs, wanted) in FAULTY {
-        assert_equal_for(
+        assert_equal(
             &rt,
-            input,
-            told(rt.alloc(), input, *needs)?.as_str(),
-            *wanted,
+            (input, told(rt.alloc(), input, *needs)?.as_str()),
+            (input, *wanted),
         );
     }
     Ok(())

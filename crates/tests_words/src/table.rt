@@ -1,5 +1,5 @@
 //! The fields of a table, read by each reader, with its faults.
-use crate::equal::{assert_equal, assert_equal_for};
+use crate::equal::assert_equal;
 use metric_base::Items;
 use metric_table::{
     FieldFaults, flag_or, format_field, integer_of, integers_of, list_of, member, only,
@@ -65,7 +65,11 @@ fn flags_are_read(rt: HostRuntime) -> Result<(), Fail> {
         ("absent", Ok(false)),
         ("name", Err(Fault::WrongKind)),
     ] {
-        assert_equal_for(&rt, name, flag_or(&table, name, false, &FAULTS), wanted);
+        assert_equal(
+            &rt,
+            (name, flag_or(&table, name, false, &FAULTS)),
+            (name, wanted),
+        );
     }
     Ok(())
 }
@@ -159,11 +163,10 @@ fn lists_of_texts_are_read(rt: HostRuntime) -> Result<(), Fail> {
         ("texts", 1, Err(Fault::TooMany)),
         ("numbers", 2, Err(Fault::WrongKind)),
     ] {
-        assert_equal_for(
+        assert_equal(
             &rt,
-            name,
-            count_of_texts(rt.alloc(), &table, name, most),
-            wanted,
+            (name, count_of_texts(rt.alloc(), &table, name, most)),
+            (name, wanted),
         );
     }
     Ok(())
@@ -181,7 +184,11 @@ fn lists_of_tables_are_read(rt: HostRuntime) -> Result<(), Fail> {
         ("absent", Ok(0)),
         ("numbers", Err(Fault::WrongKind)),
     ] {
-        assert_equal_for(&rt, name, count_of_tables(rt.alloc(), &table, name), wanted);
+        assert_equal(
+            &rt,
+            (name, count_of_tables(rt.alloc(), &table, name)),
+            (name, wanted),
+        );
     }
     Ok(())
 }

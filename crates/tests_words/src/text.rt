@@ -1,5 +1,5 @@
 //! Spellings from outside, written and read back.
-use crate::equal::{assert_equal, assert_equal_for};
+use crate::equal::assert_equal;
 use crate::names::owned;
 use metric_base::{Text, is_same};
 use metric_names::{AttrValue, ValueRef};
@@ -115,7 +115,7 @@ fn numbers_are_read_in_their_ranges(rt: HostRuntime) {
     for (word, small, large, signed) in NUMBERS {
         let bytes = word.as_bytes();
         let read = (u32_of(bytes), u64_of(bytes), i64_of(bytes));
-        assert_equal_for(&rt, word, read, (*small, *large, *signed));
+        assert_equal(&rt, (word, read), (word, (*small, *large, *signed)));
     }
 }
 
@@ -299,7 +299,7 @@ fn lines_shown(alloc: Global, input: &[u8]) -> Result<Vec<u8>, AllocError> {
 fn lines_end_with_line_feeds(rt: HostRuntime) -> Result<(), Fail> {
     for (input, wanted) in LINES {
         let shown = lines_shown(rt.alloc(), input.as_bytes())?;
-        assert_equal_for(&rt, input, shown.as_slice(), wanted.as_bytes());
+        assert_equal(&rt, (input, shown.as_slice()), (input, wanted.as_bytes()));
     }
     Ok(())
 }
