@@ -1,3 +1,4 @@
 pub mod Powers
 mod Budgets
+mod Extremes
 mod Tables

@@ -26,3 +26,7 @@ pub misuse_is_among : {X : Type 0} (answer : Result X LineFault) (kind : ErrorKi
 misuse_is_among answer kind kinds (inl memory) tells usage = absurd (memory_is_no_misuse answer kind memory tells usage)
 misuse_is_among answer kind [] (inr among) tells usage = absurd among
 misuse_is_among answer kind (k ∷ ks) (inr among) tells usage = λ none. cc
+
+-- what has a fault has not none
+pub some_fault : (kind : ErrorKind) (kinds : Kinds) → kind ∷ kinds ≢ []
+some_fault kind kinds none = cc

@@ -1,6 +1,7 @@
 // The reading of a command line.
 ghost use Rattle.std.specs.Prelude.{◌≡◌, [], IfOk, IsErrOf, OnOk, Some, map, false, true};
 ghost use Rattle.clap.specs.Words.{app_of, fault_of, first_of, found_of, rows_of, rule_of, subcommand_of, subcommand_rows_of, takes};
+ghost use Rattle.clap.specs.Words.{new_app, with_rule, with_subcommand};
 ghost use Rattle.metric_command.specs.Kit.{each_option, kit_app, plain_app, trial_flag};
 ghost use Rattle.metric_command.specs.Lines.{IsRefused, has_flag, line_in};
 ghost use Rattle.metric_command.specs.Numbers.{number_in, number_of};
@@ -38,11 +39,23 @@ pub fn command_of<'a>(alloc: Global, words: &'a [&'a str]) -> Result<Line, LineF
 fn kit_command<'a>(alloc: Global) -> Result<Command<'a>, AllocError>
     ensures { IfOk result (λ command. app_of command ≡ kit_app) }
 {
-    let replay = Command::new(alloc, "replay").arg(trial_flag(alloc))?;
-    let threads = Command::new(alloc, "threads").arg(each_option(alloc))?;
-    plain_command(alloc)?
-        .subcommand(replay)?
-        .subcommand(threads)
+    let program = with_flagged(alloc, plain_command(alloc)?, "replay", trial_flag(alloc))?;
+    with_flagged(alloc, program, "threads", each_option(alloc))
+}
+
+// The program with one more command, which has one flag.
+fn with_flagged<'a>(
+    alloc: Global,
+    program: Command<'a>,
+    name: &'a str,
+    flag: Arg<'a>,
+) -> Result<Command<'a>, AllocError>
+    requires { flag.global ≡ false }
+    ensures { IfOk result (λ command. app_of command ≡ with_subcommand (app_of program.entry)
+        (with_rule (new_app name.entry.now) (rule_of flag.entry)).top) }
+{
+    let command = Command::new(alloc, name).arg(flag)?;
+    program.subcommand(command)
 }
 
 fn trial_flag<'a>(alloc: Global) -> Arg<'a>

@@ -42,7 +42,7 @@ pub(crate) fn answers_to(
     let lines = lines(alloc, input)?;
     let parts = parts_of(alloc, &lines, options.needs())?;
     let plan = planned(alloc, options, &parts)?;
-    let script = events_of(alloc, &parts.script.unwrap())?;
+    let script = events_of(alloc, parts.script.as_ref().unwrap())?;
     run(alloc, plan, script.start, script.events.as_slice())
 }
 

@@ -1,12 +1,12 @@
 -- What a recording and a collection make of the numbers that a cell keeps.
-use Rattle.std.proofs.Common.{◌≡◌, ◌≢◌, ℕ, zero, suc, ◌+◌, ◌^◌, ◌<◌, ◌≤◌, Bool, true, false, cond, ℤ, pos, neg_ℤ, ◌+ℤ◌, ◌≤ℤ◌, List, [], ◌∷◌, ◌++◌, length, refl, sym, ap, subst, ◌∙◌, arith}
+use Rattle.std.proofs.Common.{◌≡◌, ◌≢◌, ℕ, zero, suc, ◌+◌, ◌-◌, ◌^◌, ◌<◌, ◌≤◌, Bool, true, false, cond, ℤ, pos, neg_ℤ, ◌+ℤ◌, ◌≤ℤ◌, List, [], ◌∷◌, ◌++◌, length, refl, sym, ap, subst, ◌∙◌, arith}
 use Rattle.std.specs.Prelude.{◌==◌, Ok, nat_lt, replicate, slice_index, slice_index_or, slice_set, sum}
 use Rattle.std.proofs.lemmas.Bool.{ltb-true}
 use Rattle.std.proofs.lemmas.Bool.Decides.{nat_tests}
 use Rattle.std.proofs.lemmas.Int.{ints}
 use Rattle.std.proofs.lemmas.List.{length-set, length-replicate, length_push, get_or-set_same, get_or-set_other}
 use Rattle.std.proofs.lemmas.List.Folds.{sum_by-replicate}
-use Rattle.std.proofs.lemmas.List.Sums.{sum_by_push}
+use Rattle.std.proofs.lemmas.List.Sums.{get_or-le-sum_by, sum_by_push}
 use Rattle.metric_book.specs.Journals.{MayAnswer, MayTake, Standing, no_marks}
 use Rattle.metric_history.specs.declared.entry.Entry.{Entry}
 use Rattle.metric_history.specs.declared.facts.Facts.{Facts}
@@ -16,7 +16,7 @@ use Rattle.metric_history.specs.SumLaws.{sum_push}
 use Rattle.metric_core.proofs.BudgetLaws.{raised_within, sum_raised}
 use Rattle.metric_core.specs.BudgetLaws.{has_room}
 use Rattle.metric_safety.specs.AdmissionLaws.{admitted_more}
-use Rattle.metric_safety.specs.SafeFacts.{is_admitted}
+use Rattle.metric_safety.specs.SafeFacts.{is_admitted, total}
 use Rattle.metric_core.specs.Cells.{CellKept, CellStands, CellValue, new_cell}
 use Rattle.metric_core.specs.CellAnswers.{with_batch, with_entry}
 
@@ -79,6 +79,18 @@ may_take stands c entry k below room full within = (
   ),
 )
 
+-- a recorder with recordings left has made less than a u64 of them
+pub charge_fits : {B : Type 0} (stands : B → Standing) (c : CellValue B) (recorder : ℕ) → CellKept stands c
+    → recorder < length c.facts.budgets → slice_index c.spent recorder < slice_index c.facts.budgets recorder → slice_index c.spent recorder + 1 < 2 ^ 64
+charge_fits stands c recorder k known left = omega (arith, left, k.budgeted, get_or-le-sum_by (λ (n : ℕ). n) c.facts.budgets recorder 0 known)
+
+-- where there is room for one more, the sum of those so far is an i128 with room for one value more
+pub sum_low : {B : Type 0} (stands : B → Standing) (c : CellValue B) → CellKept stands c → c.count + 1 ≤ total c.facts → neg_ℤ (pos (2 ^ 127 - 2 ^ 63)) ≤ℤ c.total
+sum_low stands c k room = let before = k.low in let most = k.budgeted in omega (arith, ints)
+
+pub sum_high : {B : Type 0} (stands : B → Standing) (c : CellValue B) → CellKept stands c → c.count + 1 ≤ total c.facts → c.total ≤ℤ pos (2 ^ 127 - 2 ^ 63)
+sum_high stands c k room = let before = k.high in let most = k.budgeted in omega (arith, ints)
+
 -- what a cell keeps, with one recording more
 pub kept_pushed : {B : Type 0} (stands : B → Standing) (c : CellValue B) (entry : Entry) (book : B) → CellKept stands c
     → entry.recorder < length c.facts.budgets → slice_index c.spent entry.recorder < slice_index c.facts.budgets entry.recorder
@@ -136,6 +148,10 @@ kept_moved stands c reader time book k below moved = record {
         at : (b : Bool) → slice_index (slice_set xs q n) r ≡ cond b n (slice_index xs r) → slice_index (slice_set xs q n) r ≤ n
         at true e = omega arith
         at false e = omega (arith, past r)
+
+-- what a cell keeps, where its book is the same
+pub same_kept : {B : Type 0} (stands : B → Standing) (c : CellValue B) (book : B) → book ≡ c.book → CellKept stands c → CellKept stands (record c { book = book })
+same_kept {B} stands c book same k = subst (λ (b : B). CellKept stands (record c { book = b })) (sym same) k
 
 -- one element everywhere
 pub same_everywhere : (n x r : ℕ) → slice_index_or (replicate n x) r x ≡ x

@@ -4,6 +4,7 @@ use Rattle.std.specs.Prelude.{◌==◌, nat_lt, slice_get, slice_index, sum}
 use Rattle.std.specs.List.{list_all}
 use Rattle.std.proofs.lemmas.Bool.{and_from, and_parts}
 use Rattle.std.proofs.lemmas.Bool.Decides.{nat_tests}
+use Rattle.std.proofs.lemmas.List.{append-nil, drop_all}
 use Rattle.std.proofs.lemmas.Option.{same_Some}
 use Rattle.metric_base.specs.StepLaws.{require_ok}
 use Rattle.metric_base.specs.Steps.{◌>>=◌, require}
@@ -106,3 +107,9 @@ told_more_cells {B} instruments cells seats number own c found there told before
     at false e =
         let earlier : i < number = grind (arith, nat_tests) in
         before i f d earlier at_i in_i
+
+-- past the last instrument, the totals so far are those of all
+pub totals_end : (seats : List RecorderValue) (number : ℕ) (all : List Facts) (totals whole : List Total)
+    → length all ≤ number → totals ++ told_totals seats number (drop number all) ≡ whole → totals ≡ whole
+totals_end seats number all totals whole past so_far =
+    sym (append-nil totals) ∙ ap (λ (rest : List Facts). totals ++ told_totals seats number rest) (sym (drop_all number all past)) ∙ so_far

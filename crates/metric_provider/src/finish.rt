@@ -98,12 +98,14 @@ fn settle_locked<B: Book>(
     let mut slots = Vec::with_capacity(alloc, locked.len())?;
     take_out(locked, &mut slots);
     slots.as_mut_slice().reverse();
-    let totals = settle(alloc, plan, slots.as_slice(), recorders);
-    if totals.is_err() {
-        slots.as_mut_slice().reverse();
-        put_back(&mut slots, locked);
+    match settle(alloc, plan, slots.as_slice(), recorders) {
+        Ok(totals) => Ok(totals),
+        Err(fault) => {
+            slots.as_mut_slice().reverse();
+            put_back(&mut slots, locked);
+            Err(fault)
+        }
     }
-    totals
 }
 
 // Takes the slots out of their locks, the last one first.

@@ -1,3 +1,5 @@
+-- the lines of the streams are written, and then those of the warnings
+use Rattle.std.proofs.KnownBytes.{Appends-trans}
 use Rattle.metric_commands.proofs.TextLaws.{prefix_of_first, prefix_of_second}
 use Rattle.metric_commands.specs.Showing.{listing_text}
 use Rattle.metric_commands.proofs.show.write_lines.Goals as goal
@@ -18,3 +20,9 @@ unfolding listing_text
 returns-clause-prefix g c =
     rw (← c.list.ensures.list, ← c.warnings.ensures)
     (prefix_of_second _ (g.W.Sink.contents c.write_parts.new.sink) _ _ _ c.in_ok-write_parts.ensures.ok c.write_parts-2.ensures.prefix)
+
+pub returns-clause-ok : goal.returns-clause-ok
+unfolding listing_text
+returns-clause-ok g c =
+    rw (← c.list.ensures.list, ← c.warnings.ensures)
+    (Appends-trans _ (g.W.Sink.contents c.write_parts.new.sink) _ _ _ c.in_ok-write_parts.ensures.ok c.in_ok-write_parts-2.ensures.ok)

@@ -1,5 +1,5 @@
--- one cell more
-use Rattle.std.proofs.Common.{◌≡◌, ℕ, ◌+◌, Some, [], ◌∷◌, ◌++◌, List, length, sym, ap, subst, ◌∙◌}
+-- one cell more, and all cells
+use Rattle.std.proofs.Common.{◌≡◌, ℕ, ◌+◌, Some, [], ◌∷◌, ◌++◌, List, length, sym, ap, subst, ◌∙◌, arith}
 use Rattle.std.specs.Prelude.{slice_get}
 use Rattle.std.proofs.lemmas.List.{length_push}
 use Rattle.metric_core.specs.Cells.{CellValue}
@@ -8,6 +8,12 @@ use Rattle.metric_history.specs.History.{told_of}
 use Rattle.metric_core.proofs.HistoryLaws.{new_follows}
 use Rattle.metric_core.proofs.RunLaws.{at_each_push}
 use Rattle.metric_core.proofs.run.new_cells.Goals as goal
+
+pub overflow_cast-count : goal.overflow_cast-count
+overflow_cast-count g c = record { fits = omega (arith, c.instruments.ensures.few, ap length c.instruments.ensures.instruments) }
+
+pub new-requires : goal.new-requires
+new-requires g c = omega (arith, c.loop-instrument-test.true, c.catalogue.ensures.one_each, ap length c.instruments.ensures.instruments)
 
 pub loop-instrument-preserved : goal.loop-instrument-preserved
 loop-instrument-preserved g c =
@@ -25,3 +31,12 @@ loop-instrument-preserved g c =
           (new_follows g.B.Book.stands facts c.args.start (length before) cell c.in_ok-new.ensures.new c.in_ok-new.ensures.stands) i d
           (subst (λ (cells : List (CellValue g.row.B.Denot)). slice_get cells i ≡ Some d) pushed found);
     }
+
+pub returns : goal.returns
+returns g c = record {
+  cells_of = record {
+    one_each = omega (arith, c.loop-instrument.invariant.count, c.loop-instrument.auto.instrument-end, c.loop-instrument-test.false, c.catalogue.ensures.one_each, ap length c.instruments.ensures.instruments);
+    own = c.loop-instrument.invariant.own;
+  };
+  each = c.loop-instrument.invariant.each;
+}

@@ -1,13 +1,33 @@
 -- one event more, and all events
-use Rattle.std.proofs.Common.{◌≡◌, ◌+◌, [], ◌∷◌, ◌++◌, List, length, take, sym, ap, subst, ◌∙◌, arith}
+use Rattle.std.proofs.Common.{◌≡◌, ℕ, ◌+◌, ◌≤◌, [], ◌∷◌, ◌++◌, List, get_or, length, take, vec_capacity, refl, sym, ap, subst, ◌∙◌, arith}
 use Rattle.std.proofs.lemmas.List.{take_more, take_all, length-take-le, length_push}
 use Rattle.metric_history.specs.declared.event.Event.{Event}
 use Rattle.metric_history.specs.declared.event.Reply.{Reply}
+use Rattle.metric_history.specs.Events.{attr_count}
 use Rattle.metric_history.specs.History.{History}
 use Rattle.metric_core.specs.CoreStands.{CellsStand}
 use Rattle.metric_history.specs.Legal.{AllLegal, grown}
 use Rattle.metric_core.proofs.RunLaws.{AllLegal_push, grown_push}
 use Rattle.metric_core.proofs.run.run_on.Goals as goal
+
+pub loop-event-init : goal.loop-event-init
+loop-event-init g c = record {
+  count = ap length c.requires.none;
+  cells = c.requires.cells;
+  replies = c.requires.replies;
+  room = refl;
+  legal = λ since h s. subst (λ (rs : List Reply). AllLegal c.args.plan.now.facts since h [] rs) (sym c.requires.none) tt;
+  stands = λ since h s. s;
+}
+
+pub step-reply-requires-clause-cells : goal.step-reply-requires-clause-cells
+step-reply-requires-clause-cells g c = c.loop-event.invariant.cells
+
+pub step-reply-requires-clause-room : goal.step-reply-requires-clause-room
+step-reply-requires-clause-room g c =
+    let fits = c.requires.room c.loop-event.event-index c.event-item.result c.loop-event-test.true in
+    subst (λ (e : Event). attr_count e ≤ vec_capacity c.loop-event.room) (sym c.event-item.is)
+    (subst (λ (n : ℕ). attr_count (get_or c.args.events.now c.loop-event.event-index c.event-item.result) ≤ n) (sym c.loop-event.invariant.room) fits)
 
 pub loop-event-preserved : goal.loop-event-preserved
 loop-event-preserved g c =
@@ -35,6 +55,9 @@ loop-event-preserved g c =
           (subst (λ (past : History). CellsStand g.B.Book.stands facts since c.step-reply.new.cells past) (sym (grown_push front done h event reply long))
           (c.step-reply.ensures.steps.follows since (grown h front done) (c.loop-event.invariant.stands since h s))));
     }
+
+pub returns-clause-cells : goal.returns-clause-cells
+returns-clause-cells g c = c.loop-event.invariant.cells
 
 pub returns-clause-legal : goal.returns-clause-legal
 returns-clause-legal g c = λ since h s.

@@ -9,7 +9,7 @@ use Rattle.metric_history.specs.Facts.{in_bounds, is_full_set}
 use Rattle.metric_core.specs.BudgetLaws.{has_room}
 use Rattle.metric_core.specs.Cells.{CellStands, CellValue}
 use Rattle.metric_core.specs.CellAnswers.{IsJudged, entry_of}
-use Rattle.metric_core.proofs.CellLaws.{fits_taken, has_left, kept_recorded, may_take, stands_recorded}
+use Rattle.metric_core.proofs.CellLaws.{charge_fits, fits_taken, has_left, kept_recorded, may_take, same_kept, stands_recorded, sum_high, sum_low}
 use Rattle.metric_safety.specs.AdmissionLaws.{admitted}
 use Rattle.metric_core.proofs.cell.Cell.record.Goals as goal
 
@@ -23,11 +23,30 @@ push-requires g c =
     subst (λ (v : ℤ). MayTake (g.B.Book.stands c.self.inside.book) (entry_of c.args.recorder c.args.set v)) (sym same)
     (may_take g.B.Book.stands _ (entry_of c.args.recorder c.args.set c.args.value) c.self.invariant known left full within)
 
+pub charge-requires-clause-room : goal.charge-requires-clause-room
+charge-requires-clause-room g c =
+    let known : c.args.recorder < length c.self.inside.facts.budgets = subst (λ (v : CellValue g.row.B.Denot). c.args.recorder < length v.facts.budgets) (sym c.self.view_is) c.requires.recorder in
+    let left = has_left c.self.inside.spent.items c.self.inside.facts.budgets c.args.recorder c.has_budget.result _ _ c.deref.ensures.value (c.as_slice.ensures ∙ ap (λ (f : Facts). f.budgets) c.deref-2.ensures) c.has_budget.ensures c.if-not-has_budget.false in
+    charge_fits g.B.Book.stands _ c.args.recorder c.self.invariant known left
+
+pub total_with-self-inside-requires-clause-low : goal.total_with-self-inside-requires-clause-low
+total_with-self-inside-requires-clause-low g c =
+    let left = has_left c.self.inside.spent.items c.self.inside.facts.budgets c.args.recorder c.has_budget.result _ _ c.deref.ensures.value (c.as_slice.ensures ∙ ap (λ (f : Facts). f.budgets) c.deref-2.ensures) c.has_budget.ensures c.if-not-has_budget.false in
+    sum_low g.B.Book.stands _ c.self.invariant (has_room g.B.Book.stands _ c.args.recorder c.self.invariant left)
+
+pub total_with-self-inside-requires-clause-high : goal.total_with-self-inside-requires-clause-high
+total_with-self-inside-requires-clause-high g c =
+    let left = has_left c.self.inside.spent.items c.self.inside.facts.budgets c.args.recorder c.has_budget.result _ _ c.deref.ensures.value (c.as_slice.ensures ∙ ap (λ (f : Facts). f.budgets) c.deref-2.ensures) c.has_budget.ensures c.if-not-has_budget.false in
+    sum_high g.B.Book.stands _ c.self.invariant (has_room g.B.Book.stands _ c.args.recorder c.self.invariant left)
+
 pub overflow_add-self : goal.overflow_add-self
 overflow_add-self g c =
     let known : c.args.recorder < length c.self.inside.facts.budgets = subst (λ (v : CellValue g.row.B.Denot). c.args.recorder < length v.facts.budgets) (sym c.self.view_is) c.requires.recorder in
     let left = has_left c.self.inside.spent.items c.self.inside.facts.budgets c.args.recorder c.has_budget.result _ _ c.deref.ensures.value (c.as_slice.ensures ∙ ap (λ (f : Facts). f.budgets) c.deref-2.ensures) c.has_budget.ensures c.if-not-has_budget.false in
     record { fits = omega (arith, c.self.invariant.budgeted, has_room g.B.Book.stands _ c.args.recorder c.self.invariant left) }
+
+pub invariant_of-self : goal.invariant_of-self
+invariant_of-self g c = same_kept g.B.Book.stands _ c.push.new.self c.in_err-push.ensures.err c.self.invariant
 
 pub invariant_of-self-2 : goal.invariant_of-self-2
 invariant_of-self-2 g c =

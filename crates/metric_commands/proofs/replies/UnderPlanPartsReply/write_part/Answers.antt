@@ -1,0 +1,9 @@
+-- a close is told by what is written for it
+use Rattle.std.proofs.Common.{rules}
+use Rattle.metric_commands.proofs.replies.UnderPlanPartsReply.write_part.Goals as goal
+
+pub returns-in-Done-clause-ok : goal.returns-in-Done-clause-ok
+returns-in-Done-clause-ok g c = search rules
+
+pub returns-in-Done-clause-prefix : goal.returns-in-Done-clause-prefix
+returns-in-Done-clause-prefix g c = search rules
