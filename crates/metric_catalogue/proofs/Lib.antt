@@ -3,6 +3,8 @@ mod Numbered
 mod SoundLists
 mod SoundKeys
 mod SoundInstruments
+mod KeysLast
+mod EachMore
 mod SoundCatalogues
 pub mod Mapped
 mod OrderLaws

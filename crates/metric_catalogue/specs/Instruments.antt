@@ -8,6 +8,7 @@ use Rattle.metric_names.specs.Names.{folded, name_of}
 use Rattle.metric_names.specs.Units.{unit_of}
 use Rattle.metric_table.specs.Fields.{only, field, text_field, optional_text, list_of, integer_of, integers_of, tables_field}
 use Rattle.metric_catalogue.specs.declared.contents.Instrument.{Instrument}
+use Rattle.metric_catalogue.specs.declared.contents.Key.{Key}
 use Rattle.metric_catalogue.specs.declared.contents.Kind.{Kind}
 use Rattle.metric_catalogue.specs.declared.instruments.Head.{Head}
 use Rattle.metric_catalogue.specs.declared.instruments.TheConstants.{INSTRUMENT_FIELDS}
@@ -95,6 +96,13 @@ advice_field at table = boundaries_within at (get_member (codes "boundaries") ta
 -- the instrument is of this meter and has this name without ASCII case
 abbrev pub is_instrument : ℕ → List ℕ → Instrument → Bool
 is_instrument meter name instrument = (instrument.meter == meter) && bytes_eq (folded instrument.name) (folded name)
+
+-- the keys of an instrument, unless its name is taken
+unfoldable pub keys_field : CataloguePlace → Bool → Members → Result (List Key) CatalogueFault
+keys_field at is_taken table = do
+  tables ← tables_field (faults_at at) 8 (codes "key") table
+  _ ← require (not is_taken) (DuplicateInstrument at)
+  each (key_of at) [] tables
 
 -- one more instrument of a meter, after those of the file before it
 unfoldable pub instrument_of : ℕ → List Instrument → Members → Result Instrument CatalogueFault

@@ -4,9 +4,9 @@ ghost use Rattle.std.specs.List.{list_any};
 ghost use Rattle.toml.specs.View.{table_view, view};
 ghost use Rattle.metric_base.specs.Steps.{Gives, Advances, each};
 ghost use Rattle.metric_catalogue.specs.Texts.{free_text};
-ghost use Rattle.metric_catalogue.specs.Instruments.{advice_field, boundaries_of, head_of, instrument_name, instrument_of, is_instrument, is_range, kind_field, only_instrument_fields, pair_of, range_field, unit_field};
+ghost use Rattle.metric_catalogue.specs.Instruments.{advice_field, boundaries_of, head_of, instrument_name, instrument_of, is_instrument, is_range, keys_field, kind_field, only_instrument_fields, pair_of, range_field, unit_field};
 
-use crate::contents::{Instrument, Kind};
+use crate::contents::{Instrument, Key, Kind};
 use crate::fault::{CatalogueFault, CataloguePlace};
 use crate::keys::keys_of;
 use crate::texts::{faults_at, free_text, pair_faults_at};
@@ -31,12 +31,65 @@ const INSTRUMENT_FIELDS: [&str; 7] = [
 ];
 
 // What names and describes an instrument.
-#[derive(Drop)]
 pub(crate) struct Head {
     name: Shared<Name>,
     kind: Kind,
     unit: Shared<Unit>,
     description: Shared<Text>,
+}
+
+impl Drop for Head {
+    // A call of its own, so that what owns a head does not carry the steps of dropping each part.
+    fn drop(self) {
+        let Head {
+            name: _name,
+            kind: _,
+            unit: _unit,
+            description: _description,
+        } = self;
+    }
+}
+
+impl Head {
+    // The instrument of this head.
+    fn instrument(
+        self,
+        meter: u32,
+        range: (i64, i64),
+        advice: Option<Shared<Boundaries>>,
+        keys: Few<Key, 8>,
+    ) -> Instrument
+        ensures { result ≡ record {
+          meter = meter;
+          name = self.name;
+          kind = self.kind;
+          unit = self.unit;
+          description = self.description;
+          lo = range.0;
+          hi = range.1;
+          advice = advice;
+          keys = keys;
+        } }
+    {
+        let Head {
+            name,
+            kind,
+            unit,
+            description,
+        } = self;
+        let (lo, hi) = range;
+        Instrument {
+            meter,
+            name,
+            kind,
+            unit,
+            description,
+            lo,
+            hi,
+            advice,
+            keys,
+        }
+    }
 }
 
 // Puts the instruments of a meter after those of the meters before it. Where there is a fault, some
@@ -59,7 +112,6 @@ pub(crate) fn add_instruments(
     Ok(())
 }
 
-#[tactic(auto, unfolding(crate::specs::Instruments::instrument_of))]
 fn instrument_of(
     alloc: Global,
     table: &Table,
@@ -72,30 +124,30 @@ fn instrument_of(
 {
     let at = CataloguePlace::Instrument(before.len() as u32);
     let head = head_of(alloc, table, at)?;
-    let (lo, hi) = range_field(table, head.kind, at)?;
+    let range = range_field(table, head.kind, at)?;
     let advice = advice_field(alloc, table, at)?;
+    let is_taken = has_instrument(before, meter, head.name.get());
+    let keys = keys_field(alloc, table, at, is_taken)?;
+    Ok(head.instrument(meter, range, advice, keys))
+}
+
+// The keys of an instrument, unless its name is taken, which is told before a fault of a key.
+#[tactic(auto, unfolding(crate::specs::Instruments::keys_field))]
+fn keys_field(
+    alloc: Global,
+    table: &Table,
+    at: CataloguePlace,
+    is_taken: bool,
+) -> Result<Few<Key, 8>, CatalogueFault>
+    ensures { Gives CatalogueFault.Memory result
+        (keys_field at is_taken (table_view table.now)) }
+{
     let tables = tables_field(alloc, table, "key", 8, &faults_at(at))?;
-    if has_instrument(before, meter, head.name.get()) {
+    if is_taken {
         return Err(CatalogueFault::DuplicateInstrument { at });
     }
-    let keys = Few::from_items(keys_of(alloc, tables.as_slice(), at)?);
-    let Head {
-        name,
-        kind,
-        unit,
-        description,
-    } = head;
-    Ok(Instrument {
-        meter,
-        name,
-        kind,
-        unit,
-        description,
-        lo,
-        hi,
-        advice,
-        keys,
-    })
+    let keys = keys_of(alloc, tables.as_slice(), at)?;
+    Ok(Few::from_items(keys))
 }
 
 fn has_instrument(instruments: &[Instrument], meter: u32, name: &Name) -> bool

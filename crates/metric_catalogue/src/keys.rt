@@ -8,11 +8,11 @@ ghost use Rattle.metric_catalogue.specs.Keys.{is_key, key_name, key_of, only_key
 
 use crate::contents::Key;
 use crate::fault::{CatalogueFault, CataloguePlace};
-use crate::texts::{faults_at, label_field};
+use crate::texts::{copy_short, faults_at, label_field};
 use crate::values::Values;
 use metric_base::{Items, Text};
 use metric_names::AttrValue;
-use metric_table::{flag_or, list_of, only, required, short_text};
+use metric_table::{flag_or, list_of, only, required};
 use std::alloc::Global;
 use toml::{Table, Value};
 
@@ -145,8 +145,8 @@ fn value_at(alloc: Global, value: &Value, at: CataloguePlace) -> Result<AttrValu
 {
     match value {
         Value::String(text) => {
-            let text = short_text(text.as_str(), &faults_at(at))?;
-            Ok(AttrValue::Text(Text::new(alloc, text)?))
+            let text = copy_short(alloc, text.as_str(), at)?;
+            Ok(AttrValue::Text(text))
         }
         Value::Integer(number) => Ok(AttrValue::Whole(*number)),
         Value::Boolean(flag) => Ok(AttrValue::Flag(*flag)),

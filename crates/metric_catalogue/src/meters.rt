@@ -1,8 +1,8 @@
 //! The meters of a catalogue.
-ghost use Rattle.std.specs.Prelude.{◌≡◌, ◌≤◌, ◌<◌, ◌+◌, ◌-◌, length, map, OnOk};
+ghost use Rattle.std.specs.Prelude.{◌≡◌, ◌≤◌, ◌<◌, ◌+◌, ◌-◌, [], ◌∷◌, ◌++◌, length, map, not, OnOk};
 ghost use Rattle.std.specs.List.{list_any};
 ghost use Rattle.toml.specs.View.{table_view};
-ghost use Rattle.metric_base.specs.Steps.{Gives, Advances, in_turn};
+ghost use Rattle.metric_base.specs.Steps.{Gives, Advances, in_turn, require};
 ghost use Rattle.metric_catalogue.specs.Meters.{is_meter, meter_of, only_meter_fields, with_meter};
 
 use crate::contents::{Instrument, Meter};
@@ -58,11 +58,24 @@ fn add_meter(alloc: Global, metered: &mut Metered, table: &Table) -> Result<(), 
     let meter = meter_of(alloc, table, at)?;
     let most = 512 - metered.instruments.len();
     let tables = tables_field(alloc, table, "instrument", most, &faults_at(at))?;
-    if has_meter(metered.meters.as_slice(), &meter) {
+    put_meter(&mut metered.meters, meter, at)?;
+    add_instruments(alloc, tables.as_slice(), number, &mut metered.instruments)
+}
+
+// Puts a meter last, unless it is there already.
+fn put_meter(
+    meters: &mut Items<Meter>,
+    meter: Meter,
+    at: CataloguePlace,
+) -> Result<(), CatalogueFault>
+    ensures exact { Gives CatalogueFault.Memory result
+        (require (not (list_any (is_meter meter) meters.old)) (CatalogueFault.DuplicateMeter at)) }
+    ensures put { OnOk result (meters.new ≡ meters.old ++ meter ∷ []) }
+{
+    if has_meter(meters.as_slice(), &meter) {
         return Err(CatalogueFault::DuplicateMeter { at });
     }
-    metered.meters.push(meter)?;
-    add_instruments(alloc, tables.as_slice(), number, &mut metered.instruments)
+    Ok(meters.push(meter)?)
 }
 
 fn has_meter(meters: &[Meter], meter: &Meter) -> bool

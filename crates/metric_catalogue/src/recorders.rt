@@ -3,6 +3,9 @@ ghost use Rattle.std.specs.Prelude.{◌≡◌, ◌≤◌, ◌<◌, [], length, m
 ghost use Rattle.std.specs.List.{list_any};
 ghost use Rattle.toml.specs.View.{table_view};
 ghost use Rattle.metric_base.specs.Steps.{Gives, each};
+ghost use Rattle.metric_table.specs.Fields.{only};
+ghost use Rattle.metric_catalogue.specs.declared.recorders.TheConstants.{RECORDER_FIELDS};
+ghost use Rattle.metric_catalogue.specs.Faults.{faults_at};
 ghost use Rattle.metric_catalogue.specs.Recorders.{amount_field, amount_from, budget_of, budgeted, is_budget, is_recorder, number_below, recorder_of};
 
 use crate::contents::{Budget, Recorder};
@@ -50,15 +53,21 @@ fn recorder_of(
         (recorder_of count before.now (table_view table.now)) }
 {
     let at = CataloguePlace::Recorder(before.len() as u32);
-    let faults = faults_at(at);
-    only(table, &RECORDER_FIELDS, &faults)?;
+    only_recorder_fields(table, at)?;
     let name = label_field(alloc, table, at)?;
-    let tables = tables_field(alloc, table, "budget", 512, &faults)?;
+    let tables = tables_field(alloc, table, "budget", 512, &faults_at(at))?;
     if has_recorder(before, &name) {
         return Err(CatalogueFault::DuplicateRecorder { at });
     }
     let budgets = Few::from_items(budgets_of(alloc, tables.as_slice(), count, at)?);
     Ok(Recorder { name, budgets })
+}
+
+fn only_recorder_fields(table: &Table, at: CataloguePlace) -> Result<(), CatalogueFault>
+    ensures { result
+        ≡ only (faults_at at) (map (λ name. name.now) RECORDER_FIELDS) (table_view table.now) }
+{
+    only(table, &RECORDER_FIELDS, &faults_at(at))
 }
 
 fn has_recorder(recorders: &[Recorder], name: &Text) -> bool

@@ -2,6 +2,7 @@
 ghost use Rattle.std.specs.Prelude.{◌≡◌, ◌==◌, length};
 ghost use Rattle.toml.specs.View.{table_view};
 ghost use Rattle.metric_base.specs.Steps.{Gives};
+ghost use Rattle.metric_table.specs.Fields.{short_text};
 ghost use Rattle.metric_catalogue.specs.Faults.{faults_at, pair_faults_at};
 ghost use Rattle.metric_catalogue.specs.Texts.{free_text, label_field, needed_text};
 
@@ -37,6 +38,18 @@ pub(crate) fn pair_faults_at(at: CataloguePlace) -> FieldFaults<CatalogueFault>
     }
 }
 
+// A copy of a text that is not too long.
+pub(crate) fn copy_short(
+    alloc: Global,
+    text: &str,
+    at: CataloguePlace,
+) -> Result<Text, CatalogueFault>
+    ensures { Gives CatalogueFault.Memory result (short_text (faults_at at) text.now) }
+{
+    let text = short_text(text, &faults_at(at))?;
+    Ok(Text::new(alloc, text)?)
+}
+
 // A needed text, not too long.
 #[tactic(auto, unfolding(crate::specs::Texts::needed_text))]
 pub(crate) fn needed_text(
@@ -47,10 +60,8 @@ pub(crate) fn needed_text(
 ) -> Result<Text, CatalogueFault>
     ensures { Gives CatalogueFault.Memory result (needed_text at name.now (table_view table.now)) }
 {
-    let faults = faults_at(at);
-    let text = text_field(table, name, &faults)?;
-    let text = short_text(text, &faults)?;
-    Ok(Text::new(alloc, text)?)
+    let text = text_field(table, name, &faults_at(at))?;
+    copy_short(alloc, text, at)
 }
 
 // A text that may be left out, and is then empty.
@@ -63,10 +74,8 @@ pub(crate) fn free_text(
 ) -> Result<Text, CatalogueFault>
     ensures { Gives CatalogueFault.Memory result (free_text at name.now (table_view table.now)) }
 {
-    let faults = faults_at(at);
-    let text = optional_text(table, name, &faults)?;
-    let text = short_text(text.unwrap_or(""), &faults)?;
-    Ok(Text::new(alloc, text)?)
+    let text = optional_text(table, name, &faults_at(at))?;
+    copy_short(alloc, text.unwrap_or(""), at)
 }
 
 // The name of a key or a recorder.
@@ -78,11 +87,9 @@ pub(crate) fn label_field(
 ) -> Result<Text, CatalogueFault>
     ensures { Gives CatalogueFault.Memory result (label_field at (table_view table.now)) }
 {
-    let faults = faults_at(at);
-    let text = text_field(table, "name", &faults)?;
+    let text = text_field(table, "name", &faults_at(at))?;
     if text.is_empty() {
         return Err(CatalogueFault::BadName { at });
     }
-    let text = short_text(text, &faults)?;
-    Ok(Text::new(alloc, text)?)
+    copy_short(alloc, text, at)
 }

@@ -1,5 +1,6 @@
--- one more value has its place
-use Rattle.std.proofs.Common.{◌≡◌, ◌∙◌, sym, arith, take, None}
+-- one more value has its place, or stands twice
+use Rattle.std.proofs.Common.{◌≡◌, ◌∙◌, sym, arith, rules, take, None}
+use Rattle.std.proofs.lemmas.Grind.{common_steps}
 use Rattle.metric_catalogue.specs.Places.{place}
 use Rattle.metric_catalogue.proofs.Numbered.{none_from_test, numbers_more, repeats_more}
 use Rattle.metric_catalogue.proofs.numbering.Numbering.number_all.Goals as goal
@@ -13,3 +14,9 @@ loop-place-preserved c =
       numbers = numbers_more c.loop-place.self c.insert.new.self c.args.values.now c.loop-place.place c.index-values-place.result (omega arith) c.index-values-place.is c.loop-place.invariant.numbers fresh c.in_ok-earlier.ensures.new;
       left = sym (repeats_more c.args.values.now c.loop-place.place c.index-values-place.result (omega arith) c.index-values-place.is absent) ∙ c.loop-place.invariant.left;
     }
+
+pub returns-then-is_some-clause-distinct : goal.returns-then-is_some-clause-distinct
+returns-then-is_some-clause-distinct c = grind (arith, common_steps)
+
+pub returns-then-is_some-clause-numbers : goal.returns-then-is_some-clause-numbers
+returns-then-is_some-clause-numbers c = search rules
