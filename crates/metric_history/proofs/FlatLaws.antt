@@ -232,7 +232,7 @@ texts_after before =
 
 -- what a stream has beside its texts, as pairs
 abbrev Settings : Type 0
-Settings = ((((((ℕ × ℕ) × Option ℕ) × Kind) × StreamAggregation) × List Bool) × ℕ) × Temporality
+Settings = (((ℕ × ℕ) × Option ℕ) × Kind) × (((StreamAggregation × List Bool) × ℕ) × Temporality)
 
 flat_kind : Kind → List ℕ
 flat_kind k = kind_number k ∷ []
@@ -242,17 +242,19 @@ flat_temporality t = flat_flag (is_delta_temporality t)
 
 settings_flat : Settings → List ℕ
 settings_flat =
-    pair (pair (pair (pair (pair (pair (pair flat_number flat_number) flat_view) flat_kind) flat_aggregation) (flat_list flat_flag)) flat_number) flat_temporality
+    pair (pair (pair (pair flat_number flat_number) flat_view) flat_kind)
+    (pair (pair (pair flat_aggregation (flat_list flat_flag)) flat_number) flat_temporality)
 
 kept : Reads (flat_list flat_flag)
 kept = listed flat_flag flag
 
 settings_read : Reads settings_flat
 unfolding settings_flat flat_kind flat_temporality
-settings_read = both _ _ (both _ _ (both _ _ (both _ _ (both _ _ (both _ _ (both _ _ number number) view) kind) aggregation) kept) number) temporality
+settings_read =
+    both _ _ (both _ _ (both _ _ (both _ _ number number) view) kind) (both _ _ (both _ _ (both _ _ aggregation kept) number) temporality)
 
 settings_of : Stream → Settings
-settings_of s = (((((((s.reader, s.instrument), s.view), s.kind), s.aggregation), s.kept), s.limit), s.temporality)
+settings_of s = ((((s.reader, s.instrument), s.view), s.kind), (((s.aggregation, s.kept), s.limit), s.temporality))
 
 -- a stream after one with these texts
 abbrev Parts : Type 0
@@ -265,17 +267,17 @@ stream_of : Parts → NumberedStream
 stream_of p = record {
   number = p.0.0;
   stream = record {
-    reader = p.0.1.0.0.0.0.0.0.0;
-    instrument = p.0.1.0.0.0.0.0.0.1;
-    view = p.0.1.0.0.0.0.0.1;
+    reader = p.0.1.0.0.0.0;
+    instrument = p.0.1.0.0.0.1;
+    view = p.0.1.0.0.1;
     name = p.1.name;
     description = p.1.description;
     unit = p.1.unit;
-    kind = p.0.1.0.0.0.0.1;
-    aggregation = p.0.1.0.0.0.1;
-    kept = p.0.1.0.0.1;
-    limit = p.0.1.0.1;
-    temporality = p.0.1.1;
+    kind = p.0.1.0.1;
+    aggregation = p.0.1.1.0.0.0;
+    kept = p.0.1.1.0.0.1;
+    limit = p.0.1.1.0.1;
+    temporality = p.0.1.1.1;
   };
 }
 

@@ -86,11 +86,18 @@ abbrev pub flat_texts_after : Texts → Texts → List ℕ
 flat_texts_after before texts =
     flat_text_after before.name texts.name ++ flat_text_after before.description texts.description ++ flat_text_after before.unit texts.unit
 
+-- of which reader and instrument a stream is, of which view, and of which kind
+abbrev pub flat_source : Stream → List ℕ
+flat_source s = flat_number s.reader ++ flat_number s.instrument ++ flat_view s.view ++ kind_number s.kind ∷ []
+
+-- what the points of a stream are, and of which series
+abbrev pub flat_points : Stream → List ℕ
+flat_points s =
+    flat_aggregation s.aggregation ++ flat_list flat_flag s.kept ++ flat_number s.limit ++ flat_flag (is_delta_temporality s.temporality)
+
 -- what a stream has beside its texts
 abbrev pub flat_settings : Stream → List ℕ
-flat_settings s =
-    flat_number s.reader ++ flat_number s.instrument ++ flat_view s.view ++ kind_number s.kind ∷ []
-    ++ flat_aggregation s.aggregation ++ flat_list flat_flag s.kept ++ flat_number s.limit ++ flat_flag (is_delta_temporality s.temporality)
+flat_settings s = flat_source s ++ flat_points s
 
 -- a stream after one with these texts
 abbrev pub flat_stream : Texts → NumberedStream → List ℕ

@@ -10,8 +10,10 @@ ghost use Rattle.metric_history.specs.Flat.{
   flat_key,
   flat_list,
   flat_number,
+  flat_points,
   flat_settings,
   flat_signed,
+  flat_source,
   flat_streams,
   flat_text_after,
   flat_texts_after,
@@ -177,18 +179,32 @@ fn write_aggregation(bytes: &mut Vec<u8>, aggregation: &StreamAggregation) -> Re
     }
 }
 
-// Writes what a stream has beside its texts.
-fn write_settings(bytes: &mut Vec<u8>, stream: &Stream) -> Result<(), AllocError>
-    ensures { OnOk result (bytes.new.items ≡ bytes.old.items ++ flat_settings stream.now) }
+// Writes of which reader and instrument a stream is, of which view, and of which kind.
+fn write_source(bytes: &mut Vec<u8>, stream: &Stream) -> Result<(), AllocError>
+    ensures { OnOk result (bytes.new.items ≡ bytes.old.items ++ flat_source stream.now) }
 {
     write_number(bytes, u64::from(stream.reader))?;
     write_number(bytes, u64::from(stream.instrument))?;
     write_view(bytes, stream.view)?;
-    write_byte(bytes, number_of_kind(stream.kind))?;
+    write_byte(bytes, number_of_kind(stream.kind))
+}
+
+// Writes what the points of a stream are, and of which series.
+fn write_points(bytes: &mut Vec<u8>, stream: &Stream) -> Result<(), AllocError>
+    ensures { OnOk result (bytes.new.items ≡ bytes.old.items ++ flat_points stream.now) }
+{
     write_aggregation(bytes, &stream.aggregation)?;
     write_list(bytes, stream.kept.get().as_slice())?;
     write_number(bytes, u64::from(stream.limit))?;
     write_flag(bytes, is_delta(stream.temporality))
+}
+
+// Writes what a stream has beside its texts.
+fn write_settings(bytes: &mut Vec<u8>, stream: &Stream) -> Result<(), AllocError>
+    ensures { OnOk result (bytes.new.items ≡ bytes.old.items ++ flat_settings stream.now) }
+{
+    write_source(bytes, stream)?;
+    write_points(bytes, stream)
 }
 
 // The name, description and unit of a stream.
