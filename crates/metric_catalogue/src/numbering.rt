@@ -4,14 +4,14 @@ ghost use Rattle.metric_names.specs.Values.{value_of};
 ghost use Rattle.metric_catalogue.specs.Places.{has_repeat};
 ghost use Rattle.metric_catalogue.specs.Numbering.{Numbers, PutsNumber, number_in};
 
-use indexmap::IndexMap;
 use metric_names::{AttrValue, ValueRef};
 use std::alloc::{AllocError, Global};
+use std::collections::HashMap;
 
 // Gives values their numbers: texts and whole numbers by hash, flags by a look.
 pub(crate) struct Numbering {
-    texts: IndexMap<String, u16>,
-    wholes: IndexMap<i64, u16>,
+    texts: HashMap<String, u16>,
+    wholes: HashMap<i64, u16>,
     yes: Option<u16>,
     no: Option<u16>,
 }
@@ -34,8 +34,8 @@ impl Numbering {
         ensures { Numbers result [] }
     {
         Numbering {
-            texts: IndexMap::new(alloc),
-            wholes: IndexMap::new(alloc),
+            texts: HashMap::new(alloc),
+            wholes: HashMap::new(alloc),
             yes: None,
             no: None,
         }
