@@ -7,7 +7,8 @@ use Rattle.metric_table.specs.Fields.{tables_field}
 use Rattle.metric_catalogue.specs.declared.contents.Instrument.{Instrument}
 use Rattle.metric_catalogue.specs.declared.contents.Key.{Key}
 use Rattle.metric_catalogue.specs.declared.instruments.Head.{Head}
-use Rattle.metric_catalogue.specs.declared.fault.CatalogueFault.TheVariants.{DuplicateInstrument}
+use Rattle.metric_catalogue.specs.declared.fault.CatalogueDefect.TheVariants.{DuplicateInstrument}
+use Rattle.metric_catalogue.specs.declared.fault.CatalogueFault.TheVariants.{At}
 use Rattle.metric_catalogue.specs.declared.fault.CataloguePlace.TheVariants as place
 use Rattle.metric_catalogue.specs.Faults.{faults_at}
 use Rattle.metric_catalogue.specs.Instruments.{advice_field, head_of, instrument_of, is_instrument, keys_field, range_field}
@@ -51,5 +52,5 @@ keys_last meter before table =
     let at = place.Instrument (length before) in
     λ i. head_of at table >>= λ head. range_field at head.kind table >>= λ range. advice_field at table >>= λ advice.
     three_as_one (tables_field (faults_at at) 8 (codes "key") table)
-    (λ _. require (not (list_any (is_instrument meter head.name) before)) (DuplicateInstrument at))
+    (λ _. require (not (list_any (is_instrument meter head.name) before)) (At DuplicateInstrument at))
     (λ tables _. each (key_of at) [] tables) (λ keys. Ok (with_keys meter head range advice keys)) i

@@ -16,7 +16,8 @@ use Rattle.metric_catalogue.specs.declared.contents.Instrument.{Instrument}
 use Rattle.metric_catalogue.specs.declared.contents.Meter.{Meter}
 use Rattle.metric_catalogue.specs.declared.contents.Recorder.{Recorder}
 use Rattle.metric_catalogue.specs.declared.meters.Metered.{Metered}
-use Rattle.metric_catalogue.specs.declared.fault.CatalogueFault.TheVariants.{BadRange, DuplicateBudget, DuplicateMeter, DuplicateRecorder, UnknownInstrument}
+use Rattle.metric_catalogue.specs.declared.fault.CatalogueDefect.TheVariants.{BadRange, DuplicateBudget, DuplicateMeter, DuplicateRecorder, UnknownInstrument}
+use Rattle.metric_catalogue.specs.declared.fault.CatalogueFault.TheVariants.{At}
 use Rattle.metric_catalogue.specs.declared.fault.CataloguePlace.{CataloguePlace}
 use Rattle.metric_catalogue.specs.declared.fault.CataloguePlace.TheVariants as place
 use Rattle.metric_catalogue.specs.Catalogues.{contents_of, format_of_top, nothing_metered, tables_of_top}
@@ -85,7 +86,7 @@ meter_made before table after e0 so_far =
     let number = length before.meters in
     after_ok (meter_of at table) _ after e0 (λ meter textual e1.
     after_ok (tables_field (faults_at at) (512 - length before.instruments) (codes "instrument") table) _ after e1 (λ tables listed e2.
-    let (new, e3) = require_ok (not (list_any (is_meter meter) before.meters)) (DuplicateMeter at) _ after e2 in
+    let (new, e3) = require_ok (not (list_any (is_meter meter) before.meters)) (At DuplicateMeter at) _ after e2 in
     after_ok (each (instrument_of number) before.instruments tables) _ after e3 (λ instruments made e4.
     let all : Metered = record { meters = before.meters ++ meter ∷ []; instruments = instruments } in
     let long : length all.meters ≡ number + 1 = length-append before.meters (meter ∷ []) in
@@ -148,15 +149,15 @@ budget_made at count before table budget e0 =
     after_ok (only (faults_at at) (map (λ name. name.now) BUDGET_FIELDS) table) _ budget e0 (λ _ _ e1.
     after_ok (budgeted at count table) _ budget e1 (λ instrument numbered e2.
     after_ok (amount_field at table) _ budget e2 (λ amount counted e3.
-    let (new, e4) = require_ok (not (list_any (is_budget instrument) before)) (DuplicateBudget at) _ budget e3 in
+    let (new, e4) = require_ok (not (list_any (is_budget instrument) before)) (At DuplicateBudget at) _ budget e3 in
     let known : instrument < count =
     after_ok (field (faults_at at) (codes "instrument") table) _ instrument numbered (λ d _ n1.
     after_ok (integer_of (faults_at at) d) _ instrument n1 (λ z _ n2.
-    below_made count z instrument (some_made (number_below count z) (UnknownInstrument at) instrument n2))) in
+    below_made count z instrument (some_made (number_below count z) (At UnknownInstrument at) instrument n2))) in
     let limited : amount < 2 ^ 63 =
     after_ok (field (faults_at at) (codes "amount") table) _ amount counted (λ d _ n1.
     after_ok (integer_of (faults_at at) d) _ amount n1 (λ z _ n2.
-    amount_made z amount (some_made (amount_from z) (BadRange at) amount n2))) in
+    amount_made z amount (some_made (amount_from z) (At BadRange at) amount n2))) in
     let made : Budget = record { instrument = instrument; amount = amount } in
     let next : IsNext (IsSoundBudget count) (λ o b. o.instrument ≢ b.instrument) before made = record {
       sound = record { known = known; limited = limited };
@@ -172,7 +173,7 @@ recorder_made count before table recorder e0 =
     after_ok (only (faults_at at) (map (λ name. name.now) RECORDER_FIELDS) table) _ recorder e0 (λ _ _ e1.
     after_ok (label_field at table) _ recorder e1 (λ name named e2.
     after_ok (tables_field (faults_at at) 512 (codes "budget") table) _ recorder e2 (λ tables listed e3.
-    let (new, e4) = require_ok (not (list_any (is_recorder name) before)) (DuplicateRecorder at) _ recorder e3 in
+    let (new, e4) = require_ok (not (list_any (is_recorder name) before)) (At DuplicateRecorder at) _ recorder e3 in
     after_ok (each (budget_of at count) [] tables) _ recorder e4 (λ budgets budgeted e5.
     let few = tables_few (faults_at at) 512 (codes "budget") table tables listed in
     let made : Recorder = record { name = name; budgets = budgets } in

@@ -15,7 +15,8 @@ use Rattle.metric_table.specs.Fields.{field, integer_of, integers_of, list_of, o
 use Rattle.metric_catalogue.specs.declared.contents.Instrument.{Instrument}
 use Rattle.metric_catalogue.specs.declared.contents.Kind.{Kind}
 use Rattle.metric_catalogue.specs.declared.instruments.Head.{Head}
-use Rattle.metric_catalogue.specs.declared.fault.CatalogueFault.TheVariants.{BadBoundaries, BadName, BadRange, BadUnit, DuplicateInstrument}
+use Rattle.metric_catalogue.specs.declared.fault.CatalogueDefect.TheVariants.{BadBoundaries, BadName, BadRange, BadUnit, DuplicateInstrument}
+use Rattle.metric_catalogue.specs.declared.fault.CatalogueFault.TheVariants.{At}
 use Rattle.metric_catalogue.specs.declared.fault.CataloguePlace.{CataloguePlace}
 use Rattle.metric_catalogue.specs.declared.fault.CataloguePlace.TheVariants as place
 use Rattle.metric_catalogue.specs.Faults.{faults_at, pair_faults_at}
@@ -42,14 +43,14 @@ range_made at kind table range e0 =
     after_ok (field (faults_at at) (codes "range") table) _ range e0 (λ d _ e1.
     after_ok (list_of (pair_faults_at at) 2 d) _ range e1 (λ values _ e2.
     after_ok (pair_of at values) _ range e2 (λ pair _ e3.
-    let (fits, e4) = require_ok (is_range kind pair) (BadRange at) _ range e3 in
+    let (fits, e4) = require_ok (is_range kind pair) (At BadRange at) _ range e3 in
     subst (λ (r : ℤ × ℤ). is_range kind r ≡ true) (ok_is pair range (Ok pair) refl e4) fits)))
 
 boundaries_made : (at : CataloguePlace) (d : Data) (boundaries : List ℤ) → boundaries_of at d ≡ Ok boundaries → AreBoundaries boundaries
 unfolding boundaries_of integers_of
 boundaries_made at d boundaries e0 =
     after_ok (integers_of (faults_at at) 128 d) _ boundaries e0 (λ read made e1.
-    let (rising, e2) = require_ok (is_rising read) (BadBoundaries at) _ boundaries e1 in
+    let (rising, e2) = require_ok (is_rising read) (At BadBoundaries at) _ boundaries e1 in
     let few : length read ≤ 128 =
     after_ok (list_of (faults_at at) 128 d) _ read made (λ values listed e3.
     let short = list_few (faults_at at) 128 d values listed in
@@ -79,13 +80,13 @@ unfolding instrument_name
 name_made at table name e0 =
     after_ok (only_instrument_fields at table) _ name e0 (λ _ _ e1.
     after_ok (text_field (faults_at at) (codes "name") table) _ name e1 (λ text _ e2.
-    name_of-IsName text name (told (λ _. BadName at) (name_of text) name e2)))
+    name_of-IsName text name (told (λ _. At BadName at) (name_of text) name e2)))
 
 unit_made : (at : CataloguePlace) (table : Members) (unit : List ℕ) → unit_field at table ≡ Ok unit → IsUnit unit
 unfolding unit_field
 unit_made at table unit e0 =
     after_ok (optional_text (faults_at at) (codes "unit") table) _ unit e0 (λ text _ e1.
-    unit_of-IsUnit (unwrap_or text []) unit (told (λ _. BadUnit at) (unit_of (unwrap_or text [])) unit e1))
+    unit_of-IsUnit (unwrap_or text []) unit (told (λ _. At BadUnit at) (unit_of (unwrap_or text [])) unit e1))
 
 -- what names and describes an instrument
 record IsSoundHead (head : Head) : Type 0 where
@@ -120,7 +121,7 @@ instrument_made meter meters known before table instrument e0 =
     after_ok (range_field at head.kind table) _ instrument e1 (λ range ranged e2.
     after_ok (advice_field at table) _ instrument e2 (λ advice advised e3.
     after_ok (tables_field (faults_at at) 8 (codes "key") table) _ instrument e3 (λ tables listed e4.
-    let (new, e5) = require_ok (not (list_any (is_instrument meter head.name) before)) (DuplicateInstrument at) _ instrument e4 in
+    let (new, e5) = require_ok (not (list_any (is_instrument meter head.name) before)) (At DuplicateInstrument at) _ instrument e4 in
     after_ok (each (key_of at) [] tables) _ instrument e5 (λ keys keyed e6.
     let (ordered, not_negative) = range_is head.kind range.0 range.1 (range_made at head.kind table range ranged) in
     let sound_head = head_made at table head headed in

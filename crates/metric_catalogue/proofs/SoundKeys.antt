@@ -11,7 +11,8 @@ use Rattle.metric_names.specs.declared.value.AttrValue.{AttrValue}
 use Rattle.metric_names.specs.declared.value.AttrValue.TheVariants.{Text, Whole, Flag}
 use Rattle.metric_table.specs.Fields.{field, list_of, optional_text, short_text, text_field}
 use Rattle.metric_catalogue.specs.declared.contents.Key.{Key}
-use Rattle.metric_catalogue.specs.declared.fault.CatalogueFault.TheVariants.{BadName, DuplicateKey, DuplicateValue, MissingField, ReservedKey, TooMany}
+use Rattle.metric_catalogue.specs.declared.fault.CatalogueDefect.TheVariants.{BadName, DuplicateKey, DuplicateValue, MissingField, ReservedKey, TooMany}
+use Rattle.metric_catalogue.specs.declared.fault.CatalogueFault.TheVariants.{At}
 use Rattle.metric_catalogue.specs.declared.fault.CataloguePlace.{CataloguePlace}
 use Rattle.metric_catalogue.specs.Faults.{faults_at}
 use Rattle.metric_catalogue.specs.Keys.{is_key, key_name, key_of, only_key_fields, optional_field, some_values, value_at, values_field}
@@ -26,7 +27,7 @@ use Rattle.metric_catalogue.proofs.SoundLists.{IsNext, apart_by, each_length, li
 short_made : (at : CataloguePlace) (text name : List ℕ) → short_text (faults_at at) text ≡ Ok name → (text ≡ name) × IsFreeText name
 unfolding short_text
 short_made at text name e =
-    let (short, e1) = require_ok (nat_le (length (chars text)) 1023) (TooMany at) _ name e in
+    let (short, e1) = require_ok (nat_le (length (chars text)) 1023) (At TooMany at) _ name e in
     let same = ok_is text name (Ok text) refl e1 in
     let few : IsFreeText text = grind (arith, nat_tests) in
     (same, subst IsFreeText same few)
@@ -46,7 +47,7 @@ pub label_made : (at : CataloguePlace) (table : Members) (name : List ℕ) → l
 unfolding label_field
 label_made at table name e0 =
     after_ok (text_field (faults_at at) (codes "name") table) _ name e0 (λ text _ e1.
-    let (full, e2) = require_ok (not (length text == 0)) (BadName at) _ name e1 in
+    let (full, e2) = require_ok (not (length text == 0)) (At BadName at) _ name e1 in
     let (same, free) = short_made at text name e2 in
     let some : 0 < length text = grind (arith, nat_tests) in
     record { some = subst (λ (t : List ℕ). 0 < length t) same some; free = free })
@@ -55,7 +56,7 @@ name_made : (at : CataloguePlace) (table : Members) (name : List ℕ) → key_na
 unfolding key_name
 name_made at table name e0 =
     after_ok (label_field at table) _ name e0 (λ text made e1.
-    let (other, e2) = require_ok (not (bytes_eq text (codes "otel.metric.overflow"))) (ReservedKey at) _ name e1 in
+    let (other, e2) = require_ok (not (bytes_eq text (codes "otel.metric.overflow"))) (At ReservedKey at) _ name e1 in
     let apart = texts_apart text (codes "otel.metric.overflow") (not_true (bytes_eq text (codes "otel.metric.overflow")) other) in
     (label_made at table name (made ∙ e2), subst (λ (t : List ℕ). t ≢ codes "otel.metric.overflow") (ok_is text name (Ok text) refl e2) apart))
 
@@ -94,7 +95,7 @@ unfolding some_values
 some_made at table values e0 =
     after_ok (field (faults_at at) (codes "values") table) _ values e0 (λ d _ e1.
     after_ok (list_of (faults_at at) 1000 d) _ values e1 (λ ds listed e2.
-    let (full, e3) = require_ok (not (length ds == 0)) (MissingField at) _ values e2 in
+    let (full, e3) = require_ok (not (length ds == 0)) (At MissingField at) _ values e2 in
     let same = each_length (λ _ x. value_at at x) [] ds values e3 in
     let some : 0 < length ds = grind (arith, nat_tests) in
     (omega arith, made_sound 1000 IsSoundValue (λ _ _. Unit {0}) (λ _ x. value_at at x) (value_next at) ds values e3 (list_few (faults_at at) 1000 d ds listed))))
@@ -103,7 +104,7 @@ values_made : (at : CataloguePlace) (table : Members) (values : List AttrValue) 
 unfolding values_field
 values_made at table values e0 =
     after_ok (some_values at table) _ values e0 (λ vs made e1.
-    let (distinct, e2) = require_ok (not (has_repeat vs)) (DuplicateValue at) _ values e1 in
+    let (distinct, e2) = require_ok (not (has_repeat vs)) (At DuplicateValue at) _ values e1 in
     let same = ok_is vs values (Ok vs) refl e2 in
     let (some, sound) = some_made at table values (made ∙ e2) in
     let differ = differ_after [] vs (λ i j d before within. absurd (omega arith)) (not_true (has_repeat vs) distinct) in
@@ -116,7 +117,7 @@ key_made at before table key e0 =
     after_ok (key_name at table) _ key e1 (λ name named e2.
     after_ok (values_field at table) _ key e2 (λ values valued e3.
     after_ok (optional_field at table) _ key e3 (λ optional _ e4.
-    let (new, e5) = require_ok (not (list_any (is_key name) before)) (DuplicateKey at) _ key e4 in
+    let (new, e5) = require_ok (not (list_any (is_key name) before)) (At DuplicateKey at) _ key e4 in
     let (label, other) = name_made at table name named in
     let (some, distinct) = values_made at table values valued in
     let made : Key = record { name = name; values = values; optional = optional } in

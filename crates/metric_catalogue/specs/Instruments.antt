@@ -13,7 +13,8 @@ use Rattle.metric_catalogue.specs.declared.contents.Kind.{Kind}
 use Rattle.metric_catalogue.specs.declared.instruments.Head.{Head}
 use Rattle.metric_catalogue.specs.declared.instruments.TheConstants.{INSTRUMENT_FIELDS}
 use Rattle.metric_catalogue.specs.declared.fault.CatalogueFault.{CatalogueFault}
-use Rattle.metric_catalogue.specs.declared.fault.CatalogueFault.TheVariants.{WrongKind, BadName, BadUnit, BadRange, BadBoundaries, DuplicateInstrument}
+use Rattle.metric_catalogue.specs.declared.fault.CatalogueDefect.TheVariants.{WrongKind, BadName, BadUnit, BadRange, BadBoundaries, DuplicateInstrument}
+use Rattle.metric_catalogue.specs.declared.fault.CatalogueFault.TheVariants.{At}
 use Rattle.metric_catalogue.specs.declared.fault.CataloguePlace.{CataloguePlace}
 use Rattle.metric_catalogue.specs.declared.fault.CataloguePlace.TheVariants as place
 use Rattle.metric_catalogue.specs.Faults.{faults_at, pair_faults_at}
@@ -31,19 +32,19 @@ unfoldable pub instrument_name : CataloguePlace → Members → Result (List ℕ
 instrument_name at table = do
   _ ← only_instrument_fields at table
   text ← text_field (faults_at at) (codes "name") table
-  with_fault (λ _. BadName at) (name_of text)
+  with_fault (λ _. At BadName at) (name_of text)
 
 -- the kind of an instrument
 unfoldable pub kind_field : CataloguePlace → Members → Result Kind CatalogueFault
 kind_field at table = do
   text ← text_field (faults_at at) (codes "kind") table
-  require_some (kind_named text) (WrongKind at)
+  require_some (kind_named text) (At WrongKind at)
 
 -- the unit of an instrument, empty where it is left out
 unfoldable pub unit_field : CataloguePlace → Members → Result (List ℕ) CatalogueFault
 unit_field at table = do
   text ← optional_text (faults_at at) (codes "unit") table
-  with_fault (λ _. BadUnit at) (unit_of (unwrap_or text []))
+  with_fault (λ _. At BadUnit at) (unit_of (unwrap_or text []))
 
 -- what names and describes an instrument
 unfoldable pub head_of : CataloguePlace → Members → Result Head CatalogueFault
@@ -60,7 +61,7 @@ pair_of at (lo ∷ hi ∷ []) = do
   low ← integer_of (faults_at at) lo
   high ← integer_of (faults_at at) hi
   Ok (low, high)
-pair_of at _ = Err (WrongKind at)
+pair_of at _ = Err (At WrongKind at)
 
 -- a range is not empty, and has no negative value where sums only rise
 abbrev pub is_range : Kind → ℤ × ℤ → Bool
@@ -72,14 +73,14 @@ range_field at kind table = do
   d ← field (faults_at at) (codes "range") table
   values ← list_of (pair_faults_at at) 2 d
   range ← pair_of at values
-  _ ← require (is_range kind range) (BadRange at)
+  _ ← require (is_range kind range) (At BadRange at)
   Ok range
 
 -- boundaries that rise
 unfoldable pub boundaries_of : CataloguePlace → Data → Result (List ℤ) CatalogueFault
 boundaries_of at d = do
   boundaries ← integers_of (faults_at at) 128 d
-  _ ← require (is_rising boundaries) (BadBoundaries at)
+  _ ← require (is_rising boundaries) (At BadBoundaries at)
   Ok boundaries
 
 -- boundaries, where there are any
@@ -101,7 +102,7 @@ is_instrument meter name instrument = (instrument.meter == meter) && bytes_eq (f
 unfoldable pub keys_field : CataloguePlace → Bool → Members → Result (List Key) CatalogueFault
 keys_field at is_taken table = do
   tables ← tables_field (faults_at at) 8 (codes "key") table
-  _ ← require (not is_taken) (DuplicateInstrument at)
+  _ ← require (not is_taken) (At DuplicateInstrument at)
   each (key_of at) [] tables
 
 -- one more instrument of a meter, after those of the file before it
@@ -112,6 +113,6 @@ instrument_of meter before table = do
   range ← range_field at head.kind table
   advice ← advice_field at table
   tables ← tables_field (faults_at at) 8 (codes "key") table
-  _ ← require (not (list_any (is_instrument meter head.name) before)) (DuplicateInstrument at)
+  _ ← require (not (list_any (is_instrument meter head.name) before)) (At DuplicateInstrument at)
   keys ← each (key_of at) [] tables
   Ok (record { meter = meter; name = head.name; kind = head.kind; unit = head.unit; description = head.description; lo = range.0; hi = range.1; advice = advice; keys = keys })

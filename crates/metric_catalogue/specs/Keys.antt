@@ -10,7 +10,8 @@ use Rattle.metric_table.specs.Fields.{only, field, list_of, short_text, flag_or,
 use Rattle.metric_catalogue.specs.declared.contents.Key.{Key}
 use Rattle.metric_catalogue.specs.declared.keys.TheConstants.{KEY_FIELDS}
 use Rattle.metric_catalogue.specs.declared.fault.CatalogueFault.{CatalogueFault}
-use Rattle.metric_catalogue.specs.declared.fault.CatalogueFault.TheVariants.{MissingField, WrongKind, ReservedKey, DuplicateValue, DuplicateKey}
+use Rattle.metric_catalogue.specs.declared.fault.CatalogueDefect.TheVariants.{MissingField, WrongKind, ReservedKey, DuplicateValue, DuplicateKey}
+use Rattle.metric_catalogue.specs.declared.fault.CatalogueFault.TheVariants.{At}
 use Rattle.metric_catalogue.specs.declared.fault.CataloguePlace.{CataloguePlace}
 use Rattle.metric_catalogue.specs.Faults.{faults_at}
 use Rattle.metric_catalogue.specs.Places.{has_repeat}
@@ -20,7 +21,7 @@ use Rattle.metric_catalogue.specs.Texts.{label_field}
 unfoldable pub key_name : CataloguePlace → Members → Result (List ℕ) CatalogueFault
 key_name at table = do
   name ← label_field at table
-  _ ← require (not (bytes_eq name (codes "otel.metric.overflow"))) (ReservedKey at)
+  _ ← require (not (bytes_eq name (codes "otel.metric.overflow"))) (At ReservedKey at)
   Ok name
 
 -- an attribute value: a text that is not too long, a whole number or a flag
@@ -30,21 +31,21 @@ value_at at (string text) = do
   Ok (Text short)
 value_at at (integer number) = Ok (Whole number)
 value_at at (boolean flag) = Ok (Flag flag)
-value_at at _ = Err (WrongKind at)
+value_at at _ = Err (At WrongKind at)
 
 -- a list of values that is not empty
 unfoldable pub some_values : CataloguePlace → Members → Result (List AttrValue) CatalogueFault
 some_values at table = do
   d ← field (faults_at at) (codes "values") table
   ds ← list_of (faults_at at) 1000 d
-  _ ← require (not (length ds == 0)) (MissingField at)
+  _ ← require (not (length ds == 0)) (At MissingField at)
   each_alone (value_at at) ds
 
 -- the values of a key, of which none stands twice
 unfoldable pub values_field : CataloguePlace → Members → Result (List AttrValue) CatalogueFault
 values_field at table = do
   values ← some_values at table
-  _ ← require (not (has_repeat values)) (DuplicateValue at)
+  _ ← require (not (has_repeat values)) (At DuplicateValue at)
   Ok values
 
 -- the key has this name
@@ -66,5 +67,5 @@ key_of at before table = do
   name ← key_name at table
   values ← values_field at table
   optional ← optional_field at table
-  _ ← require (not (list_any (is_key name) before)) (DuplicateKey at)
+  _ ← require (not (list_any (is_key name) before)) (At DuplicateKey at)
   Ok (record { name = name; values = values; optional = optional })

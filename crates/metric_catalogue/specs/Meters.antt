@@ -9,7 +9,8 @@ use Rattle.metric_catalogue.specs.declared.contents.Meter.{Meter}
 use Rattle.metric_catalogue.specs.declared.meters.Metered.{Metered}
 use Rattle.metric_catalogue.specs.declared.meters.TheConstants.{METER_FIELDS}
 use Rattle.metric_catalogue.specs.declared.fault.CatalogueFault.{CatalogueFault}
-use Rattle.metric_catalogue.specs.declared.fault.CatalogueFault.TheVariants.{DuplicateMeter}
+use Rattle.metric_catalogue.specs.declared.fault.CatalogueDefect.TheVariants.{DuplicateMeter}
+use Rattle.metric_catalogue.specs.declared.fault.CatalogueFault.TheVariants.{At}
 use Rattle.metric_catalogue.specs.declared.fault.CataloguePlace.{CataloguePlace}
 use Rattle.metric_catalogue.specs.declared.fault.CataloguePlace.TheVariants as place
 use Rattle.metric_catalogue.specs.Faults.{faults_at}
@@ -39,6 +40,6 @@ with_meter before table = do
   let at = place.Meter (length before.meters)
   meter ← meter_of at table
   tables ← tables_field (faults_at at) (512 - length before.instruments) (codes "instrument") table
-  _ ← require (not (list_any (is_meter meter) before.meters)) (DuplicateMeter at)
+  _ ← require (not (list_any (is_meter meter) before.meters)) (At DuplicateMeter at)
   instruments ← each (instrument_of (length before.meters)) before.instruments tables
   Ok (record { meters = before.meters ++ meter ∷ []; instruments = instruments })

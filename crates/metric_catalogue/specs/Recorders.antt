@@ -9,7 +9,8 @@ use Rattle.metric_catalogue.specs.declared.contents.Budget.{Budget}
 use Rattle.metric_catalogue.specs.declared.contents.Recorder.{Recorder}
 use Rattle.metric_catalogue.specs.declared.recorders.TheConstants.{BUDGET_FIELDS, RECORDER_FIELDS}
 use Rattle.metric_catalogue.specs.declared.fault.CatalogueFault.{CatalogueFault}
-use Rattle.metric_catalogue.specs.declared.fault.CatalogueFault.TheVariants.{BadRange, UnknownInstrument, DuplicateRecorder, DuplicateBudget}
+use Rattle.metric_catalogue.specs.declared.fault.CatalogueDefect.TheVariants.{BadRange, UnknownInstrument, DuplicateRecorder, DuplicateBudget}
+use Rattle.metric_catalogue.specs.declared.fault.CatalogueFault.TheVariants.{At}
 use Rattle.metric_catalogue.specs.declared.fault.CataloguePlace.{CataloguePlace}
 use Rattle.metric_catalogue.specs.declared.fault.CataloguePlace.TheVariants as place
 use Rattle.metric_catalogue.specs.Faults.{faults_at}
@@ -25,7 +26,7 @@ unfoldable pub budgeted : CataloguePlace → ℕ → Members → Result ℕ Cata
 budgeted at count table = do
   d ← field (faults_at at) (codes "instrument") table
   number ← integer_of (faults_at at) d
-  require_some (number_below count number) (UnknownInstrument at)
+  require_some (number_below count number) (At UnknownInstrument at)
 
 -- a number that is not negative, and that a 64-bit number with a sign may be
 abbrev pub amount_from : ℤ → Option ℕ
@@ -37,7 +38,7 @@ unfoldable pub amount_field : CataloguePlace → Members → Result ℕ Catalogu
 amount_field at table = do
   d ← field (faults_at at) (codes "amount") table
   number ← integer_of (faults_at at) d
-  require_some (amount_from number) (BadRange at)
+  require_some (amount_from number) (At BadRange at)
 
 -- the budget is for this instrument
 abbrev pub is_budget : ℕ → Budget → Bool
@@ -49,7 +50,7 @@ budget_of at count before table = do
   _ ← only (faults_at at) (map (λ name. name.now) BUDGET_FIELDS) table
   instrument ← budgeted at count table
   amount ← amount_field at table
-  _ ← require (not (list_any (is_budget instrument) before)) (DuplicateBudget at)
+  _ ← require (not (list_any (is_budget instrument) before)) (At DuplicateBudget at)
   Ok (record { instrument = instrument; amount = amount })
 
 -- the recorder has this name
@@ -63,6 +64,6 @@ recorder_of count before table = do
   _ ← only (faults_at at) (map (λ name. name.now) RECORDER_FIELDS) table
   name ← label_field at table
   tables ← tables_field (faults_at at) 512 (codes "budget") table
-  _ ← require (not (list_any (is_recorder name) before)) (DuplicateRecorder at)
+  _ ← require (not (list_any (is_recorder name) before)) (At DuplicateRecorder at)
   budgets ← each (budget_of at count) [] tables
   Ok (record { name = name; budgets = budgets })

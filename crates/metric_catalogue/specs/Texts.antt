@@ -4,7 +4,8 @@ use Rattle.toml.specs.Data.{Members}
 use Rattle.metric_base.specs.Steps.{◌>>=◌, require}
 use Rattle.metric_table.specs.Fields.{text_field, optional_text, short_text}
 use Rattle.metric_catalogue.specs.declared.fault.CatalogueFault.{CatalogueFault}
-use Rattle.metric_catalogue.specs.declared.fault.CatalogueFault.TheVariants.{BadName}
+use Rattle.metric_catalogue.specs.declared.fault.CatalogueDefect.TheVariants.{BadName}
+use Rattle.metric_catalogue.specs.declared.fault.CatalogueFault.TheVariants.{At}
 use Rattle.metric_catalogue.specs.declared.fault.CataloguePlace.{CataloguePlace}
 use Rattle.metric_catalogue.specs.Faults.{faults_at}
 
@@ -24,5 +25,5 @@ free_text at name table = do
 unfoldable pub label_field : CataloguePlace → Members → Result (List ℕ) CatalogueFault
 label_field at table = do
   text ← text_field (faults_at at) (codes "name") table
-  _ ← require (not (length text == 0)) (BadName at)
+  _ ← require (not (length text == 0)) (At BadName at)
   short_text (faults_at at) text

@@ -17,108 +17,68 @@ pub enum CataloguePlace {
     Recorder(u32),
 }
 
+/// What is wrong with a table of a catalogue.
+#[derive(Clone, Copy, Debug, PartialEq, Eq, Drop, Error)]
+pub enum CatalogueDefect {
+    /// A needed field is missing, or a key has an empty list of values.
+    #[error("2 MissingField")]
+    MissingField,
+    /// A field's value is of another kind than the format says.
+    #[error("3 WrongKind")]
+    WrongKind,
+    /// The table has a field that the format does not name.
+    #[error("4 UnknownField")]
+    UnknownField,
+    /// An instrument's name is no name, or a key's or recorder's name is empty.
+    #[error("5 BadName")]
+    BadName,
+    /// An instrument's unit is no unit.
+    #[error("6 BadUnit")]
+    BadUnit,
+    /// An earlier meter has the same name, version and schema URL.
+    #[error("7 DuplicateMeter")]
+    DuplicateMeter,
+    /// An earlier instrument of the meter has the same name without ASCII case.
+    #[error("8 DuplicateInstrument")]
+    DuplicateInstrument,
+    /// An earlier key of the instrument has the same name.
+    #[error("9 DuplicateKey")]
+    DuplicateKey,
+    /// A value stands twice in a key's list.
+    #[error("10 DuplicateValue")]
+    DuplicateValue,
+    /// A key has the name of the attribute that marks the overflow point.
+    #[error("11 ReservedKey")]
+    ReservedKey,
+    /// A range is empty, a counter's or histogram's range has negative values, or an amount is negative.
+    #[error("12 BadRange")]
+    BadRange,
+    /// Boundaries do not rise strictly.
+    #[error("13 BadBoundaries")]
+    BadBoundaries,
+    /// A budget is for an instrument that the catalogue does not have.
+    #[error("14 UnknownInstrument")]
+    UnknownInstrument,
+    /// An earlier recorder has the same name.
+    #[error("15 DuplicateRecorder")]
+    DuplicateRecorder,
+    /// An earlier budget of the recorder is for the same instrument.
+    #[error("16 DuplicateBudget")]
+    DuplicateBudget,
+    /// A list or a text is longer than its limit.
+    #[error("17 TooMany")]
+    TooMany,
+}
+
 /// Why a text is no catalogue.
 #[derive(Clone, Copy, Debug, PartialEq, Eq, Drop, Error)]
 pub enum CatalogueFault {
     /// The text is no TOML.
     #[error("1 NotToml")]
     NotToml,
-    /// A needed field is missing, or a key has an empty list of values.
-    #[error("2 MissingField at {at}")]
-    MissingField {
-        /// Where.
-        at: CataloguePlace,
-    },
-    /// A field's value is of another kind than the format says.
-    #[error("3 WrongKind at {at}")]
-    WrongKind {
-        /// Where.
-        at: CataloguePlace,
-    },
-    /// A table has a field that the format does not name.
-    #[error("4 UnknownField at {at}")]
-    UnknownField {
-        /// Where.
-        at: CataloguePlace,
-    },
-    /// An instrument's name is no name, or a key's or recorder's name is empty.
-    #[error("5 BadName at {at}")]
-    BadName {
-        /// Where.
-        at: CataloguePlace,
-    },
-    /// An instrument's unit is no unit.
-    #[error("6 BadUnit at {at}")]
-    BadUnit {
-        /// Where.
-        at: CataloguePlace,
-    },
-    /// An earlier meter has the same name, version and schema URL.
-    #[error("7 DuplicateMeter at {at}")]
-    DuplicateMeter {
-        /// Where.
-        at: CataloguePlace,
-    },
-    /// An earlier instrument of the meter has the same name without ASCII case.
-    #[error("8 DuplicateInstrument at {at}")]
-    DuplicateInstrument {
-        /// Where.
-        at: CataloguePlace,
-    },
-    /// An earlier key of the instrument has the same name.
-    #[error("9 DuplicateKey at {at}")]
-    DuplicateKey {
-        /// Where.
-        at: CataloguePlace,
-    },
-    /// A value stands twice in a key's list.
-    #[error("10 DuplicateValue at {at}")]
-    DuplicateValue {
-        /// Where.
-        at: CataloguePlace,
-    },
-    /// A key has the name of the attribute that marks the overflow point.
-    #[error("11 ReservedKey at {at}")]
-    ReservedKey {
-        /// Where.
-        at: CataloguePlace,
-    },
-    /// A range is empty, a counter's or histogram's range has negative values, or an amount is negative.
-    #[error("12 BadRange at {at}")]
-    BadRange {
-        /// Where.
-        at: CataloguePlace,
-    },
-    /// Boundaries do not rise strictly.
-    #[error("13 BadBoundaries at {at}")]
-    BadBoundaries {
-        /// Where.
-        at: CataloguePlace,
-    },
-    /// A budget is for an instrument that the catalogue does not have.
-    #[error("14 UnknownInstrument at {at}")]
-    UnknownInstrument {
-        /// Where.
-        at: CataloguePlace,
-    },
-    /// An earlier recorder has the same name.
-    #[error("15 DuplicateRecorder at {at}")]
-    DuplicateRecorder {
-        /// Where.
-        at: CataloguePlace,
-    },
-    /// An earlier budget of the recorder is for the same instrument.
-    #[error("16 DuplicateBudget at {at}")]
-    DuplicateBudget {
-        /// Where.
-        at: CataloguePlace,
-    },
-    /// A list or a text is longer than its limit.
-    #[error("17 TooMany at {at}")]
-    TooMany {
-        /// Where.
-        at: CataloguePlace,
-    },
+    /// A table at this place has a defect.
+    #[error("{0} at {1}")]
+    At(CatalogueDefect, CataloguePlace),
     /// Memory was refused.
     #[error("18 Memory")]
     Memory,

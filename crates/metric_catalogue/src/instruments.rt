@@ -7,7 +7,7 @@ ghost use Rattle.metric_catalogue.specs.Texts.{free_text};
 ghost use Rattle.metric_catalogue.specs.Instruments.{advice_field, boundaries_of, head_of, instrument_name, instrument_of, is_instrument, is_range, keys_field, kind_field, only_instrument_fields, pair_of, range_field, unit_field};
 
 use crate::contents::{Instrument, Key, Kind};
-use crate::fault::{CatalogueFault, CataloguePlace};
+use crate::fault::{CatalogueDefect, CatalogueFault, CataloguePlace};
 use crate::keys::keys_of;
 use crate::texts::{faults_at, free_text, pair_faults_at};
 use metric_base::{Boundaries, Few, Items, Shared, Text, is_rising};
@@ -144,7 +144,7 @@ fn keys_field(
 {
     let tables = tables_field(alloc, table, "key", 8, &faults_at(at))?;
     if is_taken {
-        return Err(CatalogueFault::DuplicateInstrument { at });
+        return Err(CatalogueFault::At(CatalogueDefect::DuplicateInstrument, at));
     }
     let keys = keys_of(alloc, tables.as_slice(), at)?;
     Ok(Few::from_items(keys))
@@ -200,7 +200,7 @@ fn instrument_name(
     match Name::parse(alloc, text) {
         Ok(name) => Ok(Shared::new(alloc, name)?),
         Err(NameFault::Memory) => Err(CatalogueFault::Memory),
-        Err(_) => Err(CatalogueFault::BadName { at }),
+        Err(_) => Err(CatalogueFault::At(CatalogueDefect::BadName, at)),
     }
 }
 
@@ -209,7 +209,7 @@ fn kind_field(table: &Table, at: CataloguePlace) -> Result<Kind, CatalogueFault>
     ensures { result ≡ kind_field at (table_view table.now) }
 {
     let text = text_field(table, "kind", &faults_at(at))?;
-    Kind::named(text).ok_or(CatalogueFault::WrongKind { at })
+    Kind::named(text).ok_or(CatalogueFault::At(CatalogueDefect::WrongKind, at))
 }
 
 #[tactic(auto, unfolding(crate::specs::Instruments::unit_field))]
@@ -224,7 +224,7 @@ fn unit_field(
     match Unit::parse(alloc, text.unwrap_or("")) {
         Ok(unit) => Ok(Shared::new(alloc, unit)?),
         Err(UnitFault::Memory) => Err(CatalogueFault::Memory),
-        Err(_) => Err(CatalogueFault::BadUnit { at }),
+        Err(_) => Err(CatalogueFault::At(CatalogueDefect::BadUnit, at)),
     }
 }
 
@@ -248,7 +248,7 @@ fn range_field(table: &Table, kind: Kind, at: CataloguePlace) -> Result<(i64, i6
     let values = list_of(value, 2, &pair_faults_at(at))?;
     let (lo, hi) = pair_of(values, at)?;
     if !is_range(kind, lo, hi) {
-        return Err(CatalogueFault::BadRange { at });
+        return Err(CatalogueFault::At(CatalogueDefect::BadRange, at));
     }
     Ok((lo, hi))
 }
@@ -263,7 +263,7 @@ fn pair_of(values: &[Value], at: CataloguePlace) -> Result<(i64, i64), Catalogue
             let hi = integer_of(hi, &faults)?;
             Ok((lo, hi))
         }
-        _ => Err(CatalogueFault::WrongKind { at }),
+        _ => Err(CatalogueFault::At(CatalogueDefect::WrongKind, at)),
     }
 }
 
@@ -300,7 +300,7 @@ fn boundaries_of(
 {
     let boundaries = integers_of(alloc, value, 128, &faults_at(at))?;
     if !is_rising(boundaries.as_slice()) {
-        return Err(CatalogueFault::BadBoundaries { at });
+        return Err(CatalogueFault::At(CatalogueDefect::BadBoundaries, at));
     }
     let boundaries = Boundaries::from_few(Few::from_items(boundaries));
     Ok(Shared::new(alloc, boundaries)?)

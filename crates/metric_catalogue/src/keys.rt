@@ -7,7 +7,7 @@ ghost use Rattle.metric_table.specs.Fields.{each_alone};
 ghost use Rattle.metric_catalogue.specs.Keys.{is_key, key_name, key_of, only_key_fields, optional_field, some_values, value_at, values_field};
 
 use crate::contents::Key;
-use crate::fault::{CatalogueFault, CataloguePlace};
+use crate::fault::{CatalogueDefect, CatalogueFault, CataloguePlace};
 use crate::texts::{copy_short, faults_at, label_field};
 use crate::values::Values;
 use metric_base::{Items, Text};
@@ -51,7 +51,7 @@ fn key_of(
     let values = values_field(alloc, table, at)?;
     let optional = optional_field(table, at)?;
     if has_key(before, &name) {
-        return Err(CatalogueFault::DuplicateKey { at });
+        return Err(CatalogueFault::At(CatalogueDefect::DuplicateKey, at));
     }
     Ok(Key {
         name,
@@ -87,7 +87,7 @@ fn key_name(alloc: Global, table: &Table, at: CataloguePlace) -> Result<Text, Ca
 {
     let name = label_field(alloc, table, at)?;
     if name.as_str() == "otel.metric.overflow" {
-        return Err(CatalogueFault::ReservedKey { at });
+        return Err(CatalogueFault::At(CatalogueDefect::ReservedKey, at));
     }
     Ok(name)
 }
@@ -100,7 +100,7 @@ fn values_field(alloc: Global, table: &Table, at: CataloguePlace) -> Result<Valu
     let values = some_values(alloc, table, at)?;
     match Values::from_items(alloc, values)? {
         Some(values) => Ok(values),
-        None => Err(CatalogueFault::DuplicateValue { at }),
+        None => Err(CatalogueFault::At(CatalogueDefect::DuplicateValue, at)),
     }
 }
 
@@ -117,7 +117,7 @@ fn some_values(
     let value = required(table, "values", &faults)?;
     let values = list_of(value, 1000, &faults)?;
     if values.is_empty() {
-        return Err(CatalogueFault::MissingField { at });
+        return Err(CatalogueFault::At(CatalogueDefect::MissingField, at));
     }
     values_at(alloc, values, at)
 }
@@ -150,6 +150,6 @@ fn value_at(alloc: Global, value: &Value, at: CataloguePlace) -> Result<AttrValu
         }
         Value::Integer(number) => Ok(AttrValue::Whole(*number)),
         Value::Boolean(flag) => Ok(AttrValue::Flag(*flag)),
-        _ => Err(CatalogueFault::WrongKind { at }),
+        _ => Err(CatalogueFault::At(CatalogueDefect::WrongKind, at)),
     }
 }

@@ -21,6 +21,6 @@ pub use attributes::{Attr, OwnedAttr};
 pub use catalogue::Catalogue;
 pub use contents::{Budget, Contents, Instrument, Key, Kind, Meter, Recorder};
 pub use encode::{SetKey, encode_ignores_order};
-pub use fault::{CatalogueFault, CataloguePlace};
+pub use fault::{CatalogueDefect, CatalogueFault, CataloguePlace};
 pub use refusal::Refusal;
 pub use values::Values;

@@ -6,7 +6,7 @@ ghost use Rattle.metric_base.specs.Steps.{Gives, Advances, in_turn, require};
 ghost use Rattle.metric_catalogue.specs.Meters.{is_meter, meter_of, only_meter_fields, with_meter};
 
 use crate::contents::{Instrument, Meter};
-use crate::fault::{CatalogueFault, CataloguePlace};
+use crate::fault::{CatalogueDefect, CatalogueFault, CataloguePlace};
 use crate::instruments::add_instruments;
 use crate::texts::{faults_at, free_text, needed_text};
 use metric_base::Items;
@@ -69,11 +69,12 @@ fn put_meter(
     at: CataloguePlace,
 ) -> Result<(), CatalogueFault>
     ensures exact { Gives CatalogueFault.Memory result
-        (require (not (list_any (is_meter meter) meters.old)) (CatalogueFault.DuplicateMeter at)) }
+        (require (not (list_any (is_meter meter) meters.old))
+        (CatalogueFault.At CatalogueDefect.DuplicateMeter at)) }
     ensures put { OnOk result (meters.new ≡ meters.old ++ meter ∷ []) }
 {
     if has_meter(meters.as_slice(), &meter) {
-        return Err(CatalogueFault::DuplicateMeter { at });
+        return Err(CatalogueFault::At(CatalogueDefect::DuplicateMeter, at));
     }
     Ok(meters.push(meter)?)
 }

@@ -9,7 +9,7 @@ ghost use Rattle.metric_catalogue.specs.Faults.{faults_at};
 ghost use Rattle.metric_catalogue.specs.Recorders.{amount_field, amount_from, budget_of, budgeted, is_budget, is_recorder, number_below, recorder_of};
 
 use crate::contents::{Budget, Recorder};
-use crate::fault::{CatalogueFault, CataloguePlace};
+use crate::fault::{CatalogueDefect, CatalogueFault, CataloguePlace};
 use crate::texts::{faults_at, label_field};
 use metric_base::{Few, Items, Text};
 use metric_table::{integer_of, only, required, tables_field};
@@ -57,7 +57,7 @@ fn recorder_of(
     let name = label_field(alloc, table, at)?;
     let tables = tables_field(alloc, table, "budget", 512, &faults_at(at))?;
     if has_recorder(before, &name) {
-        return Err(CatalogueFault::DuplicateRecorder { at });
+        return Err(CatalogueFault::At(CatalogueDefect::DuplicateRecorder, at));
     }
     let budgets = Few::from_items(budgets_of(alloc, tables.as_slice(), count, at)?);
     Ok(Recorder { name, budgets })
@@ -109,7 +109,7 @@ fn budget_of(
     let instrument = budgeted(table, count, at)?;
     let amount = amount_field(table, at)?;
     if has_budget(before, instrument) {
-        return Err(CatalogueFault::DuplicateBudget { at });
+        return Err(CatalogueFault::At(CatalogueDefect::DuplicateBudget, at));
     }
     Ok(Budget { instrument, amount })
 }
@@ -127,7 +127,7 @@ fn budgeted(table: &Table, count: u32, at: CataloguePlace) -> Result<u32, Catalo
     let faults = faults_at(at);
     let value = required(table, "instrument", &faults)?;
     let number = integer_of(value, &faults)?;
-    number_below(count, number).ok_or(CatalogueFault::UnknownInstrument { at })
+    number_below(count, number).ok_or(CatalogueFault::At(CatalogueDefect::UnknownInstrument, at))
 }
 
 fn number_below(count: u32, number: i64) -> Option<u32>
@@ -147,7 +147,7 @@ fn amount_field(table: &Table, at: CataloguePlace) -> Result<u64, CatalogueFault
     let faults = faults_at(at);
     let value = required(table, "amount", &faults)?;
     let number = integer_of(value, &faults)?;
-    amount_from(number).ok_or(CatalogueFault::BadRange { at })
+    amount_from(number).ok_or(CatalogueFault::At(CatalogueDefect::BadRange, at))
 }
 
 fn amount_from(number: i64) -> Option<u64>

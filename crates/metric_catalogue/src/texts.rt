@@ -6,7 +6,7 @@ ghost use Rattle.metric_table.specs.Fields.{short_text};
 ghost use Rattle.metric_catalogue.specs.Faults.{faults_at, pair_faults_at};
 ghost use Rattle.metric_catalogue.specs.Texts.{free_text, label_field, needed_text};
 
-use crate::fault::{CatalogueFault, CataloguePlace};
+use crate::fault::{CatalogueDefect, CatalogueFault, CataloguePlace};
 use metric_base::Text;
 use metric_table::{FieldFaults, optional_text, short_text, text_field};
 use std::alloc::Global;
@@ -17,10 +17,10 @@ pub(crate) fn faults_at(at: CataloguePlace) -> FieldFaults<CatalogueFault>
     ensures { result ≡ faults_at at }
 {
     FieldFaults {
-        missing: CatalogueFault::MissingField { at },
-        wrong_kind: CatalogueFault::WrongKind { at },
-        unknown: CatalogueFault::UnknownField { at },
-        too_many: CatalogueFault::TooMany { at },
+        missing: CatalogueFault::At(CatalogueDefect::MissingField, at),
+        wrong_kind: CatalogueFault::At(CatalogueDefect::WrongKind, at),
+        unknown: CatalogueFault::At(CatalogueDefect::UnknownField, at),
+        too_many: CatalogueFault::At(CatalogueDefect::TooMany, at),
         memory: CatalogueFault::Memory,
     }
 }
@@ -30,10 +30,10 @@ pub(crate) fn pair_faults_at(at: CataloguePlace) -> FieldFaults<CatalogueFault>
     ensures { result ≡ pair_faults_at at }
 {
     FieldFaults {
-        missing: CatalogueFault::MissingField { at },
-        wrong_kind: CatalogueFault::WrongKind { at },
-        unknown: CatalogueFault::UnknownField { at },
-        too_many: CatalogueFault::WrongKind { at },
+        missing: CatalogueFault::At(CatalogueDefect::MissingField, at),
+        wrong_kind: CatalogueFault::At(CatalogueDefect::WrongKind, at),
+        unknown: CatalogueFault::At(CatalogueDefect::UnknownField, at),
+        too_many: CatalogueFault::At(CatalogueDefect::WrongKind, at),
         memory: CatalogueFault::Memory,
     }
 }
@@ -89,7 +89,7 @@ pub(crate) fn label_field(
 {
     let text = text_field(table, "name", &faults_at(at))?;
     if text.is_empty() {
-        return Err(CatalogueFault::BadName { at });
+        return Err(CatalogueFault::At(CatalogueDefect::BadName, at));
     }
     copy_short(alloc, text, at)
 }

@@ -37,7 +37,8 @@ pub use fault::SetupFault;
 pub use metric_aggregate::PointValue;
 pub use metric_base::{Items, Text};
 pub use metric_catalogue::{
-    Attr, Catalogue, CatalogueFault, CataloguePlace, Instrument, Key, Kind, Meter, Refusal, SetKey,
+    Attr, Catalogue, CatalogueDefect, CatalogueFault, CataloguePlace, Instrument, Key, Kind, Meter,
+    Refusal, SetKey,
 };
 pub use metric_cert::{CertFault, Certificate, MakeFault, make};
 pub use metric_check::check;
@@ -57,6 +58,6 @@ pub use metric_plan::{CheckFault, Plan};
 pub use metric_provider::{
     AllFault, Collector, FinishFault, Gate, NoGate, Provider, Recorder, Told, Total, Totals, start,
 };
-pub use metric_views::{Config, ConfigPlace, Stream, ViewFault};
+pub use metric_views::{Config, ConfigPlace, Stream, ViewDefect, ViewFault};
 pub use provider::MeterProvider;
 pub use setup::certified_plan;

@@ -16,7 +16,8 @@ use Rattle.metric_views.specs.declared.config.Reader.{Reader}
 use Rattle.metric_views.specs.declared.fault.ConfigPlace.{ConfigPlace}
 use Rattle.metric_views.specs.declared.fault.ConfigPlace.TheVariants as places
 use Rattle.metric_views.specs.declared.fault.ViewFault.{ViewFault}
-use Rattle.metric_views.specs.declared.fault.ViewFault.TheVariants.{WrongKind, BadName, BadLimit, DuplicateReader, TooMany}
+use Rattle.metric_views.specs.declared.fault.ViewDefect.TheVariants.{WrongKind, BadName, BadLimit, DuplicateReader, TooMany}
+use Rattle.metric_views.specs.declared.fault.ViewFault.TheVariants.{At}
 use Rattle.metric_views.specs.Choices.{choice_for, is_unfit}
 use Rattle.metric_views.specs.Faults.{faults_at}
 use Rattle.metric_views.specs.Readers.{aggregation_for, aggregation_of, choice_at, choice_within, choices_field, choices_of, choices_within, for_all, has_reader, is_limit, kind_names, limit_of, reader_choices, reader_fields, reader_name, reader_of, temporality_of}
@@ -32,7 +33,7 @@ not_true false e = refl
 pub short_made : (at : ConfigPlace) (text name : List ℕ) → short_text (faults_at at) text ≡ Ok name → (text ≡ name) × IsFreeText name
 unfolding short_text
 short_made at text name e =
-    let (short, e1) = require_ok (nat_le (length (chars text)) 1023) (TooMany at) _ name e in
+    let (short, e1) = require_ok (nat_le (length (chars text)) 1023) (At TooMany at) _ name e in
     let same = ok_is text name (Ok text) refl e1 in
     let few : IsFreeText text = grind (arith, nat_tests) in
     (same, subst IsFreeText same few)
@@ -45,7 +46,7 @@ pub limit_made : (at : ConfigPlace) (d : Data) (limit : ℕ) → limit_of at d �
 unfolding limit_of
 limit_made at d limit e0 =
     after_ok (integer_of (faults_at at) d) _ limit e0 (λ number _ e1.
-    let (within, e2) = require_ok (is_limit number) (BadLimit at) _ limit e1 in
+    let (within, e2) = require_ok (is_limit number) (At BadLimit at) _ limit e1 in
     subst IsLimit (ok_is (nat_abs number) limit (Ok (nat_abs number)) refl e2) (limit_in number within))
 
 -- what is read as a reader's aggregation fits the kind
@@ -53,7 +54,7 @@ fit_made : (at : ConfigPlace) (kind : Kind) (d : Data) (aggregation : Aggregatio
 unfolding aggregation_for
 fit_made at kind d aggregation e0 =
     after_ok (aggregation_of at d) _ aggregation e0 (λ named _ e1.
-    let (fits, e2) = require_ok (not (is_unfit kind named)) (WrongKind at) _ aggregation e1 in
+    let (fits, e2) = require_ok (not (is_unfit kind named)) (At WrongKind at) _ aggregation e1 in
     subst (λ (a : Aggregation). is_unfit kind a ≡ false) (ok_is named aggregation (Ok named) refl e2) (not_true (is_unfit kind named) fits))
 
 -- What holds of the usual choice and of each that is read, holds of the choices for all kinds.
@@ -123,9 +124,9 @@ name_made : (before : List Reader) (at : ConfigPlace) (table : Members) (name : 
 unfolding reader_name
 name_made before at table name e0 =
     after_ok (text_field (faults_at at) (codes "name") table) _ name e0 (λ text _ e1.
-    let (full, e2) = require_ok (not (length text == 0)) (BadName at) _ name e1 in
+    let (full, e2) = require_ok (not (length text == 0)) (At BadName at) _ name e1 in
     after_ok (short_text (faults_at at) text) _ name e2 (λ held made e3.
-    let (new, e4) = require_ok (not (has_reader before held)) (DuplicateReader at) _ name e3 in
+    let (new, e4) = require_ok (not (has_reader before held)) (At DuplicateReader at) _ name e3 in
     let (same, short) = short_made at text held made in
     let some : 0 < length text = grind (arith, nat_tests) in
     let sound : IsSoundName before held = record { named = subst (λ (t : List ℕ). 0 < length t) same some; short = short; new = not_true (has_reader before held) new } in

@@ -18,7 +18,8 @@ use Rattle.metric_views.specs.declared.config.Reader.{Reader}
 use Rattle.metric_views.specs.declared.fault.ConfigPlace.{ConfigPlace}
 use Rattle.metric_views.specs.declared.fault.ConfigPlace.TheVariants as places
 use Rattle.metric_views.specs.declared.fault.ViewFault.{ViewFault}
-use Rattle.metric_views.specs.declared.fault.ViewFault.TheVariants.{WrongKind, BadName, BadLimit, DuplicateReader}
+use Rattle.metric_views.specs.declared.fault.ViewDefect.TheVariants.{WrongKind, BadName, BadLimit, DuplicateReader}
+use Rattle.metric_views.specs.declared.fault.ViewFault.TheVariants.{At}
 use Rattle.metric_views.specs.Choices.{aggregation_named, is_unfit, temporality_named}
 use Rattle.metric_views.specs.Faults.{faults_at}
 
@@ -26,19 +27,19 @@ use Rattle.metric_views.specs.Faults.{faults_at}
 unfoldable pub temporality_of : ConfigPlace → Data → Result Temporality ViewFault
 temporality_of at d = do
   text ← text_of (faults_at at) d
-  require_some (temporality_named text) (WrongKind at)
+  require_some (temporality_named text) (At WrongKind at)
 
 -- an aggregation
 unfoldable pub aggregation_of : ConfigPlace → Data → Result Aggregation ViewFault
 aggregation_of at d = do
   text ← text_of (faults_at at) d
-  require_some (aggregation_named text) (WrongKind at)
+  require_some (aggregation_named text) (At WrongKind at)
 
 -- a reader's aggregation for a kind, which it fits
 unfoldable pub aggregation_for : ConfigPlace → Kind → Data → Result Aggregation ViewFault
 aggregation_for at kind d = do
   aggregation ← aggregation_of at d
-  _ ← require (not (is_unfit kind aggregation)) (WrongKind at)
+  _ ← require (not (is_unfit kind aggregation)) (At WrongKind at)
   Ok aggregation
 
 -- a cardinality limit is 1 to 1,000,000
@@ -49,7 +50,7 @@ is_limit number = int_le (pos 1) number && int_le number (pos 1000000)
 unfoldable pub limit_of : ConfigPlace → Data → Result ℕ ViewFault
 limit_of at d = do
   number ← integer_of (faults_at at) d
-  _ ← require (is_limit number) (BadLimit at)
+  _ ← require (is_limit number) (At BadLimit at)
   Ok (nat_abs number)
 
 -- the choice of a field for one kind, or the usual one
@@ -96,9 +97,9 @@ has_reader before name = list_any (λ reader. bytes_eq reader.name name) before
 unfoldable pub reader_name : List Reader → ConfigPlace → Members → Result (List ℕ) ViewFault
 reader_name before at table = do
   name ← text_field (faults_at at) (codes "name") table
-  _ ← require (not (length name == 0)) (BadName at)
+  _ ← require (not (length name == 0)) (At BadName at)
   name ← short_text (faults_at at) name
-  _ ← require (not (has_reader before name)) (DuplicateReader at)
+  _ ← require (not (has_reader before name)) (At DuplicateReader at)
   Ok name
 
 -- the fields of a reader

@@ -16,7 +16,8 @@ use Rattle.metric_views.specs.declared.config.View.{View}
 use Rattle.metric_views.specs.declared.fault.ConfigPlace.{ConfigPlace}
 use Rattle.metric_views.specs.declared.fault.ConfigPlace.TheVariants as places
 use Rattle.metric_views.specs.declared.fault.ViewFault.{ViewFault}
-use Rattle.metric_views.specs.declared.fault.ViewFault.TheVariants.{WrongKind, BadPattern, BadName, BadBoundaries}
+use Rattle.metric_views.specs.declared.fault.ViewDefect.TheVariants.{WrongKind, BadPattern, BadName, BadBoundaries}
+use Rattle.metric_views.specs.declared.fault.ViewFault.TheVariants.{At}
 use Rattle.metric_views.specs.Faults.{faults_at}
 use Rattle.metric_views.specs.Readers.{aggregation_of, limit_of}
 
@@ -24,25 +25,25 @@ use Rattle.metric_views.specs.Readers.{aggregation_of, limit_of}
 unfoldable pub pattern_at : ConfigPlace → Data → Result (List ℕ) ViewFault
 pattern_at at d = do
   text ← text_of (faults_at at) d
-  with_fault (λ _. BadPattern at) (pattern_of text)
+  with_fault (λ _. At BadPattern at) (pattern_of text)
 
 -- the name of a stream
 unfoldable pub name_at : ConfigPlace → Data → Result (List ℕ) ViewFault
 name_at at d = do
   text ← text_of (faults_at at) d
-  with_fault (λ _. BadName at) (name_of text)
+  with_fault (λ _. At BadName at) (name_of text)
 
 -- a kind of instrument
 unfoldable pub kind_at : ConfigPlace → Data → Result Kind ViewFault
 kind_at at d = do
   text ← text_of (faults_at at) d
-  require_some (kind_named text) (WrongKind at)
+  require_some (kind_named text) (At WrongKind at)
 
 -- strictly rising boundaries
 unfoldable pub boundaries_at : ConfigPlace → Data → Result (List ℤ) ViewFault
 boundaries_at at d = do
   boundaries ← integers_of (faults_at at) 128 d
-  _ ← require (is_rising boundaries) (BadBoundaries at)
+  _ ← require (is_rising boundaries) (At BadBoundaries at)
   Ok boundaries
 
 -- a free text

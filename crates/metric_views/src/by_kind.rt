@@ -11,7 +11,7 @@ ghost use Rattle.metric_views.specs.Choices.{aggregation_named, temporality_name
 ghost use Rattle.metric_views.specs.Readers.{aggregation_for, aggregation_of, choice_at, choices_field, choices_of, for_all, is_limit, limit_of, temporality_of};
 
 use crate::choices::{Aggregation, ByKind, Temporality, is_unfit};
-use crate::fault::{ConfigPlace, ViewFault, faults_at};
+use crate::fault::{ConfigPlace, ViewDefect, ViewFault, faults_at};
 use metric_catalogue::Kind;
 use metric_table::{integer_of, member, only, table_of, text_of};
 use toml::{Table, Value};
@@ -131,7 +131,7 @@ fn temporality_of(value: &Value, at: ConfigPlace) -> Result<Temporality, ViewFau
     ensures { result ≡ temporality_of at (view value.now) }
 {
     let text = text_of(value, &faults_at(at))?;
-    temporality_named(text).ok_or(ViewFault::WrongKind { at })
+    temporality_named(text).ok_or(ViewFault::At(ViewDefect::WrongKind, at))
 }
 
 fn temporality_named(text: &str) -> Option<Temporality>
@@ -165,7 +165,7 @@ impl Choice for AggregationChoice {
     fn read(value: &Value, kind: Kind, at: ConfigPlace) -> Result<Aggregation, ViewFault> {
         let aggregation = aggregation_of(value, at)?;
         if is_unfit(kind, aggregation) {
-            Err(ViewFault::WrongKind { at })
+            Err(ViewFault::At(ViewDefect::WrongKind, at))
         } else {
             Ok(aggregation)
         }
@@ -178,7 +178,7 @@ pub(crate) fn aggregation_of(value: &Value, at: ConfigPlace) -> Result<Aggregati
     ensures { result ≡ aggregation_of at (view value.now) }
 {
     let text = text_of(value, &faults_at(at))?;
-    aggregation_named(text).ok_or(ViewFault::WrongKind { at })
+    aggregation_named(text).ok_or(ViewFault::At(ViewDefect::WrongKind, at))
 }
 
 fn aggregation_named(text: &str) -> Option<Aggregation>
@@ -224,6 +224,6 @@ pub(crate) fn limit_of(value: &Value, at: ConfigPlace) -> Result<u32, ViewFault>
     if (1..=1_000_000).contains(&number) {
         Ok(number as u32)
     } else {
-        Err(ViewFault::BadLimit { at })
+        Err(ViewFault::At(ViewDefect::BadLimit, at))
     }
 }

@@ -18,66 +18,47 @@ pub enum ConfigPlace {
     View(u32),
 }
 
+/// What is wrong with a table of a config.
+#[derive(Clone, Copy, Debug, PartialEq, Eq, Drop, Error)]
+pub enum ViewDefect {
+    /// A needed field is missing.
+    #[error("2 MissingField")]
+    MissingField,
+    /// A field's value is of another kind than the format says, or a reader names a sum for gauges.
+    #[error("3 WrongKind")]
+    WrongKind,
+    /// The table has a field that the format does not name.
+    #[error("4 UnknownField")]
+    UnknownField,
+    /// A view's instrument name is no pattern.
+    #[error("5 BadPattern")]
+    BadPattern,
+    /// A reader's name is empty, or a view's stream name is no instrument name.
+    #[error("6 BadName")]
+    BadName,
+    /// Boundaries do not rise strictly.
+    #[error("7 BadBoundaries")]
+    BadBoundaries,
+    /// A cardinality limit is outside 1 to 1,000,000.
+    #[error("8 BadLimit")]
+    BadLimit,
+    /// An earlier reader has the same name.
+    #[error("9 DuplicateReader")]
+    DuplicateReader,
+    /// A list or a text is longer than its limit.
+    #[error("10 TooMany")]
+    TooMany,
+}
+
 /// Why a text is no config.
 #[derive(Clone, Copy, Debug, PartialEq, Eq, Drop, Error)]
 pub enum ViewFault {
     /// The text is no TOML.
     #[error("1 NotToml")]
     NotToml,
-    /// A needed field is missing.
-    #[error("2 MissingField at {at}")]
-    MissingField {
-        /// Where.
-        at: ConfigPlace,
-    },
-    /// A field's value is of another kind than the format says, or a reader names a sum for gauges.
-    #[error("3 WrongKind at {at}")]
-    WrongKind {
-        /// Where.
-        at: ConfigPlace,
-    },
-    /// A table has a field that the format does not name.
-    #[error("4 UnknownField at {at}")]
-    UnknownField {
-        /// Where.
-        at: ConfigPlace,
-    },
-    /// A view's instrument name is no pattern.
-    #[error("5 BadPattern at {at}")]
-    BadPattern {
-        /// Where.
-        at: ConfigPlace,
-    },
-    /// A reader's name is empty, or a view's stream name is no instrument name.
-    #[error("6 BadName at {at}")]
-    BadName {
-        /// Where.
-        at: ConfigPlace,
-    },
-    /// Boundaries do not rise strictly.
-    #[error("7 BadBoundaries at {at}")]
-    BadBoundaries {
-        /// Where.
-        at: ConfigPlace,
-    },
-    /// A cardinality limit is outside 1 to 1,000,000.
-    #[error("8 BadLimit at {at}")]
-    BadLimit {
-        /// Where.
-        at: ConfigPlace,
-    },
-    /// An earlier reader has the same name.
-    #[error("9 DuplicateReader at {at}")]
-    DuplicateReader {
-        /// Where.
-        at: ConfigPlace,
-    },
-    /// A list or a text is longer than its limit.
-    #[error("10 TooMany at {at}")]
-    TooMany {
-        /// Where.
-        at: ConfigPlace,
-    },
+    /// A table at this place has a defect.
+    #[error("{0} at {1}")]
+    At(ViewDefect, ConfigPlace),
     /// Memory was refused.
     #[error("11 Memory")]
     Memory,
@@ -114,10 +95,10 @@ pub(crate) fn faults_at(at: ConfigPlace) -> FieldFaults<ViewFault>
     ensures { result ≡ faults_at at }
 {
     FieldFaults {
-        missing: ViewFault::MissingField { at },
-        wrong_kind: ViewFault::WrongKind { at },
-        unknown: ViewFault::UnknownField { at },
-        too_many: ViewFault::TooMany { at },
+        missing: ViewFault::At(ViewDefect::MissingField, at),
+        wrong_kind: ViewFault::At(ViewDefect::WrongKind, at),
+        unknown: ViewFault::At(ViewDefect::UnknownField, at),
+        too_many: ViewFault::At(ViewDefect::TooMany, at),
         memory: ViewFault::Memory,
     }
 }

@@ -16,7 +16,7 @@ mod views;
 
 pub use choices::{Aggregation, ByKind, Temporality, is_unfit};
 pub use config::{Config, Criteria, Reader, Settings, Setup, View};
-pub use fault::{ConfigPlace, ViewFault};
+pub use fault::{ConfigPlace, ViewDefect, ViewFault};
 pub use filling::fill;
 pub use stream::{Fill, Stream, StreamAggregation};
 pub use template::Template;

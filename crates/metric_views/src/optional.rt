@@ -11,7 +11,7 @@ ghost use Rattle.metric_views.specs.Views.{optional_field};
 
 use crate::by_kind::{aggregation_of, limit_of};
 use crate::choices::Aggregation;
-use crate::fault::{ConfigPlace, ViewFault, faults_at};
+use crate::fault::{ConfigPlace, ViewDefect, ViewFault, faults_at};
 use metric_base::{Boundaries, Few, Shared, Text, is_rising};
 use metric_catalogue::Kind;
 use metric_glob::{Pattern, PatternFault};
@@ -111,12 +111,12 @@ impl Field for PatternField {
 
 fn pattern(alloc: Global, text: &str, at: ConfigPlace) -> Result<Pattern, ViewFault>
     ensures { Gives ViewFault.Memory result
-        (with_fault (λ _. ViewFault.BadPattern at) (pattern_of text.now)) }
+        (with_fault (λ _. ViewFault.At ViewDefect.BadPattern at) (pattern_of text.now)) }
 {
     match Pattern::parse(alloc, text) {
         Ok(pattern) => Ok(pattern),
         Err(PatternFault::Memory) => Err(ViewFault::Memory),
-        Err(_) => Err(ViewFault::BadPattern { at }),
+        Err(_) => Err(ViewFault::At(ViewDefect::BadPattern, at)),
     }
 }
 
@@ -139,12 +139,12 @@ impl Field for NameField {
 
 fn name(alloc: Global, text: &str, at: ConfigPlace) -> Result<Name, ViewFault>
     ensures { Gives ViewFault.Memory result
-        (with_fault (λ _. ViewFault.BadName at) (name_of text.now)) }
+        (with_fault (λ _. ViewFault.At ViewDefect.BadName at) (name_of text.now)) }
 {
     match Name::parse(alloc, text) {
         Ok(name) => Ok(name),
         Err(NameFault::Memory) => Err(ViewFault::Memory),
-        Err(_) => Err(ViewFault::BadName { at }),
+        Err(_) => Err(ViewFault::At(ViewDefect::BadName, at)),
     }
 }
 
@@ -161,7 +161,7 @@ impl Field for KindField {
     #[tactic(auto, unfolding(crate::specs::Views::kind_at))]
     fn read(_alloc: Global, value: &Value, at: ConfigPlace) -> Result<Kind, ViewFault> {
         let text = text_of(value, &faults_at(at))?;
-        Kind::named(text).ok_or(ViewFault::WrongKind { at })
+        Kind::named(text).ok_or(ViewFault::At(ViewDefect::WrongKind, at))
     }
 }
 
@@ -211,7 +211,7 @@ impl Field for BoundariesField {
         if is_rising(boundaries.as_slice()) {
             Ok(Boundaries::from_few(Few::from_items(boundaries)))
         } else {
-            Err(ViewFault::BadBoundaries { at })
+            Err(ViewFault::At(ViewDefect::BadBoundaries, at))
         }
     }
 }

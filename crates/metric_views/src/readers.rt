@@ -10,7 +10,7 @@ ghost use Rattle.metric_views.specs.Readers.{has_reader, reader_choices, reader_
 use crate::by_kind::{AggregationChoice, LimitChoice, TemporalityChoice, choices_field};
 use crate::choices::{Aggregation, ByKind, Temporality};
 use crate::config::Reader;
-use crate::fault::{ConfigPlace, ViewFault, faults_at};
+use crate::fault::{ConfigPlace, ViewDefect, ViewFault, faults_at};
 use metric_base::{Items, Text};
 use metric_table::{only, short_text, text_field};
 use std::alloc::Global;
@@ -80,11 +80,11 @@ fn reader_name<'a>(
     let faults = faults_at(at);
     let name = text_field(table, "name", &faults)?;
     if name.is_empty() {
-        return Err(ViewFault::BadName { at });
+        return Err(ViewFault::At(ViewDefect::BadName, at));
     }
     let name = short_text(name, &faults)?;
     if has_reader(before, name) {
-        return Err(ViewFault::DuplicateReader { at });
+        return Err(ViewFault::At(ViewDefect::DuplicateReader, at));
     }
     Ok(name)
 }

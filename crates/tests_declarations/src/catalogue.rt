@@ -3,7 +3,7 @@ use crate::equal::assert_equal;
 use crate::tables::{write_integers, write_many, write_name};
 use crate::words::kind_word;
 use metric_catalogue::{
-    Catalogue, CatalogueFault, CataloguePlace, Instrument, Key, Meter, Recorder,
+    Catalogue, CatalogueDefect, CatalogueFault, CataloguePlace, Instrument, Key, Meter, Recorder,
 };
 use metric_names::AttrValue;
 use std::alloc::{AllocError, Global};
@@ -486,9 +486,7 @@ fn the_first_fault_has_its_place(rt: HostRuntime) -> Result<(), Fail> {
 // Each kind of place once; the numbers and names of the others are in `FAULTS`.
 const PRINTED: &[(CatalogueFault, &str)] = &[
     (
-        CatalogueFault::TooMany {
-            at: CataloguePlace::Meter(63),
-        },
+        CatalogueFault::At(CatalogueDefect::TooMany, CataloguePlace::Meter(63)),
         "17 TooMany at meter 63",
     ),
     (CatalogueFault::Memory, "18 Memory"),

@@ -4,7 +4,7 @@ use crate::tables::{write_integers, write_many};
 use crate::words::{aggregation_word, kind_word, temporality_word};
 use metric_base::{Few, Text};
 use metric_catalogue::Kind;
-use metric_views::{Config, ConfigPlace, Criteria, Reader, Settings, View, ViewFault};
+use metric_views::{Config, ConfigPlace, Criteria, Reader, Settings, View, ViewDefect, ViewFault};
 use std::alloc::{AllocError, Global};
 use std::test::Fail;
 
@@ -445,9 +445,7 @@ fn the_first_fault_has_its_place(rt: HostRuntime) -> Result<(), Fail> {
 
 const PRINTED: &[(ViewFault, &str)] = &[
     (
-        ViewFault::BadName {
-            at: ConfigPlace::View(255),
-        },
+        ViewFault::At(ViewDefect::BadName, ConfigPlace::View(255)),
         "6 BadName at view 255",
     ),
     (ViewFault::Memory, "11 Memory"),

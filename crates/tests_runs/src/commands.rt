@@ -1,11 +1,11 @@
 //! Whole inputs replayed, shown and checked: what is written, or the line and the exit status of the fault.
 use crate::equal::assert_equal;
-use metric_catalogue::{CatalogueFault, CataloguePlace};
+use metric_catalogue::{CatalogueDefect, CatalogueFault, CataloguePlace};
 use metric_cert::CertFault;
 use metric_commands::{KitFault, ReplayOptions, check_run, one_output, replay, show_run};
 use metric_io::{CutSink, CutSource};
 use metric_plan::CheckFault;
-use metric_views::{ConfigPlace, ViewFault};
+use metric_views::{ConfigPlace, ViewDefect, ViewFault};
 use std::alloc::Global;
 use std::test::Fail;
 
@@ -559,15 +559,11 @@ const PRINTED: &[(KitFault, &str)] = &[
     (KitFault::Read, "refused: input, 3"),
     (KitFault::Input { line: 7 }, "refused: input line 7, 3"),
     (
-        KitFault::Catalogue(CatalogueFault::TooMany {
-            at: CataloguePlace::Meter(2),
-        }),
+        KitFault::Catalogue(CatalogueFault::At(CatalogueDefect::TooMany, CataloguePlace::Meter(2))),
         "refused: catalogue 17 TooMany at meter 2, 1",
     ),
     (
-        KitFault::Config(ViewFault::BadPattern {
-            at: ConfigPlace::View(2),
-        }),
+        KitFault::Config(ViewFault::At(ViewDefect::BadPattern, ConfigPlace::View(2))),
         "refused: config 5 BadPattern at view 2, 1",
     ),
     (
