@@ -3,53 +3,23 @@ use crate::bench::{Bench, Row, Unit};
 use crate::floors::{Floor, look_up};
 use crate::seats::{Rounds, Seats};
 use crate::sizes::THREADS_SERIES;
-use crate::tasks::{Runner, Task, UntilOver, run_all};
+use crate::tasks::{Collections, Runner, Task, UntilOver, least_together};
 use crate::threads::{caller_of, seats_of};
-use crate::watch::{Measured, Watch, least};
+use crate::watch::Measured;
 use anyhow::Context;
-use metric_sdk::{Collector, MeterProvider, Recorder};
+use metric_sdk::{MeterProvider, Recorder};
 use std::alloc::{AllocError, Global};
+use std::mem;
 use std::sync::Wait;
-use std::sync::atomic::{AtomicBool, Ordering};
+use std::sync::atomic::AtomicBool;
 use std::thread::Threads;
 use std::time::Clock;
-use std::{mem, thread};
 
 // How many collections are measured at once.
 const COLLECTIONS: u32 = 50;
 
 // How many threads record meanwhile.
 const THREADS: &[u32] = &[0, 1, 4];
-
-// Collections of a reader.
-#[derive(Drop)]
-struct Collections<'a> {
-    alloc: Global,
-    provider: &'a MeterProvider,
-    collector: &'a mut Collector,
-    is_over: &'a AtomicBool,
-}
-
-impl Collections<'_> {
-    // Collects all instruments so many times, and then tells the others that it is over. How many batches there were,
-    // or nothing where a collection failed.
-    fn collect<R: Wait + Clock>(&mut self, rt: &R, watch: &mut Watch) -> Option<u64> {
-        watch.start(rt);
-        let batches = self.repeat(rt);
-        watch.stop(rt);
-        self.is_over.store(true, Ordering::SeqCst);
-        batches
-    }
-
-    fn repeat<R: Wait>(&mut self, rt: &R) -> Option<u64> {
-        let mut batches: u64 = 0;
-        for _ in 0..COLLECTIONS {
-            let answer = self.collector.collect_all(rt, self.alloc, self.provider, 0);
-            batches = batches.wrapping_add(answer.ok()?.len() as u64);
-        }
-        Some(batches)
-    }
-}
 
 /// Measures collections while threads record values with these names.
 pub(crate) fn measure<R: Threads + Wait + Clock + Sync>(
@@ -103,33 +73,15 @@ fn collections_measured<R: Threads + Wait + Clock + Sync>(
 ) -> anyhow::Result<Measured> {
     let is_over = AtomicBool::new(false);
     let recorders = mem::replace(&mut seats.recorders, Vec::new(alloc));
+    let collector = seats.collectors.pop().context("no reader")?;
     let mut runners = runners_of(alloc, &seats.provider, names, &is_over, recorders)?;
-    let mut collections = Collections {
+    runners.push(Runner::new(Task::Collect(Collections {
         alloc,
         provider: &seats.provider,
-        collector: seats.collectors.first_mut().context("no reader")?,
+        collector,
         is_over: &is_over,
-    };
-    least(
-        rt,
-        |watch| collect_beside(rt, &mut collections, &mut runners, watch),
-    )
-}
-
-// Collections while threads record. How many batches there were.
-fn collect_beside<R: Threads + Wait + Clock + Sync>(
-    rt: &R,
-    collections: &mut Collections<'_>,
-    runners: &mut Vec<Runner<'_>>,
-    watch: &mut Watch,
-) -> anyhow::Result<u64> {
-    collections.is_over.store(false, Ordering::SeqCst);
-    let (batches, _) = thread::join(
-        rt,
-        move || collections.collect(rt, watch),
-        move || run_all(rt, runners, 0),
-    );
-    batches.context("a collection failed")
+    })))?;
+    least_together(rt, &mut runners, COLLECTIONS)
 }
 
 // Recordings of each recorder until it is over.

@@ -3,15 +3,16 @@ use crate::floors::add_all;
 use crate::seats::Rounds;
 use crate::watch::{Measured, Watch};
 use anyhow::Context;
-use metric_sdk::{MeterProvider, Recorder};
+use metric_sdk::{Collector, MeterProvider, Recorder};
+use std::alloc::Global;
 use std::sync::atomic::{AtomicBool, AtomicU64, Ordering};
 use std::sync::{Mutex, Wait};
 use std::thread;
 use std::thread::Threads;
 use std::time::Clock;
 
-/// How often threads do their tasks together. The least of the times counts.
-pub(crate) const REPETITIONS: u32 = 5;
+// How often threads do their tasks together. The least of the times counts.
+const REPETITIONS: u32 = 5;
 
 // How often a thread looks whether the others have started.
 const TURNS: u32 = 1_000_000;
@@ -63,6 +64,34 @@ impl UntilOver<'_> {
     }
 }
 
+/// A seat that collects, and then tells that it is over.
+#[derive(Drop)]
+pub(crate) struct Collections<'a> {
+    pub alloc: Global,
+    pub provider: &'a MeterProvider,
+    pub collector: Collector,
+    pub is_over: &'a AtomicBool,
+}
+
+impl Collections<'_> {
+    // Collects all instruments so many times. How many batches there were, or nothing where a collection failed.
+    fn repeat<R: Wait>(&mut self, rt: &R, times: u32) -> Option<u64> {
+        let mut batches: u64 = 0;
+        for _ in 0..times {
+            let answer = self.collector.collect_all(rt, self.alloc, self.provider, 0);
+            batches = batches.wrapping_add(answer.ok()?.len() as u64);
+        }
+        Some(batches)
+    }
+
+    // Collects so many times, and then tells the others that it is over.
+    fn collect<R: Wait>(&mut self, rt: &R, times: u32) -> Option<u64> {
+        let batches = self.repeat(rt, times);
+        self.is_over.store(true, Ordering::SeqCst);
+        batches
+    }
+}
+
 /// What a thread does.
 #[derive(Drop)]
 pub(crate) enum Task<'a> {
@@ -70,16 +99,41 @@ pub(crate) enum Task<'a> {
     Record(Caller<'a>),
     /// Recordings until it is over.
     RecordUntil(UntilOver<'a>),
+    /// Collections, after which it is over.
+    Collect(Collections<'a>),
     /// Additions under a lock.
     Add(&'a Mutex<u64>),
+}
+
+impl Task<'_> {
+    // Whether the time that it takes is measured.
+    fn is_measured(&self) -> bool {
+        !matches!(self, Task::RecordUntil(_))
+    }
+
+    // Begins anew: it is not over.
+    fn make_ready(&self) {
+        if let Task::Collect(collections) = self {
+            collections.is_over.store(false, Ordering::SeqCst);
+        }
+    }
+
+    // Does it so many times. A number that depends on all of it, or nothing where it failed.
+    fn work<R: Wait>(&mut self, rt: &R, events: u32) -> Option<u64> {
+        match self {
+            Task::Record(caller) => Some(caller.repeat(rt, events)),
+            Task::RecordUntil(caller) => Some(caller.repeat(rt)),
+            Task::Collect(collections) => collections.collect(rt, events),
+            Task::Add(sum) => Some(add_all(rt, sum, events)),
+        }
+    }
 }
 
 /// A thread's task, and what came of it.
 #[derive(Drop)]
 pub(crate) struct Runner<'a> {
     task: Task<'a>,
-    number: u64,
-    nanoseconds: Option<u64>,
+    measured: Option<Measured>,
 }
 
 impl<'a> Runner<'a> {
@@ -87,25 +141,26 @@ impl<'a> Runner<'a> {
     pub(crate) fn new(task: Task<'a>) -> Runner<'a> {
         Runner {
             task,
-            number: 0,
-            nanoseconds: None,
+            measured: None,
         }
     }
 
     // Does the task so many times, once so many threads have started.
     fn run<R: Wait + Clock>(&mut self, rt: &R, started: &AtomicU64, threads: u64, events: u32) {
+        self.task.make_ready();
         wait_for_all(started, threads);
-        let watch = Watch::new(rt);
-        self.number = self.work(rt, events);
-        self.nanoseconds = watch.took(rt);
+        self.measured = self.done(rt, events);
     }
 
-    fn work<R: Wait>(&mut self, rt: &R, events: u32) -> u64 {
-        match &mut self.task {
-            Task::Record(caller) => caller.repeat(rt, events),
-            Task::RecordUntil(caller) => caller.repeat(rt),
-            Task::Add(sum) => add_all(rt, sum, events),
-        }
+    // What comes of the task, or nothing where it or the clock failed.
+    fn done<R: Wait + Clock>(&mut self, rt: &R, events: u32) -> Option<Measured> {
+        let watch = Watch::new(rt);
+        let number = self.task.work(rt, events)?;
+        let took = watch.took(rt)?;
+        Some(Measured {
+            nanoseconds: if self.task.is_measured() { took } else { 0 },
+            number,
+        })
     }
 }
 
@@ -120,12 +175,8 @@ fn wait_for_all(started: &AtomicU64, threads: u64) {
     }
 }
 
-/// Lets each runner do its task in a thread of its own, so many times.
-pub(crate) fn run_all<R: Threads + Wait + Clock + Sync>(
-    rt: &R,
-    runners: &mut Vec<Runner<'_>>,
-    events: u32,
-) {
+// Lets each runner do its task in a thread of its own, so many times.
+fn run_all<R: Threads + Wait + Clock + Sync>(rt: &R, runners: &mut Vec<Runner<'_>>, events: u32) {
     let count = runners.len();
     if count == 0 {
         return;
@@ -151,9 +202,9 @@ pub(crate) fn least_together<R: Threads + Wait + Clock + Sync>(
     let mut number: u64 = 0;
     for _ in 0..REPETITIONS {
         run_all(rt, runners, events);
-        let took = longest(runners).context("the clock failed")?;
-        least = least.min(took);
-        number = number.wrapping_add(sum_of(runners));
+        let all = together(runners).context("a collection or the clock failed")?;
+        least = least.min(all.nanoseconds);
+        number = number.wrapping_add(all.number);
     }
     Ok(Measured {
         nanoseconds: least,
@@ -161,20 +212,17 @@ pub(crate) fn least_together<R: Threads + Wait + Clock + Sync>(
     })
 }
 
-// The nanoseconds of the thread that took longest, or nothing where the clock failed.
-fn longest(runners: &[Runner<'_>]) -> Option<u64> {
-    let mut longest: u64 = 0;
+// The time of the thread that took longest, and what came of all, or nothing where one failed.
+fn together(runners: &[Runner<'_>]) -> Option<Measured> {
+    let mut nanoseconds: u64 = 0;
+    let mut number: u64 = 0;
     for runner in runners {
-        longest = longest.max(runner.nanoseconds?);
+        let measured = runner.measured?;
+        nanoseconds = nanoseconds.max(measured.nanoseconds);
+        number = number.wrapping_add(measured.number);
     }
-    Some(longest)
-}
-
-// What came of all tasks.
-fn sum_of(runners: &[Runner<'_>]) -> u64 {
-    let mut sum: u64 = 0;
-    for runner in runners {
-        sum = sum.wrapping_add(runner.number);
-    }
-    sum
+    Some(Measured {
+        nanoseconds,
+        number,
+    })
 }

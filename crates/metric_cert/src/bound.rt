@@ -7,6 +7,7 @@ ghost use Rattle.metric_cert.specs.Reading.{shape_faults};
 
 use crate::entry::Entry;
 use crate::fault::{CertFault, shape_faults};
+use crate::numbers::{Decimal, Number, SignedDecimal};
 use crate::tables::{empty_table, needed, put, tabled};
 use metric_table::{only, table_of};
 use std::alloc::{AllocError, Global};
@@ -27,8 +28,13 @@ pub struct InstrumentBound {
     pub high: i128,
 }
 
-impl Entry for InstrumentBound {
+/// The table of the bounds of an instrument.
+pub(crate) struct BoundTable;
+
+impl Entry for BoundTable {
     ghost use Rattle.metric_cert.specs.Bounds.{bound_of};
+
+    type Read = InstrumentBound;
 
     ghost step = { bound_of };
 
@@ -38,11 +44,11 @@ impl Entry for InstrumentBound {
     fn read(alloc: Global, value: &Value) -> Result<InstrumentBound, CertFault> {
         let table = table_of(value, &shape_faults())?;
         only_bound(table)?;
-        let instrument = needed(alloc, table, "instrument")?;
-        let total = needed(alloc, table, "total")?;
-        let amount = needed(alloc, table, "amount")?;
-        let low = needed(alloc, table, "low")?;
-        let high = needed(alloc, table, "high")?;
+        let instrument = needed::<Number>(alloc, table, "instrument")?;
+        let total = needed::<Decimal>(alloc, table, "total")?;
+        let amount = needed::<Decimal>(alloc, table, "amount")?;
+        let low = needed::<SignedDecimal>(alloc, table, "low")?;
+        let high = needed::<SignedDecimal>(alloc, table, "high")?;
         Ok(InstrumentBound {
             instrument,
             total,
@@ -52,13 +58,13 @@ impl Entry for InstrumentBound {
         })
     }
 
-    fn write(&self, alloc: Global) -> Result<Value, AllocError> {
+    fn write(alloc: Global, entry: &InstrumentBound) -> Result<Value, AllocError> {
         let mut table = empty_table(alloc);
-        put(alloc, &mut table, "instrument", &self.instrument)?;
-        put(alloc, &mut table, "total", &self.total)?;
-        put(alloc, &mut table, "amount", &self.amount)?;
-        put(alloc, &mut table, "low", &self.low)?;
-        put(alloc, &mut table, "high", &self.high)?;
+        put::<Number>(alloc, &mut table, "instrument", &entry.instrument)?;
+        put::<Decimal>(alloc, &mut table, "total", &entry.total)?;
+        put::<Decimal>(alloc, &mut table, "amount", &entry.amount)?;
+        put::<SignedDecimal>(alloc, &mut table, "low", &entry.low)?;
+        put::<SignedDecimal>(alloc, &mut table, "high", &entry.high)?;
         Ok(tabled(table))
     }
 }

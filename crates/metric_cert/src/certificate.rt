@@ -7,11 +7,13 @@ ghost use Rattle.metric_table.specs.Fields.{only};
 ghost use Rattle.metric_cert.specs.Certificates.{certificate_fields, certificate_of, certificate_from, format_of};
 ghost use Rattle.metric_cert.specs.Reading.{shape_faults};
 
-use crate::bound::InstrumentBound;
+use crate::bound::{BoundTable, InstrumentBound};
 use crate::fault::{CertFault, shape_faults};
-use crate::order::ReaderOrder;
-use crate::reason::SelectionReason;
-use crate::stream::StreamSets;
+use crate::lists::ListOf;
+use crate::numbers::Number;
+use crate::order::{OrderTable, ReaderOrder};
+use crate::reason::{ReasonTable, SelectionReason};
+use crate::stream::{StreamSets, StreamTable};
 use crate::tables::{empty_table, needed, put};
 use metric_base::Items;
 use metric_table::only;
@@ -72,11 +74,11 @@ impl Certificate {
         ensures shallow { IfOk result (λ t. members_depth (table_view t) ≤ 80) }
     {
         let mut table = empty_table(alloc);
-        put(alloc, &mut table, "format", &1u32)?;
-        put(alloc, &mut table, "reason", &self.reasons)?;
-        put(alloc, &mut table, "stream", &self.streams)?;
-        put(alloc, &mut table, "bound", &self.bounds)?;
-        put(alloc, &mut table, "order", &self.orders)?;
+        put::<Number>(alloc, &mut table, "format", &1)?;
+        put::<ListOf<ReasonTable>>(alloc, &mut table, "reason", &self.reasons)?;
+        put::<ListOf<StreamTable>>(alloc, &mut table, "stream", &self.streams)?;
+        put::<ListOf<BoundTable>>(alloc, &mut table, "bound", &self.bounds)?;
+        put::<ListOf<OrderTable>>(alloc, &mut table, "order", &self.orders)?;
         Ok(table)
     }
 }
@@ -87,10 +89,10 @@ fn certificate_of(alloc: Global, table: &Table) -> Result<Certificate, CertFault
 {
     only_certificate(table)?;
     format_of(alloc, table)?;
-    let reasons = needed(alloc, table, "reason")?;
-    let streams = needed(alloc, table, "stream")?;
-    let bounds = needed(alloc, table, "bound")?;
-    let orders = needed(alloc, table, "order")?;
+    let reasons = needed::<ListOf<ReasonTable>>(alloc, table, "reason")?;
+    let streams = needed::<ListOf<StreamTable>>(alloc, table, "stream")?;
+    let bounds = needed::<ListOf<BoundTable>>(alloc, table, "bound")?;
+    let orders = needed::<ListOf<OrderTable>>(alloc, table, "order")?;
     Ok(Certificate {
         reasons,
         streams,
@@ -113,7 +115,7 @@ fn only_certificate(table: &Table) -> Result<(), CertFault>
 fn format_of(alloc: Global, table: &Table) -> Result<(), CertFault>
     ensures { Gives CertFault.Memory result (format_of (table_view table.now)) }
 {
-    let format: u32 = needed(alloc, table, "format")?;
+    let format = needed::<Number>(alloc, table, "format")?;
     if format == 1 {
         Ok(())
     } else {

@@ -8,26 +8,28 @@ use crate::fault::CertFault;
 use std::alloc::{AllocError, Global};
 use toml::Value;
 
-/// What a value of TOML may stand for. What is written is read as itself.
+/// A kind of entry of a certificate. What is written is read as itself. It is no type that crates above see: they would
+/// all carry what TOML's values are.
 pub(crate) trait Entry {
     ghost use Rattle.std.specs.Prelude.{ℕ, Result};
     ghost use Rattle.toml.specs.Data.{Data};
     ghost use Rattle.metric_cert.specs.declared.fault.CertFault.{CertFault as Fault};
 
+    /// What such an entry stands for.
+    type Read: Drop;
+
     // What a value is read as.
-    ghost step: { Data → Result Self Fault };
+    ghost step: { Data → Result Self.Read Fault };
 
     // How deep lists and tables nest in what is written.
     ghost levels: { ℕ };
 
     /// What the value stands for, or `Shape`.
-    fn read(alloc: Global, value: &Value) -> Result<Self, CertFault>
-    where
-        Self: Sized,
+    fn read(alloc: Global, value: &Value) -> Result<Self::Read, CertFault>
         ensures { Gives CertFault.Memory result (step (view value.now)) };
 
     /// A value that stands for it. Fails only where memory is refused.
-    fn write(&self, alloc: Global) -> Result<Value, AllocError>
-        ensures reads { IfOk result (λ v. step (view v) ≡ Ok self.now) }
+    fn write(alloc: Global, entry: &Self::Read) -> Result<Value, AllocError>
+        ensures reads { IfOk result (λ v. step (view v) ≡ Ok entry.now) }
         ensures shallow { IfOk result (λ v. depth (view v) ≤ levels) };
 }

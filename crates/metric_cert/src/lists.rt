@@ -12,23 +12,30 @@ use metric_base::Items;
 use std::alloc::{AllocError, Global};
 use toml::Value;
 
-impl<T: Entry + Drop> Entry for Items<T> {
+/// A list of entries of a kind.
+pub(crate) struct ListOf<E> {
+    _kind: E,
+}
+
+impl<E: Entry> Entry for ListOf<E> {
     ghost use Rattle.std.specs.Prelude.{◌+◌};
     ghost use Rattle.metric_cert.specs.Reading.{list_of};
 
-    ghost step = { list_of T.step };
+    type Read = Items<E::Read>;
 
-    ghost levels = { T.levels + 1 };
+    ghost step = { list_of E.step };
+
+    ghost levels = { E.levels + 1 };
 
     #[tactic(auto, unfolding(crate::specs::Reading::list_of))]
-    fn read(alloc: Global, value: &Value) -> Result<Items<T>, CertFault> {
+    fn read(alloc: Global, value: &Value) -> Result<Items<E::Read>, CertFault> {
         let values = values_of(value)?;
-        read_all(alloc, values)
+        read_all::<E>(alloc, values)
     }
 
     #[tactic(auto, using(crate::proofs::Written::list_laws))]
-    fn write(&self, alloc: Global) -> Result<Value, AllocError> {
-        let values = write_all(alloc, self.as_slice())?;
+    fn write(alloc: Global, entry: &Items<E::Read>) -> Result<Value, AllocError> {
+        let values = write_all::<E>(alloc, entry.as_slice())?;
         Ok(listed(values))
     }
 }
@@ -50,24 +57,24 @@ fn listed(values: Vec<Value>) -> Value
     Value::Array(values)
 }
 
-fn read_all<T: Entry + Drop>(alloc: Global, values: &[Value]) -> Result<Items<T>, CertFault>
-    ensures { Gives CertFault.Memory result (each_alone T.step (map view values.now)) }
+fn read_all<E: Entry>(alloc: Global, values: &[Value]) -> Result<Items<E::Read>, CertFault>
+    ensures { Gives CertFault.Memory result (each_alone E.step (map view values.now)) }
 {
     let mut entries = Items::new(alloc);
     for value in values {
-        let entry = T::read(alloc, value)?;
+        let entry = E::read(alloc, value)?;
         entries.push(entry)?;
     }
     Ok(entries)
 }
 
-fn write_all<T: Entry>(alloc: Global, entries: &[T]) -> Result<Vec<Value>, AllocError>
-    ensures reads { IfOk result (λ vs. each_alone T.step (map view vs.items) ≡ Ok entries.now) }
-    ensures shallow { IfOk result (λ vs. items_depth (items_view vs.items) ≤ T.levels) }
+fn write_all<E: Entry>(alloc: Global, entries: &[E::Read]) -> Result<Vec<Value>, AllocError>
+    ensures reads { IfOk result (λ vs. each_alone E.step (map view vs.items) ≡ Ok entries.now) }
+    ensures shallow { IfOk result (λ vs. items_depth (items_view vs.items) ≤ E.levels) }
 {
     let mut values = Vec::new(alloc);
     for entry in entries {
-        let value = entry.write(alloc)?;
+        let value = E::write(alloc, entry)?;
         values.push(value)?;
     }
     Ok(values)

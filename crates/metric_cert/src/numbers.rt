@@ -11,9 +11,14 @@ use metric_text::u64_of;
 use std::alloc::{AllocError, Global};
 use toml::Value;
 
-impl Entry for u16 {
+/// A number of 16 bits.
+pub(crate) struct ShortNumber;
+
+impl Entry for ShortNumber {
     ghost use Rattle.std.specs.Prelude.{◌^◌};
     ghost use Rattle.metric_cert.specs.Reading.{whole_of};
+
+    type Read = u16;
 
     ghost step = { whole_of (2 ^ 16) };
 
@@ -26,14 +31,19 @@ impl Entry for u16 {
     }
 
     #[tactic(auto, using(crate::proofs::Written::number_laws))]
-    fn write(&self, _alloc: Global) -> Result<Value, AllocError> {
-        Ok(whole(u32::from(*self)))
+    fn write(_alloc: Global, entry: &u16) -> Result<Value, AllocError> {
+        Ok(whole(u32::from(*entry)))
     }
 }
 
-impl Entry for u32 {
+/// A number of 32 bits.
+pub(crate) struct Number;
+
+impl Entry for Number {
     ghost use Rattle.std.specs.Prelude.{◌^◌};
     ghost use Rattle.metric_cert.specs.Reading.{whole_of};
+
+    type Read = u32;
 
     ghost step = { whole_of (2 ^ 32) };
 
@@ -46,13 +56,18 @@ impl Entry for u32 {
     }
 
     #[tactic(auto, using(crate::proofs::Written::number_laws))]
-    fn write(&self, _alloc: Global) -> Result<Value, AllocError> {
-        Ok(whole(*self))
+    fn write(_alloc: Global, entry: &u32) -> Result<Value, AllocError> {
+        Ok(whole(*entry))
     }
 }
 
-impl Entry for u64 {
+/// A number of 64 bits, as a decimal text.
+pub(crate) struct Decimal;
+
+impl Entry for Decimal {
     ghost use Rattle.metric_cert.specs.Reading.{decimal_of};
+
+    type Read = u64;
 
     ghost step = { decimal_of };
 
@@ -65,15 +80,20 @@ impl Entry for u64 {
     }
 
     #[tactic(auto, using(crate::proofs::Written::number_laws))]
-    fn write(&self, alloc: Global) -> Result<Value, AllocError> {
-        let number = *self;
+    fn write(alloc: Global, entry: &u64) -> Result<Value, AllocError> {
+        let number = *entry;
         let text = format!(in alloc; "{number}")?;
         Ok(worded(text))
     }
 }
 
-impl Entry for i128 {
+/// A number of 128 bits with a sign, as a decimal text.
+pub(crate) struct SignedDecimal;
+
+impl Entry for SignedDecimal {
     ghost use Rattle.metric_cert.specs.Reading.{signed_decimal_of};
+
+    type Read = i128;
 
     ghost step = { signed_decimal_of };
 
@@ -87,8 +107,8 @@ impl Entry for i128 {
     }
 
     #[tactic(auto, using(crate::proofs::Written::number_laws))]
-    fn write(&self, alloc: Global) -> Result<Value, AllocError> {
-        let number = *self;
+    fn write(alloc: Global, entry: &i128) -> Result<Value, AllocError> {
+        let number = *entry;
         let text = format!(in alloc; "{number}")?;
         Ok(worded(text))
     }

@@ -1,6 +1,8 @@
 //! In which order the streams of a reader rise.
 use crate::entry::Entry;
 use crate::fault::{CertFault, shape_faults};
+use crate::lists::ListOf;
+use crate::numbers::Number;
 use crate::tables::{empty_table, needed, put, tabled};
 use metric_base::Items;
 use metric_table::{only, table_of};
@@ -16,8 +18,13 @@ pub struct ReaderOrder {
     pub streams: Items<u32>,
 }
 
-impl Entry for ReaderOrder {
+/// The table of the order of a reader.
+pub(crate) struct OrderTable;
+
+impl Entry for OrderTable {
     ghost use Rattle.metric_cert.specs.Orders.{order_of};
+
+    type Read = ReaderOrder;
 
     ghost step = { order_of };
 
@@ -27,15 +34,15 @@ impl Entry for ReaderOrder {
     fn read(alloc: Global, value: &Value) -> Result<ReaderOrder, CertFault> {
         let table = table_of(value, &shape_faults())?;
         only(table, &["reader", "streams"], &shape_faults())?;
-        let reader = needed(alloc, table, "reader")?;
-        let streams = needed(alloc, table, "streams")?;
+        let reader = needed::<Number>(alloc, table, "reader")?;
+        let streams = needed::<ListOf<Number>>(alloc, table, "streams")?;
         Ok(ReaderOrder { reader, streams })
     }
 
-    fn write(&self, alloc: Global) -> Result<Value, AllocError> {
+    fn write(alloc: Global, entry: &ReaderOrder) -> Result<Value, AllocError> {
         let mut table = empty_table(alloc);
-        put(alloc, &mut table, "reader", &self.reader)?;
-        put(alloc, &mut table, "streams", &self.streams)?;
+        put::<Number>(alloc, &mut table, "reader", &entry.reader)?;
+        put::<ListOf<Number>>(alloc, &mut table, "streams", &entry.streams)?;
         Ok(tabled(table))
     }
 }

@@ -9,6 +9,8 @@ ghost use Rattle.metric_cert.specs.Reasons.{PutsEvidence, evidence_of, one_of, r
 
 use crate::entry::Entry;
 use crate::fault::{CertFault, shape_faults};
+use crate::lists::ListOf;
+use crate::numbers::{Number, ShortNumber};
 use crate::tables::{empty_table, needed, optional, put, tabled};
 use metric_base::Items;
 use metric_glob::Reason;
@@ -81,8 +83,16 @@ pub struct SelectionReason {
     pub evidence: Evidence,
 }
 
-impl Entry for Criterion {
+// How many characters each `*` takes, or a row of pattern places.
+type Takes = ListOf<ShortNumber>;
+
+/// The word for a criterion.
+pub(crate) struct CriterionWord;
+
+impl Entry for CriterionWord {
     ghost use Rattle.metric_cert.specs.Names.{criterion_of};
+
+    type Read = Criterion;
 
     ghost step = { criterion_of };
 
@@ -94,14 +104,19 @@ impl Entry for Criterion {
         Criterion::named(text).ok_or(CertFault::Shape)
     }
 
-    fn write(&self, alloc: Global) -> Result<Value, AllocError> {
-        let value = Value::string(alloc, self.name())?;
+    fn write(alloc: Global, entry: &Criterion) -> Result<Value, AllocError> {
+        let value = Value::string(alloc, entry.name())?;
         Ok(value)
     }
 }
 
-impl Entry for SelectionReason {
+/// The table of a reason.
+pub(crate) struct ReasonTable;
+
+impl Entry for ReasonTable {
     ghost use Rattle.metric_cert.specs.Reasons.{reason_of};
+
+    type Read = SelectionReason;
 
     ghost step = { reason_of };
 
@@ -111,8 +126,8 @@ impl Entry for SelectionReason {
     fn read(alloc: Global, value: &Value) -> Result<SelectionReason, CertFault> {
         let table = table_of(value, &shape_faults())?;
         only_reason(table)?;
-        let view = needed(alloc, table, "view")?;
-        let instrument = needed(alloc, table, "instrument")?;
+        let view = needed::<Number>(alloc, table, "view")?;
+        let instrument = needed::<Number>(alloc, table, "instrument")?;
         let evidence = evidence_of(alloc, table)?;
         Ok(SelectionReason {
             view,
@@ -121,11 +136,11 @@ impl Entry for SelectionReason {
         })
     }
 
-    fn write(&self, alloc: Global) -> Result<Value, AllocError> {
+    fn write(alloc: Global, entry: &SelectionReason) -> Result<Value, AllocError> {
         let mut table = empty_table(alloc);
-        put(alloc, &mut table, "view", &self.view)?;
-        put(alloc, &mut table, "instrument", &self.instrument)?;
-        put_evidence(alloc, &mut table, &self.evidence)?;
+        put::<Number>(alloc, &mut table, "view", &entry.view)?;
+        put::<Number>(alloc, &mut table, "instrument", &entry.instrument)?;
+        put_evidence(alloc, &mut table, &entry.evidence)?;
         Ok(tabled(table))
     }
 }
@@ -144,9 +159,9 @@ fn only_reason(table: &Table) -> Result<(), CertFault>
 fn evidence_of(alloc: Global, table: &Table) -> Result<Evidence, CertFault>
     ensures { Gives CertFault.Memory result (evidence_of (table_view table.now)) }
 {
-    let takes = optional(alloc, table, "takes")?;
-    let rows = optional(alloc, table, "rows")?;
-    let miss = optional(alloc, table, "miss")?;
+    let takes = optional::<Takes>(alloc, table, "takes")?;
+    let rows = optional::<ListOf<Takes>>(alloc, table, "rows")?;
+    let miss = optional::<CriterionWord>(alloc, table, "miss")?;
     one_of(takes, rows, miss).ok_or(CertFault::Shape)
 }
 
@@ -170,8 +185,8 @@ fn put_evidence(alloc: Global, table: &mut Table, evidence: &Evidence) -> Result
         (PutsEvidence evidence.now (table_view table.old) (table_view table.new)) }
 {
     match evidence {
-        Evidence::Name(Reason::Takes(takes)) => put(alloc, table, "takes", takes),
-        Evidence::Name(Reason::Rows(rows)) => put(alloc, table, "rows", rows),
-        Evidence::Miss(criterion) => put(alloc, table, "miss", criterion),
+        Evidence::Name(Reason::Takes(takes)) => put::<Takes>(alloc, table, "takes", takes),
+        Evidence::Name(Reason::Rows(rows)) => put::<ListOf<Takes>>(alloc, table, "rows", rows),
+        Evidence::Miss(criterion) => put::<CriterionWord>(alloc, table, "miss", criterion),
     }
 }

@@ -8,6 +8,7 @@ ghost use Rattle.metric_cert.specs.Streams.{stream_fields};
 
 use crate::entry::Entry;
 use crate::fault::{CertFault, shape_faults};
+use crate::numbers::Number;
 use crate::tables::{empty_table, needed, optional, put, put_given, tabled};
 use metric_table::{only, table_of, text_of};
 use std::alloc::{AllocError, Global};
@@ -60,8 +61,13 @@ pub struct StreamSets {
     pub sets: u32,
 }
 
-impl Entry for By {
+/// The word for what bounds a number of series.
+pub(crate) struct ByWord;
+
+impl Entry for ByWord {
     ghost use Rattle.metric_cert.specs.Names.{by_of};
+
+    type Read = By;
 
     ghost step = { by_of };
 
@@ -73,14 +79,19 @@ impl Entry for By {
         By::named(text).ok_or(CertFault::Shape)
     }
 
-    fn write(&self, alloc: Global) -> Result<Value, AllocError> {
-        let value = Value::string(alloc, self.name())?;
+    fn write(alloc: Global, entry: &By) -> Result<Value, AllocError> {
+        let value = Value::string(alloc, entry.name())?;
         Ok(value)
     }
 }
 
-impl Entry for StreamSets {
+/// The table of a stream.
+pub(crate) struct StreamTable;
+
+impl Entry for StreamTable {
     ghost use Rattle.metric_cert.specs.Streams.{stream_of};
+
+    type Read = StreamSets;
 
     ghost step = { stream_of };
 
@@ -90,11 +101,11 @@ impl Entry for StreamSets {
     fn read(alloc: Global, value: &Value) -> Result<StreamSets, CertFault> {
         let table = table_of(value, &shape_faults())?;
         only_stream(table)?;
-        let reader = needed(alloc, table, "reader")?;
-        let instrument = needed(alloc, table, "instrument")?;
-        let view = optional(alloc, table, "view")?;
-        let by = needed(alloc, table, "by")?;
-        let sets = needed(alloc, table, "sets")?;
+        let reader = needed::<Number>(alloc, table, "reader")?;
+        let instrument = needed::<Number>(alloc, table, "instrument")?;
+        let view = optional::<Number>(alloc, table, "view")?;
+        let by = needed::<ByWord>(alloc, table, "by")?;
+        let sets = needed::<Number>(alloc, table, "sets")?;
         Ok(StreamSets {
             reader,
             instrument,
@@ -104,13 +115,13 @@ impl Entry for StreamSets {
         })
     }
 
-    fn write(&self, alloc: Global) -> Result<Value, AllocError> {
+    fn write(alloc: Global, entry: &StreamSets) -> Result<Value, AllocError> {
         let mut table = empty_table(alloc);
-        put(alloc, &mut table, "reader", &self.reader)?;
-        put(alloc, &mut table, "instrument", &self.instrument)?;
-        put_given(alloc, &mut table, "view", &self.view)?;
-        put(alloc, &mut table, "by", &self.by)?;
-        put(alloc, &mut table, "sets", &self.sets)?;
+        put::<Number>(alloc, &mut table, "reader", &entry.reader)?;
+        put::<Number>(alloc, &mut table, "instrument", &entry.instrument)?;
+        put_given::<Number>(alloc, &mut table, "view", &entry.view)?;
+        put::<ByWord>(alloc, &mut table, "by", &entry.by)?;
+        put::<Number>(alloc, &mut table, "sets", &entry.sets)?;
         Ok(tabled(table))
     }
 }

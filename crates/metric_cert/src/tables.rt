@@ -14,25 +14,29 @@ use toml::{Table, Value};
 
 /// What a needed field stands for.
 #[tactic(auto, unfolding(crate::specs::Reading::needed))]
-pub(crate) fn needed<T: Entry>(alloc: Global, table: &Table, name: &str) -> Result<T, CertFault>
-    ensures { Gives CertFault.Memory result (needed T.step name.now (table_view table.now)) }
+pub(crate) fn needed<E: Entry>(
+    alloc: Global,
+    table: &Table,
+    name: &str,
+) -> Result<E::Read, CertFault>
+    ensures { Gives CertFault.Memory result (needed E.step name.now (table_view table.now)) }
 {
     let value = required(table, name, &shape_faults())?;
-    T::read(alloc, value)
+    E::read(alloc, value)
 }
 
 /// What a field stands for, where the table has it.
 #[tactic(auto, unfolding(crate::specs::Reading::optional))]
-pub(crate) fn optional<T: Entry>(
+pub(crate) fn optional<E: Entry>(
     alloc: Global,
     table: &Table,
     name: &str,
-) -> Result<Option<T>, CertFault>
-    ensures { Gives CertFault.Memory result (optional T.step name.now (table_view table.now)) }
+) -> Result<Option<E::Read>, CertFault>
+    ensures { Gives CertFault.Memory result (optional E.step name.now (table_view table.now)) }
 {
     match member(table, name) {
         Some(value) => {
-            let entry = T::read(alloc, value)?;
+            let entry = E::read(alloc, value)?;
             Ok(Some(entry))
         }
         None => Ok(None),
@@ -54,31 +58,31 @@ pub(crate) fn tabled(table: Table) -> Value
 }
 
 /// Puts a field that the table does not have.
-pub(crate) fn put<T: Entry>(
+pub(crate) fn put<E: Entry>(
     alloc: Global,
     table: &mut Table,
     name: &str,
-    entry: &T,
+    entry: &E::Read,
 ) -> Result<(), AllocError>
     ensures { OnOk result
-        (Puts T.step T.levels name.now entry.now (table_view table.old) (table_view table.new)) }
+        (Puts E.step E.levels name.now entry.now (table_view table.old) (table_view table.new)) }
 {
-    let value = entry.write(alloc)?;
+    let value = E::write(alloc, entry)?;
     insert(alloc, table, name, value)
 }
 
 /// Puts a field that may be left out.
-pub(crate) fn put_given<T: Entry>(
+pub(crate) fn put_given<E: Entry>(
     alloc: Global,
     table: &mut Table,
     name: &str,
-    entry: &Option<T>,
+    entry: &Option<E::Read>,
 ) -> Result<(), AllocError>
-    ensures { OnOk result (PutsGiven T.step T.levels name.now entry.now
+    ensures { OnOk result (PutsGiven E.step E.levels name.now entry.now
         (table_view table.old) (table_view table.new)) }
 {
     match entry {
-        Some(entry) => put(alloc, table, name, entry),
+        Some(entry) => put::<E>(alloc, table, name, entry),
         None => Ok(()),
     }
 }

@@ -7,6 +7,6 @@ use Rattle.metric_cert.proofs.lists.write_all.Given as goal
 
 abbrev pub invariant-loop-entry : goal.invariant-loop-entry
 invariant-loop-entry g l = record {
-  reads : each_alone g.T.Entry.step (map view l.values.items) ≡ Ok (take l.entry-index l.entries);
-  shallow : items_depth (items_view l.values.items) ≤ g.T.Entry.levels;
+  reads : each_alone g.E.Entry.step (map view l.values.items) ≡ Ok (take l.entry-index l.entries);
+  shallow : items_depth (items_view l.values.items) ≤ g.E.Entry.levels;
 }

@@ -2,8 +2,8 @@
 use Rattle.std.proofs.Common.{ap, ◌∙◌}
 use Rattle.toml.specs.Data.{string}
 use Rattle.metric_cert.proofs.Tabled.{by_written}
-use Rattle.metric_cert.proofs.stream.ByEntry.write.Goals as goal
+use Rattle.metric_cert.proofs.stream.ByWordEntry.write.Goals as goal
 
 pub returns-clause-reads : goal.returns-clause-reads
 returns-clause-reads c =
-    by_written c.args.self.now _ (c.in_ok-value.ensures ∙ ap string c.name.ensures)
+    by_written c.args.entry.now _ (c.in_ok-value.ensures ∙ ap string c.name.ensures)
