@@ -3,7 +3,6 @@ mod Numbered
 mod SoundLists
 mod SoundKeys
 mod SoundInstruments
-mod KeysLast
 mod EachMore
 mod SoundCatalogues
 pub mod Mapped

@@ -9,7 +9,7 @@ use Rattle.toml.specs.Data.{Members}
 use Rattle.metric_base.specs.Steps.{require_some, in_turn, each}
 use Rattle.metric_base.specs.StepLaws.{after_ok, require_ok, ok_is}
 use Rattle.metric_catalogue.specs.declared.recorders.TheConstants.{BUDGET_FIELDS, RECORDER_FIELDS}
-use Rattle.metric_table.specs.Fields.{field, integer_of, only, tables_field}
+use Rattle.metric_table.specs.Fields.{only, tables_field}
 use Rattle.metric_catalogue.specs.declared.contents.Budget.{Budget}
 use Rattle.metric_catalogue.specs.declared.contents.Contents.{Contents}
 use Rattle.metric_catalogue.specs.declared.contents.Instrument.{Instrument}
@@ -20,13 +20,13 @@ use Rattle.metric_catalogue.specs.declared.fault.CatalogueDefect.TheVariants.{Ba
 use Rattle.metric_catalogue.specs.declared.fault.CatalogueFault.TheVariants.{At}
 use Rattle.metric_catalogue.specs.declared.fault.CataloguePlace.{CataloguePlace}
 use Rattle.metric_catalogue.specs.declared.fault.CataloguePlace.TheVariants as place
-use Rattle.metric_catalogue.specs.Catalogues.{contents_of, format_of_top, nothing_metered, tables_of_top}
+use Rattle.metric_catalogue.specs.Catalogues.{contents_declared, contents_of, format_of_top, nothing_metered}
 use Rattle.metric_catalogue.specs.Faults.{faults_at}
 use Rattle.metric_catalogue.specs.Instruments.{instrument_of}
 use Rattle.metric_catalogue.specs.Meters.{is_meter, meter_of, only_meter_fields, with_meter}
-use Rattle.metric_catalogue.specs.Recorders.{amount_field, amount_from, budget_of, budgeted, is_budget, is_recorder, number_below, recorder_of}
-use Rattle.metric_catalogue.specs.Sound.{AreInstrumentsApart, IsSound, IsSoundBudget, IsSoundInstrument, IsSoundMeter, IsSoundRecorder}
-use Rattle.metric_catalogue.specs.Texts.{free_text, label_field, needed_text}
+use Rattle.metric_catalogue.specs.Recorders.{amount_field, amount_from, budget_of, budgeted, budgets_field, is_budget, is_recorder, number_below, number_field, recorder_name, recorder_of}
+use Rattle.metric_catalogue.specs.Sound.{AreInstrumentsApart, IsLabel, IsSound, IsSoundBudget, IsSoundInstrument, IsSoundList, IsSoundMeter, IsSoundRecorder}
+use Rattle.metric_catalogue.specs.Texts.{free_text, needed_text}
 use Rattle.metric_catalogue.proofs.SoundInstruments.{instrument_made}
 use Rattle.metric_catalogue.proofs.SoundKeys.{free_made, label_made, needed_made}
 use Rattle.metric_catalogue.proofs.SoundLists.{AreSound, IsNext, apart_by, each_length, each_sound, made_sound, sound_none, sound_push, tables_few, texts_apart}
@@ -151,13 +151,11 @@ budget_made at count before table budget e0 =
     after_ok (amount_field at table) _ budget e2 (λ amount counted e3.
     let (new, e4) = require_ok (not (list_any (is_budget instrument) before)) (At DuplicateBudget at) _ budget e3 in
     let known : instrument < count =
-    after_ok (field (faults_at at) (codes "instrument") table) _ instrument numbered (λ d _ n1.
-    after_ok (integer_of (faults_at at) d) _ instrument n1 (λ z _ n2.
-    below_made count z instrument (some_made (number_below count z) (At UnknownInstrument at) instrument n2))) in
+    after_ok (number_field at (codes "instrument") table) _ instrument numbered (λ z _ told.
+    below_made count z instrument (some_made (number_below count z) (At UnknownInstrument at) instrument told)) in
     let limited : amount < 2 ^ 63 =
-    after_ok (field (faults_at at) (codes "amount") table) _ amount counted (λ d _ n1.
-    after_ok (integer_of (faults_at at) d) _ amount n1 (λ z _ n2.
-    amount_made z amount (some_made (amount_from z) (At BadRange at) amount n2))) in
+    after_ok (number_field at (codes "amount") table) _ amount counted (λ z _ told.
+    amount_made z amount (some_made (amount_from z) (At BadRange at) amount told)) in
     let made : Budget = record { instrument = instrument; amount = amount } in
     let next : IsNext (IsSoundBudget count) (λ o b. o.instrument ≢ b.instrument) before made = record {
       sound = record { known = known; limited = limited };
@@ -165,55 +163,66 @@ budget_made at count before table budget e0 =
     } in
     subst (IsNext (IsSoundBudget count) (λ o b. o.instrument ≢ b.instrument) before) (ok_is made budget (Ok made) refl e4) next)))
 
+-- budgets of distinct instruments, of a recorder whose name is not taken
+budgets_made : (at : CataloguePlace) (count : ℕ) (is_taken : Bool) (table : Members) (budgets : List Budget) → budgets_field at count is_taken table ≡ Ok budgets
+    → (not is_taken ≡ true) × IsSoundList 512 (IsSoundBudget count) (λ o b. o.instrument ≢ b.instrument) budgets
+unfolding budgets_field
+budgets_made at count is_taken table budgets e0 =
+    after_ok (tables_field (faults_at at) 512 (codes "budget") table) _ budgets e0 (λ tables listed e1.
+    let (new, e2) = require_ok (not is_taken) (At DuplicateRecorder at) _ budgets e1 in
+    let few = tables_few (faults_at at) 512 (codes "budget") table tables listed in
+    (new, made_sound 512 (IsSoundBudget count) (λ o b. o.instrument ≢ b.instrument) (budget_of at count) (budget_made at count) tables budgets e2 few))
+
+recorder_name_made : (at : CataloguePlace) (table : Members) (name : List ℕ) → recorder_name at table ≡ Ok name → IsLabel name
+unfolding recorder_name
+recorder_name_made at table name e0 =
+    after_ok (only (faults_at at) (map (λ field. field.now) RECORDER_FIELDS) table) _ name e0 (λ _ _ named. label_made at table name named)
+
 recorder_made : (count : ℕ) (before : List Recorder) (table : Members) (recorder : Recorder) → recorder_of count before table ≡ Ok recorder
     → IsNext (IsSoundRecorder count) (λ o r. o.name ≢ r.name) before recorder
 unfolding recorder_of
 recorder_made count before table recorder e0 =
     let at = place.Recorder (length before) in
-    after_ok (only (faults_at at) (map (λ name. name.now) RECORDER_FIELDS) table) _ recorder e0 (λ _ _ e1.
-    after_ok (label_field at table) _ recorder e1 (λ name named e2.
-    after_ok (tables_field (faults_at at) 512 (codes "budget") table) _ recorder e2 (λ tables listed e3.
-    let (new, e4) = require_ok (not (list_any (is_recorder name) before)) (At DuplicateRecorder at) _ recorder e3 in
-    after_ok (each (budget_of at count) [] tables) _ recorder e4 (λ budgets budgeted e5.
-    let few = tables_few (faults_at at) 512 (codes "budget") table tables listed in
+    after_ok (recorder_name at table) _ recorder e0 (λ name named e1.
+    after_ok (budgets_field at count (list_any (is_recorder name) before) table) _ recorder e1 (λ budgets budgeted e2.
+    let (new, sound_budgets) = budgets_made at count (list_any (is_recorder name) before) table budgets budgeted in
     let made : Recorder = record { name = name; budgets = budgets } in
     let next : IsNext (IsSoundRecorder count) (λ o r. o.name ≢ r.name) before made = record {
       sound = record {
-        name = label_made at table name named;
-        budgets = made_sound 512 (IsSoundBudget count) (λ o b. o.instrument ≢ b.instrument) (budget_of at count) (budget_made at count) tables budgets budgeted few;
+        name = recorder_name_made at table name named;
+        budgets = sound_budgets;
       };
       apart = apart_by (λ o r. o.name ≢ r.name) (is_recorder name) before made (λ o h. texts_apart o.name name h) new;
     } in
-    subst (IsNext (IsSoundRecorder count) (λ o r. o.name ≢ r.name) before) (ok_is made recorder (Ok made) refl e5) next))))
+    subst (IsNext (IsSoundRecorder count) (λ o r. o.name ≢ r.name) before) (ok_is made recorder (Ok made) refl e2) next))
 
--- the tables of the meters and of the recorders are few
-top_few : (table : Members) (tables : List Members × List Members) → tables_of_top table ≡ Ok tables → (length tables.0 ≤ 64) × (length tables.1 ≤ 64)
-unfolding tables_of_top
-top_few table tables e0 =
-    after_ok (format_of_top table) _ tables e0 (λ _ _ e1.
-    after_ok (tables_field (faults_at place.Top) 64 (codes "meter") table) _ tables e1 (λ meters metered e2.
-    after_ok (tables_field (faults_at place.Top) 64 (codes "recorder") table) _ tables e2 (λ recorders recorded e3.
-    subst (λ (ts : List Members × List Members). (length ts.0 ≤ 64) × (length ts.1 ≤ 64)) (ok_is (meters, recorders) tables (Ok (meters, recorders)) refl e3)
-    (tables_few (faults_at place.Top) 64 (codes "meter") table meters metered, tables_few (faults_at place.Top) 64 (codes "recorder") table recorders recorded))))
-
-pub contents_made : (table : Members) (c : Contents) → contents_of table ≡ Ok c → IsSound c
-unfolding contents_of
-contents_made table c e0 =
-    after_ok (tables_of_top table) _ c e0 (λ tables listed e1.
-    after_ok (in_turn with_meter nothing_metered tables.0) _ c e1 (λ metered made e2.
-    after_ok (each (recorder_of (length metered.instruments)) [] tables.1) _ c e2 (λ recorders recorded e3.
+-- what a few tables declare
+declared_made : (meters recorders : List Members) (c : Contents) → length meters ≤ 64 → length recorders ≤ 64 → contents_declared meters recorders ≡ Ok c → IsSound c
+unfolding contents_declared
+declared_made meters recorders c few_meters few_recorders e0 =
+    after_ok (in_turn with_meter nothing_metered meters) _ c e0 (λ metered made e1.
+    after_ok (each (recorder_of (length metered.instruments)) [] recorders) _ c e1 (λ declared recorded e2.
     let count = length metered.instruments in
-    let (few_meters, few_recorders) = top_few table tables listed in
     let first : IsSoundSoFar nothing_metered = record {
       meters = sound_none IsSoundMeter (λ m o. m ≢ o);
       instruments = sound_none (IsSoundInstrument 0) AreInstrumentsApart;
       few = omega arith;
     } in
-    let (all, long) = meters_made nothing_metered tables.0 metered made first in
-    let read : Contents = record { meters = metered.meters; instruments = metered.instruments; recorders = recorders } in
+    let (all, long) = meters_made nothing_metered meters metered made first in
+    let read : Contents = record { meters = metered.meters; instruments = metered.instruments; recorders = declared } in
     let sound : IsSound read = record {
       meters = record { few = omega arith; each = all.meters.each; apart = all.meters.apart };
       instruments = record { few = all.few; each = all.instruments.each; apart = all.instruments.apart };
-      recorders = made_sound 64 (IsSoundRecorder count) (λ o r. o.name ≢ r.name) (recorder_of count) (recorder_made count) tables.1 recorders recorded few_recorders;
+      recorders = made_sound 64 (IsSoundRecorder count) (λ o r. o.name ≢ r.name) (recorder_of count) (recorder_made count) recorders declared recorded few_recorders;
     } in
-    subst IsSound (ok_is read c (Ok read) refl e3) sound)))
+    subst IsSound (ok_is read c (Ok read) refl e2) sound))
+
+pub contents_made : (table : Members) (c : Contents) → contents_of table ≡ Ok c → IsSound c
+unfolding contents_of
+contents_made table c e0 =
+    after_ok (format_of_top table) _ c e0 (λ _ _ e1.
+    after_ok (tables_field (faults_at place.Top) 64 (codes "meter") table) _ c e1 (λ meters metered e2.
+    after_ok (tables_field (faults_at place.Top) 64 (codes "recorder") table) _ c e2 (λ recorders recorded e3.
+    let few_meters = tables_few (faults_at place.Top) 64 (codes "meter") table meters metered in
+    let few_recorders = tables_few (faults_at place.Top) 64 (codes "recorder") table recorders recorded in
+    declared_made meters recorders c few_meters few_recorders e3)))

@@ -6,24 +6,25 @@ use Rattle.std.specs.List.{list_any}
 use Rattle.std.specs.Str.{bytes_eq}
 use Rattle.toml.specs.Data.{Data, Members, get_member}
 use Rattle.metric_base.specs.Boundaries.{is_rising}
-use Rattle.metric_base.specs.Steps.{each, with_fault}
+use Rattle.metric_base.specs.Steps.{with_fault}
 use Rattle.metric_base.specs.StepLaws.{after_ok, require_ok, ok_is}
 use Rattle.metric_names.specs.NameLaws.{name_of-IsName, unit_of-IsUnit}
 use Rattle.metric_names.specs.Names.{folded, IsName, IsSameName, name_of}
 use Rattle.metric_names.specs.Units.{IsUnit, unit_of}
-use Rattle.metric_table.specs.Fields.{field, integer_of, integers_of, list_of, optional_text, tables_field, text_field}
+use Rattle.metric_table.specs.Fields.{integer_of, integers_of, list_of, optional_text, tables_field, text_field}
 use Rattle.metric_catalogue.specs.declared.contents.Instrument.{Instrument}
+use Rattle.metric_catalogue.specs.declared.contents.Key.{Key}
 use Rattle.metric_catalogue.specs.declared.contents.Kind.{Kind}
 use Rattle.metric_catalogue.specs.declared.instruments.Head.{Head}
 use Rattle.metric_catalogue.specs.declared.fault.CatalogueDefect.TheVariants.{BadBoundaries, BadName, BadRange, BadUnit, DuplicateInstrument}
 use Rattle.metric_catalogue.specs.declared.fault.CatalogueFault.TheVariants.{At}
 use Rattle.metric_catalogue.specs.declared.fault.CataloguePlace.{CataloguePlace}
 use Rattle.metric_catalogue.specs.declared.fault.CataloguePlace.TheVariants as place
-use Rattle.metric_catalogue.specs.Faults.{faults_at, pair_faults_at}
-use Rattle.metric_catalogue.specs.Instruments.{advice_field, boundaries_of, boundaries_within, head_of, instrument_name, instrument_of, is_instrument, is_range, kind_field, only_instrument_fields, pair_of, range_field, unit_field}
+use Rattle.metric_catalogue.specs.Faults.{faults_at}
+use Rattle.metric_catalogue.specs.Instruments.{advice_field, boundaries_of, boundaries_within, head_of, instrument_name, instrument_of, is_instrument, is_range, keys_field, kind_field, only_instrument_fields, pair_field, range_field, unit_field}
 use Rattle.metric_catalogue.specs.Keys.{key_of}
 use Rattle.metric_catalogue.specs.Kinds.{is_monotonic}
-use Rattle.metric_catalogue.specs.Sound.{AreBoundaries, AreInstrumentsApart, IsFreeText, IsSoundInstrument, IsSoundKey}
+use Rattle.metric_catalogue.specs.Sound.{AreBoundaries, AreInstrumentsApart, IsFreeText, IsSoundInstrument, IsSoundKey, IsSoundList}
 use Rattle.metric_catalogue.specs.Texts.{free_text}
 use Rattle.metric_catalogue.proofs.SoundKeys.{free_made, key_made}
 use Rattle.metric_catalogue.proofs.SoundLists.{IsNext, apart_by, each_length, list_few, made_sound, tables_few}
@@ -40,11 +41,9 @@ range_is kind lo hi e = by (int_le lo hi) refl (is_monotonic kind) refl e
 range_made : (at : CataloguePlace) (kind : Kind) (table : Members) (range : ℤ × ℤ) → range_field at kind table ≡ Ok range → is_range kind range ≡ true
 unfolding range_field
 range_made at kind table range e0 =
-    after_ok (field (faults_at at) (codes "range") table) _ range e0 (λ d _ e1.
-    after_ok (list_of (pair_faults_at at) 2 d) _ range e1 (λ values _ e2.
-    after_ok (pair_of at values) _ range e2 (λ pair _ e3.
-    let (fits, e4) = require_ok (is_range kind pair) (At BadRange at) _ range e3 in
-    subst (λ (r : ℤ × ℤ). is_range kind r ≡ true) (ok_is pair range (Ok pair) refl e4) fits)))
+    after_ok (pair_field at table) _ range e0 (λ pair _ e1.
+    let (fits, e2) = require_ok (is_range kind pair) (At BadRange at) _ range e1 in
+    subst (λ (r : ℤ × ℤ). is_range kind r ≡ true) (ok_is pair range (Ok pair) refl e2) fits)
 
 boundaries_made : (at : CataloguePlace) (d : Data) (boundaries : List ℤ) → boundaries_of at d ≡ Ok boundaries → AreBoundaries boundaries
 unfolding boundaries_of integers_of
@@ -112,6 +111,15 @@ names_apart meter name other e same_meter same_name =
     let two : bytes_eq (folded other.name) (folded name) ≡ true = (bytes_eq-Decides (folded other.name) (folded name)).1 same_name in
     true≢false (sym (rw (one, two) refl) ∙ e)
 
+-- keys of distinct names, of an instrument whose name is not taken
+keys_made : (at : CataloguePlace) (is_taken : Bool) (table : Members) (keys : List Key) → keys_field at is_taken table ≡ Ok keys
+    → (not is_taken ≡ true) × IsSoundList 8 IsSoundKey (λ o k. o.name ≢ k.name) keys
+unfolding keys_field
+keys_made at is_taken table keys e0 =
+    after_ok (tables_field (faults_at at) 8 (codes "key") table) _ keys e0 (λ tables listed e1.
+    let (new, e2) = require_ok (not is_taken) (At DuplicateInstrument at) _ keys e1 in
+    (new, made_sound 8 IsSoundKey (λ o k. o.name ≢ k.name) (key_of at) (key_made at) tables keys e2 (tables_few (faults_at at) 8 (codes "key") table tables listed)))
+
 pub instrument_made : (meter meters : ℕ) → meter < meters → (before : List Instrument) (table : Members) (instrument : Instrument) → instrument_of meter before table ≡ Ok instrument
     → IsNext (IsSoundInstrument meters) AreInstrumentsApart before instrument
 unfolding instrument_of
@@ -120,9 +128,8 @@ instrument_made meter meters known before table instrument e0 =
     after_ok (head_of at table) _ instrument e0 (λ head headed e1.
     after_ok (range_field at head.kind table) _ instrument e1 (λ range ranged e2.
     after_ok (advice_field at table) _ instrument e2 (λ advice advised e3.
-    after_ok (tables_field (faults_at at) 8 (codes "key") table) _ instrument e3 (λ tables listed e4.
-    let (new, e5) = require_ok (not (list_any (is_instrument meter head.name) before)) (At DuplicateInstrument at) _ instrument e4 in
-    after_ok (each (key_of at) [] tables) _ instrument e5 (λ keys keyed e6.
+    after_ok (keys_field at (list_any (is_instrument meter head.name) before) table) _ instrument e3 (λ keys keyed e4.
+    let (new, sound_keys) = keys_made at (list_any (is_instrument meter head.name) before) table keys keyed in
     let (ordered, not_negative) = range_is head.kind range.0 range.1 (range_made at head.kind table range ranged) in
     let sound_head = head_made at table head headed in
     let made : Instrument = record { meter = meter; name = head.name; kind = head.kind; unit = head.unit; description = head.description; lo = range.0; hi = range.1; advice = advice; keys = keys } in
@@ -135,8 +142,8 @@ instrument_made meter meters known before table instrument e0 =
         ordered = ordered;
         not_negative = not_negative;
         advice = advice_made at table advice advised;
-        keys = made_sound 8 IsSoundKey (λ o k. o.name ≢ k.name) (key_of at) (key_made at) tables keys keyed (tables_few (faults_at at) 8 (codes "key") table tables listed);
+        keys = sound_keys;
       };
       apart = apart_by AreInstrumentsApart (is_instrument meter head.name) before made (names_apart meter head.name) new;
     } in
-    subst (IsNext (IsSoundInstrument meters) AreInstrumentsApart before) (ok_is made instrument (Ok made) refl e6) next)))))
+    subst (IsNext (IsSoundInstrument meters) AreInstrumentsApart before) (ok_is made instrument (Ok made) refl e4) next))))

@@ -55,10 +55,11 @@ label_made at table name e0 =
 name_made : (at : CataloguePlace) (table : Members) (name : List ℕ) → key_name at table ≡ Ok name → IsLabel name × (name ≢ codes "otel.metric.overflow")
 unfolding key_name
 name_made at table name e0 =
-    after_ok (label_field at table) _ name e0 (λ text made e1.
-    let (other, e2) = require_ok (not (bytes_eq text (codes "otel.metric.overflow"))) (At ReservedKey at) _ name e1 in
+    after_ok (only_key_fields at table) _ name e0 (λ _ _ e1.
+    after_ok (label_field at table) _ name e1 (λ text made e2.
+    let (other, e3) = require_ok (not (bytes_eq text (codes "otel.metric.overflow"))) (At ReservedKey at) _ name e2 in
     let apart = texts_apart text (codes "otel.metric.overflow") (not_true (bytes_eq text (codes "otel.metric.overflow")) other) in
-    (label_made at table name (made ∙ e2), subst (λ (t : List ℕ). t ≢ codes "otel.metric.overflow") (ok_is text name (Ok text) refl e2) apart))
+    (label_made at table name (made ∙ e3), subst (λ (t : List ℕ). t ≢ codes "otel.metric.overflow") (ok_is text name (Ok text) refl e3) apart)))
 
 value_made : (at : CataloguePlace) (d : Data) (value : AttrValue) → value_at at d ≡ Ok value → IsSoundValue value
 value_made at (string text) value e0 =
@@ -113,11 +114,10 @@ values_made at table values e0 =
 pub key_made : (at : CataloguePlace) (before : List Key) (table : Members) (key : Key) → key_of at before table ≡ Ok key → IsNext IsSoundKey (λ other k. other.name ≢ k.name) before key
 unfolding key_of
 key_made at before table key e0 =
-    after_ok (only_key_fields at table) _ key e0 (λ _ _ e1.
-    after_ok (key_name at table) _ key e1 (λ name named e2.
-    after_ok (values_field at table) _ key e2 (λ values valued e3.
-    after_ok (optional_field at table) _ key e3 (λ optional _ e4.
-    let (new, e5) = require_ok (not (list_any (is_key name) before)) (At DuplicateKey at) _ key e4 in
+    after_ok (key_name at table) _ key e0 (λ name named e1.
+    after_ok (values_field at table) _ key e1 (λ values valued e2.
+    after_ok (optional_field at table) _ key e2 (λ optional _ e3.
+    let (new, e4) = require_ok (not (list_any (is_key name) before)) (At DuplicateKey at) _ key e3 in
     let (label, other) = name_made at table name named in
     let (some, distinct) = values_made at table values valued in
     let made : Key = record { name = name; values = values; optional = optional } in
@@ -125,4 +125,4 @@ key_made at before table key e0 =
       sound = record { name = label; not_reserved = other; some = some; values = distinct };
       apart = apart_by (λ o k. o.name ≢ k.name) (is_key name) before made (λ o h. texts_apart o.name name h) new;
     } in
-    subst (IsNext IsSoundKey (λ o k. o.name ≢ k.name) before) (ok_is made key (Ok made) refl e5) next))))
+    subst (IsNext IsSoundKey (λ o k. o.name ≢ k.name) before) (ok_is made key (Ok made) refl e4) next)))

@@ -23,21 +23,20 @@ format_of_top table = do
   _ ← only (faults_at Top) (map (λ name. name.now) TOP_FIELDS) table
   format_field (faults_at Top) table
 
--- the tables of the meters and of the recorders
-unfoldable pub tables_of_top : Members → Result (List Members × List Members) CatalogueFault
-tables_of_top table = do
-  _ ← format_of_top table
-  meters ← tables_field (faults_at Top) 64 (codes "meter") table
-  recorders ← tables_field (faults_at Top) 64 (codes "recorder") table
-  Ok (meters, recorders)
+-- the contents that the tables of the meters and those of the recorders declare
+unfoldable pub contents_declared : List Members → List Members → Result Contents CatalogueFault
+contents_declared meters recorders = do
+  metered ← in_turn with_meter nothing_metered meters
+  declared ← each (recorder_of (length metered.instruments)) [] recorders
+  Ok (record { meters = metered.meters; instruments = metered.instruments; recorders = declared })
 
 -- the contents of a catalogue's table
 unfoldable pub contents_of : Members → Result Contents CatalogueFault
 contents_of table = do
-  tables ← tables_of_top table
-  metered ← in_turn with_meter nothing_metered tables.0
-  recorders ← each (recorder_of (length metered.instruments)) [] tables.1
-  Ok (record { meters = metered.meters; instruments = metered.instruments; recorders = recorders })
+  _ ← format_of_top table
+  meters ← tables_field (faults_at Top) 64 (codes "meter") table
+  recorders ← tables_field (faults_at Top) 64 (codes "recorder") table
+  contents_declared meters recorders
 
 -- the table that a text in TOML is
 abbrev pub document_of : List ℕ → Result Members CatalogueFault

@@ -67,12 +67,17 @@ pair_of at _ = Err (At WrongKind at)
 abbrev pub is_range : Kind → ℤ × ℤ → Bool
 is_range kind range = int_le range.0 range.1 && (not (is_monotonic kind) || int_le (pos 0) range.0)
 
+-- the two numbers of a range
+unfoldable pub pair_field : CataloguePlace → Members → Result (ℤ × ℤ) CatalogueFault
+pair_field at table = do
+  d ← field (faults_at at) (codes "range") table
+  values ← list_of (pair_faults_at at) 2 d
+  pair_of at values
+
 -- the range of an instrument's values
 unfoldable pub range_field : CataloguePlace → Kind → Members → Result (ℤ × ℤ) CatalogueFault
 range_field at kind table = do
-  d ← field (faults_at at) (codes "range") table
-  values ← list_of (pair_faults_at at) 2 d
-  range ← pair_of at values
+  range ← pair_field at table
   _ ← require (is_range kind range) (At BadRange at)
   Ok range
 
@@ -112,7 +117,5 @@ instrument_of meter before table = do
   head ← head_of at table
   range ← range_field at head.kind table
   advice ← advice_field at table
-  tables ← tables_field (faults_at at) 8 (codes "key") table
-  _ ← require (not (list_any (is_instrument meter head.name) before)) (At DuplicateInstrument at)
-  keys ← each (key_of at) [] tables
+  keys ← keys_field at (list_any (is_instrument meter head.name) before) table
   Ok (record { meter = meter; name = head.name; kind = head.kind; unit = head.unit; description = head.description; lo = range.0; hi = range.1; advice = advice; keys = keys })

@@ -17,9 +17,14 @@ use Rattle.metric_catalogue.specs.Faults.{faults_at}
 use Rattle.metric_catalogue.specs.Places.{has_repeat}
 use Rattle.metric_catalogue.specs.Texts.{label_field}
 
--- the name of a key, which is not that of the overflow attribute
+-- a key has no other fields
+unfoldable pub only_key_fields : CataloguePlace → Members → Result (Unit {0}) CatalogueFault
+only_key_fields at table = only (faults_at at) (map (λ name. name.now) KEY_FIELDS) table
+
+-- the name of a key, of a table with no other fields, which is not that of the overflow attribute
 unfoldable pub key_name : CataloguePlace → Members → Result (List ℕ) CatalogueFault
 key_name at table = do
+  _ ← only_key_fields at table
   name ← label_field at table
   _ ← require (not (bytes_eq name (codes "otel.metric.overflow"))) (At ReservedKey at)
   Ok name
@@ -52,10 +57,6 @@ values_field at table = do
 abbrev pub is_key : List ℕ → Key → Bool
 is_key name key = bytes_eq key.name name
 
--- a key has no other fields
-unfoldable pub only_key_fields : CataloguePlace → Members → Result (Unit {0}) CatalogueFault
-only_key_fields at table = only (faults_at at) (map (λ name. name.now) KEY_FIELDS) table
-
 -- whether a recording may leave the key out
 unfoldable pub optional_field : CataloguePlace → Members → Result Bool CatalogueFault
 optional_field at table = flag_or (faults_at at) (codes "optional") false table
@@ -63,7 +64,6 @@ optional_field at table = flag_or (faults_at at) (codes "optional") false table
 -- one more key of an instrument, after those before it
 unfoldable pub key_of : CataloguePlace → List Key → Members → Result Key CatalogueFault
 key_of at before table = do
-  _ ← only_key_fields at table
   name ← key_name at table
   values ← values_field at table
   optional ← optional_field at table

@@ -4,6 +4,7 @@ pub mod PlaceLaws
 pub mod Numbering
 pub mod Faults
 pub mod FaultPlaces
+pub mod Defects
 pub mod Texts
 pub mod Kinds
 pub mod Keys

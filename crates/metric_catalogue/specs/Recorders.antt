@@ -16,6 +16,12 @@ use Rattle.metric_catalogue.specs.declared.fault.CataloguePlace.TheVariants as p
 use Rattle.metric_catalogue.specs.Faults.{faults_at}
 use Rattle.metric_catalogue.specs.Texts.{label_field}
 
+-- a whole number that a budget needs
+unfoldable pub number_field : CataloguePlace → List ℕ → Members → Result ℤ CatalogueFault
+number_field at name table = do
+  d ← field (faults_at at) name table
+  integer_of (faults_at at) d
+
 -- the number of one of so many instruments
 abbrev pub number_below : ℕ → ℤ → Option ℕ
 number_below count (pos n) = if nat_lt n count then Some n else None
@@ -24,8 +30,7 @@ number_below count (negsuc n) = None
 -- the instrument of a budget, which is one of the catalogue's
 unfoldable pub budgeted : CataloguePlace → ℕ → Members → Result ℕ CatalogueFault
 budgeted at count table = do
-  d ← field (faults_at at) (codes "instrument") table
-  number ← integer_of (faults_at at) d
+  number ← number_field at (codes "instrument") table
   require_some (number_below count number) (At UnknownInstrument at)
 
 -- a number that is not negative, and that a 64-bit number with a sign may be
@@ -36,8 +41,7 @@ amount_from (negsuc n) = None
 -- how many recordings a budget is for
 unfoldable pub amount_field : CataloguePlace → Members → Result ℕ CatalogueFault
 amount_field at table = do
-  d ← field (faults_at at) (codes "amount") table
-  number ← integer_of (faults_at at) d
+  number ← number_field at (codes "amount") table
   require_some (amount_from number) (At BadRange at)
 
 -- the budget is for this instrument
@@ -57,13 +61,23 @@ budget_of at count before table = do
 abbrev pub is_recorder : List ℕ → Recorder → Bool
 is_recorder name recorder = bytes_eq recorder.name name
 
+-- the name of a recorder, of a table with no other fields
+unfoldable pub recorder_name : CataloguePlace → Members → Result (List ℕ) CatalogueFault
+recorder_name at table = do
+  _ ← only (faults_at at) (map (λ name. name.now) RECORDER_FIELDS) table
+  label_field at table
+
+-- the budgets of a recorder, unless its name is taken
+unfoldable pub budgets_field : CataloguePlace → ℕ → Bool → Members → Result (List Budget) CatalogueFault
+budgets_field at count is_taken table = do
+  tables ← tables_field (faults_at at) 512 (codes "budget") table
+  _ ← require (not is_taken) (At DuplicateRecorder at)
+  each (budget_of at count) [] tables
+
 -- one more recorder, after those before it
 unfoldable pub recorder_of : ℕ → List Recorder → Members → Result Recorder CatalogueFault
 recorder_of count before table = do
   let at = place.Recorder (length before)
-  _ ← only (faults_at at) (map (λ name. name.now) RECORDER_FIELDS) table
-  name ← label_field at table
-  tables ← tables_field (faults_at at) 512 (codes "budget") table
-  _ ← require (not (list_any (is_recorder name) before)) (At DuplicateRecorder at)
-  budgets ← each (budget_of at count) [] tables
+  name ← recorder_name at table
+  budgets ← budgets_field at count (list_any (is_recorder name) before) table
   Ok (record { name = name; budgets = budgets })

@@ -9,7 +9,7 @@ ghost use Rattle.metric_catalogue.specs.Encoding.{encode_of};
 ghost use Rattle.metric_catalogue.specs.Meters.{with_meter};
 ghost use Rattle.metric_catalogue.specs.Recorders.{is_budget};
 ghost use Rattle.metric_catalogue.specs.Sound.{IsSound};
-ghost use Rattle.metric_catalogue.specs.Catalogues.{catalogue_of, contents_of, document_of, format_of_top, nothing_metered, tables_of_top};
+ghost use Rattle.metric_catalogue.specs.Catalogues.{catalogue_of, contents_declared, contents_of, document_of, format_of_top, nothing_metered};
 
 use crate::attributes::{Attr, OwnedAttr};
 use crate::contents::{Budget, Contents, Instrument, Meter, Recorder};
@@ -173,10 +173,28 @@ fn document(alloc: Global, text: &str) -> Result<Table, CatalogueFault>
 fn contents_of(alloc: Global, table: &Table) -> Result<Contents, CatalogueFault>
     ensures { Gives CatalogueFault.Memory result (contents_of (table_view table.now)) }
 {
-    let (meters, recorders) = tables_of_top(alloc, table)?;
-    let metered = metered_of(alloc, meters.as_slice())?;
+    format_of_top(table)?;
+    let faults = faults_at(CataloguePlace::Top);
+    let meters = tables_field(alloc, table, "meter", 64, &faults)?;
+    let recorders = tables_field(alloc, table, "recorder", 64, &faults)?;
+    contents_declared(alloc, meters.as_slice(), recorders.as_slice())
+}
+
+// The contents that the tables of the meters and those of the recorders declare.
+#[tactic(auto, unfolding(crate::specs::Catalogues::contents_declared))]
+fn contents_declared(
+    alloc: Global,
+    meters: &[&Table],
+    recorders: &[&Table],
+) -> Result<Contents, CatalogueFault>
+    requires meters { length meters.now ≤ 64 }
+    requires recorders { length recorders.now ≤ 64 }
+    ensures { Gives CatalogueFault.Memory result (contents_declared
+        (map (λ t. table_view t.now) meters.now) (map (λ t. table_view t.now) recorders.now)) }
+{
+    let metered = metered_of(alloc, meters)?;
     let count = metered.instruments.len() as u32;
-    let recorders = recorders_of(alloc, recorders.as_slice(), count)?;
+    let recorders = recorders_of(alloc, recorders, count)?;
     Ok(Contents {
         meters: Few::from_items(metered.meters),
         instruments: Few::from_items(metered.instruments),
@@ -197,25 +215,6 @@ fn metered_of(alloc: Global, tables: &[&Table]) -> Result<Metered, CatalogueFaul
     };
     add_meters(alloc, &mut metered, tables)?;
     Ok(metered)
-}
-
-// The tables of the meters and those of the recorders.
-#[tactic(auto, unfolding(crate::specs::Catalogues::tables_of_top))]
-fn tables_of_top<'a>(
-    alloc: Global,
-    table: &'a Table,
-) -> Result<(Items<&'a Table>, Items<&'a Table>), CatalogueFault>
-    ensures exact { GivesBy
-        (λ tables. (map (λ t. table_view t.now) tables.0, map (λ t. table_view t.now) tables.1))
-        CatalogueFault.Memory result (tables_of_top (table_view table.now)) }
-    ensures meters { IfOk result (λ tables. length tables.0 ≤ 64) }
-    ensures recorders { IfOk result (λ tables. length tables.1 ≤ 64) }
-{
-    format_of_top(table)?;
-    let faults = faults_at(CataloguePlace::Top);
-    let meters = tables_field(alloc, table, "meter", 64, &faults)?;
-    let recorders = tables_field(alloc, table, "recorder", 64, &faults)?;
-    Ok((meters, recorders))
 }
 
 #[tactic(auto, unfolding(crate::specs::Catalogues::format_of_top))]

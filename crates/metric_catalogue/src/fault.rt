@@ -18,55 +18,39 @@ pub enum CataloguePlace {
 }
 
 /// What is wrong with a table of a catalogue.
-#[derive(Clone, Copy, Debug, PartialEq, Eq, Drop, Error)]
+#[derive(Clone, Copy, Debug, PartialEq, Eq, Drop)]
 pub enum CatalogueDefect {
     /// A needed field is missing, or a key has an empty list of values.
-    #[error("2 MissingField")]
     MissingField,
     /// A field's value is of another kind than the format says.
-    #[error("3 WrongKind")]
     WrongKind,
     /// The table has a field that the format does not name.
-    #[error("4 UnknownField")]
     UnknownField,
     /// An instrument's name is no name, or a key's or recorder's name is empty.
-    #[error("5 BadName")]
     BadName,
     /// An instrument's unit is no unit.
-    #[error("6 BadUnit")]
     BadUnit,
     /// An earlier meter has the same name, version and schema URL.
-    #[error("7 DuplicateMeter")]
     DuplicateMeter,
     /// An earlier instrument of the meter has the same name without ASCII case.
-    #[error("8 DuplicateInstrument")]
     DuplicateInstrument,
     /// An earlier key of the instrument has the same name.
-    #[error("9 DuplicateKey")]
     DuplicateKey,
     /// A value stands twice in a key's list.
-    #[error("10 DuplicateValue")]
     DuplicateValue,
     /// A key has the name of the attribute that marks the overflow point.
-    #[error("11 ReservedKey")]
     ReservedKey,
     /// A range is empty, a counter's or histogram's range has negative values, or an amount is negative.
-    #[error("12 BadRange")]
     BadRange,
     /// Boundaries do not rise strictly.
-    #[error("13 BadBoundaries")]
     BadBoundaries,
     /// A budget is for an instrument that the catalogue does not have.
-    #[error("14 UnknownInstrument")]
     UnknownInstrument,
     /// An earlier recorder has the same name.
-    #[error("15 DuplicateRecorder")]
     DuplicateRecorder,
     /// An earlier budget of the recorder is for the same instrument.
-    #[error("16 DuplicateBudget")]
     DuplicateBudget,
     /// A list or a text is longer than its limit.
-    #[error("17 TooMany")]
     TooMany,
 }
 
@@ -92,6 +76,34 @@ impl From<AllocError> for CatalogueFault {
 
     fn from(_refused: AllocError) -> CatalogueFault {
         CatalogueFault::Memory
+    }
+}
+
+impl fmt::Display for CatalogueDefect {
+    ghost use Rattle.std.specs.Prelude.{Some};
+    ghost use Rattle.metric_catalogue.specs.Defects.{defect_text};
+
+    ghost output = { λ defect. Some (defect_text defect) };
+
+    fn fmt<W: fmt::Write>(&self, f: &mut fmt::Formatter<W>) -> fmt::Result {
+        f.write_str(match self {
+            CatalogueDefect::MissingField => "2 MissingField",
+            CatalogueDefect::WrongKind => "3 WrongKind",
+            CatalogueDefect::UnknownField => "4 UnknownField",
+            CatalogueDefect::BadName => "5 BadName",
+            CatalogueDefect::BadUnit => "6 BadUnit",
+            CatalogueDefect::DuplicateMeter => "7 DuplicateMeter",
+            CatalogueDefect::DuplicateInstrument => "8 DuplicateInstrument",
+            CatalogueDefect::DuplicateKey => "9 DuplicateKey",
+            CatalogueDefect::DuplicateValue => "10 DuplicateValue",
+            CatalogueDefect::ReservedKey => "11 ReservedKey",
+            CatalogueDefect::BadRange => "12 BadRange",
+            CatalogueDefect::BadBoundaries => "13 BadBoundaries",
+            CatalogueDefect::UnknownInstrument => "14 UnknownInstrument",
+            CatalogueDefect::DuplicateRecorder => "15 DuplicateRecorder",
+            CatalogueDefect::DuplicateBudget => "16 DuplicateBudget",
+            CatalogueDefect::TooMany => "17 TooMany",
+        })
     }
 }
 

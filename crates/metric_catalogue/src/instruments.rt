@@ -4,7 +4,7 @@ ghost use Rattle.std.specs.List.{list_any};
 ghost use Rattle.toml.specs.View.{table_view, view};
 ghost use Rattle.metric_base.specs.Steps.{Gives, Advances, each};
 ghost use Rattle.metric_catalogue.specs.Texts.{free_text};
-ghost use Rattle.metric_catalogue.specs.Instruments.{advice_field, boundaries_of, head_of, instrument_name, instrument_of, is_instrument, is_range, keys_field, kind_field, only_instrument_fields, pair_of, range_field, unit_field};
+ghost use Rattle.metric_catalogue.specs.Instruments.{advice_field, boundaries_of, head_of, instrument_name, instrument_of, is_instrument, is_range, keys_field, kind_field, only_instrument_fields, pair_field, pair_of, range_field, unit_field};
 
 use crate::contents::{Instrument, Key, Kind};
 use crate::fault::{CatalogueDefect, CatalogueFault, CataloguePlace};
@@ -244,13 +244,20 @@ fn description_field(
 fn range_field(table: &Table, kind: Kind, at: CataloguePlace) -> Result<(i64, i64), CatalogueFault>
     ensures { result ≡ range_field at kind (table_view table.now) }
 {
-    let value = required(table, "range", &faults_at(at))?;
-    let values = list_of(value, 2, &pair_faults_at(at))?;
-    let (lo, hi) = pair_of(values, at)?;
+    let (lo, hi) = pair_field(table, at)?;
     if !is_range(kind, lo, hi) {
         return Err(CatalogueFault::At(CatalogueDefect::BadRange, at));
     }
     Ok((lo, hi))
+}
+
+#[tactic(auto, unfolding(crate::specs::Instruments::pair_field))]
+fn pair_field(table: &Table, at: CataloguePlace) -> Result<(i64, i64), CatalogueFault>
+    ensures { result ≡ pair_field at (table_view table.now) }
+{
+    let value = required(table, "range", &faults_at(at))?;
+    let values = list_of(value, 2, &pair_faults_at(at))?;
+    pair_of(values, at)
 }
 
 fn pair_of(values: &[Value], at: CataloguePlace) -> Result<(i64, i64), CatalogueFault>

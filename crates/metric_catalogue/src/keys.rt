@@ -46,7 +46,6 @@ fn key_of(
 ) -> Result<Key, CatalogueFault>
     ensures { Gives CatalogueFault.Memory result (key_of at before.now (table_view table.now)) }
 {
-    only_key_fields(table, at)?;
     let name = key_name(alloc, table, at)?;
     let values = values_field(alloc, table, at)?;
     let optional = optional_field(table, at)?;
@@ -63,7 +62,7 @@ fn key_of(
 fn has_key(keys: &[Key], name: &Text) -> bool
     ensures { result ≡ list_any (is_key name.now) keys.now }
 {
-    keys.iter().any(|key| key.name.as_str() == name.as_str())
+    keys.iter().any(|key| key.name == *name)
 }
 
 #[tactic(auto, unfolding(crate::specs::Keys::only_key_fields))]
@@ -85,6 +84,7 @@ fn optional_field(table: &Table, at: CataloguePlace) -> Result<bool, CatalogueFa
 fn key_name(alloc: Global, table: &Table, at: CataloguePlace) -> Result<Text, CatalogueFault>
     ensures { Gives CatalogueFault.Memory result (key_name at (table_view table.now)) }
 {
+    only_key_fields(table, at)?;
     let name = label_field(alloc, table, at)?;
     if name.as_str() == "otel.metric.overflow" {
         return Err(CatalogueFault::At(CatalogueDefect::ReservedKey, at));
@@ -98,10 +98,8 @@ fn values_field(alloc: Global, table: &Table, at: CataloguePlace) -> Result<Valu
     ensures { Gives CatalogueFault.Memory result (values_field at (table_view table.now)) }
 {
     let values = some_values(alloc, table, at)?;
-    match Values::from_items(alloc, values)? {
-        Some(values) => Ok(values),
-        None => Err(CatalogueFault::At(CatalogueDefect::DuplicateValue, at)),
-    }
+    let distinct = Values::from_items(alloc, values)?;
+    distinct.ok_or(CatalogueFault::At(CatalogueDefect::DuplicateValue, at))
 }
 
 #[tactic(auto, unfolding(crate::specs::Keys::some_values))]

@@ -88,9 +88,9 @@ fn has_meter(meters: &[Meter], meter: &Meter) -> bool
 fn is_meter(other: &Meter, meter: &Meter) -> bool
     ensures { result ≡ is_meter meter.now other.now }
 {
-    other.name.as_str() == meter.name.as_str()
-        && other.version.as_str() == meter.version.as_str()
-        && other.schema_url.as_str() == meter.schema_url.as_str()
+    other.name == meter.name
+        && other.version == meter.version
+        && other.schema_url == meter.schema_url
 }
 
 #[tactic(auto, unfolding(crate::specs::Meters::only_meter_fields))]

@@ -6,7 +6,7 @@ ghost use Rattle.metric_base.specs.Steps.{Gives, each};
 ghost use Rattle.metric_table.specs.Fields.{only};
 ghost use Rattle.metric_catalogue.specs.declared.recorders.TheConstants.{RECORDER_FIELDS};
 ghost use Rattle.metric_catalogue.specs.Faults.{faults_at};
-ghost use Rattle.metric_catalogue.specs.Recorders.{amount_field, amount_from, budget_of, budgeted, is_budget, is_recorder, number_below, recorder_of};
+ghost use Rattle.metric_catalogue.specs.Recorders.{amount_field, amount_from, budget_of, budgeted, budgets_field, is_budget, is_recorder, number_below, number_field, recorder_name, recorder_of};
 
 use crate::contents::{Budget, Recorder};
 use crate::fault::{CatalogueDefect, CatalogueFault, CataloguePlace};
@@ -53,14 +53,38 @@ fn recorder_of(
         (recorder_of count before.now (table_view table.now)) }
 {
     let at = CataloguePlace::Recorder(before.len() as u32);
+    let name = recorder_name(alloc, table, at)?;
+    let is_taken = has_recorder(before, &name);
+    let budgets = budgets_field(alloc, table, count, at, is_taken)?;
+    Ok(Recorder { name, budgets })
+}
+
+#[tactic(auto, unfolding(crate::specs::Recorders::recorder_name))]
+fn recorder_name(alloc: Global, table: &Table, at: CataloguePlace) -> Result<Text, CatalogueFault>
+    ensures { Gives CatalogueFault.Memory result (recorder_name at (table_view table.now)) }
+{
     only_recorder_fields(table, at)?;
-    let name = label_field(alloc, table, at)?;
+    label_field(alloc, table, at)
+}
+
+// The budgets of a recorder, unless its name is taken, which is told before a fault of a budget.
+#[tactic(auto, unfolding(crate::specs::Recorders::budgets_field))]
+fn budgets_field(
+    alloc: Global,
+    table: &Table,
+    count: u32,
+    at: CataloguePlace,
+    is_taken: bool,
+) -> Result<Few<Budget, 512>, CatalogueFault>
+    ensures { Gives CatalogueFault.Memory result
+        (budgets_field at count is_taken (table_view table.now)) }
+{
     let tables = tables_field(alloc, table, "budget", 512, &faults_at(at))?;
-    if has_recorder(before, &name) {
+    if is_taken {
         return Err(CatalogueFault::At(CatalogueDefect::DuplicateRecorder, at));
     }
-    let budgets = Few::from_items(budgets_of(alloc, tables.as_slice(), count, at)?);
-    Ok(Recorder { name, budgets })
+    let budgets = budgets_of(alloc, tables.as_slice(), count, at)?;
+    Ok(Few::from_items(budgets))
 }
 
 fn only_recorder_fields(table: &Table, at: CataloguePlace) -> Result<(), CatalogueFault>
@@ -73,9 +97,7 @@ fn only_recorder_fields(table: &Table, at: CataloguePlace) -> Result<(), Catalog
 fn has_recorder(recorders: &[Recorder], name: &Text) -> bool
     ensures { result ≡ list_any (is_recorder name.now) recorders.now }
 {
-    recorders
-        .iter()
-        .any(|recorder| recorder.name.as_str() == name.as_str())
+    recorders.iter().any(|recorder| recorder.name == *name)
 }
 
 fn budgets_of(
@@ -124,10 +146,18 @@ fn has_budget(budgets: &[Budget], instrument: u32) -> bool
 fn budgeted(table: &Table, count: u32, at: CataloguePlace) -> Result<u32, CatalogueFault>
     ensures { result ≡ budgeted at count (table_view table.now) }
 {
-    let faults = faults_at(at);
-    let value = required(table, "instrument", &faults)?;
-    let number = integer_of(value, &faults)?;
+    let number = number_field(table, "instrument", at)?;
     number_below(count, number).ok_or(CatalogueFault::At(CatalogueDefect::UnknownInstrument, at))
+}
+
+// A whole number that a budget needs.
+#[tactic(auto, unfolding(crate::specs::Recorders::number_field))]
+fn number_field(table: &Table, name: &str, at: CataloguePlace) -> Result<i64, CatalogueFault>
+    ensures { result ≡ number_field at name.now (table_view table.now) }
+{
+    let faults = faults_at(at);
+    let value = required(table, name, &faults)?;
+    integer_of(value, &faults)
 }
 
 fn number_below(count: u32, number: i64) -> Option<u32>
@@ -144,9 +174,7 @@ fn number_below(count: u32, number: i64) -> Option<u32>
 fn amount_field(table: &Table, at: CataloguePlace) -> Result<u64, CatalogueFault>
     ensures { result ≡ amount_field at (table_view table.now) }
 {
-    let faults = faults_at(at);
-    let value = required(table, "amount", &faults)?;
-    let number = integer_of(value, &faults)?;
+    let number = number_field(table, "amount", at)?;
     amount_from(number).ok_or(CatalogueFault::At(CatalogueDefect::BadRange, at))
 }
 

@@ -1,3 +1,4 @@
+mod Listed
 pub mod Digits
 pub mod Spelled
 pub mod Tabled

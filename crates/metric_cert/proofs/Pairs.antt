@@ -1,11 +1,14 @@
 -- Lists that agree element by element.
-use Rattle.std.proofs.Common.{◌≡◌, ◌<◌, ◌+◌, ℕ, zero, suc, List, [], ◌∷◌, ◌++◌, length, get_or, take, map, filter, All, Bool, cond, Some, Result, Ok, Err, append-nil, append_assoc, refl, sym, ap, subst, ◌∙◌, arith}
+use Rattle.std.proofs.Common.{◌≡◌, ◌<◌, ◌+◌, ℕ, zero, suc, List, [], ◌∷◌, ◌++◌, length, get_or, take, map, filter, All, Bool, cond, Option, Some, None, Result, Ok, Err, append-nil, append_assoc, refl, sym, ap, subst, ◌∙◌, arith}
 use Rattle.std.specs.List.{AllZip, flat_map, range_with_len}
 use Rattle.std.specs.Prelude.{IfOk, slice_get}
 use Rattle.std.proofs.lemmas.List.{take_more}
 use Rattle.std.proofs.lemmas.List.Elements.{All-head, All-tail, filter-append}
 use Rattle.std.proofs.lemmas.List.FromFn.{get_or-map-range_with_len, length-map-range_with_len}
-use Rattle.std.proofs.lemmas.Option.{slice_get_read}
+use Rattle.std.proofs.lemmas.Option.{slice_get_past, slice_get_read}
+use Rattle.std.specs.Option.{option_copied}
+use Rattle.std.specs.Slice.{IsItemAt}
+use denote.Ref.{Bor}
 
 pub AllZip-append : {A B : Type 0} (R : A → B → Type 0) (xs us : List A) (ys vs : List B) → AllZip R xs ys → AllZip R us vs → AllZip R (xs ++ us) (ys ++ vs)
 AllZip-append R [] us [] vs p q = q
@@ -102,3 +105,8 @@ mapped_more {A = A} {B = B} f xs j x ys y within is before next =
 pub if_ok_then : {X E : Type 0} (P Q : X → Type 0) (r : Result X E) → IfOk r P → ((x : X) → P x → Q x) → IfOk r Q
 if_ok_then P Q (Ok x) p next = next x p
 if_ok_then P Q (Err e) p next = p
+
+-- what `get` gave, from a list that is another
+pub item_got : {X : Type 0} (xs ys : List X) (n : ℕ) (r : Option (Bor X)) → ys ≡ xs → IsItemAt ys n r → option_copied r ≡ slice_get xs n
+item_got xs ys n None same item = let long = ap length same in sym (slice_get_past xs n (omega (arith, item.3)))
+item_got xs ys n (Some x) same item = sym (element_at xs ys n x.now same item.3.0 item.1)

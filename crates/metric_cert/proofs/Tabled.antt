@@ -1,10 +1,14 @@
 -- A table whose fields were put one after the other is read as what they were put for.
-use Rattle.std.proofs.Common.{◌≡◌, ℕ, ◌^◌, codes, Option, Some, None, Ok, refl, arith, ◌≤◌}
+use Rattle.std.proofs.Common.{◌≡◌, ℕ, ◌^◌, codes, List, Option, Some, None, Result, Ok, Err, Ordering, Less, Equal, Greater, refl, arith, ◌≤◌}
+use Rattle.std.specs.Prelude.{OnOk}
+use Rattle.std.specs.Ordering.{match_ordering, nat_cmp}
+use Rattle.std.specs.Cmp.Lexicographic.{slice_cmp}
 use Rattle.metric_glob.specs.declared.reason.Reason.TheVariants.{Takes, Rows}
-use Rattle.toml.specs.Data.{Data, Members, no_members, string, table, depth}
-use Rattle.metric_table.specs.Fields.{field, only, table_of, text_of}
+use Rattle.toml.specs.Data.{Data, Members, no_members, member, string, depth, members_depth}
+use Rattle.metric_table.specs.Fields.{field, only, text_of}
 use Rattle.metric_cert.specs.declared.bound.InstrumentBound.{InstrumentBound}
 use Rattle.metric_cert.specs.declared.certificate.Certificate.{Certificate}
+use Rattle.metric_cert.specs.declared.fault.CertFault.{CertFault}
 use Rattle.metric_cert.specs.declared.order.ReaderOrder.{ReaderOrder}
 use Rattle.metric_cert.specs.declared.reason.Criterion.{Criterion}
 use Rattle.metric_cert.specs.declared.reason.Criterion.TheVariants.{InstrumentType, InstrumentUnit, MeterName, MeterVersion, MeterSchemaUrl}
@@ -13,13 +17,13 @@ use Rattle.metric_cert.specs.declared.reason.Evidence.TheVariants.{Name, Miss}
 use Rattle.metric_cert.specs.declared.stream.By.{By}
 use Rattle.metric_cert.specs.declared.stream.By.TheVariants.{Product, Budget}
 use Rattle.metric_cert.specs.Bounds.{bound_of}
-use Rattle.metric_cert.specs.Certificates.{certificate_of, format_of}
+use Rattle.metric_cert.specs.Certificates.{certificate_of, format_of, parts_of}
 use Rattle.metric_cert.specs.Names.{by_name, by_of, criterion_name, criterion_of}
 use Rattle.metric_cert.specs.Orders.{order_of}
-use Rattle.metric_cert.specs.Reading.{decimal_of, list_of, needed, optional, signed_decimal_of, whole_of}
+use Rattle.metric_cert.specs.Reading.{decimal_of, list_of, needed, optional, signed_decimal_of, tables_as, whole_of}
 use Rattle.metric_cert.specs.Reasons.{PutsEvidence, evidence_of, reason_of}
 use Rattle.metric_cert.specs.Streams.{stream_of}
-use Rattle.metric_cert.specs.Writing.{Puts, PutsGiven}
+use Rattle.metric_cert.specs.Writing.{Puts, PutsGiven, with_member}
 
 criterion_read : (criterion : Criterion) → criterion_of (string (criterion_name criterion)) ≡ Ok criterion
 unfolding criterion_of text_of
@@ -40,65 +44,79 @@ by_read Budget = refl
 pub by_written : (by : By) (d : Data) → d ≡ string (by_name by) → by_of d ≡ Ok by
 by_written by d is = rw is (by_read by)
 
-pub order_written : (order : ReaderOrder) (none one two : Members) (d : Data) → none ≡ no_members → Puts (whole_of (2 ^ 32)) 0 (codes "reader") order.reader none one
-    → Puts (list_of (whole_of (2 ^ 32))) 1 (codes "streams") order.streams one two → d ≡ table two → order_of d ≡ Ok order
-unfolding order_of table_of only needed field
-order_written order none one two d start p q end = rw (end, q.put, p.put, start, p.reads, q.reads) refl
+pub order_written : (order : ReaderOrder) (none one two : Members) → none ≡ no_members → Puts (whole_of (2 ^ 32)) 0 (codes "reader") order.reader none one
+    → Puts (list_of (whole_of (2 ^ 32))) 1 (codes "streams") order.streams one two → order_of two ≡ Ok order
+unfolding order_of only needed field
+order_written order none one two start p q = rw (q.put, p.put, start, p.reads, q.reads) refl
 
-pub bound_written : (bound : InstrumentBound) (none one two three four five : Members) (d : Data) → none ≡ no_members
+pub bound_written : (bound : InstrumentBound) (none one two three four five : Members) → none ≡ no_members
     → Puts (whole_of (2 ^ 32)) 0 (codes "instrument") bound.instrument none one → Puts decimal_of 0 (codes "total") bound.total one two
     → Puts decimal_of 0 (codes "amount") bound.amount two three → Puts signed_decimal_of 0 (codes "low") bound.low three four
-    → Puts signed_decimal_of 0 (codes "high") bound.high four five → d ≡ table five → bound_of d ≡ Ok bound
-unfolding bound_of table_of only needed field
-bound_written bound none one two three four five d start p q r s t end =
-    rw (end, t.put, s.put, r.put, q.put, p.put, start, p.reads, q.reads, r.reads, s.reads, t.reads) refl
+    → Puts signed_decimal_of 0 (codes "high") bound.high four five → bound_of five ≡ Ok bound
+unfolding bound_of only needed field
+bound_written bound none one two three four five start p q r s t =
+    rw (t.put, s.put, r.put, q.put, p.put, start, p.reads, q.reads, r.reads, s.reads, t.reads) refl
 
-pub reason_written : (view instrument : ℕ) (evidence : Evidence) (none one two three : Members) (d : Data) → none ≡ no_members
+pub reason_written : (view instrument : ℕ) (evidence : Evidence) (none one two three : Members) → none ≡ no_members
     → Puts (whole_of (2 ^ 32)) 0 (codes "view") view none one → Puts (whole_of (2 ^ 32)) 0 (codes "instrument") instrument one two
-    → PutsEvidence evidence two three → d ≡ table three → reason_of d ≡ Ok (record { view = view; instrument = instrument; evidence = evidence })
-unfolding reason_of evidence_of table_of only needed optional field
-reason_written view instrument (Name (Takes takes)) none one two three d start p q r end =
-    rw (end, r.put, q.put, p.put, start, p.reads, q.reads, r.reads) refl
-reason_written view instrument (Name (Rows rows)) none one two three d start p q r end =
-    rw (end, r.put, q.put, p.put, start, p.reads, q.reads, r.reads) refl
-reason_written view instrument (Miss criterion) none one two three d start p q r end =
-    rw (end, r.put, q.put, p.put, start, p.reads, q.reads, r.reads) refl
+    → PutsEvidence evidence two three → reason_of three ≡ Ok (record { view = view; instrument = instrument; evidence = evidence })
+unfolding reason_of evidence_of only needed optional field
+reason_written view instrument (Name (Takes takes)) none one two three start p q r =
+    rw (r.put, q.put, p.put, start, p.reads, q.reads, r.reads) refl
+reason_written view instrument (Name (Rows rows)) none one two three start p q r =
+    rw (r.put, q.put, p.put, start, p.reads, q.reads, r.reads) refl
+reason_written view instrument (Miss criterion) none one two three start p q r =
+    rw (r.put, q.put, p.put, start, p.reads, q.reads, r.reads) refl
 
-pub stream_written : (reader instrument : ℕ) (view : Option ℕ) (by : By) (sets : ℕ) (none one two three four five : Members) (d : Data) → none ≡ no_members
+pub stream_written : (reader instrument : ℕ) (view : Option ℕ) (by : By) (sets : ℕ) (none one two three four five : Members) → none ≡ no_members
     → Puts (whole_of (2 ^ 32)) 0 (codes "reader") reader none one → Puts (whole_of (2 ^ 32)) 0 (codes "instrument") instrument one two
     → PutsGiven (whole_of (2 ^ 32)) 0 (codes "view") view two three → Puts by_of 0 (codes "by") by three four
-    → Puts (whole_of (2 ^ 32)) 0 (codes "sets") sets four five → d ≡ table five
-    → stream_of d ≡ Ok (record { reader = reader; instrument = instrument; view = view; by = by; sets = sets })
-unfolding stream_of table_of only needed optional field
-stream_written reader instrument None by sets none one two three four five d start p q r s t end =
-    rw (end, t.put, s.put, r, q.put, p.put, start, p.reads, q.reads, s.reads, t.reads) refl
-stream_written reader instrument (Some view) by sets none one two three four five d start p q r s t end =
-    rw (end, t.put, s.put, r.put, q.put, p.put, start, p.reads, q.reads, r.reads, s.reads, t.reads) refl
+    → Puts (whole_of (2 ^ 32)) 0 (codes "sets") sets four five
+    → stream_of five ≡ Ok (record { reader = reader; instrument = instrument; view = view; by = by; sets = sets })
+unfolding stream_of only needed optional field
+stream_written reader instrument None by sets none one two three four five start p q r s t =
+    rw (t.put, s.put, r, q.put, p.put, start, p.reads, q.reads, s.reads, t.reads) refl
+stream_written reader instrument (Some view) by sets none one two three four five start p q r s t =
+    rw (t.put, s.put, r.put, q.put, p.put, start, p.reads, q.reads, r.reads, s.reads, t.reads) refl
 
 pub certificate_written : (certificate : Certificate) (none one two three four five : Members) → none ≡ no_members
-    → Puts (whole_of (2 ^ 32)) 0 (codes "format") 1 none one → Puts (list_of reason_of) 4 (codes "reason") certificate.reasons one two
-    → Puts (list_of stream_of) 2 (codes "stream") certificate.streams two three → Puts (list_of bound_of) 2 (codes "bound") certificate.bounds three four
-    → Puts (list_of order_of) 3 (codes "order") certificate.orders four five → certificate_of five ≡ Ok certificate
-unfolding certificate_of format_of only needed field
+    → Puts (whole_of (2 ^ 32)) 0 (codes "format") 1 none one → Puts (tables_as reason_of) 4 (codes "reason") certificate.reasons one two
+    → Puts (tables_as stream_of) 2 (codes "stream") certificate.streams two three → Puts (tables_as bound_of) 2 (codes "bound") certificate.bounds three four
+    → Puts (tables_as order_of) 3 (codes "order") certificate.orders four five → certificate_of five ≡ Ok certificate
+unfolding certificate_of parts_of format_of only needed field
 certificate_written certificate none one two three four five start p q r s t =
     rw (t.put, s.put, r.put, q.put, p.put, start, p.reads, q.reads, r.reads, s.reads, t.reads) refl
 
--- No table nests deeper than it was put.
-pub reason_shallow : (view instrument : ℕ) (evidence : Evidence) (none one two three : Members) (d : Data) → none ≡ no_members
-    → Puts (whole_of (2 ^ 32)) 0 (codes "view") view none one → Puts (whole_of (2 ^ 32)) 0 (codes "instrument") instrument one two
-    → PutsEvidence evidence two three → d ≡ table three → depth d ≤ 3
-reason_shallow view instrument (Name (Takes takes)) none one two three d start p q r end =
-    rw (end, r.put, q.put, p.put, start) (omega (arith, p.shallow, q.shallow, r.shallow))
-reason_shallow view instrument (Name (Rows rows)) none one two three d start p q r end =
-    rw (end, r.put, q.put, p.put, start) (omega (arith, p.shallow, q.shallow, r.shallow))
-reason_shallow view instrument (Miss criterion) none one two three d start p q r end =
-    rw (end, r.put, q.put, p.put, start) (omega (arith, p.shallow, q.shallow, r.shallow))
+-- No table nests deeper than what was put into it.
+pub none_deep : (none : Members) (most : ℕ) → none ≡ no_members → members_depth none ≤ most
+none_deep none most start = rw start (omega arith)
 
-pub stream_shallow : (reader instrument : ℕ) (view : Option ℕ) (by : By) (sets : ℕ) (none one two three four five : Members) (d : Data) → none ≡ no_members
-    → Puts (whole_of (2 ^ 32)) 0 (codes "reader") reader none one → Puts (whole_of (2 ^ 32)) 0 (codes "instrument") instrument one two
-    → PutsGiven (whole_of (2 ^ 32)) 0 (codes "view") view two three → Puts by_of 0 (codes "by") by three four
-    → Puts (whole_of (2 ^ 32)) 0 (codes "sets") sets four five → d ≡ table five → depth d ≤ 1
-stream_shallow reader instrument None by sets none one two three four five d start p q r s t end =
-    rw (end, t.put, s.put, r, q.put, p.put, start) (omega (arith, p.shallow, q.shallow, s.shallow, t.shallow))
-stream_shallow reader instrument (Some view) by sets none one two three four five d start p q r s t end =
-    rw (end, t.put, s.put, r.put, q.put, p.put, start) (omega (arith, p.shallow, q.shallow, r.shallow, s.shallow, t.shallow))
+put_depth : (name : List ℕ) (d : Data) (table : Members) (most : ℕ) → depth d ≤ most → members_depth table ≤ most → members_depth (with_member name d table) ≤ most
+put_depth name d no_members most new old = omega arith
+put_depth name d (member other e fields) most new old =
+    let rest : members_depth fields ≤ most = omega arith in
+    by (slice_cmp nat_cmp name other) (put_depth name d fields most new rest)
+  where
+    by : (o : Ordering) → members_depth (with_member name d fields) ≤ most
+        → members_depth (match_ordering o (member name d (member other e fields)) (member other d fields) (member other e (with_member name d fields))) ≤ most
+    by Less more = omega arith
+    by Equal more = omega arith
+    by Greater more = omega arith
+
+pub put_shallow : {X : Type 0} {step : Data → Result X CertFault} {levels : ℕ} {name : List ℕ} {x : X} {before after : Members} (most : ℕ)
+    → levels ≤ most → members_depth before ≤ most → Puts step levels name x before after → members_depth after ≤ most
+put_shallow {name = name} {before = before} most within old p = rw p.put (put_depth name p.datum before most (omega (arith, p.shallow)) old)
+
+pub given_shallow : {X : Type 0} (step : Data → Result X CertFault) (levels : ℕ) (name : List ℕ) (x : Option X) (before after : Members) (most : ℕ)
+    → levels ≤ most → members_depth before ≤ most → PutsGiven step levels name x before after → members_depth after ≤ most
+given_shallow step levels name None before after most within old p = rw p old
+given_shallow step levels name (Some x) before after most within old p = put_shallow most within old p
+
+pub evidence_shallow : (evidence : Evidence) (before after : Members) → members_depth before ≤ 2 → PutsEvidence evidence before after → members_depth after ≤ 2
+evidence_shallow (Name (Takes takes)) before after old p = put_shallow 2 (omega arith) old p
+evidence_shallow (Name (Rows rows)) before after old p = put_shallow 2 (omega arith) old p
+evidence_shallow (Miss criterion) before after old p = put_shallow 2 (omega arith) old p
+
+pub when_ok : {X E : Type 0} {P Q : Type 0} (r : Result X E) → OnOk r P → (P → Q) → OnOk r Q
+when_ok (Ok x) p next = next p
+when_ok (Err e) p next = p

@@ -6,18 +6,18 @@ use Rattle.std.specs.BTreeMap.{insert_entry}
 use Rattle.std.specs.Fmt.{decimal, signed_decimal}
 use Rattle.std.specs.Ordering.{match_ordering}
 use Rattle.std.specs.String.{string_cmp}
-use Rattle.toml.specs.Data.{Data, member, integer, string, array, depth, items_depth}
+use Rattle.toml.specs.Data.{Data, Members, member, integer, string, array, table, depth, items_depth, members_depth}
 use Rattle.toml.specs.View.{items_of, items_view, members_view, view}
 use Rattle.toml.specs.declared.value.Value.{Value}
 use Rattle.toml.proofs.Views.{Entry}
 use Rattle.std.proofs.lemmas.Bool.Decides.{nat_tests}
 use mathlib.Core.List.{map-append}
 use Rattle.metric_base.specs.Steps.{◌>>=◌, in_turn, with_next}
-use Rattle.metric_table.specs.Fields.{each_alone, integer_of, text_of, values_of as items_values}
+use Rattle.metric_table.specs.Fields.{each_alone, integer_of, table_of, text_of, values_of as items_values}
 use Rattle.metric_text.specs.ReadingLaws.{number_of-text}
 use Rattle.metric_cert.specs.declared.fault.CertFault.{CertFault}
 use Rattle.metric_cert.proofs.Spelled.{wide_of-text}
-use Rattle.metric_cert.specs.Reading.{decimal_of, list_of, signed_decimal_of, values_of, whole_of}
+use Rattle.metric_cert.specs.Reading.{decimal_of, list_of, signed_decimal_of, table_as, values_of, whole_of}
 use Rattle.metric_cert.specs.Writing.{with_member}
 
 pub decimal_of-decimal : (n : ℕ) → n < 2 ^ 64 → decimal_of (string (decimal n)) ≡ Ok n
@@ -49,7 +49,13 @@ list_of-array step d values xs is read = rw (is, items_values-items_of (map view
 pub list_depth : (d : Data) (values : List Value) (levels : ℕ) → d ≡ array (items_view values) → items_depth (items_view values) ≤ levels → depth d ≤ levels + 1
 list_depth d values levels is shallow = rw is (omega arith)
 
-pub ruleset list_laws = (list_of-array, list_depth)
+pub table_as-table : {X : Type 0} (step : Members → Result X CertFault) (d : Data) (fields : Members) (x : X) → d ≡ table fields
+    → step fields ≡ Ok x → table_as step d ≡ Ok x
+unfolding table_as table_of
+table_as-table step d fields x is read = rw is read
+
+pub table_depth : (d : Data) (fields : Members) (levels : ℕ) → d ≡ table fields → members_depth fields ≤ levels → depth d ≤ levels + 1
+table_depth d fields levels is shallow = rw is (omega arith)
 
 -- one value more
 past : {X F : Type 0} (r : Result X F) (step : Data → Result X F) (values : List Data) (d : Data) (before read : List X) (x : X)

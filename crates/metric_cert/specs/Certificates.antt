@@ -9,7 +9,7 @@ use Rattle.metric_cert.specs.declared.fault.CertFault.{CertFault}
 use Rattle.metric_cert.specs.declared.fault.CertFault.TheVariants.{NotToml, Shape}
 use Rattle.metric_cert.specs.Bounds.{bound_of}
 use Rattle.metric_cert.specs.Orders.{order_of}
-use Rattle.metric_cert.specs.Reading.{list_of, needed, shape_faults, whole_of}
+use Rattle.metric_cert.specs.Reading.{needed, shape_faults, tables_as, whole_of}
 use Rattle.metric_cert.specs.Reasons.{reason_of}
 use Rattle.metric_cert.specs.Streams.{stream_of}
 
@@ -22,16 +22,21 @@ format_of table = do
   format ← needed (whole_of (2 ^ 32)) (codes "format") table
   require (format == 1) Shape
 
+-- the certificate of the fields
+unfoldable pub parts_of : Members → Result Certificate CertFault
+parts_of table = do
+  reasons ← needed (tables_as reason_of) (codes "reason") table
+  streams ← needed (tables_as stream_of) (codes "stream") table
+  bounds ← needed (tables_as bound_of) (codes "bound") table
+  orders ← needed (tables_as order_of) (codes "order") table
+  Ok (record { reasons = reasons; streams = streams; bounds = bounds; orders = orders })
+
 -- the certificate of a table, which has exactly these fields
 unfoldable pub certificate_of : Members → Result Certificate CertFault
 certificate_of table = do
   _ ← only shape_faults certificate_fields table
   _ ← format_of table
-  reasons ← needed (list_of reason_of) (codes "reason") table
-  streams ← needed (list_of stream_of) (codes "stream") table
-  bounds ← needed (list_of bound_of) (codes "bound") table
-  orders ← needed (list_of order_of) (codes "order") table
-  Ok (record { reasons = reasons; streams = streams; bounds = bounds; orders = orders })
+  parts_of table
 
 -- the certificate that a text is
 abbrev pub certificate_from : List ℕ → Result Certificate CertFault

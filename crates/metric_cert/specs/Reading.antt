@@ -2,7 +2,7 @@
 use Rattle.std.specs.Prelude.{ℕ, ℤ, pos, negsuc, ◌^◌, nat_lt, if◌then◌else◌, List, Option, Some, None, Result, Ok}
 use Rattle.toml.specs.Data.{Data, Members, get_member}
 use Rattle.metric_base.specs.Steps.{◌>>=◌, require_some}
-use Rattle.metric_table.specs.Fields.{as_list, each_alone, field, integer_of, text_of}
+use Rattle.metric_table.specs.Fields.{as_list, each_alone, field, integer_of, table_of, text_of}
 use Rattle.metric_table.specs.declared.faults.FieldFaults.{FieldFaults}
 use Rattle.metric_text.specs.Reading.{number_of}
 use Rattle.metric_cert.specs.declared.fault.CertFault.{CertFault}
@@ -44,6 +44,16 @@ unfoldable pub list_of : {X : Type 0} → (Data → Result X CertFault) → Data
 list_of step d = do
   values ← values_of d
   each_alone step values
+
+-- a table whose fields are read so
+unfoldable pub table_as : {X : Type 0} → (Members → Result X CertFault) → Data → Result X CertFault
+table_as step d = do
+  table ← table_of shape_faults d
+  step table
+
+-- a list of tables whose fields are read so
+abbrev pub tables_as : {X : Type 0} → (Members → Result X CertFault) → Data → Result (List X) CertFault
+tables_as step = list_of (table_as step)
 
 -- a needed field whose value is read so
 unfoldable pub needed : {X : Type 0} → (Data → Result X CertFault) → List ℕ → Members → Result X CertFault

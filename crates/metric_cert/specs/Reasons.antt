@@ -3,7 +3,7 @@ use Rattle.std.specs.Prelude.{ℕ, ◌^◌, List, [], ◌∷◌, Option, Some, N
 use Rattle.toml.specs.Data.{Data, Members}
 use Rattle.metric_base.specs.Steps.{◌>>=◌, require_some}
 use Rattle.metric_glob.specs.declared.reason.Reason.TheVariants.{Takes, Rows}
-use Rattle.metric_table.specs.Fields.{only, table_of}
+use Rattle.metric_table.specs.Fields.{only}
 use Rattle.metric_cert.specs.declared.fault.CertFault.{CertFault}
 use Rattle.metric_cert.specs.declared.fault.CertFault.TheVariants.{Shape}
 use Rattle.metric_cert.specs.declared.reason.Criterion.{Criterion}
@@ -39,9 +39,8 @@ evidence_of table = do
   miss ← optional criterion_of (codes "miss") table
   require_some (one_of takes rows miss) Shape
 
-unfoldable pub reason_of : Data → Result SelectionReason CertFault
-reason_of d = do
-  table ← table_of shape_faults d
+unfoldable pub reason_of : Members → Result SelectionReason CertFault
+reason_of table = do
   _ ← only shape_faults reason_fields table
   view ← needed (whole_of (2 ^ 32)) (codes "view") table
   instrument ← needed (whole_of (2 ^ 32)) (codes "instrument") table

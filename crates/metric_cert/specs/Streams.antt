@@ -1,8 +1,8 @@
 -- What the table of a stream is read as.
 use Rattle.std.specs.Prelude.{ℕ, ◌^◌, List, [], ◌∷◌, Result, Ok, codes}
-use Rattle.toml.specs.Data.{Data}
+use Rattle.toml.specs.Data.{Members}
 use Rattle.metric_base.specs.Steps.{◌>>=◌}
-use Rattle.metric_table.specs.Fields.{only, table_of}
+use Rattle.metric_table.specs.Fields.{only}
 use Rattle.metric_cert.specs.declared.fault.CertFault.{CertFault}
 use Rattle.metric_cert.specs.declared.stream.StreamSets.{StreamSets}
 use Rattle.metric_cert.specs.Names.{by_of}
@@ -11,9 +11,8 @@ use Rattle.metric_cert.specs.Reading.{needed, optional, shape_faults, whole_of}
 abbrev pub stream_fields : List (List ℕ)
 stream_fields = codes "reader" ∷ codes "instrument" ∷ codes "view" ∷ codes "by" ∷ codes "sets" ∷ []
 
-unfoldable pub stream_of : Data → Result StreamSets CertFault
-stream_of d = do
-  table ← table_of shape_faults d
+unfoldable pub stream_of : Members → Result StreamSets CertFault
+stream_of table = do
   _ ← only shape_faults stream_fields table
   reader ← needed (whole_of (2 ^ 32)) (codes "reader") table
   instrument ← needed (whole_of (2 ^ 32)) (codes "instrument") table

@@ -5,13 +5,13 @@ ghost use Rattle.metric_table.specs.Fields.{only};
 ghost use Rattle.metric_cert.specs.Bounds.{bound_fields};
 ghost use Rattle.metric_cert.specs.Reading.{shape_faults};
 
-use crate::entry::Entry;
 use crate::fault::{CertFault, shape_faults};
+use crate::fields::Fields;
 use crate::numbers::{Decimal, Number, SignedDecimal};
-use crate::tables::{empty_table, needed, put, tabled};
-use metric_table::{only, table_of};
+use crate::tables::{needed, put};
+use metric_table::only;
 use std::alloc::{AllocError, Global};
-use toml::{Table, Value};
+use toml::Table;
 
 /// The bounds of an instrument.
 #[derive(Clone, Copy, Debug, Drop)]
@@ -31,18 +31,17 @@ pub struct InstrumentBound {
 /// The table of the bounds of an instrument.
 pub(crate) struct BoundTable;
 
-impl Entry for BoundTable {
+impl Fields for BoundTable {
     ghost use Rattle.metric_cert.specs.Bounds.{bound_of};
 
     type Read = InstrumentBound;
 
     ghost step = { bound_of };
 
-    ghost levels = { 1 };
+    ghost levels = { 0 };
 
     #[tactic(auto, unfolding(crate::specs::Bounds::bound_of))]
-    fn read(alloc: Global, value: &Value) -> Result<InstrumentBound, CertFault> {
-        let table = table_of(value, &shape_faults())?;
+    fn read(alloc: Global, table: &Table) -> Result<InstrumentBound, CertFault> {
         only_bound(table)?;
         let instrument = needed::<Number>(alloc, table, "instrument")?;
         let total = needed::<Decimal>(alloc, table, "total")?;
@@ -58,14 +57,12 @@ impl Entry for BoundTable {
         })
     }
 
-    fn write(alloc: Global, entry: &InstrumentBound) -> Result<Value, AllocError> {
-        let mut table = empty_table(alloc);
-        put::<Number>(alloc, &mut table, "instrument", &entry.instrument)?;
-        put::<Decimal>(alloc, &mut table, "total", &entry.total)?;
-        put::<Decimal>(alloc, &mut table, "amount", &entry.amount)?;
-        put::<SignedDecimal>(alloc, &mut table, "low", &entry.low)?;
-        put::<SignedDecimal>(alloc, &mut table, "high", &entry.high)?;
-        Ok(tabled(table))
+    fn put(alloc: Global, table: &mut Table, entry: &InstrumentBound) -> Result<(), AllocError> {
+        put::<Number>(alloc, table, "instrument", &entry.instrument)?;
+        put::<Decimal>(alloc, table, "total", &entry.total)?;
+        put::<Decimal>(alloc, table, "amount", &entry.amount)?;
+        put::<SignedDecimal>(alloc, table, "low", &entry.low)?;
+        put::<SignedDecimal>(alloc, table, "high", &entry.high)
     }
 }
 

@@ -1,15 +1,15 @@
 //! A certificate as a whole.
-ghost use Rattle.std.specs.Prelude.{◌≡◌, ◌≤◌, ◌==◌, Ok, Err, IfOk, string_bytes, if◌then◌else◌};
-ghost use Rattle.toml.specs.Data.{members_depth};
+ghost use Rattle.std.specs.Prelude.{◌≡◌, ◌≤◌, ◌==◌, Ok, Err, IfOk, OnOk, string_bytes, if◌then◌else◌};
+ghost use Rattle.toml.specs.Data.{members_depth, no_members};
 ghost use Rattle.toml.specs.View.{table_view};
 ghost use Rattle.metric_base.specs.Steps.{Gives};
 ghost use Rattle.metric_table.specs.Fields.{only};
-ghost use Rattle.metric_cert.specs.Certificates.{certificate_fields, certificate_of, certificate_from, format_of};
+ghost use Rattle.metric_cert.specs.Certificates.{certificate_fields, certificate_from, certificate_of, format_of, parts_of};
 ghost use Rattle.metric_cert.specs.Reading.{shape_faults};
 
 use crate::bound::{BoundTable, InstrumentBound};
 use crate::fault::{CertFault, shape_faults};
-use crate::lists::ListOf;
+use crate::fields::TableEntries;
 use crate::numbers::Number;
 use crate::order::{OrderTable, ReaderOrder};
 use crate::reason::{ReasonTable, SelectionReason};
@@ -62,24 +62,25 @@ impl Certificate {
     pub fn write(&self, alloc: Global) -> Result<String, AllocError>
         ensures { IfOk result (λ text. certificate_from (string_bytes text) ≡ Ok self.now) }
     {
-        let table = self.table(alloc)?;
+        let mut table = empty_table(alloc);
+        self.put(alloc, &mut table)?;
         match toml::table_to_string(alloc, &table) {
             Ok(text) => Ok(text),
             Err(_) => Err(AllocError),
         }
     }
 
-    fn table(&self, alloc: Global) -> Result<Table, AllocError>
-        ensures reads { IfOk result (λ t. certificate_of (table_view t) ≡ Ok self.now) }
-        ensures shallow { IfOk result (λ t. members_depth (table_view t) ≤ 80) }
+    // Puts the fields of the certificate into an empty table.
+    fn put(&self, alloc: Global, table: &mut Table) -> Result<(), AllocError>
+        requires { table_view table.old ≡ no_members }
+        ensures reads { OnOk result (certificate_of (table_view table.new) ≡ Ok self.now) }
+        ensures shallow { OnOk result (members_depth (table_view table.new) ≤ 80) }
     {
-        let mut table = empty_table(alloc);
-        put::<Number>(alloc, &mut table, "format", &1)?;
-        put::<ListOf<ReasonTable>>(alloc, &mut table, "reason", &self.reasons)?;
-        put::<ListOf<StreamTable>>(alloc, &mut table, "stream", &self.streams)?;
-        put::<ListOf<BoundTable>>(alloc, &mut table, "bound", &self.bounds)?;
-        put::<ListOf<OrderTable>>(alloc, &mut table, "order", &self.orders)?;
-        Ok(table)
+        put::<Number>(alloc, table, "format", &1)?;
+        put::<TableEntries<ReasonTable>>(alloc, table, "reason", &self.reasons)?;
+        put::<TableEntries<StreamTable>>(alloc, table, "stream", &self.streams)?;
+        put::<TableEntries<BoundTable>>(alloc, table, "bound", &self.bounds)?;
+        put::<TableEntries<OrderTable>>(alloc, table, "order", &self.orders)
     }
 }
 
@@ -89,10 +90,17 @@ fn certificate_of(alloc: Global, table: &Table) -> Result<Certificate, CertFault
 {
     only_certificate(table)?;
     format_of(alloc, table)?;
-    let reasons = needed::<ListOf<ReasonTable>>(alloc, table, "reason")?;
-    let streams = needed::<ListOf<StreamTable>>(alloc, table, "stream")?;
-    let bounds = needed::<ListOf<BoundTable>>(alloc, table, "bound")?;
-    let orders = needed::<ListOf<OrderTable>>(alloc, table, "order")?;
+    parts_of(alloc, table)
+}
+
+#[tactic(auto, unfolding(crate::specs::Certificates::parts_of))]
+fn parts_of(alloc: Global, table: &Table) -> Result<Certificate, CertFault>
+    ensures { Gives CertFault.Memory result (parts_of (table_view table.now)) }
+{
+    let reasons = needed::<TableEntries<ReasonTable>>(alloc, table, "reason")?;
+    let streams = needed::<TableEntries<StreamTable>>(alloc, table, "stream")?;
+    let bounds = needed::<TableEntries<BoundTable>>(alloc, table, "bound")?;
+    let orders = needed::<TableEntries<OrderTable>>(alloc, table, "order")?;
     Ok(Certificate {
         reasons,
         streams,

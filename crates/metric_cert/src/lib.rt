@@ -6,6 +6,7 @@ mod certificate;
 mod decimals;
 mod entry;
 mod fault;
+mod fields;
 mod lists;
 mod make_bounds;
 mod make_fault;

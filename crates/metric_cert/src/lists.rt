@@ -10,12 +10,11 @@ use crate::entry::Entry;
 use crate::fault::CertFault;
 use metric_base::Items;
 use std::alloc::{AllocError, Global};
+use std::marker::PhantomData;
 use toml::Value;
 
 /// A list of entries of a kind.
-pub(crate) struct ListOf<E> {
-    _kind: E,
-}
+pub(crate) struct ListOf<E>(PhantomData<E>);
 
 impl<E: Entry> Entry for ListOf<E> {
     ghost use Rattle.std.specs.Prelude.{◌+◌};
@@ -33,7 +32,6 @@ impl<E: Entry> Entry for ListOf<E> {
         read_all::<E>(alloc, values)
     }
 
-    #[tactic(auto, using(crate::proofs::Written::list_laws))]
     fn write(alloc: Global, entry: &Items<E::Read>) -> Result<Value, AllocError> {
         let values = write_all::<E>(alloc, entry.as_slice())?;
         Ok(listed(values))

@@ -1,11 +1,11 @@
 //! The bounds of all instruments.
-ghost use Rattle.std.specs.Prelude.{◌≡◌, ◌↔◌, ◌≤ℤ◌, pos, FitsSigned, IfOk, IsTrue};
+ghost use Rattle.std.specs.Prelude.{◌≡◌, ◌↔◌, ◌≤ℤ◌, pos, FitsSigned, IfOk, IsTrue, map};
 ghost use Rattle.std.specs.Int.{w64};
 ghost use Rattle.std.specs.List.{AllZip};
 ghost use Rattle.std.specs.Result.{result_err};
 ghost use Rattle.metric_resolve.specs.Applying.{all_instruments};
 ghost use Rattle.metric_bounds.specs.Finding.{InstrumentFinds, InstrumentsFind};
-ghost use Rattle.metric_bounds.specs.Amounts.{amount_with, high_with, low_with};
+ghost use Rattle.metric_bounds.specs.Amounts.{amount_with, high_with, low_with, total_of};
 ghost use Rattle.metric_bounds.specs.First.{Asks, Reports};
 ghost use Rattle.metric_bounds.specs.Safe.{AmountsFit, CountsFit, HighFits, LowFits};
 ghost use Rattle.metric_cert.specs.Making.{HasNumbers, make_faults};
@@ -31,10 +31,26 @@ pub(crate) fn bounds_of(
         (InstrumentsFind make_faults catalogue.now streams.now) result }
 {
     let totals = totals(alloc, catalogue)?;
+    bounds_with(alloc, catalogue, streams, totals.as_slice())
+}
+
+// The same for instruments that may be recorded so often.
+fn bounds_with(
+    alloc: Global,
+    catalogue: &Catalogue,
+    streams: &[Stream],
+    totals: &[u128],
+) -> Result<Items<InstrumentBound>, MakeFault>
+    requires { totals.now ≡ map (total_of catalogue.now) (all_instruments catalogue.now) }
+    ensures bounds { IfOk result
+        (AllZip (IsBoundAt catalogue.now streams.now) (all_instruments catalogue.now)) }
+    ensures found { Reports MakeFault.Memory
+        (InstrumentsFind make_faults catalogue.now streams.now) result }
+{
     let summed = summed(alloc, streams, catalogue.instruments().len())?;
     let mut bounds = Items::new(alloc);
     for (number, instrument) in catalogue.instruments().iter().enumerate() {
-        let total = totals.as_slice()[number];
+        let total = totals[number];
         let summed = summed.as_slice()[number];
         let bound = bound_of(number as u32, instrument, total, summed)?;
         bounds.push(bound)?;

@@ -9,12 +9,13 @@ ghost use Rattle.metric_cert.specs.Reasons.{PutsEvidence, evidence_of, one_of, r
 
 use crate::entry::Entry;
 use crate::fault::{CertFault, shape_faults};
+use crate::fields::Fields;
 use crate::lists::ListOf;
 use crate::numbers::{Number, ShortNumber};
-use crate::tables::{empty_table, needed, optional, put, tabled};
+use crate::tables::{needed, optional, put};
 use metric_base::Items;
 use metric_glob::Reason;
-use metric_table::{only, table_of, text_of};
+use metric_table::{only, text_of};
 use std::alloc::{AllocError, Global};
 use toml::{Table, Value};
 
@@ -113,18 +114,17 @@ impl Entry for CriterionWord {
 /// The table of a reason.
 pub(crate) struct ReasonTable;
 
-impl Entry for ReasonTable {
+impl Fields for ReasonTable {
     ghost use Rattle.metric_cert.specs.Reasons.{reason_of};
 
     type Read = SelectionReason;
 
     ghost step = { reason_of };
 
-    ghost levels = { 3 };
+    ghost levels = { 2 };
 
     #[tactic(auto, unfolding(crate::specs::Reasons::reason_of))]
-    fn read(alloc: Global, value: &Value) -> Result<SelectionReason, CertFault> {
-        let table = table_of(value, &shape_faults())?;
+    fn read(alloc: Global, table: &Table) -> Result<SelectionReason, CertFault> {
         only_reason(table)?;
         let view = needed::<Number>(alloc, table, "view")?;
         let instrument = needed::<Number>(alloc, table, "instrument")?;
@@ -136,12 +136,10 @@ impl Entry for ReasonTable {
         })
     }
 
-    fn write(alloc: Global, entry: &SelectionReason) -> Result<Value, AllocError> {
-        let mut table = empty_table(alloc);
-        put::<Number>(alloc, &mut table, "view", &entry.view)?;
-        put::<Number>(alloc, &mut table, "instrument", &entry.instrument)?;
-        put_evidence(alloc, &mut table, &entry.evidence)?;
-        Ok(tabled(table))
+    fn put(alloc: Global, table: &mut Table, entry: &SelectionReason) -> Result<(), AllocError> {
+        put::<Number>(alloc, table, "view", &entry.view)?;
+        put::<Number>(alloc, table, "instrument", &entry.instrument)?;
+        put_evidence(alloc, table, &entry.evidence)
     }
 }
 

@@ -8,9 +8,10 @@ ghost use Rattle.metric_cert.specs.Streams.{stream_fields};
 
 use crate::entry::Entry;
 use crate::fault::{CertFault, shape_faults};
+use crate::fields::Fields;
 use crate::numbers::Number;
-use crate::tables::{empty_table, needed, optional, put, put_given, tabled};
-use metric_table::{only, table_of, text_of};
+use crate::tables::{needed, optional, put, put_given};
+use metric_table::{only, text_of};
 use std::alloc::{AllocError, Global};
 use toml::{Table, Value};
 
@@ -88,18 +89,17 @@ impl Entry for ByWord {
 /// The table of a stream.
 pub(crate) struct StreamTable;
 
-impl Entry for StreamTable {
+impl Fields for StreamTable {
     ghost use Rattle.metric_cert.specs.Streams.{stream_of};
 
     type Read = StreamSets;
 
     ghost step = { stream_of };
 
-    ghost levels = { 1 };
+    ghost levels = { 0 };
 
     #[tactic(auto, unfolding(crate::specs::Streams::stream_of))]
-    fn read(alloc: Global, value: &Value) -> Result<StreamSets, CertFault> {
-        let table = table_of(value, &shape_faults())?;
+    fn read(alloc: Global, table: &Table) -> Result<StreamSets, CertFault> {
         only_stream(table)?;
         let reader = needed::<Number>(alloc, table, "reader")?;
         let instrument = needed::<Number>(alloc, table, "instrument")?;
@@ -115,14 +115,12 @@ impl Entry for StreamTable {
         })
     }
 
-    fn write(alloc: Global, entry: &StreamSets) -> Result<Value, AllocError> {
-        let mut table = empty_table(alloc);
-        put::<Number>(alloc, &mut table, "reader", &entry.reader)?;
-        put::<Number>(alloc, &mut table, "instrument", &entry.instrument)?;
-        put_given::<Number>(alloc, &mut table, "view", &entry.view)?;
-        put::<ByWord>(alloc, &mut table, "by", &entry.by)?;
-        put::<Number>(alloc, &mut table, "sets", &entry.sets)?;
-        Ok(tabled(table))
+    fn put(alloc: Global, table: &mut Table, entry: &StreamSets) -> Result<(), AllocError> {
+        put::<Number>(alloc, table, "reader", &entry.reader)?;
+        put::<Number>(alloc, table, "instrument", &entry.instrument)?;
+        put_given::<Number>(alloc, table, "view", &entry.view)?;
+        put::<ByWord>(alloc, table, "by", &entry.by)?;
+        put::<Number>(alloc, table, "sets", &entry.sets)
     }
 }
 

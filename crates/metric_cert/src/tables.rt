@@ -1,5 +1,5 @@
 //! The fields of a table, read and written.
-ghost use Rattle.std.specs.Prelude.{◌≡◌, OnOk};
+ghost use Rattle.std.specs.Prelude.{◌≡◌, OnOk, string_bytes};
 ghost use Rattle.toml.specs.Data.{no_members, table as table_data};
 ghost use Rattle.toml.specs.View.{table_view, view};
 ghost use Rattle.metric_base.specs.Steps.{Gives};
@@ -67,8 +67,9 @@ pub(crate) fn put<E: Entry>(
     ensures { OnOk result
         (Puts E.step E.levels name.now entry.now (table_view table.old) (table_view table.new)) }
 {
+    let key = String::from_str(alloc, name)?;
     let value = E::write(alloc, entry)?;
-    insert(alloc, table, name, value)
+    insert(table, key, value)
 }
 
 /// Puts a field that may be left out.
@@ -87,11 +88,10 @@ pub(crate) fn put_given<E: Entry>(
     }
 }
 
-fn insert(alloc: Global, table: &mut Table, name: &str, value: Value) -> Result<(), AllocError>
-    ensures { OnOk result
-        (table_view table.new ≡ with_member name.now (view value) (table_view table.old)) }
+fn insert(table: &mut Table, key: String, value: Value) -> Result<(), AllocError>
+    ensures { OnOk result (table_view table.new
+        ≡ with_member (string_bytes key) (view value) (table_view table.old)) }
 {
-    let key = String::from_str(alloc, name)?;
     table.insert(key, value)?;
     Ok(())
 }

@@ -1,4 +1,5 @@
 mod AnswerLaws
+mod AnsweredInputs
 mod OutputLaws
 mod PartLaws
 mod PlanLaws

@@ -49,14 +49,16 @@ pub one_output : (parts : (needs : Needs) (lines : List (List ℕ)) (a b : Conte
 one_output parts starts events options input a b p q =
     let x = p.replayed in
     let y = q.replayed in
+    let s = x.answered in
+    let t = y.answered in
     let read : x.read ≡ y.read = same_read parts _ _ x.read y.read x.is_read y.is_read in
-    let plan : p.plan ≡ q.plan = same_plan options y.read p.plan q.plan (subst (λ (r : Parts). IsPlanned options r p.plan) read x.is_planned) y.is_planned in
-    let script : x.script ≡ y.script = some_is x.script y.script y.read.script (ap (λ (r : Parts). r.script) (sym read) ∙ x.has_script) y.has_script in
-    let here : IsScript y.script.lines x.start x.events = subst (λ (s : ScriptLines). IsScript s.lines x.start x.events) script x.is_script in
-    let start : x.start ≡ y.start = starts y.script.lines x.start y.start x.events y.events here y.is_script in
-    let run : x.events ≡ y.events = events y.script.lines x.start y.start x.events y.events here y.is_script in
-    let on_plan : AllLegal q.plan.facts x.start [] x.events p.replies = subst (λ (v : PlanValue). AllLegal v.facts x.start [] x.events p.replies) plan x.run.legal in
-    let on_start : AllLegal q.plan.facts y.start [] x.events p.replies = subst (λ (s : ℕ). AllLegal q.plan.facts s [] x.events p.replies) start on_plan in
-    let on_events : AllLegal q.plan.facts y.start [] y.events p.replies = subst (λ (es : List Event). AllLegal q.plan.facts y.start [] es p.replies) run on_start in
-    let replies : p.replies ≡ q.replies = one_run q.plan.facts y.start [] y.events p.replies q.replies on_events y.run.legal x.run.remembered y.run.remembered in
+    let plan : p.plan ≡ q.plan = same_plan options y.read p.plan q.plan (subst (λ (r : Parts). IsPlanned options r p.plan) read s.is_planned) t.is_planned in
+    let script : s.script ≡ t.script = some_is s.script t.script y.read.script (ap (λ (r : Parts). r.script) (sym read) ∙ s.has_script) t.has_script in
+    let here : IsScript t.script.lines s.start s.events = subst (λ (l : ScriptLines). IsScript l.lines s.start s.events) script s.is_script in
+    let start : s.start ≡ t.start = starts t.script.lines s.start t.start s.events t.events here t.is_script in
+    let run : s.events ≡ t.events = events t.script.lines s.start t.start s.events t.events here t.is_script in
+    let on_plan : AllLegal q.plan.facts s.start [] s.events p.replies = subst (λ (v : PlanValue). AllLegal v.facts s.start [] s.events p.replies) plan s.run.legal in
+    let on_start : AllLegal q.plan.facts t.start [] s.events p.replies = subst (λ (n : ℕ). AllLegal q.plan.facts n [] s.events p.replies) start on_plan in
+    let on_events : AllLegal q.plan.facts t.start [] t.events p.replies = subst (λ (es : List Event). AllLegal q.plan.facts t.start [] es p.replies) run on_start in
+    let replies : p.replies ≡ q.replies = one_run q.plan.facts t.start [] t.events p.replies q.replies on_events t.run.legal s.run.remembered t.run.remembered in
     p.written ∙ ap (λ (v : PlanValue). replies_text v p.replies) plan ∙ ap (λ (rs : List Reply). replies_text q.plan rs) replies ∙ sym q.written

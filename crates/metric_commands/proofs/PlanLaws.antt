@@ -1,7 +1,6 @@
 -- The faults of a trial's plan, and of a certified one, are those of a replay's plan.
-use Rattle.std.proofs.Common.{◌≡◌, true, false, Result, IfOk, IfErr, Ok, Err, inl, inr, refl}
+use Rattle.std.proofs.Common.{◌≡◌, true, false, inl, inr, refl}
 use Rattle.metric_parts.specs.declared.parts.Parts.{Parts}
-use Rattle.metric_plan.specs.Plans.{PlanValue}
 use Rattle.metric_plan.specs.declared.fault.CheckFault.TheVariants.{CountRange}
 use Rattle.metric_commands.specs.declared.options.ReplayOptions.{ReplayOptions}
 use Rattle.metric_commands.specs.declared.fault.KitFault.{KitFault}

@@ -7,13 +7,20 @@ use Rattle.metric_provider.specs.Totals.{told_totals}
 use Rattle.metric_provider.specs.declared.totals.Total.{Total}
 use Rattle.metric_commands.specs.declared.fault.KitFault.{KitFault}
 use Rattle.metric_commands.specs.declared.fault.KitFault.TheVariants.{Read, Input, Catalogue, Config, Certificate, Check, Make, Finish, Write, Memory}
-use Rattle.metric_commands.specs.Checking.{IsCertifiedInput, IsFirstCheckFault}
+use Rattle.metric_commands.specs.Checking.{IsCertifiedInput, IsFirstCheckFault, check_needs}
+use Rattle.metric_commands.specs.Claims.{IsCertifiedPlan}
+use Rattle.metric_commands.specs.Commands.{IsAnswerTo}
 use Rattle.metric_commands.specs.Faults.{IsOfInput}
 use Rattle.metric_commands.specs.Threading.{IsAfterThreads, IsCounted, IsFirstThreadsFault, totals_text}
 
 -- what is certified may be started
-pub certified : (input : List ℕ) (plan : PlanValue) → IsCertifiedInput input plan → IsTrue plan.is_certified
-certified input plan c = ap (λ (p : PlanValue). p.is_certified) c.certified.planned
+pub certified : (input : List ℕ) (plan : PlanValue)
+    → IsAnswerTo check_needs IsCertifiedPlan input plan → IsTrue plan.is_certified
+certified input plan c = ap (λ (p : PlanValue). p.is_certified) c.is_answer.planned
+
+certified_input : (input : List ℕ) (plan : PlanValue)
+    → IsAnswerTo check_needs IsCertifiedPlan input plan → IsCertifiedInput input plan
+certified_input input plan c = record { read = c.read; is_read = c.is_read; certified = c.is_answer }
 
 -- a fault before the threads
 pub before_threads : (input : List ℕ) (fault : KitFault) → IsFirstCheckFault input fault → IsFirstThreadsFault input fault
@@ -30,7 +37,8 @@ before_threads input Memory found = found
 
 -- a fault after them
 pub after_threads : (input : List ℕ) (plan : PlanValue) (fault : KitFault)
-    → IsCertifiedInput input plan → IsAfterThreads fault → IsFirstThreadsFault input fault
+    → IsAnswerTo check_needs IsCertifiedPlan input plan → IsAfterThreads fault
+    → IsFirstThreadsFault input fault
 after_threads input plan Read c own = absurd own
 after_threads input plan (Input line) c own = absurd own
 after_threads input plan (Catalogue fault) c own = absurd own
@@ -38,7 +46,7 @@ after_threads input plan (Config fault) c own = absurd own
 after_threads input plan (Certificate fault) c own = absurd own
 after_threads input plan (Check fault) c own = absurd own
 after_threads input plan (Make fault) c own = absurd own
-after_threads input plan (Finish fault) c own = record { plan = plan; certified = c; own = own }
+after_threads input plan (Finish fault) c own = record { plan = plan; certified = certified_input input plan c; own = own }
 after_threads input plan Write c own = absurd own
 after_threads input plan Memory c own = tt
 
@@ -57,8 +65,15 @@ own_after_threads Memory own = tt
 
 -- the totals that are written
 pub counted : (input : List ℕ) (plan : PlanValue) (totals : List Total)
-    → IsCertifiedInput input plan → length totals ≡ length plan.facts.instruments → IsCounted input (totals_text totals)
-counted input plan totals c one_each = record { plan = plan; totals = totals; certified = c; one_each = one_each; written = refl }
+    → IsAnswerTo check_needs IsCertifiedPlan input plan → length totals ≡ length plan.facts.instruments
+    → IsCounted input (totals_text totals)
+counted input plan totals c one_each = record {
+  plan = plan;
+  totals = totals;
+  certified = certified_input input plan c;
+  one_each = one_each;
+  written = refl;
+}
 
 -- there is a total of each instrument
 pub one_total_each : (seats : List RecorderValue) (number : ℕ) (instruments : List Facts)

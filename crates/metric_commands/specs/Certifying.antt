@@ -14,7 +14,7 @@ use Rattle.metric_cert.specs.Certificates.{certificate_from}
 use Rattle.metric_cert.specs.Making.{IsMade, make_faults}
 use Rattle.metric_cert.specs.Valid.{IsValid}
 use Rattle.metric_commands.specs.declared.fault.KitFault.{KitFault}
-use Rattle.metric_commands.specs.declared.fault.KitFault.TheVariants.{Input, Catalogue, Config as BadConfig, Make, Memory}
+use Rattle.metric_commands.specs.declared.fault.KitFault.TheVariants.{Read, Input, Catalogue, Config as BadConfig, Certificate as BadCertificate, Check, Make, Finish, Write, Memory}
 use Rattle.metric_commands.specs.Declarations.{IsDeclared, IsDeclaredFault, IsMisdeclared}
 use Rattle.metric_commands.specs.Showing.{show_needs}
 
@@ -77,3 +77,18 @@ IsFirstMakeFault input (BadConfig fault) = IsMisdeclared show_needs input (IsMak
 IsFirstMakeFault input (Make fault) = IsMisdeclared show_needs input (IsMakeFault (Make fault))
 IsFirstMakeFault input Memory = Unit {0}
 IsFirstMakeFault input _ = ⊥
+
+-- A fault of the parts is the first of the input.
+pub make_refused : (input : List ℕ) (read : Parts) (fault : KitFault)
+    → IsRead show_needs (lines_of input) read → IsMakeFault fault read
+    → IsFirstMakeFault input fault
+make_refused input read Read is_read found = found
+make_refused input read (Input line) is_read found = absurd found
+make_refused input read (Catalogue fault) is_read found = record { read = read; is_read = is_read; first = found }
+make_refused input read (BadConfig fault) is_read found = record { read = read; is_read = is_read; first = found }
+make_refused input read (BadCertificate fault) is_read found = found
+make_refused input read (Check fault) is_read found = found
+make_refused input read (Make fault) is_read found = record { read = read; is_read = is_read; first = found }
+make_refused input read (Finish fault) is_read found = found
+make_refused input read Write is_read found = found
+make_refused input read Memory is_read found = tt

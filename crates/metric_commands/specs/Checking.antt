@@ -7,7 +7,7 @@ use Rattle.metric_parts.specs.declared.needs.Needs.{Needs}
 use Rattle.metric_parts.specs.declared.parts.Parts.{Parts}
 use Rattle.metric_plan.specs.Plans.{PlanValue}
 use Rattle.metric_commands.specs.declared.fault.KitFault.{KitFault}
-use Rattle.metric_commands.specs.declared.fault.KitFault.TheVariants.{Input, Catalogue, Config as BadConfig, Certificate as BadCertificate, Check, Memory}
+use Rattle.metric_commands.specs.declared.fault.KitFault.TheVariants.{Read, Input, Catalogue, Config as BadConfig, Certificate as BadCertificate, Check, Make, Finish, Write, Memory}
 use Rattle.metric_commands.specs.Claims.{IsCertifiedPlan, IsClaimFault}
 use Rattle.metric_commands.specs.Declarations.{IsMisdeclared}
 
@@ -40,3 +40,18 @@ IsFirstCheckFault input (BadCertificate fault) = IsMisdeclared check_needs input
 IsFirstCheckFault input (Check fault) = IsMisdeclared check_needs input (IsClaimFault (Check fault))
 IsFirstCheckFault input Memory = Unit {0}
 IsFirstCheckFault input _ = ⊥
+
+-- A fault of the parts is the first of the input.
+pub check_refused : (input : List ℕ) (read : Parts) (fault : KitFault)
+    → IsRead check_needs (lines_of input) read → IsClaimFault fault read
+    → IsFirstCheckFault input fault
+check_refused input read Read is_read found = found
+check_refused input read (Input line) is_read found = absurd found
+check_refused input read (Catalogue fault) is_read found = record { read = read; is_read = is_read; first = found }
+check_refused input read (BadConfig fault) is_read found = record { read = read; is_read = is_read; first = found }
+check_refused input read (BadCertificate fault) is_read found = record { read = read; is_read = is_read; first = found }
+check_refused input read (Check fault) is_read found = record { read = read; is_read = is_read; first = found }
+check_refused input read (Make fault) is_read found = found
+check_refused input read (Finish fault) is_read found = found
+check_refused input read Write is_read found = found
+check_refused input read Memory is_read found = tt

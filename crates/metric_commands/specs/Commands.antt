@@ -6,6 +6,10 @@ use Rattle.metric_io.specs.declared.counts.ReadCounts.{ReadCounts}
 use Rattle.metric_io.specs.Input.{IsReadFault}
 use Rattle.metric_io.specs.Prefix.{AppendsPrefix}
 use Rattle.metric_io.specs.declared.whole.TheConstants.{MAX_READS}
+use Rattle.metric_text.specs.Lines.{lines_of}
+use Rattle.metric_parts.specs.Kept.{IsRead}
+use Rattle.metric_parts.specs.declared.needs.Needs.{Needs}
+use Rattle.metric_parts.specs.declared.parts.Parts.{Parts}
 use Rattle.metric_commands.specs.declared.fault.KitFault.{KitFault}
 use Rattle.metric_commands.specs.declared.fault.KitFault.TheVariants.{Read, Write, Memory}
 
@@ -36,6 +40,13 @@ sink_run contents failures old new = record {
 -- Of the bytes that were left, where the source tells them, some text is due, and this holds of it.
 abbrev pub IfDue : (List ℕ → List ℕ → Type 0) → Option (List ℕ) → (List ℕ → Type 0) → Type 0
 IfDue IsText input Holds = IfSome input (λ bytes. (text : List ℕ) × IsText bytes text × Holds text)
+
+-- The answer is what a command makes of the parts of the input.
+pub record IsAnswerTo {A : Type 0} (needs : Needs) (IsAnswer : Parts → A → Type 0)
+    (input : List ℕ) (answer : A) : Type 0 where
+  pub read : Parts
+  pub is_read : IsRead needs (lines_of input) read
+  pub is_answer : IsAnswer read answer
 
 -- A command reads its input, and writes the text that is due of it or stops with its first fault.
 pub record RunsCommand {A : Type 0} (IsText : List ℕ → List ℕ → Type 0) (IsFirstFault : List ℕ → KitFault → Type 0)

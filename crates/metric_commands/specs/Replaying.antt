@@ -1,5 +1,6 @@
 -- What a replay makes of the bytes of its input.
 use Rattle.std.specs.Prelude.{◌≡◌, ◌⊎◌, ℕ, true, false, not, List, Some}
+use Rattle.std.proofs.Common.{inr}
 use Rattle.metric_text.specs.Lines.{lines_of}
 use Rattle.metric_parts.specs.Input.{IsFirstFault as IsFaultyLine}
 use Rattle.metric_parts.specs.Kept.{IsRead}
@@ -38,17 +39,22 @@ pub record IsTrialPlan (read : Parts) (plan : PlanValue) : Type 0 where
 abbrev pub IsPlanned : ReplayOptions → Parts → PlanValue → Type 0
 IsPlanned options read plan = ((options.trial ≡ true) × IsTrialPlan read plan) ⊎ ((options.trial ≡ false) × IsCertifiedPlan read plan)
 
--- The replies to the script of the input: a legal one for each event, and none of them want of memory.
-pub record IsReplayed (options : ReplayOptions) (input : List ℕ) (plan : PlanValue) (replies : List Reply) : Type 0 where
-  pub read : Parts
+-- The replies to the script of the parts: a legal one for each event, and none of them want of memory.
+pub record IsAnswered (options : ReplayOptions) (read : Parts) (plan : PlanValue)
+    (replies : List Reply) : Type 0 where
   pub script : ScriptLines
   pub start : ℕ
   pub events : List Event
-  pub is_read : IsRead (needs_of options) (lines_of input) read
   pub is_planned : IsPlanned options read plan
   pub has_script : read.script ≡ Some script
   pub is_script : IsScript script.lines start events
   pub run : IsRun plan start events replies
+
+-- The replies to the script of the input.
+pub record IsReplayed (options : ReplayOptions) (input : List ℕ) (plan : PlanValue) (replies : List Reply) : Type 0 where
+  pub read : Parts
+  pub is_read : IsRead (needs_of options) (lines_of input) read
+  pub answered : IsAnswered options read plan replies
 
 -- The text that a replay of the input writes.
 pub record IsOutput (options : ReplayOptions) (input text : List ℕ) : Type 0 where
@@ -77,18 +83,22 @@ IsPlanFault options (Check fault) read =
 IsPlanFault options fault read = IsDeclaredFault fault read
 
 -- Everything before the script is right, and this is the script's first faulty line.
-pub record IsFaultyScript (options : ReplayOptions) (input : List ℕ) (line : ℕ) : Type 0 where
-  pub read : Parts
+pub record IsFaultyScript (options : ReplayOptions) (line : ℕ) (read : Parts) : Type 0 where
   pub script : ScriptLines
   pub plan : PlanValue
-  pub is_read : IsRead (needs_of options) (lines_of input) read
   pub is_planned : IsPlanned options read plan
   pub has_script : read.script ≡ Some script
   pub first : IsFirstFaultAt script line
 
+-- The fault is the first that the parts have.
+abbrev pub IsReplayFault : ReplayOptions → KitFault → Parts → Type 0
+IsReplayFault options (Input line) read = IsFaultyScript options line read
+IsReplayFault options fault read = IsPlanFault options fault read
+
 -- The fault is the first that the input has: of its parts, of what they declare, of its script.
 abbrev pub IsFirstFault : ReplayOptions → List ℕ → KitFault → Type 0
-IsFirstFault options input (Input line) = IsFaultyLine (needs_of options) (lines_of input) line ⊎ IsFaultyScript options input line
+IsFirstFault options input (Input line) =
+    IsFaultyLine (needs_of options) (lines_of input) line ⊎ IsMisdeclared (needs_of options) input (IsFaultyScript options line)
 IsFirstFault options input (Catalogue fault) = IsMisdeclared (needs_of options) input (IsPlanFault options (Catalogue fault))
 IsFirstFault options input (BadConfig fault) = IsMisdeclared (needs_of options) input (IsPlanFault options (BadConfig fault))
 IsFirstFault options input (BadCertificate fault) = IsMisdeclared (needs_of options) input (IsPlanFault options (BadCertificate fault))
@@ -98,3 +108,18 @@ IsFirstFault options input (Finish fault) = ⊥
 IsFirstFault options input Memory = Unit {0}
 IsFirstFault options input Read = ⊥
 IsFirstFault options input Write = ⊥
+
+-- A fault of the parts is the first of the input.
+pub replay_refused : (options : ReplayOptions) (input : List ℕ) (read : Parts) (fault : KitFault)
+    → IsRead (needs_of options) (lines_of input) read → IsReplayFault options fault read
+    → IsFirstFault options input fault
+replay_refused options input read Read is_read found = found
+replay_refused options input read (Input line) is_read found = inr (record { read = read; is_read = is_read; first = found })
+replay_refused options input read (Catalogue fault) is_read found = record { read = read; is_read = is_read; first = found }
+replay_refused options input read (BadConfig fault) is_read found = record { read = read; is_read = is_read; first = found }
+replay_refused options input read (BadCertificate fault) is_read found = record { read = read; is_read = is_read; first = found }
+replay_refused options input read (Check fault) is_read found = record { read = read; is_read = is_read; first = found }
+replay_refused options input read (Make fault) is_read found = found
+replay_refused options input read (Finish fault) is_read found = found
+replay_refused options input read Write is_read found = found
+replay_refused options input read Memory is_read found = tt

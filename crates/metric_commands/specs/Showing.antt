@@ -13,7 +13,7 @@ use Rattle.metric_resolve.specs.Resolved.{streams_of}
 use Rattle.metric_resolve.specs.Warnings.{warnings_of}
 use Rattle.metric_lines.specs.Streams.{shown_text, warning_text}
 use Rattle.metric_commands.specs.declared.fault.KitFault.{KitFault}
-use Rattle.metric_commands.specs.declared.fault.KitFault.TheVariants.{Input, Catalogue, Config as BadConfig, Memory}
+use Rattle.metric_commands.specs.declared.fault.KitFault.TheVariants.{Read, Input, Catalogue, Config as BadConfig, Certificate as BadCertificate, Check, Make, Finish, Write, Memory}
 use Rattle.metric_commands.specs.Declarations.{IsDeclared, IsDeclaredFault, IsMisdeclared}
 use Rattle.metric_commands.specs.Written.{parts_text}
 
@@ -46,3 +46,18 @@ IsFirstShowFault input (Catalogue fault) = IsMisdeclared show_needs input (IsDec
 IsFirstShowFault input (BadConfig fault) = IsMisdeclared show_needs input (IsDeclaredFault (BadConfig fault))
 IsFirstShowFault input Memory = Unit {0}
 IsFirstShowFault input _ = ⊥
+
+-- A fault of the parts is the first of the input.
+pub show_refused : (input : List ℕ) (read : Parts) (fault : KitFault)
+    → IsRead show_needs (lines_of input) read → IsDeclaredFault fault read
+    → IsFirstShowFault input fault
+show_refused input read Read is_read found = found
+show_refused input read (Input line) is_read found = absurd found
+show_refused input read (Catalogue fault) is_read found = record { read = read; is_read = is_read; first = found }
+show_refused input read (BadConfig fault) is_read found = record { read = read; is_read = is_read; first = found }
+show_refused input read (BadCertificate fault) is_read found = found
+show_refused input read (Check fault) is_read found = found
+show_refused input read (Make fault) is_read found = found
+show_refused input read (Finish fault) is_read found = found
+show_refused input read Write is_read found = found
+show_refused input read Memory is_read found = tt

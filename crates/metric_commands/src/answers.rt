@@ -1,8 +1,8 @@
-//! The replies to the script of an input.
+//! The replies to the script of an input's parts.
 ghost use Rattle.std.specs.Prelude.{◌≡◌, [], IfOk, IfErr, IsSome, false};
 ghost use Rattle.std.specs.List.{list_any};
-ghost use Rattle.metric_commands.specs.Replaying.{IsFirstFault, IsOutput, IsPlanFault, IsPlanned};
-ghost use Rattle.metric_commands.specs.Replies.{is_want_of_memory, replies_text};
+ghost use Rattle.metric_commands.specs.Replaying.{IsAnswered, IsPlanFault, IsPlanned, IsReplayFault};
+ghost use Rattle.metric_commands.specs.Replies.{is_want_of_memory};
 ghost use Rattle.metric_commands.specs.Faults.{IsOfInput};
 ghost use Rattle.metric_commands.specs.Runs.{IsRun};
 ghost use Rattle.metric_core.specs.CoreStands.{CoreStands};
@@ -15,10 +15,9 @@ use metric_catalogue::Refusal;
 use metric_core::Core;
 use metric_history::{Event, Reply};
 use metric_marked::Marked;
-use metric_parts::{Parts, parts_of};
+use metric_parts::Parts;
 use metric_plan::Plan;
 use metric_script::events_of;
-use metric_text::lines;
 use std::alloc::Global;
 
 /// A core that has run a script, and its replies. None of them is want of memory.
@@ -28,20 +27,20 @@ pub(crate) struct Answers {
     pub replies: Vec<Reply>,
 }
 
-/// The answers to the script of an input.
+/// The answers to the script of an input's parts.
 pub(crate) fn answers_to(
     alloc: Global,
     options: ReplayOptions,
-    input: &[u8],
+    parts: &Parts<'_>,
 ) -> Result<Answers, KitFault>
-    ensures ok { IfOk result (λ answers. IsOutput options input.now
-        (replies_text answers.core.plan answers.replies.items)) }
-    ensures first { IfErr result (IsFirstFault options input.now) }
+    requires certificate { options.trial ≡ false → IsSome parts.now.certificate }
+    requires script { IsSome parts.now.script }
+    ensures ok { IfOk result (λ answers. IsAnswered options parts.now
+        answers.core.plan answers.replies.items) }
+    ensures first { IfErr result (λ fault. IsReplayFault options fault parts.now) }
     ensures own { IfErr result IsOfInput }
 {
-    let lines = lines(alloc, input)?;
-    let parts = parts_of(alloc, &lines, options.needs())?;
-    let plan = planned(alloc, options, &parts)?;
+    let plan = planned(alloc, options, parts)?;
     let script = events_of(alloc, parts.script.as_ref().unwrap())?;
     run(alloc, plan, script.start, script.events.as_slice())
 }

@@ -1,19 +1,14 @@
 //! A certificate checked.
-ghost use Rattle.std.specs.Prelude.{IfErr, IfOk, OnOk};
-ghost use Rattle.std.specs.Io.KnownBytes.{Appends};
-ghost use Rattle.metric_io.specs.Prefix.{AppendsPrefix};
-ghost use Rattle.metric_commands.specs.Checking.{IsAcceptance, IsCertifiedInput, IsFirstCheckFault, accepted_text};
+ghost use Rattle.metric_commands.specs.Checking.{IsAcceptance, IsFirstCheckFault};
 ghost use Rattle.metric_commands.specs.Commands.{RunsCommand, sink_run, source_run};
-ghost use Rattle.metric_commands.specs.Faults.{IsOfInput};
-ghost use Rattle.metric_commands.specs.Written.{IsSinkFault};
 
 use crate::command::{Command, run};
 use crate::fault::KitFault;
+use crate::parts::write_text;
 use crate::planning::certified_plan;
-use metric_io::{Sink, Source, write_all};
-use metric_parts::{Needs, parts_of};
+use metric_io::{Sink, Source};
+use metric_parts::{Needs, Parts};
 use metric_plan::Plan;
-use metric_text::lines;
 use std::alloc::Global;
 
 /// Writes `accepted` and a line feed where the certificate of an input shows that its catalogue and its
@@ -35,43 +30,52 @@ pub fn check_run<R: Source, W: Sink>(
     run(alloc, &Check, source, sink)
 }
 
-// The command that checks a certificate.
-struct Check;
+/// The command that checks a certificate.
+pub(crate) struct Check;
 
 impl Command for Check {
-    ghost use Rattle.metric_commands.specs.Checking.{IsAcceptance as IsText, IsFirstCheckFault as IsFault, accepted_text};
+    ghost use Rattle.std.specs.Prelude.{refl};
+    ghost use Rattle.metric_commands.specs.Checking.{IsAcceptance as IsText, IsFirstCheckFault as IsFirst, accepted_text, check_needs, check_refused};
+    ghost use Rattle.metric_commands.specs.Claims.{IsCertifiedPlan as IsPlan, IsClaimFault as IsFault};
 
     type Answer = Plan;
 
+    ghost needed = { λ _. check_needs };
+
+    ghost is_answer = { λ _. IsPlan };
+
+    ghost is_fault = { λ _. IsFault };
+
     ghost is_due = { λ _. IsText };
 
-    ghost is_first_fault = { λ _. IsFault };
+    ghost is_first_fault = { λ _. IsFirst };
 
     ghost text = { λ _. accepted_text };
 
-    fn answer(&self, alloc: Global, input: &[u8]) -> Result<Plan, KitFault> {
-        plan_of(alloc, input)
+    fn needed_parts(&self) -> Needs {
+        Needs {
+            certificate: true,
+            script: false,
+        }
+    }
+
+    fn answer(&self, alloc: Global, parts: &Parts<'_>) -> Result<Plan, KitFault> {
+        certified_plan(alloc, parts)
     }
 
     fn write<W: Sink>(&self, _alloc: Global, sink: &mut W, _plan: &Plan) -> Result<(), KitFault> {
-        write_all(sink, b"accepted\n")?;
-        sink.flush()?;
-        Ok(())
+        write_text(sink, b"accepted\n")
     }
-}
 
-/// The plan that the certificate of an input shows to be safe.
-pub(crate) fn plan_of(alloc: Global, input: &[u8]) -> Result<Plan, KitFault>
-    ensures ok { IfOk result (λ plan. IsCertifiedInput input.now plan) }
-    ensures first { IfErr result (IsFirstCheckFault input.now) }
-    ensures own { IfErr result IsOfInput }
-{
-    let lines = lines(alloc, input)?;
-    let needs = Needs {
-        certificate: true,
-        script: false,
-    };
-    let parts = parts_of(alloc, &lines, needs)?;
-    let plan = certified_plan(alloc, &parts)?;
-    Ok(plan)
+    ghost answered = { λ _ _ read plan is_read certified. record {
+      plan = plan;
+      certified = record { read = read; is_read = is_read; certified = certified };
+      written = refl;
+    } };
+
+    ghost refused = { λ _. check_refused };
+
+    ghost unread = { λ _ _ _ found. found };
+
+    ghost unremembered = { λ _ _. tt };
 }

@@ -1,20 +1,17 @@
 //! A certificate made for a catalogue and a config.
-ghost use Rattle.std.specs.Prelude.{◌≡◌, IfErr, IfOk, OnOk, string_bytes};
-ghost use Rattle.std.specs.Io.KnownBytes.{Appends};
-ghost use Rattle.metric_io.specs.Prefix.{AppendsPrefix};
+ghost use Rattle.std.specs.Prelude.{IfErr, IfOk, string_bytes};
 ghost use Rattle.metric_commands.specs.Certifying.{FailsToMake, IsCertificateText, IsCertified, IsFirstMakeFault, IsMakeFault, IsTextFor, Makes};
 ghost use Rattle.metric_commands.specs.Commands.{RunsCommand, sink_run, source_run};
 ghost use Rattle.metric_commands.specs.Faults.{IsOfInput};
-ghost use Rattle.metric_commands.specs.Written.{IsSinkFault};
 
 use crate::command::{Command, run};
 use crate::fault::KitFault;
-use crate::planning::{catalogue_of, config_of};
+use crate::parts::write_text;
+use crate::planning::declared_of;
 use metric_catalogue::Catalogue;
 use metric_cert::{Certificate, MakeFault, make};
-use metric_io::{Sink, Source, write_all};
-use metric_parts::{Needs, Parts as InputParts, parts_of};
-use metric_text::lines;
+use metric_io::{Sink, Source};
+use metric_parts::{Needs, Parts as InputParts};
 use metric_views::Config;
 use std::alloc::Global;
 
@@ -42,41 +39,45 @@ struct Make;
 
 impl Command for Make {
     ghost use Rattle.std.specs.Prelude.{string_bytes};
-    ghost use Rattle.metric_commands.specs.Certifying.{IsCertificateText as IsText, IsFirstMakeFault as IsFault};
+    ghost use Rattle.metric_commands.specs.Certifying.{IsCertificateText as IsText, IsCertified as IsOfParts, IsFirstMakeFault as IsFirst, IsMakeFault as IsFault, make_refused};
+    ghost use Rattle.metric_commands.specs.Showing.{show_needs};
 
     type Answer = String;
 
+    ghost needed = { λ _. show_needs };
+
+    ghost is_answer = { λ _ read text. IsOfParts read (string_bytes text) };
+
+    ghost is_fault = { λ _. IsFault };
+
     ghost is_due = { λ _. IsText };
 
-    ghost is_first_fault = { λ _. IsFault };
+    ghost is_first_fault = { λ _. IsFirst };
 
     ghost text = { λ text. string_bytes text };
 
-    fn answer(&self, alloc: Global, input: &[u8]) -> Result<String, KitFault> {
-        text_of(alloc, input)
+    fn needed_parts(&self) -> Needs {
+        Needs {
+            certificate: false,
+            script: false,
+        }
+    }
+
+    fn answer(&self, alloc: Global, parts: &InputParts<'_>) -> Result<String, KitFault> {
+        certified(alloc, parts)
     }
 
     fn write<W: Sink>(&self, _alloc: Global, sink: &mut W, text: &String) -> Result<(), KitFault> {
-        write_all(sink, text.as_bytes())?;
-        sink.flush()?;
-        Ok(())
+        write_text(sink, text.as_bytes())
     }
-}
 
-// The text of the certificate for an input.
-fn text_of(alloc: Global, input: &[u8]) -> Result<String, KitFault>
-    ensures ok { IfOk result (λ text. IsCertificateText input.now (string_bytes text)) }
-    ensures first { IfErr result (IsFirstMakeFault input.now) }
-    ensures own { IfErr result IsOfInput }
-{
-    let lines = lines(alloc, input)?;
-    let needs = Needs {
-        certificate: false,
-        script: false,
-    };
-    let parts = parts_of(alloc, &lines, needs)?;
-    let text = certified(alloc, &parts)?;
-    Ok(text)
+    ghost answered = { λ _ _ read _ is_read certified. record { read = read; is_read = is_read; certified = certified } };
+
+    ghost refused = { λ _. make_refused };
+
+    ghost unread = { λ _ _ _ found. found };
+
+    ghost unremembered = { λ _ _. tt };
 }
 
 // The text of the certificate for what the parts declare.
@@ -85,9 +86,8 @@ fn certified(alloc: Global, parts: &InputParts<'_>) -> Result<String, KitFault>
     ensures first { IfErr result (λ fault. IsMakeFault fault parts.now) }
     ensures own { IfErr result IsOfInput }
 {
-    let catalogue = catalogue_of(alloc, parts.catalogue.as_str())?;
-    let config = config_of(alloc, parts.config.as_str())?;
-    text_for(alloc, &catalogue, &config)
+    let declared = declared_of(alloc, parts)?;
+    text_for(alloc, &declared.catalogue, &declared.config)
 }
 
 // The text of the certificate for a catalogue and a config.

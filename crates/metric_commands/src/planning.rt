@@ -4,6 +4,7 @@ ghost use Rattle.metric_catalogue.specs.Catalogues.{catalogue_of};
 ghost use Rattle.metric_views.specs.Configs.{config_of};
 ghost use Rattle.metric_cert.specs.Certificates.{certificate_from};
 ghost use Rattle.metric_commands.specs.Claims.{IsCertifiedPlan, IsClaimFault};
+ghost use Rattle.metric_commands.specs.Declarations.{IsDeclared, IsDeclaredFault};
 ghost use Rattle.metric_commands.specs.Faults.{IsOfInput};
 ghost use Rattle.metric_commands.specs.Replaying.{IsTrialFault, IsTrialPlan};
 ghost use Rattle.metric_commands.specs.Planned.{Certifies, ReadsCatalogue, ReadsCertificate, ReadsConfig, Tries};
@@ -17,8 +18,8 @@ use metric_plan::{CheckFault, Plan};
 use metric_views::{Config, ViewFault};
 use std::alloc::Global;
 
-/// The catalogue that a text is, or its first fault.
-pub(crate) fn catalogue_of(alloc: Global, text: &str) -> Result<Catalogue, KitFault>
+// The catalogue that a text is, or its first fault.
+fn catalogue_of(alloc: Global, text: &str) -> Result<Catalogue, KitFault>
     ensures { ReadsCatalogue result (catalogue_of text.now) }
 {
     match Catalogue::read(alloc, text) {
@@ -28,8 +29,8 @@ pub(crate) fn catalogue_of(alloc: Global, text: &str) -> Result<Catalogue, KitFa
     }
 }
 
-/// The config that a text is, or its first fault.
-pub(crate) fn config_of(alloc: Global, text: &str) -> Result<Config, KitFault>
+// The config that a text is, or its first fault.
+fn config_of(alloc: Global, text: &str) -> Result<Config, KitFault>
     ensures { ReadsConfig result (config_of text.now) }
 {
     match Config::read(alloc, text) {
@@ -37,6 +38,25 @@ pub(crate) fn config_of(alloc: Global, text: &str) -> Result<Config, KitFault>
         Err(ViewFault::Memory) => Err(KitFault::Memory),
         Err(fault) => Err(KitFault::Config(fault)),
     }
+}
+
+/// The catalogue and the config of an input.
+#[derive(Drop)]
+pub(crate) struct Declared {
+    pub catalogue: Catalogue,
+    pub config: Config,
+}
+
+/// What the parts of an input declare, or its first fault.
+pub(crate) fn declared_of(alloc: Global, parts: &Parts<'_>) -> Result<Declared, KitFault>
+    ensures ok { IfOk result (λ declared.
+        IsDeclared parts.now declared.catalogue declared.config) }
+    ensures first { IfErr result (λ fault. IsDeclaredFault fault parts.now) }
+    ensures own { IfErr result IsOfInput }
+{
+    let catalogue = catalogue_of(alloc, parts.catalogue.as_str())?;
+    let config = config_of(alloc, parts.config.as_str())?;
+    Ok(Declared { catalogue, config })
 }
 
 // The certificate that a text is, or its first fault.
@@ -53,12 +73,12 @@ fn certificate_of(alloc: Global, text: &str) -> Result<Certificate, KitFault>
 // The plan that a certificate shows to be safe.
 fn checked_plan(
     alloc: Global,
-    catalogue: Catalogue,
-    config: Config,
+    declared: Declared,
     certificate: &Certificate,
 ) -> Result<Plan, KitFault>
-    ensures { Certifies result catalogue config certificate.now }
+    ensures { Certifies result declared.catalogue declared.config certificate.now }
 {
+    let Declared { catalogue, config } = declared;
     match check(alloc, catalogue, config, certificate) {
         Ok(plan) => Ok(plan),
         Err((_, _, CheckFault::Memory)) => Err(KitFault::Memory),
@@ -73,11 +93,10 @@ pub(crate) fn certified_plan(alloc: Global, parts: &Parts<'_>) -> Result<Plan, K
     ensures first { IfErr result (λ fault. IsClaimFault fault parts.now) }
     ensures own { IfErr result IsOfInput }
 {
-    let catalogue = catalogue_of(alloc, parts.catalogue.as_str())?;
-    let config = config_of(alloc, parts.config.as_str())?;
+    let declared = declared_of(alloc, parts)?;
     let text = parts.certificate.as_ref().unwrap();
     let certificate = certificate_of(alloc, text.as_str())?;
-    checked_plan(alloc, catalogue, config, &certificate)
+    checked_plan(alloc, declared, &certificate)
 }
 
 /// The plan of a trial, for which the certificate of an input is not read.
@@ -86,16 +105,15 @@ pub(crate) fn trial_plan(alloc: Global, parts: &Parts<'_>) -> Result<Plan, KitFa
     ensures first { IfErr result (λ fault. IsTrialFault fault parts.now) }
     ensures own { IfErr result IsOfInput }
 {
-    let catalogue = catalogue_of(alloc, parts.catalogue.as_str())?;
-    let config = config_of(alloc, parts.config.as_str())?;
-    let plan = tried_plan(alloc, catalogue, config)?;
-    Ok(plan)
+    let declared = declared_of(alloc, parts)?;
+    tried_plan(alloc, declared)
 }
 
 // The plan of a catalogue and a config that no certificate is asked for.
-fn tried_plan(alloc: Global, catalogue: Catalogue, config: Config) -> Result<Plan, KitFault>
-    ensures { Tries result catalogue config }
+fn tried_plan(alloc: Global, declared: Declared) -> Result<Plan, KitFault>
+    ensures { Tries result declared.catalogue declared.config }
 {
+    let Declared { catalogue, config } = declared;
     match Plan::trial(alloc, catalogue, config) {
         Ok(plan) => Ok(plan),
         Err((_, _, CheckFault::CountRange)) => Err(KitFault::Check(CheckFault::CountRange)),

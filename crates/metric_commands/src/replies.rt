@@ -57,8 +57,7 @@ fn write_collected<W: Sink>(
     }
 }
 
-/// Writes the text of each reply in order, and passes on what the sink holds back.
-#[tactic(auto, using(metric_io::specs::Prefix::prefixes))]
+/// Writes the text of each reply in order.
 pub(crate) fn write_replies<W: Sink>(
     alloc: Global,
     sink: &mut W,
@@ -70,10 +69,9 @@ pub(crate) fn write_replies<W: Sink>(
     ensures prefix { AppendsPrefix (W.contents sink.old) (W.contents sink.new)
         (replies_text plan.now replies.now) }
     ensures broken { IfErr result (IsSinkFault (W.failures sink.old) (W.failures sink.new)) }
+    ensures counted { OnOk result (W.failures sink.new ≡ W.failures sink.old) }
 {
-    write_parts(alloc, sink, &UnderPlan { alloc, plan }, replies)?;
-    sink.flush()?;
-    Ok(())
+    write_parts(alloc, sink, &UnderPlan { alloc, plan }, replies)
 }
 
 // How replies are written under a plan.

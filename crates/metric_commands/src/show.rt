@@ -11,14 +11,12 @@ ghost use Rattle.metric_commands.specs.Written.{IsSinkFault};
 use crate::command::{Command, run};
 use crate::fault::KitFault;
 use crate::parts::{Parts, write_parts, write_text};
-use crate::planning::{catalogue_of, config_of};
-use metric_catalogue::Catalogue;
+use crate::planning::{Declared, declared_of};
 use metric_io::{Sink, Source};
 use metric_lines::{push_shown, push_warning};
-use metric_parts::{Needs, Parts as InputParts, parts_of};
+use metric_parts::{Needs, Parts as InputParts};
 use metric_resolve::{Streams, Warning, resolve};
-use metric_text::lines;
-use metric_views::{Config, Stream};
+use metric_views::Stream;
 use std::alloc::Global;
 
 /// Writes a line for each stream that the config of an input gives for its catalogue, and one for each
@@ -44,18 +42,33 @@ pub fn show_run<R: Source, W: Sink>(
 struct Show;
 
 impl Command for Show {
-    ghost use Rattle.metric_commands.specs.Showing.{IsFirstShowFault as IsFault, IsShown as IsText, listing_text as text_of};
+    ghost use Rattle.metric_commands.specs.Declarations.{IsDeclaredFault as IsFault};
+    ghost use Rattle.metric_commands.specs.Showing.{IsFirstShowFault as IsFirst, IsListed as IsOfParts, IsShown as IsText, listing_text as text_of, show_needs, show_refused};
 
     type Answer = Listing;
 
+    ghost needed = { λ _. show_needs };
+
+    ghost is_answer = { λ _ read l. IsOfParts read
+        (text_of l.declared.catalogue l.declared.config l.streams.list l.streams.warnings) };
+
+    ghost is_fault = { λ _. IsFault };
+
     ghost is_due = { λ _. IsText };
 
-    ghost is_first_fault = { λ _. IsFault };
+    ghost is_first_fault = { λ _. IsFirst };
 
-    ghost text = { λ l. text_of l.catalogue l.config l.streams.list l.streams.warnings };
+    ghost text = { λ l. text_of l.declared.catalogue l.declared.config l.streams.list l.streams.warnings };
 
-    fn answer(&self, alloc: Global, input: &[u8]) -> Result<Listing, KitFault> {
-        listing_of(alloc, input)
+    fn needed_parts(&self) -> Needs {
+        Needs {
+            certificate: false,
+            script: false,
+        }
+    }
+
+    fn answer(&self, alloc: Global, parts: &InputParts<'_>) -> Result<Listing, KitFault> {
+        listed(alloc, parts)
     }
 
     fn write<W: Sink>(
@@ -64,24 +77,29 @@ impl Command for Show {
         sink: &mut W,
         listing: &Listing,
     ) -> Result<(), KitFault> {
-        write_lines(alloc, sink, listing)?;
-        sink.flush()?;
-        Ok(())
+        write_lines(alloc, sink, listing)
     }
+
+    ghost answered = { λ _ _ read _ is_read listed. record { read = read; is_read = is_read; listed = listed } };
+
+    ghost refused = { λ _. show_refused };
+
+    ghost unread = { λ _ _ _ found. found };
+
+    ghost unremembered = { λ _ _. tt };
 }
 
 // What a catalogue and a config give.
 #[derive(Drop)]
 struct Listing {
-    catalogue: Catalogue,
-    config: Config,
+    declared: Declared,
     streams: Streams,
 }
 
 impl Parts<Stream> for Listing {
     ghost use Rattle.metric_lines.specs.Streams.{shown_text};
 
-    ghost text = { λ l number stream. shown_text l.catalogue l.config number stream };
+    ghost text = { λ l number stream. shown_text l.declared.catalogue l.declared.config number stream };
 
     #[tactic(auto, using(metric_io::specs::Prefix::prefixes))]
     fn write_part<W: Sink>(
@@ -92,7 +110,13 @@ impl Parts<Stream> for Listing {
         stream: &Stream,
     ) -> Result<(), KitFault> {
         buffer.clear();
-        push_shown(buffer, &self.catalogue, &self.config, number, stream)?;
+        push_shown(
+            buffer,
+            &self.declared.catalogue,
+            &self.declared.config,
+            number,
+            stream,
+        )?;
         write_text(sink, buffer)
     }
 }
@@ -120,10 +144,10 @@ impl Parts<Warning> for Listing {
 #[tactic(auto, unfolding(crate::specs::Showing::listing_text), using(crate::proofs::TextLaws::two_texts))]
 fn write_lines<W: Sink>(alloc: Global, sink: &mut W, listing: &Listing) -> Result<(), KitFault>
     ensures ok { OnOk result (Appends (W.contents sink.old) (W.contents sink.new)
-        (listing_text listing.now.catalogue listing.now.config
+        (listing_text listing.now.declared.catalogue listing.now.declared.config
         listing.now.streams.list listing.now.streams.warnings)) }
     ensures prefix { AppendsPrefix (W.contents sink.old) (W.contents sink.new)
-        (listing_text listing.now.catalogue listing.now.config
+        (listing_text listing.now.declared.catalogue listing.now.declared.config
         listing.now.streams.list listing.now.streams.warnings) }
     ensures broken { IfErr result (IsSinkFault (W.failures sink.old) (W.failures sink.new)) }
     ensures counted { OnOk result (W.failures sink.new ≡ W.failures sink.old) }
@@ -133,36 +157,14 @@ fn write_lines<W: Sink>(alloc: Global, sink: &mut W, listing: &Listing) -> Resul
     Ok(())
 }
 
-// What an input lists.
-fn listing_of(alloc: Global, input: &[u8]) -> Result<Listing, KitFault>
-    ensures ok { IfOk result (λ l. IsShown input.now
-        (listing_text l.catalogue l.config l.streams.list l.streams.warnings)) }
-    ensures first { IfErr result (IsFirstShowFault input.now) }
-    ensures own { IfErr result IsOfInput }
-{
-    let lines = lines(alloc, input)?;
-    let needs = Needs {
-        certificate: false,
-        script: false,
-    };
-    let parts = parts_of(alloc, &lines, needs)?;
-    let listing = listed(alloc, &parts)?;
-    Ok(listing)
-}
-
 // What the parts declare, with its streams.
 fn listed(alloc: Global, parts: &InputParts<'_>) -> Result<Listing, KitFault>
     ensures ok { IfOk result (λ l. IsListed parts.now
-        (listing_text l.catalogue l.config l.streams.list l.streams.warnings)) }
+        (listing_text l.declared.catalogue l.declared.config l.streams.list l.streams.warnings)) }
     ensures first { IfErr result (λ fault. IsDeclaredFault fault parts.now) }
     ensures own { IfErr result IsOfInput }
 {
-    let catalogue = catalogue_of(alloc, parts.catalogue.as_str())?;
-    let config = config_of(alloc, parts.config.as_str())?;
-    let streams = resolve(alloc, &catalogue, &config)?;
-    Ok(Listing {
-        catalogue,
-        config,
-        streams,
-    })
+    let declared = declared_of(alloc, parts)?;
+    let streams = resolve(alloc, &declared.catalogue, &declared.config)?;
+    Ok(Listing { declared, streams })
 }

@@ -4,7 +4,8 @@ ghost use Rattle.metric_commands.specs.Commands.{RunsCommand, sink_run, source_r
 ghost use Rattle.metric_commands.specs.Faults.{IsOfInput};
 ghost use Rattle.metric_commands.specs.Threading.{IsAfterThreads, IsCounted, IsFirstThreadsFault, totals_text};
 
-use crate::checks::plan_of;
+use crate::checks::Check;
+use crate::command::answer_to;
 use crate::fault::KitFault;
 use crate::options::ThreadsOptions;
 use crate::totals::write_totals;
@@ -60,7 +61,7 @@ fn counted<R: Threads + Wait + Sync>(
     ensures first { IfErr result (IsFirstThreadsFault input.now) }
     ensures own { IfErr result IsOfInput }
 {
-    let plan = plan_of(alloc, input)?;
+    let plan = answer_to(alloc, &Check, input)?;
     let totals = totals_of(rt, alloc, options, plan)?;
     Ok(totals)
 }

@@ -20,7 +20,7 @@ use Rattle.metric_views.specs.declared.fault.ViewDefect.TheVariants.{WrongKind, 
 use Rattle.metric_views.specs.declared.fault.ViewFault.TheVariants.{At}
 use Rattle.metric_views.specs.Choices.{choice_for, is_unfit}
 use Rattle.metric_views.specs.Faults.{faults_at}
-use Rattle.metric_views.specs.Readers.{aggregation_for, aggregation_of, choice_at, choice_within, choices_field, choices_of, choices_within, for_all, has_reader, is_limit, kind_names, limit_of, reader_choices, reader_fields, reader_name, reader_of, temporality_of}
+use Rattle.metric_views.specs.Readers.{aggregation_for, aggregation_of, choice_at, choice_within, choices_by_kind, choices_field, choices_of, choices_within, for_all, has_reader, is_limit, kind_names, limit_of, reader_choices, reader_fields, reader_name, reader_of, temporality_of}
 use Rattle.metric_catalogue.specs.Sound.{IsFreeText}
 use Rattle.metric_views.specs.Sound.{IsLimit, IsSoundReader}
 
@@ -70,7 +70,7 @@ choice_made {T} P usual read first each name table t e = within (get_member name
 table_made : {T : Type 0} (P : Kind → T → Type 0) (usual : T) (chosen : ConfigPlace → Kind → Data → Result T ViewFault) (at : ConfigPlace) → ((kind : Kind) → P kind usual)
     → ((kind : Kind) (d : Data) (t : T) → chosen at kind d ≡ Ok t → P kind t)
     → (table : Members) (choices : ByKind T) → choices_of usual chosen at table ≡ Ok choices → (kind : Kind) → P kind (choice_for choices kind)
-unfolding choices_of
+unfolding choices_of choices_by_kind
 table_made {T} P usual chosen at first each table choices e0 =
     after_ok (only (faults_at at) kind_names table) _ choices e0 (λ _ _ e1.
     after_ok (choice_at usual (chosen at Counter) (codes "counter") table) _ choices e1 (λ counter c e2.

@@ -15,7 +15,7 @@ use Rattle.metric_views.specs.declared.fault.ConfigPlace.{ConfigPlace}
 use Rattle.metric_views.specs.declared.fault.ConfigPlace.TheVariants as places
 use Rattle.metric_views.specs.declared.fault.ViewFault.{ViewFault}
 use Rattle.metric_views.specs.declared.fault.ViewFault.TheVariants.{NotToml}
-use Rattle.metric_views.specs.Configs.{config_of, setup_of_table, tables_of_top}
+use Rattle.metric_views.specs.Configs.{config_of, setup_of_table, setup_of_tables, tables_of_top}
 use Rattle.metric_views.specs.Faults.{faults_at}
 use Rattle.metric_views.specs.Readers.{aggregation_of, limit_of, reader_of, readers_of}
 use Rattle.metric_catalogue.specs.Sound.{IsFreeText}
@@ -129,7 +129,7 @@ view_made number table view e0 =
     subst IsSoundView (ok_is made view (Ok made) refl e3) sound)))
 
 setup_made : (table : Members) (setup : Setup) → setup_of_table table ≡ Ok setup → IsSoundSetup setup
-unfolding setup_of_table
+unfolding setup_of_table setup_of_tables
 setup_made table setup e0 =
     after_ok (tables_of_top table) _ setup e0 (λ tables _ e1.
     after_ok (readers_of tables.0) _ setup e1 (λ readers read e2.

@@ -17,22 +17,32 @@ use Rattle.metric_views.specs.Views.{views_of}
 abbrev pub top_fields : List (List ℕ)
 top_fields = map (λ name. name.now) TOP_FIELDS
 
+-- the lists of the top table
+unfoldable pub lists_of_top : Members → Result (List Members × List Members) ViewFault
+lists_of_top table = do
+  readers ← tables_field (faults_at Top) 16 (codes "reader") table
+  views ← tables_field (faults_at Top) 256 (codes "view") table
+  Ok (readers, views)
+
 -- the tables of the readers and of the views
 unfoldable pub tables_of_top : Members → Result (List Members × List Members) ViewFault
 tables_of_top table = do
   _ ← only (faults_at Top) top_fields table
   _ ← format_field (faults_at Top) table
-  readers ← tables_field (faults_at Top) 16 (codes "reader") table
-  views ← tables_field (faults_at Top) 256 (codes "view") table
-  Ok (readers, views)
+  lists_of_top table
+
+-- what the tables of the readers and those of the views say
+unfoldable pub setup_of_tables : List Members → List Members → Result Setup ViewFault
+setup_of_tables reader_tables view_tables = do
+  readers ← readers_of reader_tables
+  views ← views_of view_tables
+  Ok (record { readers = readers; views = views })
 
 -- what the top table says
 unfoldable pub setup_of_table : Members → Result Setup ViewFault
 setup_of_table table = do
   tables ← tables_of_top table
-  readers ← readers_of tables.0
-  views ← views_of tables.1
-  Ok (record { readers = readers; views = views })
+  setup_of_tables tables.0 tables.1
 
 -- the config that a text is
 abbrev pub config_of : List ℕ → Result Setup ViewFault

@@ -1,5 +1,6 @@
 pub mod Choices
 pub mod Faults
+pub mod Defects
 pub mod Places
 pub mod Readers
 pub mod Views

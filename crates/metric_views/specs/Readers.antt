@@ -65,15 +65,20 @@ choice_at usual chosen name table = choice_within usual chosen (get_member name 
 abbrev pub kind_names : List (List ℕ)
 kind_names = map (λ name. name.now) KIND_FIELDS
 
--- a table of choices, kind by kind
-unfoldable pub choices_of : {T : Type 0} → T → (ConfigPlace → Kind → Data → Result T ViewFault) → ConfigPlace → Members → Result (ByKind T) ViewFault
-choices_of usual chosen at table = do
-  _ ← only (faults_at at) kind_names table
+-- the choices of a table, kind by kind
+unfoldable pub choices_by_kind : {T : Type 0} → T → (ConfigPlace → Kind → Data → Result T ViewFault) → ConfigPlace → Members → Result (ByKind T) ViewFault
+choices_by_kind usual chosen at table = do
   counter ← choice_at usual (chosen at Counter) (codes "counter") table
   up_down_counter ← choice_at usual (chosen at UpDownCounter) (codes "up_down_counter") table
   histogram ← choice_at usual (chosen at Histogram) (codes "histogram") table
   gauge ← choice_at usual (chosen at Gauge) (codes "gauge") table
   Ok (record { counter = counter; up_down_counter = up_down_counter; histogram = histogram; gauge = gauge })
+
+-- a table of choices, which has no other fields
+unfoldable pub choices_of : {T : Type 0} → T → (ConfigPlace → Kind → Data → Result T ViewFault) → ConfigPlace → Members → Result (ByKind T) ViewFault
+choices_of usual chosen at table = do
+  _ ← only (faults_at at) kind_names table
+  choices_by_kind usual chosen at table
 
 -- the usual choice for every kind
 abbrev pub for_all : {T : Type 0} → T → ByKind T

@@ -5,10 +5,10 @@ ghost use Rattle.toml.specs.View.{table_view, view};
 ghost use Rattle.metric_catalogue.specs.declared.contents.Kind.{Kind};
 ghost use Rattle.metric_views.specs.declared.fault.ConfigPlace.{ConfigPlace};
 ghost use Rattle.metric_views.specs.declared.fault.ViewFault.{ViewFault};
-ghost use Rattle.metric_table.specs.Fields.{only};
+ghost use Rattle.metric_table.specs.Fields.{Reads, now_of, only, text_of};
 ghost use Rattle.metric_views.specs.Faults.{faults_at};
 ghost use Rattle.metric_views.specs.Choices.{aggregation_named, temporality_named};
-ghost use Rattle.metric_views.specs.Readers.{aggregation_for, aggregation_of, choice_at, choices_field, choices_of, for_all, is_limit, limit_of, temporality_of};
+ghost use Rattle.metric_views.specs.Readers.{aggregation_for, aggregation_of, choice_at, choices_by_kind, choices_field, choices_of, for_all, is_limit, limit_of, temporality_of};
 
 use crate::choices::{Aggregation, ByKind, Temporality, is_unfit};
 use crate::fault::{ConfigPlace, ViewDefect, ViewFault, faults_at};
@@ -38,6 +38,13 @@ pub(crate) trait Choice {
     // The choice that a value gives for a kind.
     fn read(value: &Value, kind: Kind, at: ConfigPlace) -> Result<Self::Chosen, ViewFault>
         ensures { result ≡ chosen at kind (view value.now) };
+}
+
+// The text that a value at this place is.
+pub(crate) fn text_at(value: &Value, at: ConfigPlace) -> Result<&str, ViewFault>
+    ensures { Reads now_of result (text_of (faults_at at) (view value.now)) }
+{
+    text_of(value, &faults_at(at))
 }
 
 // The choices of a reader's field.
@@ -74,6 +81,17 @@ fn choices_of<C: Choice>(table: &Table, at: ConfigPlace) -> Result<ByKind<C::Cho
     ensures { result ≡ choices_of C.usual C.chosen at (table_view table.now) }
 {
     only(table, &KIND_FIELDS, &faults_at(at))?;
+    choices_by_kind::<C>(table, at)
+}
+
+// The choices of a table, kind by kind.
+#[tactic(auto, unfolding(crate::specs::Readers::choices_by_kind))]
+fn choices_by_kind<C: Choice>(
+    table: &Table,
+    at: ConfigPlace,
+) -> Result<ByKind<C::Chosen>, ViewFault>
+    ensures { result ≡ choices_by_kind C.usual C.chosen at (table_view table.now) }
+{
     let counter = choice_at::<C>(table, "counter", Kind::Counter, at)?;
     let up_down_counter = choice_at::<C>(table, "up_down_counter", Kind::UpDownCounter, at)?;
     let histogram = choice_at::<C>(table, "histogram", Kind::Histogram, at)?;
@@ -130,7 +148,7 @@ impl Choice for TemporalityChoice {
 fn temporality_of(value: &Value, at: ConfigPlace) -> Result<Temporality, ViewFault>
     ensures { result ≡ temporality_of at (view value.now) }
 {
-    let text = text_of(value, &faults_at(at))?;
+    let text = text_at(value, at)?;
     temporality_named(text).ok_or(ViewFault::At(ViewDefect::WrongKind, at))
 }
 
@@ -177,7 +195,7 @@ impl Choice for AggregationChoice {
 pub(crate) fn aggregation_of(value: &Value, at: ConfigPlace) -> Result<Aggregation, ViewFault>
     ensures { result ≡ aggregation_of at (view value.now) }
 {
-    let text = text_of(value, &faults_at(at))?;
+    let text = text_at(value, at)?;
     aggregation_named(text).ok_or(ViewFault::At(ViewDefect::WrongKind, at))
 }
 

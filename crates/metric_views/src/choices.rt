@@ -6,7 +6,7 @@ use metric_catalogue::Kind;
 
 /// Whether a stream reports what was recorded since the reader's last collection, or since the start
 /// (Metrics data model, temporality).
-#[derive(Clone, Copy, Debug, PartialEq, Eq, Drop)]
+#[derive(Clone, Copy, PartialEq, Eq, Drop)]
 pub enum Temporality {
     /// Since the reader's last collection.
     Delta,
@@ -15,7 +15,7 @@ pub enum Temporality {
 }
 
 /// The aggregation that a reader or a view names (Metrics SDK, aggregation).
-#[derive(Clone, Copy, Debug, PartialEq, Eq, Drop)]
+#[derive(Clone, Copy, PartialEq, Eq, Drop)]
 pub enum Aggregation {
     /// What suits the kind: a sum for counters, the last value for gauges, else a histogram.
     Default,

@@ -19,34 +19,25 @@ pub enum ConfigPlace {
 }
 
 /// What is wrong with a table of a config.
-#[derive(Clone, Copy, Debug, PartialEq, Eq, Drop, Error)]
+#[derive(Clone, Copy, Debug, PartialEq, Eq, Drop)]
 pub enum ViewDefect {
     /// A needed field is missing.
-    #[error("2 MissingField")]
     MissingField,
     /// A field's value is of another kind than the format says, or a reader names a sum for gauges.
-    #[error("3 WrongKind")]
     WrongKind,
     /// The table has a field that the format does not name.
-    #[error("4 UnknownField")]
     UnknownField,
     /// A view's instrument name is no pattern.
-    #[error("5 BadPattern")]
     BadPattern,
     /// A reader's name is empty, or a view's stream name is no instrument name.
-    #[error("6 BadName")]
     BadName,
     /// Boundaries do not rise strictly.
-    #[error("7 BadBoundaries")]
     BadBoundaries,
     /// A cardinality limit is outside 1 to 1,000,000.
-    #[error("8 BadLimit")]
     BadLimit,
     /// An earlier reader has the same name.
-    #[error("9 DuplicateReader")]
     DuplicateReader,
     /// A list or a text is longer than its limit.
-    #[error("10 TooMany")]
     TooMany,
 }
 
@@ -87,6 +78,27 @@ impl fmt::Display for ConfigPlace {
             ConfigPlace::Reader(number) => write!(f, "reader {number}"),
             ConfigPlace::View(number) => write!(f, "view {number}"),
         }
+    }
+}
+
+impl fmt::Display for ViewDefect {
+    ghost use Rattle.std.specs.Prelude.{Some};
+    ghost use Rattle.metric_views.specs.Defects.{defect_text};
+
+    ghost output = { λ defect. Some (defect_text defect) };
+
+    fn fmt<W: fmt::Write>(&self, f: &mut fmt::Formatter<W>) -> fmt::Result {
+        f.write_str(match self {
+            ViewDefect::MissingField => "2 MissingField",
+            ViewDefect::WrongKind => "3 WrongKind",
+            ViewDefect::UnknownField => "4 UnknownField",
+            ViewDefect::BadPattern => "5 BadPattern",
+            ViewDefect::BadName => "6 BadName",
+            ViewDefect::BadBoundaries => "7 BadBoundaries",
+            ViewDefect::BadLimit => "8 BadLimit",
+            ViewDefect::DuplicateReader => "9 DuplicateReader",
+            ViewDefect::TooMany => "10 TooMany",
+        })
     }
 }
 

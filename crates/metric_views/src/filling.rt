@@ -7,6 +7,7 @@ use crate::choices::{Aggregation, is_unfit};
 use crate::config::{Config, Reader};
 use crate::stream::{Fill, Stream, StreamAggregation};
 use crate::template::Template;
+use crate::texts::{Texts, copied_texts};
 use metric_base::{Boundaries, Copied, Shared};
 use metric_catalogue::{Catalogue, Kind};
 use std::alloc::{AllocError, Global};
@@ -73,9 +74,11 @@ impl Template {
     ) -> Result<Stream, AllocError>
         ensures { IfOk result (λ s. s ≡ stream_by number reader.now self.now aggregation) }
     {
-        let name = self.name.copy(alloc)?;
-        let description = self.description.copy(alloc)?;
-        let unit = self.unit.copy(alloc)?;
+        let Texts {
+            name,
+            description,
+            unit,
+        } = copied_texts(alloc, &self.name, &self.description, &self.unit)?;
         let kept = self.kept.copy(alloc)?;
         Ok(Stream {
             reader: number,

@@ -12,6 +12,7 @@ mod reading;
 mod selection;
 mod stream;
 mod template;
+mod texts;
 mod views;
 
 pub use choices::{Aggregation, ByKind, Temporality, is_unfit};

@@ -9,7 +9,7 @@ ghost use Rattle.metric_views.specs.declared.fault.ConfigPlace.{ConfigPlace};
 ghost use Rattle.metric_views.specs.declared.fault.ViewFault.{ViewFault};
 ghost use Rattle.metric_views.specs.Views.{optional_field};
 
-use crate::by_kind::{aggregation_of, limit_of};
+use crate::by_kind::{aggregation_of, limit_of, text_at};
 use crate::choices::Aggregation;
 use crate::fault::{ConfigPlace, ViewDefect, ViewFault, faults_at};
 use metric_base::{Boundaries, Few, Shared, Text, is_rising};
@@ -104,7 +104,7 @@ impl Field for PatternField {
 
     #[tactic(auto, unfolding(crate::specs::Views::pattern_at))]
     fn read(alloc: Global, value: &Value, at: ConfigPlace) -> Result<Pattern, ViewFault> {
-        let text = text_of(value, &faults_at(at))?;
+        let text = text_at(value, at)?;
         pattern(alloc, text, at)
     }
 }
@@ -132,7 +132,7 @@ impl Field for NameField {
 
     #[tactic(auto, unfolding(crate::specs::Views::name_at))]
     fn read(alloc: Global, value: &Value, at: ConfigPlace) -> Result<Name, ViewFault> {
-        let text = text_of(value, &faults_at(at))?;
+        let text = text_at(value, at)?;
         name(alloc, text, at)
     }
 }
@@ -160,7 +160,7 @@ impl Field for KindField {
 
     #[tactic(auto, unfolding(crate::specs::Views::kind_at))]
     fn read(_alloc: Global, value: &Value, at: ConfigPlace) -> Result<Kind, ViewFault> {
-        let text = text_of(value, &faults_at(at))?;
+        let text = text_at(value, at)?;
         Kind::named(text).ok_or(ViewFault::At(ViewDefect::WrongKind, at))
     }
 }

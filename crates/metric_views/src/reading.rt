@@ -4,7 +4,7 @@ ghost use Rattle.toml.specs.View.{table_view};
 ghost use Rattle.metric_base.specs.Steps.{Gives, GivesBy};
 ghost use Rattle.metric_table.specs.Fields.{only};
 ghost use Rattle.metric_views.specs.declared.fault.ConfigPlace.TheVariants.{Top};
-ghost use Rattle.metric_views.specs.Configs.{config_of, setup_of_table, tables_of_top};
+ghost use Rattle.metric_views.specs.Configs.{config_of, lists_of_top, setup_of_table, setup_of_tables, tables_of_top};
 ghost use Rattle.metric_views.specs.Faults.{faults_at};
 
 use crate::config::Setup;
@@ -32,8 +32,19 @@ fn setup_of_table(alloc: Global, table: &Table) -> Result<Setup, ViewFault>
     ensures { Gives ViewFault.Memory result (setup_of_table (table_view table.now)) }
 {
     let (readers, views) = tables_of_top(alloc, table)?;
-    let readers = readers_of(alloc, readers.as_slice())?;
-    let views = views_of(alloc, views.as_slice())?;
+    setup_of_tables(alloc, readers.as_slice(), views.as_slice())
+}
+
+// What the tables of the readers and those of the views say.
+#[tactic(auto, unfolding(crate::specs::Configs::setup_of_tables))]
+fn setup_of_tables(alloc: Global, readers: &[&Table], views: &[&Table]) -> Result<Setup, ViewFault>
+    requires readers { length readers.now ≤ 16 }
+    requires views { length views.now ≤ 256 }
+    ensures { Gives ViewFault.Memory result (setup_of_tables
+        (map (λ r. table_view r.now) readers.now) (map (λ v. table_view v.now) views.now)) }
+{
+    let readers = readers_of(alloc, readers)?;
+    let views = views_of(alloc, views)?;
     Ok(Setup {
         readers: Few::from_items(readers),
         views: Few::from_items(views),
@@ -53,6 +64,19 @@ fn tables_of_top(alloc: Global, table: &Table) -> Result<Tables<'_>, ViewFault>
     let faults = faults_at(ConfigPlace::Top);
     only(table, &TOP_FIELDS, &faults)?;
     format_field(table, &faults)?;
+    lists_of_top(alloc, table)
+}
+
+// The lists of the top table, whose other fields were tried.
+#[tactic(auto, unfolding(crate::specs::Configs::lists_of_top))]
+fn lists_of_top(alloc: Global, table: &Table) -> Result<Tables<'_>, ViewFault>
+    ensures exact { GivesBy
+        (λ t. (map (λ r. table_view r.now) t.0, map (λ v. table_view v.now) t.1))
+        ViewFault.Memory result (lists_of_top (table_view table.now)) }
+    ensures readers { IfOk result (λ t. length t.0 ≤ 16) }
+    ensures views { IfOk result (λ t. length t.1 ≤ 256) }
+{
+    let faults = faults_at(ConfigPlace::Top);
     let readers = tables_field(alloc, table, "reader", 16, &faults)?;
     let views = tables_field(alloc, table, "view", 256, &faults)?;
     Ok((readers, views))

@@ -1,5 +1,6 @@
 //! The stream that a reader exports of an instrument.
 use crate::choices::Temporality;
+use crate::texts::{Texts, copied_texts};
 use metric_base::{Boundaries, Copied, Few, Shared, Text};
 use metric_catalogue::Kind;
 use metric_names::{Name, Unit};
@@ -88,9 +89,11 @@ impl Copied for StreamAggregation {
 
 impl Copied for Stream {
     fn copy(&self, alloc: Global) -> Result<Stream, AllocError> {
-        let name = self.name.copy(alloc)?;
-        let description = self.description.copy(alloc)?;
-        let unit = self.unit.copy(alloc)?;
+        let Texts {
+            name,
+            description,
+            unit,
+        } = copied_texts(alloc, &self.name, &self.description, &self.unit)?;
         let aggregation = self.aggregation.copy(alloc)?;
         let kept = self.kept.copy(alloc)?;
         Ok(Stream {

@@ -4,6 +4,7 @@ ghost use Rattle.metric_views.specs.Streams.{advised, boundaries_for, is_exclude
 
 use crate::choices::Aggregation;
 use crate::config::{Settings, View};
+use crate::texts::{Texts, copied_texts};
 use metric_base::{Boundaries, Copied, Few, Items, Shared, Text};
 use metric_catalogue::{Instrument, Key, Kind};
 use metric_names::{Name, Unit};
@@ -89,9 +90,13 @@ fn template_of(
 ) -> Result<Template, AllocError>
     ensures { IfOk result (λ t. t ≡ template_of number instrument.now view settings.now) }
 {
-    let name = own_or(alloc, &settings.stream_name, &instrument.name)?;
-    let description = own_or(alloc, &settings.description, &instrument.description)?;
-    let unit = instrument.unit.copy(alloc)?;
+    let name = given_or(&settings.stream_name, &instrument.name);
+    let description = given_or(&settings.description, &instrument.description);
+    let Texts {
+        name,
+        description,
+        unit,
+    } = copied_texts(alloc, name, description, &instrument.unit)?;
     let boundaries = boundaries_for(alloc, instrument, settings)?;
     let kept = kept_keys(alloc, settings, &instrument.keys)?;
     Ok(Template {
@@ -108,13 +113,13 @@ fn template_of(
     })
 }
 
-// A copy of what a view gives, else of the instrument's own.
-fn own_or<T: Copied>(alloc: Global, given: &Option<T>, own: &T) -> Result<T, AllocError>
-    ensures { IfOk result (λ t. t ≡ unwrap_or given.now own.now) }
+// What a view gives, else the instrument's own.
+fn given_or<'a, T>(given: &'a Option<T>, own: &'a T) -> &'a T
+    ensures { result.now ≡ unwrap_or given.now own.now }
 {
     match given {
-        Some(value) => value.copy(alloc),
-        None => own.copy(alloc),
+        Some(value) => value,
+        None => own,
     }
 }
 

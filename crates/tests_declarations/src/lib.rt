@@ -1,4 +1,5 @@
-//! Tests of the crates of declarations: patterns, catalogues, configs, and the streams that they give.
+//! Tests of the crates of declarations and certificates: patterns, catalogues, configs, the streams that they give, and what
+//! certifies them.
 //!
 //! A module tests one crate through its public surface. It has what no clause says: examples from outside, printed texts,
 //! and that a call succeeds while memory is there.
@@ -6,6 +7,8 @@
 
 #[cfg(test)]
 mod catalogue;
+#[cfg(test)]
+mod certificates;
 #[cfg(test)]
 mod config;
 #[cfg(test)]

@@ -1,10 +1,8 @@
--- each exit, with the keys as one last step
+-- each exit
 use Rattle.std.proofs.Common.{List, ℕ, refl, sym, ap, ◌∙◌}
 use Rattle.std.proofs.lemmas.Result.{err_from_is_err_and}
 use Rattle.std.specs.List.{list_any}
-use Rattle.toml.specs.View.{table_view}
 use Rattle.metric_catalogue.specs.Instruments.{instrument_of, is_instrument}
-use Rattle.metric_catalogue.proofs.KeysLast.{keys_last}
 use Rattle.metric_catalogue.proofs.instruments.instrument_of.Goals as goal
 
 pub returns-in_err-head : goal.returns-in_err-head
@@ -28,16 +26,16 @@ returns-in_err-advice c =
     rw (p.1, p.2) (λ other. rw (c.in_ok-head.ensures, range, c.in_err-advice.ensures other) refl)
 
 pub returns-in_err-keys : goal.returns-in_err-keys
+unfolding instrument_of
 returns-in_err-keys c =
     let p = err_from_is_err_and c.from_residual-in_err-keys.result c.from_residual-in_err-keys.ensures.1 in
     let range = sym c.range_field.ensures ∙ c.in_ok-range.was in
     let taken = sym (c.has_instrument-is_taken.ensures ∙ ap (λ (name : List ℕ). list_any (is_instrument c.args.meter name) c.args.before.now) c.get.ensures) in
-    rw (p.1, p.2) (λ other. keys_last c.args.meter c.args.before.now (table_view c.args.table.now)
-    ∙ rw (c.in_ok-head.ensures, range, c.in_ok-advice.ensures, taken, c.in_err-keys.ensures other) refl)
+    rw (p.1, p.2) (λ other. rw (c.in_ok-head.ensures, range, c.in_ok-advice.ensures, taken, c.in_err-keys.ensures other) refl)
 
 pub returns : goal.returns
+unfolding instrument_of
 returns c =
     let range = sym c.range_field.ensures ∙ c.in_ok-range.was in
     let taken = sym (c.has_instrument-is_taken.ensures ∙ ap (λ (name : List ℕ). list_any (is_instrument c.args.meter name) c.args.before.now) c.get.ensures) in
-    keys_last c.args.meter c.args.before.now (table_view c.args.table.now)
-    ∙ rw (c.in_ok-head.ensures, range, c.in_ok-advice.ensures, taken, c.in_ok-keys.ensures, c.instrument.ensures) refl
+    rw (c.in_ok-head.ensures, range, c.in_ok-advice.ensures, taken, c.in_ok-keys.ensures, c.instrument.ensures) refl

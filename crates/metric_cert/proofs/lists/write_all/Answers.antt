@@ -1,6 +1,6 @@
 -- one more value
-use Rattle.std.proofs.Common.{◌++◌, ◌∷◌, [], take, ap, sym, ◌∙◌}
-use Rattle.std.proofs.lemmas.List.{take_more}
+use Rattle.std.proofs.Common.{◌++◌, ◌∷◌, [], Ok, take, ap, sym, ◌∙◌}
+use Rattle.std.proofs.lemmas.List.{take_all, take_more}
 use Rattle.metric_cert.proofs.Written.{each_alone-push, items_depth-push}
 use Rattle.metric_cert.proofs.lists.write_all.Goals as goal
 
@@ -12,3 +12,7 @@ loop-entry-preserved g c = record {
       c.loop-entry.invariant.reads c.in_ok-value.ensures.reads;
   shallow = items_depth-push c.loop-entry.values.items _ c.in_ok-value.value g.E.Entry.levels c.in_ok-push.ensures.items c.loop-entry.invariant.shallow c.in_ok-value.ensures.shallow;
 }
+
+pub returns-clause-reads : goal.returns-clause-reads
+returns-clause-reads g c =
+    c.loop-entry.invariant.reads ∙ ap Ok (take_all c.loop-entry.entry-index c.args.entries.now c.loop-entry-test.false)

@@ -1,0 +1,69 @@
+//! The entries of a certificate that are tables.
+ghost use Rattle.std.specs.Prelude.{◌≡◌, ◌≤◌, Ok, OnOk};
+ghost use Rattle.toml.specs.Data.{members_depth, no_members};
+ghost use Rattle.toml.specs.View.{table_view};
+ghost use Rattle.metric_base.specs.Steps.{Gives};
+
+use crate::entry::Entry;
+use crate::fault::{CertFault, shape_faults};
+use crate::lists::ListOf;
+use crate::tables::{empty_table, tabled};
+use metric_table::table_of;
+use std::alloc::{AllocError, Global};
+use std::marker::PhantomData;
+use toml::{Table, Value};
+
+/// The fields of a kind of table. What is put into a table is read as itself.
+pub(crate) trait Fields {
+    ghost use Rattle.std.specs.Prelude.{ℕ, Result};
+    ghost use Rattle.toml.specs.Data.{Members};
+    ghost use Rattle.metric_cert.specs.declared.fault.CertFault.{CertFault as Fault};
+
+    /// What such a table stands for.
+    type Read: Drop;
+
+    // What a table is read as.
+    ghost step: { Members → Result Self.Read Fault };
+
+    // How deep lists and tables nest in what is put.
+    ghost levels: { ℕ };
+
+    /// What the table stands for, or `Shape`.
+    fn read(alloc: Global, table: &Table) -> Result<Self::Read, CertFault>
+        ensures { Gives CertFault.Memory result (step (table_view table.now)) };
+
+    /// Puts the fields that stand for it into an empty table. Fails only where memory is refused.
+    fn put(alloc: Global, table: &mut Table, entry: &Self::Read) -> Result<(), AllocError>
+        requires { table_view table.old ≡ no_members }
+        ensures reads { OnOk result (step (table_view table.new) ≡ Ok entry.now) }
+        ensures shallow { OnOk result (members_depth (table_view table.new) ≤ levels) };
+}
+
+/// An entry that is a table with such fields.
+pub(crate) struct TableEntry<F>(PhantomData<F>);
+
+/// A list of such entries.
+pub(crate) type TableEntries<F> = ListOf<TableEntry<F>>;
+
+impl<F: Fields> Entry for TableEntry<F> {
+    ghost use Rattle.std.specs.Prelude.{◌+◌};
+    ghost use Rattle.metric_cert.specs.Reading.{table_as};
+
+    type Read = F::Read;
+
+    ghost step = { table_as F.step };
+
+    ghost levels = { F.levels + 1 };
+
+    #[tactic(auto, unfolding(crate::specs::Reading::table_as))]
+    fn read(alloc: Global, value: &Value) -> Result<F::Read, CertFault> {
+        let table = table_of(value, &shape_faults())?;
+        F::read(alloc, table)
+    }
+
+    fn write(alloc: Global, entry: &F::Read) -> Result<Value, AllocError> {
+        let mut table = empty_table(alloc);
+        F::put(alloc, &mut table, entry)?;
+        Ok(tabled(table))
+    }
+}
