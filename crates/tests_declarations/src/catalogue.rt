@@ -1,7 +1,7 @@
 //! A catalogue in which every field is given, lists at their limits, and faults with their places.
 use crate::equal::assert_equal;
 use crate::tables::{write_integers, write_many, write_name};
-use crate::words::kind_word;
+use crate::words::{kind_word, write_joined};
 use metric_catalogue::{
     Catalogue, CatalogueDefect, CatalogueFault, CataloguePlace, Instrument, Key, Meter, Recorder,
 };
@@ -115,9 +115,9 @@ fn write_values(out: &mut String, values: &[AttrValue]) -> Result<(), AllocError
 fn write_key(out: &mut String, key: &Key) -> Result<(), AllocError> {
     let name = key.name.as_str();
     let need = if key.optional { "optional" } else { "needed" };
-    write!(out, " {name} {need}")?;
+    write_joined(out, &[" ", name, " ", need])?;
     write_values(out, key.values.as_slice())?;
-    writeln!(out)
+    out.push_str("\n")
 }
 
 fn write_keys(out: &mut String, keys: &[Key]) -> Result<(), AllocError> {
@@ -169,7 +169,8 @@ fn write_meter(out: &mut String, meter: &Meter) -> Result<(), AllocError> {
     let name = meter.name.as_str();
     let version = meter.version.as_str();
     let schema_url = meter.schema_url.as_str();
-    writeln!(out, "meter {name}|{version}|{schema_url}")
+    let texts = ["meter ", name, "|", version, "|", schema_url, "\n"];
+    write_joined(out, &texts)
 }
 
 fn write_meters(out: &mut String, meters: &[Meter]) -> Result<(), AllocError> {

@@ -1,7 +1,7 @@
 //! A config in which every field is given, lists at their limits, and faults with their places.
 use crate::equal::assert_equal;
 use crate::tables::{write_integers, write_many};
-use crate::words::{aggregation_word, kind_word, temporality_word};
+use crate::words::{aggregation_word, kind_word, temporality_word, write_joined};
 use metric_base::{Few, Text};
 use metric_catalogue::Kind;
 use metric_views::{Config, ConfigPlace, Criteria, Reader, Settings, View, ViewDefect, ViewFault};
@@ -115,7 +115,7 @@ fn write_limits(out: &mut String, reader: &Reader) -> Result<(), AllocError> {
         let limit = reader.limit.of(*kind);
         write!(out, " {limit}")?;
     }
-    writeln!(out)
+    out.push_str("\n")
 }
 
 fn write_reader(out: &mut String, reader: &Reader) -> Result<(), AllocError> {
@@ -151,13 +151,14 @@ fn write_criteria(out: &mut String, criteria: &Criteria) -> Result<(), AllocErro
     let meter = word_of(&criteria.meter_name);
     let version = word_of(&criteria.meter_version);
     let schema_url = word_of(&criteria.meter_schema_url);
-    writeln!(out, "|{unit}|{meter}|{version}|{schema_url}|")
+    let texts = ["|", unit, "|", meter, "|", version, "|", schema_url, "|\n"];
+    write_joined(out, &texts)
 }
 
 fn write_keys(out: &mut String, keys: &[Text]) -> Result<(), AllocError> {
     for key in keys {
         let key = key.as_str();
-        write!(out, " '{key}'")?;
+        write_joined(out, &[" '", key, "'"])?;
     }
     Ok(())
 }
@@ -184,7 +185,7 @@ fn write_names(out: &mut String, settings: &Settings) -> Result<(), AllocError> 
         Some(description) => description.get().as_str(),
         None => "-",
     };
-    write!(out, " {name}|{description}|")
+    write_joined(out, &[" ", name, "|", description, "|"])
 }
 
 fn write_aggregation(out: &mut String, settings: &Settings) -> Result<(), AllocError> {
@@ -205,7 +206,7 @@ fn write_aggregation(out: &mut String, settings: &Settings) -> Result<(), AllocE
 fn write_limit(out: &mut String, limit: Option<u32>) -> Result<(), AllocError> {
     match limit {
         Some(limit) => writeln!(out, " {limit}"),
-        None => writeln!(out, " -"),
+        None => out.push_str(" -\n"),
     }
 }
 
@@ -262,7 +263,7 @@ fn every_field_is_read(rt: HostRuntime) -> Result<(), Fail> {
 
 fn write_many_views(out: &mut String, count: usize) -> Result<(), AllocError> {
     for _ in 0..count {
-        writeln!(out, "[[view]]")?;
+        out.push_str("[[view]]\n")?;
     }
     Ok(())
 }

@@ -173,7 +173,7 @@ fn only_true_reasons_are_confirmed(rt: HostRuntime) -> Result<(), Fail> {
 // So many times a text, and what follows.
 fn repeated(alloc: Global, part: &str, count: usize, end: &str) -> Result<String, AllocError> {
     let front = part.repeat(alloc, count.min(256))?;
-    format!(in alloc; "{front}{end}")
+    [front.as_str(), end].concat(alloc)
 }
 
 #[test]

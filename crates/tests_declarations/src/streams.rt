@@ -1,6 +1,6 @@
 //! What views select, what they and the defaults make of instruments, and the warnings.
 use crate::equal::assert_equal;
-use crate::words::{kind_word, temporality_word};
+use crate::words::{kind_word, temporality_word, write_counted};
 use crate::{catalogue, config};
 use metric_base::Copied;
 use metric_catalogue::{Catalogue, Meter};
@@ -168,14 +168,19 @@ fn write_stream(out: &mut String, stream: &Stream) -> Result<(), AllocError> {
 
 fn write_warning(out: &mut String, warning: Warning) -> Result<(), AllocError> {
     match warning {
-        Warning::Unfit { view, instrument } => writeln!(out, "unfit {view} {instrument}"),
-        Warning::Collision { a, b } => writeln!(out, "collision {a} {b}"),
+        Warning::Unfit { view, instrument } => {
+            write_counted(out, "unfit", &[u64::from(view), u64::from(instrument)])
+        }
+        Warning::Collision { a, b } => {
+            write_counted(out, "collision", &[u64::from(a), u64::from(b)])
+        }
     }
 }
 
 fn write_warnings(out: &mut String, warnings: &[Warning]) -> Result<(), AllocError> {
     for warning in warnings {
         write_warning(out, *warning)?;
+        out.push_str("\n")?;
     }
     Ok(())
 }
@@ -261,7 +266,7 @@ const CRITERIA: &[(&str, [Option<u32>; 4])] = &[
 
 // A config of one reader and this view.
 fn with_view(alloc: Global, view: &str) -> Result<String, AllocError> {
-    format!(in alloc; "format = 1\n[[reader]]\nname = 'r'\n[[view]]\n{view}\n")
+    ["format = 1\n[[reader]]\nname = 'r'\n[[view]]\n", view, "\n"].concat(alloc)
 }
 
 // Whether these are the views of the streams.
@@ -331,7 +336,7 @@ fn numbers_of(alloc: Global, streams: &Streams) -> Result<String, AllocError> {
 }
 
 fn numbers(alloc: Global, tables: &str) -> Result<String, Fail> {
-    let config = format!(in alloc; "format = 1\n{tables}")?;
+    let config = ["format = 1\n", tables].concat(alloc)?;
     let streams = resolved(alloc, TWO, &config)?;
     Ok(numbers_of(alloc, &streams)?)
 }

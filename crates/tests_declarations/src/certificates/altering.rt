@@ -47,7 +47,7 @@ fn add(out: &mut Vec<String>, text: String) -> Result<(), AllocError> {
 
 // Three texts as one.
 fn joined(alloc: Global, first: &str, second: &str, third: &str) -> Result<String, AllocError> {
-    format!(in alloc; "{first}{second}{third}")
+    [first, second, third].concat(alloc)
 }
 
 // The text with a piece of it written anew.

@@ -57,15 +57,17 @@ const DECIMALS: &[(&str, &str, bool)] = &[
 
 // A certificate of one bound.
 fn with_bound(alloc: Global, count: &str, sum: &str) -> Result<String, AllocError> {
-    format!(in alloc;
-        "format = 1\nreason = []\nstream = []\norder = []\nbound = [{{ instrument = 0, total = \"{count}\", amount = \"{count}\", low = \"{sum}\", high = \"{sum}\" }}]"
-    )
+    let head =
+        "format = 1\nreason = []\nstream = []\norder = []\nbound = [{ instrument = 0, total = \"";
+    let counts = [head, count, "\", amount = \"", count].concat(alloc)?;
+    let sums = ["\", low = \"", sum, "\", high = \"", sum, "\" }]"].concat(alloc)?;
+    [counts, sums].concat(alloc)
 }
 
 // What is read of it.
 fn told_of(alloc: Global, count: &str, sum: &str, right: bool) -> Result<String, AllocError> {
     if right {
-        format!(in alloc; "bound 0 {count} {count} {sum} {sum}\n")
+        ["bound 0 ", count, " ", count, " ", sum, " ", sum, "\n"].concat(alloc)
     } else {
         String::from_str(alloc, "2 Shape")
     }

@@ -154,11 +154,30 @@ const UNSAFE: &[(&str, &str, &str, &str, &str)] = &[
 ];
 
 fn recorders_of(alloc: Global, amount: &str) -> Result<String, AllocError> {
-    let budget = format!(in alloc; "budget = [{{ instrument = 0, amount = {amount} }}]")?;
-    let budget = budget.as_str();
-    format!(in alloc;
-        "[{{ name = \"r\", {budget} }}, {{ name = \"s\", {budget} }}, {{ name = \"t\", {budget} }}]"
-    )
+    let end = ["\", budget = [{ instrument = 0, amount = ", amount, " }] }"].concat(alloc)?;
+    let end = end.as_str();
+    [
+        "[{ name = \"r",
+        end,
+        ", { name = \"s",
+        end,
+        ", { name = \"t",
+        end,
+        "]",
+    ]
+    .concat(alloc)
+}
+
+fn instrument_of(alloc: Global, kind: &str, range: &str) -> Result<String, AllocError> {
+    let end = "], key = [{ name = \"k\", values = [1, 2] }] }";
+    [
+        "{ name = \"a\", kind = \"",
+        kind,
+        "\", range = [",
+        range,
+        end,
+    ]
+    .concat(alloc)
 }
 
 // A catalogue of an instrument of a kind and a range, which three recorders may each record so often, and a counter.
@@ -168,18 +187,21 @@ fn catalogue_of(
     range: &str,
     amount: &str,
 ) -> Result<String, AllocError> {
+    let instrument = instrument_of(alloc, kind, range)?;
     let recorders = recorders_of(alloc, amount)?;
-    let recorders = recorders.as_str();
-    format!(in alloc;
-        "format = 1
-meter = [{{ name = \"m\", instrument = [{{ name = \"a\", kind = \"{kind}\", range = [{range}], key = [{{ name = \"k\", values = [1, 2] }}] }}, {{ name = \"b\", kind = \"counter\", range = [0, 1] }}] }}]
-recorder = {recorders}"
-    )
+    let head = "format = 1\nmeter = [{ name = \"m\", instrument = [";
+    let counter = ", { name = \"b\", kind = \"counter\", range = [0, 1] }] }]\nrecorder = ";
+    [head, instrument.as_str(), counter, recorders.as_str()].concat(alloc)
 }
 
 // A config of a reader and a view.
 fn config_of(alloc: Global, view: &str) -> Result<String, AllocError> {
-    format!(in alloc; "format = 1\nreader = [{{ name = \"q\" }}]\nview = [{{ {view} }}]")
+    [
+        "format = 1\nreader = [{ name = \"q\" }]\nview = [{ ",
+        view,
+        " }]",
+    ]
+    .concat(alloc)
 }
 
 // The fault as it is printed, or that a certificate is made.

@@ -4,29 +4,19 @@ use crate::equal::assert_equal;
 use std::alloc::{AllocError, Global};
 use std::test::Fail;
 
-// So many times the same text.
-fn repeated(alloc: Global, text: &str, count: usize) -> Result<String, AllocError> {
-    let mut out = String::new(alloc);
-    for _ in 0..count {
-        out.push_str(text)?;
-    }
-    Ok(out)
-}
-
 // A catalogue of a counter whose name is 255 letters.
 fn of_a_long_name(alloc: Global) -> Result<String, AllocError> {
-    let name = repeated(alloc, "a", 255)?;
-    let name = name.as_str();
-    format!(in alloc;
-        "format = 1\n[[meter]]\nname = \"m\"\ninstrument = [{{ name = \"{name}\", kind = \"counter\", range = [0, 1] }}]\n"
-    )
+    let name = "a".repeat(alloc, 255)?;
+    let head = "format = 1\n[[meter]]\nname = \"m\"\ninstrument = [{ name = \"";
+    let end = "\", kind = \"counter\", range = [0, 1] }]\n";
+    [head, name.as_str(), end].concat(alloc)
 }
 
 // A config of a view whose pattern is so many stars, and what follows.
 fn of_stars(alloc: Global, count: usize, end: &str) -> Result<String, AllocError> {
-    let stars = repeated(alloc, "*", count)?;
-    let stars = stars.as_str();
-    format!(in alloc; "format = 1\nview = [{{ instrument_name = \"{stars}{end}\" }}]\n")
+    let stars = "*".repeat(alloc, count)?;
+    let head = "format = 1\nview = [{ instrument_name = \"";
+    [head, stars.as_str(), end, "\" }]\n"].concat(alloc)
 }
 
 // The lines of the certificate for that name and this pattern.
@@ -45,9 +35,8 @@ fn first_line(text: &str) -> &str {
 
 // Takes of nothing for each star but the last, which takes the whole name.
 fn takes_due(alloc: Global) -> Result<String, AllocError> {
-    let zeros = repeated(alloc, "0, ", 254)?;
-    let zeros = zeros.as_str();
-    format!(in alloc; "reason 0 0 takes [{zeros}255]")
+    let zeros = "0, ".repeat(alloc, 254)?;
+    ["reason 0 0 takes [", zeros.as_str(), "255]"].concat(alloc)
 }
 
 // The first takes in list order: each `*` takes as little as it can, and the last takes the rest.
@@ -72,9 +61,8 @@ fn row_below(alloc: Global, end: usize) -> Result<String, AllocError> {
 // The same row for each place of the name.
 fn rows_due(alloc: Global) -> Result<String, AllocError> {
     let row = row_below(alloc, 255)?;
-    let rows = repeated(alloc, row.as_str(), 256)?;
-    let rows = rows.as_str();
-    format!(in alloc; "reason 0 0 rows{rows}")
+    let rows = row.as_str().repeat(alloc, 256)?;
+    ["reason 0 0 rows", rows.as_str()].concat(alloc)
 }
 
 // Every place of the stars is reached before each character, and the end never is.
@@ -103,7 +91,8 @@ const CRITERIA: &[(&str, &str)] = &[
 fn config_without(alloc: Global, count: usize) -> Result<String, AllocError> {
     let mut config = String::from_str(alloc, "format = 1\nview = [{ ")?;
     for (criterion, _) in CRITERIA.iter().skip(count) {
-        write!(config, "{criterion}, ")?;
+        config.push_str(criterion)?;
+        config.push_str(", ")?;
     }
     config.push_str("limit = 1 }]")?;
     Ok(config)
@@ -118,7 +107,7 @@ fn told_without(alloc: Global, count: usize) -> Result<String, Fail> {
 #[test]
 fn criteria_are_tried_in_order(rt: HostRuntime) -> Result<(), Fail> {
     for (first, (_, due)) in CRITERIA.iter().enumerate() {
-        let due = format!(in rt.alloc(); "reason 0 0 {due}\nbound 0 0 0 0 0\n")?;
+        let due = ["reason 0 0 ", *due, "\nbound 0 0 0 0 0\n"].concat(rt.alloc())?;
         assert_equal(&rt, told_without(rt.alloc(), first)?.as_str(), due.as_str());
     }
     Ok(())

@@ -1,4 +1,5 @@
 //! A certificate as lines, to be compared as a whole.
+use crate::words::write_counted;
 use metric_base::Items;
 use metric_catalogue::Catalogue;
 use metric_cert::{
@@ -33,11 +34,10 @@ fn write_evidence(out: &mut String, evidence: &Evidence) -> Result<(), AllocErro
 }
 
 fn write_reason(out: &mut String, reason: &SelectionReason) -> Result<(), AllocError> {
-    let view = reason.view;
-    let instrument = reason.instrument;
-    write!(out, "reason {view} {instrument}")?;
+    let numbers = [u64::from(reason.view), u64::from(reason.instrument)];
+    write_counted(out, "reason", &numbers)?;
     write_evidence(out, &reason.evidence)?;
-    writeln!(out)
+    out.push_str("\n")
 }
 
 fn write_reasons(out: &mut String, reasons: &[SelectionReason]) -> Result<(), AllocError> {
@@ -54,17 +54,19 @@ fn write_view(out: &mut String, view: Option<u32>) -> Result<(), AllocError> {
     }
 }
 
-fn write_stream(out: &mut String, stream: &StreamSets) -> Result<(), AllocError> {
-    let reader = stream.reader;
-    let instrument = stream.instrument;
-    write!(out, "stream {reader} {instrument}")?;
-    write_view(out, stream.view)?;
-    let by = match stream.by {
-        By::Product => "product",
-        By::Budget => "budget",
-    };
+fn write_sets(out: &mut String, stream: &StreamSets) -> Result<(), AllocError> {
     let sets = stream.sets;
-    writeln!(out, " {by} {sets}")
+    match stream.by {
+        By::Product => writeln!(out, " product {sets}"),
+        By::Budget => writeln!(out, " budget {sets}"),
+    }
+}
+
+fn write_stream(out: &mut String, stream: &StreamSets) -> Result<(), AllocError> {
+    let numbers = [u64::from(stream.reader), u64::from(stream.instrument)];
+    write_counted(out, "stream", &numbers)?;
+    write_view(out, stream.view)?;
+    write_sets(out, stream)
 }
 
 fn write_streams(out: &mut String, streams: &[StreamSets]) -> Result<(), AllocError> {
