@@ -7,13 +7,20 @@ use metric_marked::Marked;
 use metric_provider::{Collector, NoGate, Provider, Recorder};
 use std::alloc::{AllocError, Global};
 use std::sync::Wait;
-use std::thread::{Threads, join, map_vec};
+use std::thread::{Threads, map_vec};
 
 /// The provider of the threads.
 pub(crate) type Shared = Provider<Marked, NoGate>;
 
 // The last time of the collections, which come at each moment from 1 on.
 const LAST: u64 = 8;
+
+// What a thread has: the seat with which it records, or that with which it collects.
+#[derive(Drop)]
+enum Seat {
+    Recorder(Recorder),
+    Collector(Collector),
+}
 
 /// Lets the recorders record and the readers collect, each in a thread of its own where one can be made, and gives the
 /// recorders back after all of them have ended. Fails where memory was refused, in a thread or for one.
@@ -25,35 +32,55 @@ pub(crate) fn work<R: Threads + Wait + Sync>(
     recorders: Vec<Recorder>,
     collectors: Vec<Collector>,
 ) -> Result<Vec<Recorder>, AllocError> {
-    let record = |recorder| record_all(rt, alloc, provider, options, recorder);
-    let collect = |collector| collect_all(rt, alloc, provider, collector);
-    let (recorded, collected) = join(
-        rt,
-        || map_vec(rt, recorders, &record),
-        || map_vec(rt, collectors, &collect),
-    );
-    each_ended(&collected?)?;
-    each_back(alloc, recorded?)
+    let seats = all_seats(alloc, recorders, collectors)?;
+    let used = |seat| use_seat(rt, alloc, provider, options, seat);
+    each_back(alloc, map_vec(rt, seats, &used)?)
 }
 
-// Fails where a collection did.
-fn each_ended(collected: &[Result<(), AllocError>]) -> Result<(), AllocError> {
-    for ended in collected {
-        if ended.is_err() {
-            return Err(AllocError);
-        }
+fn all_seats(
+    alloc: Global,
+    recorders: Vec<Recorder>,
+    collectors: Vec<Collector>,
+) -> Result<Vec<Seat>, AllocError> {
+    let mut seats = Vec::new(alloc);
+    for recorder in recorders {
+        seats.push(Seat::Recorder(recorder))?;
     }
-    Ok(())
+    add_collectors(seats, collectors)
 }
 
-// The recorders, or a failure of one.
+fn add_collectors(seats: Vec<Seat>, collectors: Vec<Collector>) -> Result<Vec<Seat>, AllocError> {
+    let mut seats = seats;
+    for collector in collectors {
+        seats.push(Seat::Collector(collector))?;
+    }
+    Ok(seats)
+}
+
+// Does what a seat is for. A recorder is given back.
+fn use_seat<R: Wait>(
+    rt: &R,
+    alloc: Global,
+    provider: &Shared,
+    options: ThreadsOptions,
+    seat: Seat,
+) -> Result<Option<Recorder>, AllocError> {
+    match seat {
+        Seat::Recorder(recorder) => record_all(rt, alloc, provider, options, recorder),
+        Seat::Collector(collector) => collect_all(rt, alloc, provider, collector),
+    }
+}
+
+// The recorders, or a failure of a seat.
 fn each_back(
     alloc: Global,
-    recorded: Vec<Result<Recorder, AllocError>>,
+    used: Vec<Result<Option<Recorder>, AllocError>>,
 ) -> Result<Vec<Recorder>, AllocError> {
-    let mut recorders = Vec::with_capacity(alloc, recorded.len())?;
-    for recorder in recorded {
-        recorders.push(recorder?)?;
+    let mut recorders = Vec::new(alloc);
+    for answer in used {
+        if let Some(recorder) = answer? {
+            recorders.push(recorder)?;
+        }
     }
     Ok(recorders)
 }
@@ -65,7 +92,7 @@ fn record_all<R: Wait>(
     provider: &Shared,
     options: ThreadsOptions,
     recorder: Recorder,
-) -> Result<Recorder, AllocError> {
+) -> Result<Option<Recorder>, AllocError> {
     let mut recorder = recorder;
     let instruments = provider.plan().catalogue().instruments();
     for (number, instrument) in instruments.iter().enumerate() {
@@ -76,7 +103,7 @@ fn record_all<R: Wait>(
         };
         recording.repeat(rt, provider, options.each, &mut recorder)?;
     }
-    Ok(recorder)
+    Ok(Some(recorder))
 }
 
 // A recording that is made again and again.
@@ -122,13 +149,13 @@ fn first_attrs(alloc: Global, instrument: &Instrument) -> Result<Vec<Attr<'_>>, 
     Ok(attrs)
 }
 
-// Collects all instruments at each time. Each refusal but want of memory is passed over.
+// Collects all instruments at each time. Each refusal but want of memory is passed over. No recorder is given back.
 fn collect_all<R: Wait>(
     rt: &R,
     alloc: Global,
     provider: &Shared,
     collector: Collector,
-) -> Result<(), AllocError> {
+) -> Result<Option<Recorder>, AllocError> {
     let mut collector = collector;
     for now in 1..=LAST {
         if let Err(fault) = collector.collect_all(rt, alloc, provider, now)
@@ -137,5 +164,5 @@ fn collect_all<R: Wait>(
             return Err(AllocError);
         }
     }
-    Ok(())
+    Ok(None)
 }

@@ -1,84 +1,219 @@
-//! Generated scripts, run over each book.
-use crate::declarations::{write_catalogue, write_config};
+//! Inputs that a seed puts together of lines, run over each book.
 use crate::dice::Dice;
 use crate::equal::assert_equal;
-use crate::events::script_for;
-use crate::replies::{shown, told};
-use crate::runs::{Trial, replies};
-use crate::seen::note_replies;
+use crate::runs::told;
 use metric_book::{Book, JournalBook};
 use metric_marked::Marked;
 use std::alloc::Global;
 use std::test::Fail;
 
-// How many scripts there are.
-const SCRIPTS: u64 = 24;
+// How many inputs there are, and how many events a script has.
+const INPUTS: u64 = 24;
 
-// The replies of the plain book to the whole script, whose parts are noted.
-fn noted(seen: &mut Vec<&'static str>, alloc: Global, trial: Trial<'_>) -> Result<String, Fail> {
-    let replies = replies::<JournalBook>(alloc, trial, usize::MAX)?;
-    note_replies(seen, &replies)?;
-    shown(alloc, &replies)
-}
+const EVENTS: u64 = 160;
 
-// Whether a book gives these replies, in runs of this size.
-fn is_told<B: Book>(
-    alloc: Global,
-    trial: Trial<'_>,
-    size: usize,
-    wanted: &str,
-) -> Result<bool, Fail> {
-    let found = told::<B>(alloc, trial, size)?;
-    Ok(found.as_str() == wanted)
-}
+type Lines = &'static [&'static str];
 
-// Whether both books, whole and in pieces, give the replies of the plain one to the whole script.
-fn agreement(
-    seen: &mut Vec<&'static str>,
-    alloc: Global,
-    trial: Trial<'_>,
-    size: usize,
-) -> Result<[bool; 3], Fail> {
-    let wanted = noted(seen, alloc, trial)?;
-    Ok([
-        is_told::<Marked>(alloc, trial, usize::MAX, &wanted)?,
-        is_told::<Marked>(alloc, trial, size, &wanted)?,
-        is_told::<JournalBook>(alloc, trial, size, &wanted)?,
-    ])
-}
+const BOUNDARIES: Lines = &[
+    "",
+    "boundaries = []\n",
+    "boundaries = [0]\n",
+    "boundaries = [-5, 0, 5]\n",
+];
 
-// The texts that a seed chooses.
-#[derive(Drop)]
-struct Texts {
-    catalogue: String,
-    config: String,
-    script: String,
-}
+const COUNTER: Lines = &[
+    "kind = 'counter'\nrange = [0, 9223372036854775807]\n",
+    "kind = 'counter'\nrange = [0, 9]\n",
+];
 
-fn texts_of(alloc: Global, dice: &mut Dice) -> Result<Texts, Fail> {
-    let mut texts = Texts {
-        catalogue: String::new(alloc),
-        config: String::new(alloc),
-        script: String::new(alloc),
-    };
-    write_catalogue(&mut texts.catalogue, dice)?;
-    write_config(&mut texts.config, dice)?;
-    texts.script = script_for(alloc, dice, &texts.catalogue)?;
-    Ok(texts)
-}
+const UP_DOWN: Lines = &[
+    "kind = 'up_down_counter'\nrange = [-9223372036854775808, 9223372036854775807]\n",
+    "kind = 'up_down_counter'\nrange = [-9, 9]\n",
+];
 
-fn agreement_at(seen: &mut Vec<&'static str>, alloc: Global, seed: u64) -> Result<[bool; 3], Fail> {
-    let texts = texts_of(alloc, &mut Dice::new(seed))?;
-    let trial = Trial {
-        catalogue: &texts.catalogue,
-        config: &texts.config,
-        script: &texts.script,
-    };
-    agreement(seen, alloc, trial, (seed % 9) as usize)
-}
+const HISTOGRAM: Lines = &[
+    "kind = 'histogram'\nrange = [0, 9223372036854775807]\n",
+    "kind = 'histogram'\nrange = [0, 9]\n",
+];
+
+const GAUGE: Lines = &[
+    "kind = 'gauge'\nrange = [-9223372036854775808, 9223372036854775807]\n",
+    "kind = 'gauge'\nrange = [-9, 9]\n",
+];
+
+const KEYS: Lines = &[
+    "key = [{ name = 'k0', values = ['a', 'b', 'c \"d'] }]\n",
+    "key = [{ name = 'k0', values = ['a', 'b', 'c \"d'], optional = true }]\n",
+    "key = [{ name = 'k0', values = ['a', 'b'] }, { name = 'k1', values = [true, -2], optional = true }]\n",
+    "key = [{ name = 'k0', values = ['a', 'b'], optional = true }, { name = 'k1', values = [-2], optional = true }]\n",
+];
+
+const SMALL: Lines = &["0", "2", "9", "1000"];
+
+// The first recorder alone may have a very large budget, since the sum of budgets is a u64.
+const LARGE: Lines = &["0", "2", "9", "1000", "9223372036854775807"];
+
+const CATALOGUE: &[Lines] = &[
+    &["%% catalogue\nformat = 1\n[[meter]]\nname = 'm'\n"],
+    &["[[meter.instrument]]\nname = 'i0'\n"],
+    COUNTER,
+    BOUNDARIES,
+    KEYS,
+    &["[[meter.instrument]]\nname = 'i1'\n"],
+    UP_DOWN,
+    BOUNDARIES,
+    KEYS,
+    &["[[meter.instrument]]\nname = 'i2'\n"],
+    HISTOGRAM,
+    BOUNDARIES,
+    KEYS,
+    &["[[meter.instrument]]\nname = 'i3'\n"],
+    GAUGE,
+    BOUNDARIES,
+    KEYS,
+    &["[[meter.instrument]]\nname = 'i4'\n"],
+    COUNTER,
+    BOUNDARIES,
+    KEYS,
+    &["[[recorder]]\nname = 'p0'\nbudget = [{ instrument = 0, amount = "],
+    LARGE,
+    &[" }, { instrument = 1, amount = "],
+    LARGE,
+    &[" }, { instrument = 2, amount = "],
+    LARGE,
+    &[" }, { instrument = 3, amount = "],
+    LARGE,
+    &[" }, { instrument = 4, amount = "],
+    LARGE,
+    &[" }]\n"],
+    &["[[recorder]]\nname = 'p1'\nbudget = [{ instrument = 0, amount = "],
+    SMALL,
+    &[" }, { instrument = 1, amount = "],
+    SMALL,
+    &[" }, { instrument = 2, amount = "],
+    SMALL,
+    &[" }, { instrument = 3, amount = "],
+    SMALL,
+    &[" }, { instrument = 4, amount = "],
+    SMALL,
+    &[" }]\n"],
+    &["[[recorder]]\nname = 'p2'\nbudget = [{ instrument = 0, amount = "],
+    SMALL,
+    &[" }, { instrument = 1, amount = "],
+    SMALL,
+    &[" }, { instrument = 2, amount = "],
+    SMALL,
+    &[" }, { instrument = 3, amount = "],
+    SMALL,
+    &[" }, { instrument = 4, amount = "],
+    SMALL,
+    &[" }]\n"],
+];
+
+const READER: &[Lines] = &[
+    &[
+        "",
+        "temporality = { counter = 'delta', gauge = 'delta' }\n",
+        "temporality = { up_down_counter = 'delta', histogram = 'delta' }\n",
+        "temporality = { counter = 'delta', up_down_counter = 'delta', histogram = 'delta', gauge = 'delta' }\n",
+    ],
+    &[
+        "",
+        "aggregation = { histogram = 'sum' }\n",
+        "aggregation = { counter = 'explicit_bucket_histogram', gauge = 'explicit_bucket_histogram' }\n",
+        "aggregation = { counter = 'last_value', histogram = 'drop' }\n",
+    ],
+    &[
+        "",
+        "limit = { counter = 1, up_down_counter = 2, histogram = 1, gauge = 2 }\n",
+        "limit = { counter = 2, histogram = 3 }\n",
+    ],
+];
+
+const VIEW: &[Lines] = &[
+    &["[[view]]\n"],
+    &[
+        "instrument_name = '*'\n",
+        "instrument_name = 'I1'\n",
+        "instrument_name = '?2'\n",
+        "instrument_type = 'counter'\n",
+        "instrument_type = 'gauge'\n",
+        "instrument_unit = '1'\n",
+    ],
+    &["", "stream_name = 's'\n"],
+    &[
+        "",
+        "",
+        "aggregation = 'default'\n",
+        "aggregation = 'sum'\n",
+        "aggregation = 'last_value'\n",
+        "aggregation = 'explicit_bucket_histogram'\n",
+        "aggregation = 'drop'\n",
+    ],
+    BOUNDARIES,
+    &[
+        "",
+        "keep = []\n",
+        "keep = ['k0', 'k2']\n",
+        "exclude = ['k0']\n",
+        "keep = ['k0', 'k1']\nexclude = ['k1', 'k7']\n",
+    ],
+    &["", "limit = 1\n", "limit = 2\n"],
+];
+
+// Numbers, the last of each list one that there is not.
+const RECORDER: Lines = &[
+    "0", "1", "2", "0", "1", "2", "0", "1", "2", "0", "1", "2", "3",
+];
+
+const INSTRUMENT: Lines = &[
+    " 0", " 1", " 2", " 3", " 4", " 0", " 1", " 2", " 3", " 4", " 0", " 1", " 2", " 3", " 4", " 5",
+];
+
+const READER_NUMBER: Lines = &[
+    "0", "1", "2", "3", "4", "5", "6", "7", "8", "9", "10", "11", "12", "13", "14", "15", "16",
+];
+
+const VALUE: Lines = &[
+    " 0",
+    " 1",
+    " 2",
+    " 4",
+    " 5",
+    " 7",
+    " 9",
+    " 10",
+    " -1",
+    " -9",
+    " 9223372036854775807",
+    " -9223372036854775808",
+];
+
+const ATTRIBUTES: Lines = &[
+    "\n",
+    " \"k0\"=\"a\"\n",
+    " \"k0\"=\"a\"\n",
+    " \"k0\"=\"b\"\n",
+    " \"k0\"=\"b\"\n",
+    " \"k0\"=\"c \\\"d\"\n",
+    " \"k1\"=-2 \"k0\"=\"a\"\n",
+    " \"k0\"=\"b\" \"k1\"=true\n",
+    " \"k0\"=\"a\" \"k0\"=\"b\"\n",
+    " \"k9\"=true\n",
+];
+
+const TIME: Lines = &[
+    " 0\n", " 7\n", " 250\n", " 400\n", " 600\n", " 800\n", " 999\n",
+];
+
+const RECORD: &[Lines] = &[&["record "], RECORDER, INSTRUMENT, VALUE, ATTRIBUTES];
+
+const COLLECT: &[Lines] = &[&["collect "], READER_NUMBER, INSTRUMENT, TIME];
+
+const CLOSE: &[Lines] = &[&["close"], INSTRUMENT, &["\n"]];
 
 // What the replies to all scripts have in them.
-const SEEN: &[&str] = &[
+const SEEN: Lines = &[
     "accepted",
     "closed",
     "UnknownInstrument",
@@ -92,21 +227,91 @@ const SEEN: &[&str] = &[
     "Closed",
     "Budget",
     "SumRange",
-    "sum",
-    "last value",
-    "histogram",
-    "histogram without a sum",
-    "several points",
-    "several streams",
-    "overflow point",
-    "later window",
-    "window with recordings",
-    "time that goes back",
+    "kind=sum",
+    "kind=last",
+    "kind=histogram",
+    "sum=",
+    "] min=",
+    "temporality=delta",
+    "temporality=cumulative",
+    "otel.metric.overflow",
 ];
 
-fn first_unseen(seen: &[&'static str]) -> Option<&'static str> {
+// Puts one line of each list last.
+fn push_lines(out: &mut String, dice: &mut Dice, lists: &[Lines]) -> Result<(), Fail> {
+    for lines in lists {
+        out.push_str(dice.word(lines))?;
+    }
+    Ok(())
+}
+
+fn push_readers(out: &mut String, dice: &mut Dice) -> Result<(), Fail> {
+    out.push_str("%% config\nformat = 1\n")?;
+    for number in 0..16 {
+        write!(out, "[[reader]]\nname = 'q{number}'\n")?;
+        push_lines(out, dice, READER)?;
+    }
+    Ok(())
+}
+
+fn push_views(out: &mut String, dice: &mut Dice) -> Result<(), Fail> {
+    for _ in 0..dice.roll(4) {
+        push_lines(out, dice, VIEW)?;
+    }
+    Ok(())
+}
+
+fn push_event(out: &mut String, dice: &mut Dice) -> Result<(), Fail> {
+    match dice.roll(80) {
+        0 => push_lines(out, dice, CLOSE),
+        1..=50 => push_lines(out, dice, RECORD),
+        _ => push_lines(out, dice, COLLECT),
+    }
+}
+
+fn push_script(out: &mut String, dice: &mut Dice) -> Result<(), Fail> {
+    out.push_str("%% script\nstart 300\n")?;
+    for _ in 0..EVENTS {
+        push_event(out, dice)?;
+    }
+    Ok(())
+}
+
+fn push_input(out: &mut String, dice: &mut Dice) -> Result<(), Fail> {
+    push_lines(out, dice, CATALOGUE)?;
+    push_readers(out, dice)?;
+    push_views(out, dice)?;
+    push_script(out, dice)
+}
+
+fn input_of(alloc: Global, seed: u64) -> Result<String, Fail> {
+    let mut input = String::new(alloc);
+    push_input(&mut input, &mut Dice::new(seed))?;
+    Ok(input)
+}
+
+// Whether a book gives these replies, in runs of this size.
+fn is_told<B: Book>(alloc: Global, input: &str, size: usize, wanted: &str) -> Result<bool, Fail> {
+    let found = told::<B>(alloc, input, size)?;
+    Ok(found.as_str() == wanted)
+}
+
+// Whether both books, whole and in pieces, give the replies of the plain one to the whole script.
+fn agreement(seen: &mut String, alloc: Global, seed: u64) -> Result<[bool; 3], Fail> {
+    let input = input_of(alloc, seed)?;
+    let wanted = told::<JournalBook>(alloc, &input, usize::MAX)?;
+    seen.push_str(&wanted)?;
+    let size = (seed % 9) as usize;
+    Ok([
+        is_told::<Marked>(alloc, &input, usize::MAX, &wanted)?,
+        is_told::<Marked>(alloc, &input, size, &wanted)?,
+        is_told::<JournalBook>(alloc, &input, size, &wanted)?,
+    ])
+}
+
+fn first_unseen(seen: &str) -> Option<&'static str> {
     for word in SEEN {
-        if !seen.contains(word) {
+        if !seen.contains(*word) {
             return Some(*word);
         }
     }
@@ -115,9 +320,9 @@ fn first_unseen(seen: &[&'static str]) -> Option<&'static str> {
 
 #[test]
 fn books_and_pieces_give_the_same_replies(rt: HostRuntime) -> Result<(), Fail> {
-    let mut seen = Vec::new(rt.alloc());
-    for seed in 0..SCRIPTS {
-        let found = agreement_at(&mut seen, rt.alloc(), seed)?;
+    let mut seen = String::new(rt.alloc());
+    for seed in 0..INPUTS {
+        let found = agreement(&mut seen, rt.alloc(), seed)?;
         assert_equal(&rt, (seed, found), (seed, [true, true, true]));
     }
     assert_equal(&rt, first_unseen(&seen), None);

@@ -1,180 +1,24 @@
-//! Whole inputs replayed, shown and checked: what is written, or the line and the exit status of the fault.
+//! Whole inputs replayed, shown, certified and checked: what is written, or the line and the exit status of the fault.
 use crate::equal::assert_equal;
-use metric_catalogue::{CatalogueDefect, CatalogueFault, CataloguePlace};
-use metric_cert::CertFault;
-use metric_commands::{KitFault, ReplayOptions, check_run, one_output, replay, show_run};
+use crate::inputs::{
+    BUDGETED, HITS, MAIN, OUTPUT, Parts, READERS, READERS_OUTPUT, READERS_RUN, RUN, RUNS, SHOP,
+    SHOP_VIEWS,
+};
+use metric_commands::{KitFault, ReplayOptions, check_run, make_run, replay, show_run};
 use metric_io::{CutSink, CutSource};
-use metric_plan::CheckFault;
-use metric_views::{ConfigPlace, ViewDefect, ViewFault};
 use std::alloc::Global;
 use std::test::Fail;
 
-#[derive(Clone, Copy, Debug, PartialEq)]
+#[derive(Clone, Copy)]
 enum Command {
     Trial,
     Replay,
     Check,
+    Make,
     Show,
 }
 
-// The fault of a command where there is one.
-fn fault_of(
-    alloc: Global,
-    command: Command,
-    source: &mut CutSource<'_>,
-    sink: &mut CutSink,
-) -> Option<KitFault> {
-    match command {
-        Command::Trial => replay(alloc, ReplayOptions { trial: true }, source, sink).err(),
-        Command::Replay => replay(alloc, ReplayOptions { trial: false }, source, sink).err(),
-        Command::Check => check_run(alloc, source, sink).err(),
-        Command::Show => show_run(alloc, source, sink).err(),
-    }
-}
-
-// The line and the status of a fault.
-fn write_fault(out: &mut String, alloc: Global, fault: KitFault) -> Result<(), Fail> {
-    let line = fault.line(alloc)?;
-    Ok(write!(out, "{line}, {}", fault.status())?)
-}
-
-// What is written, and then the fault where there is one.
-fn told(
-    alloc: Global,
-    command: Command,
-    source: &mut CutSource<'_>,
-    sink: &mut CutSink,
-) -> Result<String, Fail> {
-    let fault = fault_of(alloc, command, source, sink);
-    let mut out = String::from_str(alloc, str::from_utf8(sink.taken())?)?;
-    if let Some(fault) = fault {
-        write_fault(&mut out, alloc, fault)?;
-    }
-    Ok(out)
-}
-
-fn told_whole(alloc: Global, command: Command, input: &str) -> Result<String, Fail> {
-    let mut source = CutSource::new(input.as_bytes(), None);
-    told(alloc, command, &mut source, &mut CutSink::new(alloc, None))
-}
-
-fn input_of(alloc: Global, catalogue: &str, config: &str, script: &str) -> Result<String, Fail> {
-    Ok(format!(in alloc; "%% catalogue\n{catalogue}%% config\n{config}%% script\n{script}")?)
-}
-
-// What is told of an input of these parts.
-fn told_of(
-    alloc: Global,
-    command: Command,
-    catalogue: &str,
-    config: &str,
-    script: &str,
-) -> Result<String, Fail> {
-    let input = input_of(alloc, catalogue, config, script)?;
-    told_whole(alloc, command, &input)
-}
-
-const HITS: &str = "format = 1
-[[meter]]
-name = \"m\"
-[[meter.instrument]]
-name = \"hits\"
-kind = \"counter\"
-range = [0, 9223372036854775807]
-[[meter.instrument.key]]
-name = \"k\"
-values = [\"a\\\"b\\\\\\n\", \"/a\"]
-[[recorder]]
-name = \"r\"
-budget = [{ instrument = 0, amount = 10 }]
-";
-
-const MAIN: &str = "format = 1
-[[reader]]
-name = \"main\"
-";
-
-const RUN: &str = "start 0
-record 0 0 5 \"k\"=\"a\\\"b\\\\\\n\"
-record 0 0 1 \"k\"=\"/a\"
-collect 0 0 10
-";
-
-const OUTPUT: &str = "accepted
-accepted
-collected 10 2
-stream reader=\"main\" meter=\"m\" version=\"\" schema=\"\" name=\"hits\" unit=\"\" description=\"\" kind=sum monotonic=yes temporality=cumulative
-point {\"k\"=\"a\\\"b\\\\\\n\"} start=0 time=10 value=5
-point {\"k\"=\"/a\"} start=0 time=10 value=1
-";
-
-const KINDS: &str = "format = 1
-[[meter]]
-name = \"m\"
-[[meter.instrument]]
-name = \"h\"
-kind = \"histogram\"
-range = [0, 20000]
-[[meter.instrument]]
-name = \"g\"
-kind = \"gauge\"
-range = [-9, 9]
-[[recorder]]
-name = \"r\"
-budget = [{ instrument = 0, amount = 5 }, { instrument = 1, amount = 2 }]
-";
-
-const KINDS_RUN: &str = "start 0
-record 0 0 0
-record 0 0 5
-record 0 0 6
-record 0 0 10000
-record 0 0 10001
-record 0 1 3
-record 0 1 -1
-collect 0 0 1
-collect 0 1 1
-";
-
-const KINDS_OUTPUT: &str = "accepted
-accepted
-accepted
-accepted
-accepted
-accepted
-accepted
-collected 1 1
-stream reader=\"main\" meter=\"m\" version=\"\" schema=\"\" name=\"h\" unit=\"\" description=\"\" kind=histogram bounds=[0,5,10,25,50,75,100,250,500,750,1000,2500,5000,7500,10000] temporality=cumulative
-point {} start=0 time=1 count=5 buckets=[1,1,1,0,0,0,0,0,0,0,0,0,0,0,1,1] sum=20012 min=0 max=10001
-collected 1 1
-stream reader=\"main\" meter=\"m\" version=\"\" schema=\"\" name=\"g\" unit=\"\" description=\"\" kind=last temporality=cumulative
-point {} start=0 time=1 value=-1
-";
-
-const BUDGETED: &str = "format = 1
-[[meter]]
-name = \"m\"
-instrument = [{ name = \"hits\", kind = \"counter\", range = [0, 100] }]
-[[recorder]]
-name = \"r\"
-budget = [{ instrument = 0, amount = 2 }]
-";
-
-const READERS: &str = "format = 1
-[[reader]]
-name = \"C\"
-[[reader]]
-name = \"D\"
-temporality = { counter = \"delta\" }
-";
-
-const READERS_CERTIFIED: &str = "format = 1
-[[reader]]
-name = \"C\"
-[[reader]]
-name = \"D\"
-temporality = { counter = \"delta\" }
-%% certificate
+const CERTIFICATE: &str = "%% certificate
 format = 1
 reason = []
 stream = [{ reader = 0, instrument = 0, by = \"product\", sets = 1 }, { reader = 1, instrument = 0, by = \"product\", sets = 1 }]
@@ -182,14 +26,40 @@ bound = [{ instrument = 0, total = \"2\", amount = \"200\", low = \"0\", high = 
 order = [{ reader = 0, streams = [0] }, { reader = 1, streams = [1] }]
 ";
 
+// The same as it is made and written.
+const MADE: &str = "format = 1
+reason = []
+
+[[bound]]
+amount = \"200\"
+high = \"200\"
+instrument = 0
+low = \"0\"
+total = \"2\"
+
+[[order]]
+reader = 0
+streams = [0]
+
+[[order]]
+reader = 1
+streams = [1]
+
+[[stream]]
+by = \"product\"
+instrument = 0
+reader = 0
+sets = 1
+
+[[stream]]
+by = \"product\"
+instrument = 0
+reader = 1
+sets = 1
+";
+
 // The same with a greatest sum that is 1 too small.
-const READERS_MISJUDGED: &str = "format = 1
-[[reader]]
-name = \"C\"
-[[reader]]
-name = \"D\"
-temporality = { counter = \"delta\" }
-%% certificate
+const MISJUDGED: &str = "%% certificate
 format = 1
 reason = []
 stream = [{ reader = 0, instrument = 0, by = \"product\", sets = 1 }, { reader = 1, instrument = 0, by = \"product\", sets = 1 }]
@@ -197,38 +67,8 @@ bound = [{ instrument = 0, total = \"2\", amount = \"200\", low = \"0\", high = 
 order = [{ reader = 0, streams = [0] }, { reader = 1, streams = [1] }]
 ";
 
-const READERS_RUN: &str = "start 0
-record 0 0 5
-collect 1 0 10
-record 0 0 7
-record 0 0 1
-close 0
-record 0 0 1
-collect 0 0 20
-collect 1 0 30
-collect 1 0 25
-close 0
-";
-
-const READERS_OUTPUT: &str = "accepted
-collected 10 1
-stream reader=\"D\" meter=\"m\" version=\"\" schema=\"\" name=\"hits\" unit=\"\" description=\"\" kind=sum monotonic=yes temporality=delta
-point {} start=0 time=10 value=5
-accepted
-refused 9 Budget
-closed
-refused 8 Closed
-collected 20 1
-stream reader=\"C\" meter=\"m\" version=\"\" schema=\"\" name=\"hits\" unit=\"\" description=\"\" kind=sum monotonic=yes temporality=cumulative
-point {} start=0 time=20 value=12
-collected 30 1
-stream reader=\"D\" meter=\"m\" version=\"\" schema=\"\" name=\"hits\" unit=\"\" description=\"\" kind=sum monotonic=yes temporality=delta
-point {} start=10 time=30 value=7
-collected 30 0
-refused 8 Closed
-";
-
-const SHOWN: &str = "format = 1
+const SHOWN: &str = "%% catalogue
+format = 1
 [[meter]]
 name = \"m\"
 [[meter.instrument]]
@@ -241,7 +81,8 @@ kind = \"gauge\"
 range = [0, 9]
 ";
 
-const SHOWN_VIEWS: &str = "format = 1
+const SHOWN_VIEWS: &str = "%% config
+format = 1
 [[reader]]
 name = \"main\"
 [[view]]
@@ -260,116 +101,17 @@ warning Unfit view=1 instrument=1
 warning Collision streams=0,1
 ";
 
-// A command, a catalogue, a config, a script, and what is told.
-const DONE: &[(Command, &str, &str, &str, &str)] = &[
-    (Command::Trial, HITS, MAIN, RUN, OUTPUT),
-    (Command::Trial, KINDS, MAIN, KINDS_RUN, KINDS_OUTPUT),
-    (
-        Command::Trial,
-        BUDGETED,
-        READERS,
-        READERS_RUN,
-        READERS_OUTPUT,
-    ),
-    (
-        Command::Replay,
-        BUDGETED,
-        READERS_CERTIFIED,
-        READERS_RUN,
-        READERS_OUTPUT,
-    ),
-    (Command::Trial, HITS, MAIN, "start 0\n", ""),
-    (
-        Command::Trial,
-        HITS,
-        MAIN,
-        "start 0
-record 0 0 9223372036854775807 \"k\"=\"/a\"
-record 0 0 1 \"k\"=\"/a\"
-record 0 0 0 \"k\"=\"/a\"
-close 0
-close 0
-",
-        "accepted\nrefused 10 SumRange\naccepted\nclosed\nrefused 8 Closed\n",
-    ),
-    (Command::Show, SHOWN, SHOWN_VIEWS, "", SHOWN_OUTPUT),
-    (Command::Show, HITS, "format = 1\n", "no script\n", ""),
-    (
-        Command::Check,
-        BUDGETED,
-        READERS_CERTIFIED,
-        "no script\n",
-        "accepted\n",
-    ),
-];
-
-#[test]
-fn a_sound_input_is_done(rt: HostRuntime) -> Result<(), Fail> {
-    one_output();
-    for (command, catalogue, config, script, wanted) in DONE {
-        let told = told_of(rt.alloc(), *command, catalogue, config, script)?;
-        assert_equal(&rt, told.as_str(), *wanted);
-    }
-    Ok(())
-}
-
-// Faults of each part, alike for every command that reads the part.
-const DECLARED: &[(&str, &str, &str)] = &[
-    ("[a\n", MAIN, "refused: catalogue 1 NotToml, 1"),
-    ("", MAIN, "refused: catalogue 2 MissingField at top, 1"),
-    (
-        "format = 1\nmeter = [{name = 'm'}, {name = 'm'}]\n",
-        "[a\n",
-        "refused: catalogue 7 DuplicateMeter at meter 1, 1",
-    ),
-    (
-        "format = 1\nmeter = [{name = 'm', instrument = [{name = '9', kind = 'gauge', range = [0, 1]}]}]\n",
-        MAIN,
-        "refused: catalogue 5 BadName at instrument 0, 1",
-    ),
-    (
-        "format = 1\nrecorder = [{name = 'r', budget = [{instrument = 0, amount = 1}]}]\n",
-        MAIN,
-        "refused: catalogue 14 UnknownInstrument at recorder 0, 1",
-    ),
-    (HITS, "[a\n", "refused: config 1 NotToml, 1"),
-    (
-        HITS,
-        "format = 2\n",
-        "refused: config 3 WrongKind at top, 1",
-    ),
-    (
-        HITS,
-        "format = 1\nreader = [{name = 'a'}, {name = 'a'}]\n",
-        "refused: config 9 DuplicateReader at reader 1, 1",
-    ),
-    (
-        HITS,
-        "format = 1\nview = [{}, {limit = 0}]\n",
-        "refused: config 8 BadLimit at view 1, 1",
-    ),
-];
-
-#[test]
-fn a_trial_tells_a_faulty_declaration(rt: HostRuntime) -> Result<(), Fail> {
-    for (catalogue, config, wanted) in DECLARED {
-        let told = told_of(rt.alloc(), Command::Trial, catalogue, config, RUN)?;
-        assert_equal(&rt, told.as_str(), *wanted);
-    }
-    Ok(())
-}
-
-#[test]
-fn show_tells_a_faulty_declaration(rt: HostRuntime) -> Result<(), Fail> {
-    for (catalogue, config, wanted) in DECLARED {
-        let told = told_of(rt.alloc(), Command::Show, catalogue, config, RUN)?;
-        assert_equal(&rt, told.as_str(), *wanted);
-    }
-    Ok(())
-}
+const LISTING: &str =
+    "stream 0 reader=\"main\" instrument=0 view=0 name=\"wait\" kind=histogram bounds=[-1,5] temporality=delta limit=2000 keys=[\"route\",\"paid\"]
+stream 1 reader=\"main\" instrument=0 view=1 name=\"waits\" kind=sum monotonic=yes temporality=delta limit=2000 keys=[\"route\",\"user\",\"paid\"]
+stream 2 reader=\"main\" instrument=1 view=- name=\"hits\" kind=sum monotonic=yes temporality=cumulative limit=2000 keys=[]
+stream 3 reader=\"main\" instrument=2 view=- name=\"stock\" kind=sum monotonic=no temporality=cumulative limit=2000 keys=[]
+stream 4 reader=\"main\" instrument=3 view=- name=\"level\" kind=last temporality=cumulative limit=2000 keys=[]
+";
 
 // Budgets of more than 2^64 - 1 recordings for one instrument.
-const MANY: &str = "format = 1
+const MANY: &str = "%% catalogue
+format = 1
 [[meter]]
 name = \"m\"
 instrument = [{ name = \"c\", kind = \"counter\", range = [0, 1] }]
@@ -384,136 +126,370 @@ name = \"c\"
 budget = [{ instrument = 0, amount = 2 }]
 ";
 
-// Faults of the input's lines, of its certificate and of its plan.
-const REFUSED: &[(Command, &str, &str, &str, &str)] = &[
+// A command, the parts of its input, and what is told.
+const TOLD: &[(Command, Parts, &str)] = &[
+    (
+        Command::Replay,
+        &[BUDGETED, READERS, CERTIFICATE, READERS_RUN],
+        READERS_OUTPUT,
+    ),
+    (
+        Command::Check,
+        &[BUDGETED, READERS, CERTIFICATE],
+        "accepted\n",
+    ),
+    (Command::Make, &[BUDGETED, READERS], MADE),
+    (
+        Command::Make,
+        &[SHOWN, SHOWN_VIEWS],
+        "refused: make 1 Collision, 1",
+    ),
+    (Command::Show, &[SHOWN, SHOWN_VIEWS], SHOWN_OUTPUT),
+    (Command::Show, &[SHOP, SHOP_VIEWS], LISTING),
+    (
+        Command::Show,
+        &[HITS, "%% config\nformat = 1\n", "%% script\nno script\n"],
+        "",
+    ),
+    // Faults of the input's lines, of its certificate and of its plan.
     (
         Command::Trial,
-        HITS,
-        MAIN,
-        "start 0\nrec\nclose 0\n",
+        &[HITS, MAIN, "%% script\nstart 0\nrec\nclose 0\n"],
         "refused: input line 21, 3",
     ),
     (
         Command::Trial,
-        HITS,
-        MAIN,
-        "# nothing\n\n",
+        &[HITS, MAIN, "%% script\n"],
+        "refused: input line 20, 3",
+    ),
+    (
+        Command::Trial,
+        &[HITS, MAIN, "%% script\n# nothing\n\n"],
         "refused: input line 22, 3",
     ),
     (
         Command::Trial,
-        HITS,
-        MAIN,
-        "start 0\n%% script\n",
+        &[HITS, MAIN, "%% script\nstart 0\n%% script\n"],
         "refused: input line 21, 3",
     ),
     (
         Command::Show,
-        HITS,
-        "%% config\n",
-        "",
+        &[HITS, "%% config\n%% config\n"],
         "refused: input line 16, 3",
     ),
     (
         Command::Replay,
-        HITS,
-        MAIN,
-        RUN,
+        &[HITS, MAIN, RUN],
         "refused: input line 19, 3",
     ),
     (
         Command::Replay,
-        HITS,
-        "format = 1\n%% certificate\n",
-        RUN,
+        &[HITS, MAIN, "%% certificate\n", RUN],
         "refused: certificate 2 Shape, 1",
     ),
-    (Command::Check, HITS, MAIN, RUN, "refused: input line 19, 3"),
     (
         Command::Check,
-        HITS,
-        "[a\n%% certificate\n[a\n",
-        RUN,
+        &[HITS, MAIN, RUN],
+        "refused: input line 19, 3",
+    ),
+    (
+        Command::Check,
+        &[HITS, "%% config\n[a\n", "%% certificate\n[a\n"],
         "refused: config 1 NotToml, 1",
     ),
     (
         Command::Check,
-        HITS,
-        "format = 1\n%% certificate\n[a\n",
-        RUN,
+        &[HITS, MAIN, "%% certificate\n[a\n"],
         "refused: certificate 1 NotToml, 1",
     ),
     (
         Command::Check,
-        HITS,
-        "format = 1\n%% certificate\n",
-        RUN,
+        &[HITS, MAIN, "%% certificate\n", RUN],
         "refused: certificate 2 Shape, 1",
     ),
     (
         Command::Check,
-        BUDGETED,
-        READERS_MISJUDGED,
-        RUN,
+        &[BUDGETED, READERS, MISJUDGED],
         "refused: check 11 SumHigh, 1",
     ),
     (
         Command::Replay,
-        BUDGETED,
-        READERS_MISJUDGED,
-        "rec\n",
+        &[BUDGETED, READERS, MISJUDGED, "%% script\nrec\n"],
         "refused: check 11 SumHigh, 1",
     ),
     (
         Command::Replay,
-        BUDGETED,
-        READERS_CERTIFIED,
-        "rec\n",
+        &[BUDGETED, READERS, CERTIFICATE, "%% script\nrec\n"],
         "refused: input line 23, 3",
     ),
     (
         Command::Trial,
-        MANY,
-        MAIN,
-        "rec\n",
+        &[MANY, MAIN, "%% script\nrec\n"],
         "refused: check 12 CountRange, 1",
+    ),
+    // Lines outside the grammar of scripts.
+    (
+        Command::Trial,
+        &[HITS, MAIN, "%% script\nstart 0\n #\n"],
+        "refused: input line 21, 3",
+    ),
+    (
+        Command::Trial,
+        &[HITS, MAIN, "%% script\nstart 0\nstart 1\n"],
+        "refused: input line 21, 3",
+    ),
+    (
+        Command::Trial,
+        &[HITS, MAIN, "%% script\nstart 0\nclose 01\n"],
+        "refused: input line 21, 3",
+    ),
+    (
+        Command::Trial,
+        &[HITS, MAIN, "%% script\nstart 0\nclose 4294967296\n"],
+        "refused: input line 21, 3",
+    ),
+    (
+        Command::Trial,
+        &[HITS, MAIN, "%% script\nstart 0\nClose 1\n"],
+        "refused: input line 21, 3",
+    ),
+    (
+        Command::Trial,
+        &[HITS, MAIN, "%% script\nstart 0\ncollect 1 2\n"],
+        "refused: input line 21, 3",
+    ),
+    (
+        Command::Trial,
+        &[HITS, MAIN, "%% script\nstart 0\nrecord 1 2 -0\n"],
+        "refused: input line 21, 3",
+    ),
+    (
+        Command::Trial,
+        &[HITS, MAIN, "%% script\nstart 0\nrecord 1 2 3 \n"],
+        "refused: input line 21, 3",
+    ),
+    (
+        Command::Trial,
+        &[HITS, MAIN, "%% script\nstart 0\nrecord 1 2 3 a=1\n"],
+        "refused: input line 21, 3",
+    ),
+    (
+        Command::Trial,
+        &[
+            HITS,
+            MAIN,
+            "%% script\nstart 0\nrecord 1 2 3 \"a\"=1\"b\"=2\n",
+        ],
+        "refused: input line 21, 3",
+    ),
+    (
+        Command::Trial,
+        &[
+            HITS,
+            MAIN,
+            "%% script\nstart 0\nrecord 1 2 3 \"a\"=\"\\q\"\n",
+        ],
+        "refused: input line 21, 3",
     ),
 ];
 
+// Faults of the parts that each command reads, told alike by all.
+const DECLARED: &[(Parts, &str)] = &[
+    (
+        &["%% catalogue\n[a\n", MAIN, RUN],
+        "refused: catalogue 1 NotToml, 1",
+    ),
+    (
+        &["%% catalogue\n", MAIN, RUN],
+        "refused: catalogue 2 MissingField at top, 1",
+    ),
+    (
+        &[
+            "%% catalogue\nformat = 1\nmeter = [{name = 'm'}, {name = 'm'}]\n",
+            "%% config\n[a\n",
+            RUN,
+        ],
+        "refused: catalogue 7 DuplicateMeter at meter 1, 1",
+    ),
+    (
+        &[
+            "%% catalogue\nformat = 1\nmeter = [{name = 'm', instrument = [{name = '9', kind = 'gauge', range = [0, 1]}]}]\n",
+            MAIN,
+            RUN,
+        ],
+        "refused: catalogue 5 BadName at instrument 0, 1",
+    ),
+    (
+        &[
+            "%% catalogue\nformat = 1\nrecorder = [{name = 'r', budget = [{instrument = 0, amount = 1}]}]\n",
+            MAIN,
+            RUN,
+        ],
+        "refused: catalogue 14 UnknownInstrument at recorder 0, 1",
+    ),
+    (
+        &[HITS, "%% config\n[a\n", RUN],
+        "refused: config 1 NotToml, 1",
+    ),
+    (
+        &[HITS, "%% config\nformat = 2\n", RUN],
+        "refused: config 3 WrongKind at top, 1",
+    ),
+    (
+        &[
+            HITS,
+            "%% config\nformat = 1\nreader = [{name = 'a'}, {name = 'a'}]\n",
+            RUN,
+        ],
+        "refused: config 9 DuplicateReader at reader 1, 1",
+    ),
+    (
+        &[
+            HITS,
+            "%% config\nformat = 1\nview = [{}, {limit = 0}]\n",
+            RUN,
+        ],
+        "refused: config 8 BadLimit at view 1, 1",
+    ),
+];
+
+// The fault of a command where there is one.
+fn fault_of(
+    alloc: Global,
+    command: Command,
+    source: &mut CutSource<'_>,
+    sink: &mut CutSink,
+) -> Option<KitFault> {
+    match command {
+        Command::Trial => replay(alloc, ReplayOptions { trial: true }, source, sink).err(),
+        Command::Replay => replay(alloc, ReplayOptions { trial: false }, source, sink).err(),
+        Command::Check => check_run(alloc, source, sink).err(),
+        Command::Make => make_run(alloc, source, sink).err(),
+        Command::Show => show_run(alloc, source, sink).err(),
+    }
+}
+
+fn write_fault(out: &mut String, alloc: Global, fault: KitFault) -> Result<(), Fail> {
+    let line = fault.line(alloc)?;
+    Ok(write!(out, "{line}, {}", fault.status())?)
+}
+
+// What is written, and then the line and the status of the fault where there is one.
+fn told(
+    alloc: Global,
+    command: Command,
+    source: &mut CutSource<'_>,
+    sink: &mut CutSink,
+) -> Result<String, Fail> {
+    let fault = fault_of(alloc, command, source, sink);
+    let mut out = String::from_str(alloc, str::from_utf8(sink.taken())?)?;
+    if let Some(fault) = fault {
+        write_fault(&mut out, alloc, fault)?;
+    }
+    Ok(out)
+}
+
+fn told_into(
+    alloc: Global,
+    command: Command,
+    parts: Parts,
+    sink: &mut CutSink,
+) -> Result<String, Fail> {
+    let input = parts.concat(alloc)?;
+    told(
+        alloc,
+        command,
+        &mut CutSource::new(input.as_bytes(), None),
+        sink,
+    )
+}
+
+fn told_whole(alloc: Global, command: Command, parts: Parts) -> Result<String, Fail> {
+    told_into(alloc, command, parts, &mut CutSink::new(alloc, None))
+}
+
 #[test]
-fn the_first_fault_is_told(rt: HostRuntime) -> Result<(), Fail> {
-    for (command, catalogue, config, script, wanted) in REFUSED {
-        let told = told_of(rt.alloc(), *command, catalogue, config, script)?;
+fn each_input_is_answered(rt: HostRuntime) -> Result<(), Fail> {
+    for (command, parts, wanted) in TOLD {
+        let told = told_whole(rt.alloc(), *command, parts)?;
         assert_equal(&rt, told.as_str(), *wanted);
     }
     Ok(())
 }
 
-// Whether a sink with this room has what goes into it of the output, and the fault tells so.
-fn is_cut(alloc: Global, room: usize) -> Result<bool, Fail> {
-    let input = input_of(alloc, HITS, MAIN, RUN)?;
-    let mut source = CutSource::new(input.as_bytes(), None);
-    let mut sink = CutSink::new(alloc, Some(room));
-    let fault = fault_of(alloc, Command::Trial, &mut source, &mut sink);
-    Ok(fault == Some(KitFault::Write) && OUTPUT.as_bytes().get(..room) == Some(sink.taken()))
+#[test]
+fn a_trial_writes_its_replies(rt: HostRuntime) -> Result<(), Fail> {
+    for (parts, wanted) in RUNS {
+        let told = told_whole(rt.alloc(), Command::Trial, parts)?;
+        assert_equal(&rt, told.as_str(), *wanted);
+    }
+    Ok(())
+}
+
+#[test]
+fn a_faulty_declaration_is_told(rt: HostRuntime) -> Result<(), Fail> {
+    for (parts, wanted) in DECLARED {
+        let tried = told_whole(rt.alloc(), Command::Trial, parts)?;
+        assert_equal(&rt, tried.as_str(), *wanted);
+        let shown = told_whole(rt.alloc(), Command::Show, parts)?;
+        assert_equal(&rt, shown.as_str(), *wanted);
+    }
+    Ok(())
+}
+
+const SAMPLE: Parts = &[HITS, MAIN, RUN];
+
+const WRITE: &str = "refused: write, 5";
+
+// What is told by a sink with this room.
+fn told_within(alloc: Global, room: usize) -> Result<String, Fail> {
+    told_into(
+        alloc,
+        Command::Trial,
+        SAMPLE,
+        &mut CutSink::new(alloc, Some(room)),
+    )
 }
 
 #[test]
 fn a_writer_that_fails_has_a_prefix(rt: HostRuntime) -> Result<(), Fail> {
     for room in 0..OUTPUT.len() {
-        assert!(rt; is_cut(rt.alloc(), room)?, "{room}");
+        let told = told_within(rt.alloc(), room)?;
+        assert_equal(&rt, told.strip_suffix(WRITE), OUTPUT.get(..room));
+    }
+    Ok(())
+}
+
+// What is told by a sink that can not be flushed.
+fn told_unflushed(alloc: Global, command: Command, parts: Parts) -> Result<String, Fail> {
+    told_into(
+        alloc,
+        command,
+        parts,
+        &mut CutSink::new(alloc, None).with_failing_flush(),
+    )
+}
+
+#[test]
+fn a_flush_that_fails_is_a_write(rt: HostRuntime) -> Result<(), Fail> {
+    for (command, parts, written) in [
+        (Command::Trial, SAMPLE, OUTPUT),
+        (Command::Show, &[SHOWN, SHOWN_VIEWS], SHOWN_OUTPUT),
+    ] {
+        let told = told_unflushed(rt.alloc(), command, parts)?;
+        assert_equal(&rt, told.strip_suffix(WRITE), Some(written));
     }
     Ok(())
 }
 
 // What is told where this read fails.
 fn told_up_to(alloc: Global, command: Command, failing: u64) -> Result<String, Fail> {
-    let input = input_of(alloc, HITS, MAIN, RUN)?;
+    let input = SAMPLE.concat(alloc)?;
     let mut source = CutSource::new(input.as_bytes(), Some(failing)).in_pieces(50);
     told(alloc, command, &mut source, &mut CutSink::new(alloc, None))
 }
 
-// The first failing read after which anything else is told.
+// The first failing read after which anything else than a failed read is told.
 fn first_untold(alloc: Global, command: Command) -> Result<Option<u64>, Fail> {
     for failing in 1..10 {
         if told_up_to(alloc, command, failing)?.as_str() != "refused: input, 3" {
@@ -527,67 +503,22 @@ const COMMANDS: &[Command] = &[
     Command::Trial,
     Command::Replay,
     Command::Check,
+    Command::Make,
     Command::Show,
 ];
 
 #[test]
 fn a_reader_that_fails_writes_nothing(rt: HostRuntime) -> Result<(), Fail> {
     for command in COMMANDS {
-        let untold = first_untold(rt.alloc(), *command)?;
-        assert_equal(&rt, (command, untold), (command, None));
+        assert_equal(&rt, first_untold(rt.alloc(), *command)?, None);
     }
     Ok(())
 }
 
-// The fault of a command whose sink can not be flushed.
-fn unflushed(alloc: Global, command: Command) -> Result<Option<KitFault>, Fail> {
-    let input = input_of(alloc, HITS, MAIN, "start 0\n")?;
-    let mut source = CutSource::new(input.as_bytes(), None);
-    let mut sink = CutSink::new(alloc, None).with_failing_flush();
-    Ok(fault_of(alloc, command, &mut source, &mut sink))
-}
-
 #[test]
-fn a_flush_that_fails_is_a_write(rt: HostRuntime) -> Result<(), Fail> {
-    for command in [Command::Trial, Command::Show] {
-        assert!(rt; unflushed(rt.alloc(), command)? == Some(KitFault::Write));
-    }
-    Ok(())
-}
-
-const PRINTED: &[(KitFault, &str)] = &[
-    (KitFault::Read, "refused: input, 3"),
-    (KitFault::Input { line: 7 }, "refused: input line 7, 3"),
-    (
-        KitFault::Catalogue(CatalogueFault::At(CatalogueDefect::TooMany, CataloguePlace::Meter(2))),
-        "refused: catalogue 17 TooMany at meter 2, 1",
-    ),
-    (
-        KitFault::Config(ViewFault::At(ViewDefect::BadPattern, ConfigPlace::View(2))),
-        "refused: config 5 BadPattern at view 2, 1",
-    ),
-    (
-        KitFault::Check(CheckFault::CountRange),
-        "refused: check 12 CountRange, 1",
-    ),
-    (
-        KitFault::Certificate(CertFault::Shape),
-        "refused: certificate 2 Shape, 1",
-    ),
-    (KitFault::Write, "refused: write, 5"),
-    (KitFault::Memory, "refused: memory, 4"),
-];
-
-fn printed(alloc: Global, fault: KitFault) -> Result<String, Fail> {
-    let mut out = String::new(alloc);
-    write_fault(&mut out, alloc, fault)?;
-    Ok(out)
-}
-
-#[test]
-fn faults_have_lines_and_statuses(rt: HostRuntime) -> Result<(), Fail> {
-    for (fault, wanted) in PRINTED {
-        assert_equal(&rt, printed(rt.alloc(), *fault)?.as_str(), *wanted);
-    }
+fn want_of_memory_has_a_line_and_a_status(rt: HostRuntime) -> Result<(), Fail> {
+    let mut out = String::new(rt.alloc());
+    write_fault(&mut out, rt.alloc(), KitFault::Memory)?;
+    assert_equal(&rt, out.as_str(), "refused: memory, 4");
     Ok(())
 }

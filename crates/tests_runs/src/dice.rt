@@ -24,11 +24,6 @@ impl Dice {
         (self.state >> 33) % sides
     }
 
-    /// Yes in one case of so many.
-    pub(crate) fn is_one_in(&mut self, sides: u64) -> bool {
-        self.roll(sides) == 0
-    }
-
     /// One of the words.
     pub(crate) fn word(&mut self, words: &[&'static str]) -> &'static str {
         let at = self.roll(words.len() as u64) as usize;

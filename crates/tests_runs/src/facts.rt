@@ -1,10 +1,7 @@
 //! What the run of each instrument depends on.
 use crate::equal::assert_equal;
-use metric_base::Items;
-use metric_catalogue::Catalogue;
-use metric_history::{Event, Facts, all_facts};
-use metric_resolve::resolve;
-use metric_views::Config;
+use crate::plans::plan_of;
+use metric_history::Facts;
 use std::alloc::Global;
 use std::test::Fail;
 
@@ -58,53 +55,29 @@ instrument_name = 'wait'
 aggregation = 'drop'
 ";
 
+// The number, the least and the greatest value, keys, budgets, whether readers are delta, and streams.
 const SHOWN: &str = "\
-0 keys 2+ 1- values 0..9 budgets [7, 9, 0, 0] delta [false, true] streams 0 1 4 5
-1 keys values -9..5 budgets [0, 0, 0, 1] delta [true, true] streams 2 6
-2 keys values 0..1 budgets [0, 0, 0, 0] delta [false, false] streams
-3 keys values -1..1 budgets [0, 8, 0, 0] delta [false, false] streams 3 7
+[0, 0, 9] [KeyFacts { values: 2, optional: false }, KeyFacts { values: 1, optional: true }] [7, 9, 0, 0] [false, true] 0 1 4 5
+[1, -9, 5] [] [0, 0, 0, 1] [true, true] 2 6
+[2, 0, 1] [] [0, 0, 0, 0] [false, false]
+[3, -1, 1] [] [0, 8, 0, 0] [false, false] 3 7
 ";
 
-fn write_keys(out: &mut String, facts: &Facts) -> Result<(), Fail> {
-    out.push_str(" keys")?;
-    for key in facts.keys.as_slice() {
-        let values = key.values;
-        let need = if key.optional { "-" } else { "+" };
-        write!(out, " {values}{need}")?;
-    }
-    Ok(())
-}
-
 fn write_streams(out: &mut String, facts: &Facts) -> Result<(), Fail> {
-    out.push_str(" streams")?;
     for stream in facts.streams.as_slice() {
         let number = stream.number;
         write!(out, " {number}")?;
     }
-    Ok(())
+    Ok(out.push_str("\n")?)
 }
 
 fn write_facts(out: &mut String, facts: &Facts) -> Result<(), Fail> {
-    let instrument = facts.instrument;
-    write!(out, "{instrument}")?;
-    write_keys(out, facts)?;
-    let lo = facts.lo;
-    let hi = facts.hi;
-    write!(out, " values {lo}..{hi}")?;
+    let numbers = [i64::from(facts.instrument), facts.lo, facts.hi];
+    let keys = facts.keys.as_slice();
     let budgets = facts.budgets.as_slice();
-    write!(out, " budgets {budgets:?}")?;
     let delta = facts.delta.as_slice();
-    write!(out, " delta {delta:?}")?;
-    write_streams(out, facts)?;
-    Ok(writeln!(out)?)
-}
-
-fn facts_of(alloc: Global, catalogue: &Catalogue, config: &Config) -> Result<Items<Facts>, Fail> {
-    let streams = resolve(alloc, catalogue, config)?;
-    if streams.list().len() > 1000 {
-        return Err(Fail::from("too many streams"));
-    }
-    Ok(all_facts(alloc, true, catalogue, config.readers(), streams.list())?)
+    write!(out, "{numbers:?} {keys:?} {budgets:?} {delta:?}")?;
+    write_streams(out, facts)
 }
 
 fn write_all(out: &mut String, all: &[Facts]) -> Result<(), Fail> {
@@ -114,36 +87,15 @@ fn write_all(out: &mut String, all: &[Facts]) -> Result<(), Fail> {
     Ok(())
 }
 
-fn listed(alloc: Global, all: &[Facts]) -> Result<String, Fail> {
+fn shown(alloc: Global) -> Result<String, Fail> {
+    let plan = plan_of(alloc, SHOP, CONFIG)?;
     let mut out = String::new(alloc);
-    write_all(&mut out, all)?;
+    write_all(&mut out, plan.all_facts())?;
     Ok(out)
-}
-
-fn shown_of(alloc: Global, catalogue: &Catalogue, config: &Config) -> Result<String, Fail> {
-    let all = facts_of(alloc, catalogue, config)?;
-    listed(alloc, all.as_slice())
-}
-
-fn shown(alloc: Global, catalogue: &str, config: &str) -> Result<String, Fail> {
-    let catalogue = Catalogue::read(alloc, catalogue)?;
-    let config = Config::read(alloc, config)?;
-    shown_of(alloc, &catalogue, &config)
 }
 
 #[test]
 fn each_instrument_has_its_facts(rt: HostRuntime) -> Result<(), Fail> {
-    assert_equal(&rt, shown(rt.alloc(), SHOP, CONFIG)?.as_str(), SHOWN);
+    assert_equal(&rt, shown(rt.alloc())?.as_str(), SHOWN);
     Ok(())
-}
-
-#[test]
-fn an_event_is_of_one_instrument(rt: HostRuntime) {
-    let close = Event::Close { instrument: 7 }.instrument();
-    let collect = Event::Collect {
-        reader: 1,
-        instrument: 8,
-        now: 2,
-    };
-    assert_equal(&rt, [close, collect.instrument()], [7, 8]);
 }

@@ -1,9 +1,9 @@
 //! Tests of the crates of runs: aggregators, tables of series, cells and cores over each book, scripts, written lines,
 //! and the commands above them.
 //!
-//! A module tests one crate through its public surface. It has what no clause says: examples from outside, printed texts,
-//! and that a call succeeds while memory is there. `agreement` runs scripts over each book that a small generator puts
-//! together from a seed, so each run of the tests has the same ones.
+//! They have what no clause says: examples from outside, printed texts, and that a call succeeds while memory is there.
+//! Most are whole runs: `inputs` has the texts of inputs and what a trial of each writes, and `commands` and `cores`
+//! both have to give it. `agreement` puts scripts together from a seed, so each run of the tests has the same ones.
 #![tactic(auto)]
 
 #[cfg(test)]
@@ -17,32 +17,18 @@ mod commands;
 #[cfg(test)]
 mod cores;
 #[cfg(test)]
-mod declarations;
-#[cfg(test)]
 mod dice;
 #[cfg(test)]
 mod equal;
 #[cfg(test)]
-mod events;
-#[cfg(test)]
 mod facts;
 #[cfg(test)]
-mod input;
+mod inputs;
 #[cfg(test)]
-mod points;
+mod plans;
 #[cfg(test)]
 mod refusing;
 #[cfg(test)]
-mod replies;
-#[cfg(test)]
 mod runs;
 #[cfg(test)]
-mod scripts;
-#[cfg(test)]
-mod seen;
-#[cfg(test)]
 mod series;
-#[cfg(test)]
-mod words;
-#[cfg(test)]
-mod written;

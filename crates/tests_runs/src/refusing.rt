@@ -3,9 +3,7 @@
 //! No test can have one allocation of its process refused, so a book refuses in its place, as it would where a
 //! table can not grow.
 use crate::equal::assert_equal;
-use crate::input::plan_of;
-use crate::runs::{Trial, replies};
-use crate::words::shown;
+use crate::runs::told;
 use metric_book::{Book, Window};
 use metric_catalogue::Refusal;
 use metric_history::Entry;
@@ -65,7 +63,9 @@ impl Book for Refusing {
     }
 }
 
-const ROUTES: &str = "format = 1
+// Two series are held: fewer than the key has values, as many as the budget allows.
+const INPUT: &str = "%% catalogue
+format = 1
 [[meter]]
 name = 'm'
 [[meter.instrument]]
@@ -76,19 +76,16 @@ key = [{ name = 'k', values = ['x', 'y', 'z'] }]
 [[recorder]]
 name = 'r'
 budget = [{ instrument = 0, amount = 2 }]
-";
-
-// Two series are held: fewer than the key has values, as many as the budget allows.
-const DELTA: &str = "format = 1
+%% config
+format = 1
 [[reader]]
 name = 'main'
 temporality = { counter = 'delta' }
 [[view]]
 instrument_name = 'hits'
 limit = 2
-";
-
-const SCRIPT: &str = "start 0
+%% script
+start 0
 record 0 0 1 \"k\"=\"x\"
 record 0 0 1 \"k\"=\"x\"
 collect 0 0 10
@@ -98,33 +95,25 @@ record 0 0 1 \"k\"=\"z\"
 collect 0 0 20
 ";
 
-const REPLIES: &str = "Memory
+const REPLIES: &str = "refused 11 Memory
 accepted
-Memory
-from 0 to 1: collected 10 1
+refused 11 Memory
+collected 10 1
 stream reader=\"main\" meter=\"m\" version=\"\" schema=\"\" name=\"hits\" unit=\"\" description=\"\" kind=sum monotonic=yes temporality=delta
 point {\"k\"=\"x\"} start=0 time=10 value=1
 accepted
-Budget
-from 1 to 2: collected 20 1
+refused 9 Budget
+collected 20 1
 stream reader=\"main\" meter=\"m\" version=\"\" schema=\"\" name=\"hits\" unit=\"\" description=\"\" kind=sum monotonic=yes temporality=delta
 point {\"k\"=\"y\"} start=10 time=20 value=1
 ";
 
-const TRIAL: Trial<'static> = Trial {
-    catalogue: ROUTES,
-    config: DELTA,
-    script: SCRIPT,
-};
-
-fn told(alloc: Global) -> Result<String, Fail> {
-    let replies = replies::<Refusing>(alloc, TRIAL, usize::MAX)?;
-    let plan = plan_of(alloc, ROUTES, DELTA)?;
-    shown(alloc, &plan, &replies)
-}
-
 #[test]
 fn what_memory_refused_changes_nothing(rt: HostRuntime) -> Result<(), Fail> {
-    assert_equal(&rt, told(rt.alloc())?.as_str(), REPLIES);
+    assert_equal(
+        &rt,
+        told::<Refusing>(rt.alloc(), INPUT, usize::MAX)?.as_str(),
+        REPLIES,
+    );
     Ok(())
 }

@@ -1,86 +1,108 @@
-//! New cores that run the events of a script.
-use crate::input::{plan_of, read};
+//! Runs of an input's script on a core, and the text of the replies, which is what a replay writes.
+use crate::plans::plan_of;
 use metric_book::Book;
+use metric_catalogue::Refusal;
 use metric_core::Core;
 use metric_history::{Event, Reply};
+use metric_lines::push_batch;
+use metric_parts::{Needs, Parts, parts_of};
 use metric_plan::Plan;
-use metric_script::ScriptEvents;
+use metric_script::{ScriptEvents, events_of};
+use metric_text::{lines, push_text};
 use std::alloc::Global;
 use std::test::Fail;
 
-/// The texts of a trial.
-#[derive(Clone, Copy)]
-pub(crate) struct Trial<'a> {
-    pub(crate) catalogue: &'a str,
-    pub(crate) config: &'a str,
-    pub(crate) script: &'a str,
+fn push_refusal(out: &mut Vec<u8>, alloc: Global, refusal: Refusal) -> Result<(), Fail> {
+    let line = format!(in alloc; "refused {refusal}\n")?;
+    Ok(push_text(out, &line)?)
 }
 
-fn started<B: Book>(alloc: Global, plan: Plan, start: u64) -> Result<Core<B>, Fail> {
-    match Core::new(alloc, plan, start) {
-        Ok(core) => Ok(core),
-        Err((_, refused)) => Err(Fail::from(refused)),
+fn push_reply(out: &mut Vec<u8>, alloc: Global, plan: &Plan, reply: &Reply) -> Result<(), Fail> {
+    match reply {
+        Reply::Accepted => Ok(push_text(out, "accepted\n")?),
+        Reply::Done => Ok(push_text(out, "closed\n")?),
+        Reply::Refused(refusal) => push_refusal(out, alloc, *refusal),
+        Reply::Collected(batch) => Ok(push_batch(
+            out,
+            plan.catalogue(),
+            plan.config(),
+            plan.streams(),
+            batch,
+        )?),
     }
 }
 
-fn core_of<B: Book>(alloc: Global, trial: Trial<'_>, start: u64) -> Result<Core<B>, Fail> {
-    let plan = plan_of(alloc, trial.catalogue, trial.config)?;
-    started(alloc, plan, start)
-}
-
-fn push_run<B: Book>(
-    all: &mut Vec<Reply>,
+fn push_replies(
+    out: &mut Vec<u8>,
     alloc: Global,
-    core: &mut Core<B>,
-    events: &[Event],
+    plan: &Plan,
+    replies: &[Reply],
 ) -> Result<(), Fail> {
-    for reply in core.run(alloc, events)? {
-        all.push(reply)?;
+    for reply in replies {
+        push_reply(out, alloc, plan, reply)?;
     }
     Ok(())
 }
 
-fn push_runs<B: Book>(
-    all: &mut Vec<Reply>,
+fn push_pieces<B: Book>(
+    out: &mut Vec<u8>,
     alloc: Global,
     core: &mut Core<B>,
     events: &[Event],
     size: usize,
 ) -> Result<(), Fail> {
     for piece in events.chunks(size.max(1)) {
-        push_run(all, alloc, core, piece)?;
+        let replies = core.run(alloc, piece)?;
+        push_replies(out, alloc, core.plan(), &replies)?;
     }
     Ok(())
 }
 
-fn push_replies<B: Book>(
-    all: &mut Vec<Reply>,
+fn core_of<B: Book>(alloc: Global, parts: &Parts<'_>, start: u64) -> Result<Core<B>, Fail> {
+    let plan = plan_of(alloc, parts.catalogue.as_str(), parts.config.as_str())?;
+    match Core::new(alloc, plan, start) {
+        Ok(core) => Ok(core),
+        Err((_, refused)) => Err(Fail::from(refused)),
+    }
+}
+
+fn script_of(alloc: Global, parts: &Parts<'_>) -> Result<ScriptEvents, Fail> {
+    match &parts.script {
+        Some(script) => Ok(events_of(alloc, script)?),
+        None => Err("no script".into()),
+    }
+}
+
+fn push_run<B: Book>(
+    out: &mut Vec<u8>,
     alloc: Global,
-    trial: Trial<'_>,
-    script: &ScriptEvents,
+    parts: &Parts<'_>,
     size: usize,
 ) -> Result<(), Fail> {
-    let mut core: Core<B> = core_of(alloc, trial, script.start)?;
-    push_runs(all, alloc, &mut core, script.events.as_slice(), size)
+    let script = script_of(alloc, parts)?;
+    let mut core: Core<B> = core_of(alloc, parts, script.start)?;
+    push_pieces(out, alloc, &mut core, script.events.as_slice(), size)
 }
 
-fn replies_to<B: Book>(
+const TRIAL: Needs = Needs {
+    certificate: false,
+    script: true,
+};
+
+fn push_trial<B: Book>(
+    out: &mut Vec<u8>,
     alloc: Global,
-    trial: Trial<'_>,
-    script: &ScriptEvents,
+    input: &[u8],
     size: usize,
-) -> Result<Vec<Reply>, Fail> {
-    let mut all = Vec::new(alloc);
-    push_replies::<B>(&mut all, alloc, trial, script, size)?;
-    Ok(all)
+) -> Result<(), Fail> {
+    let lines = lines(alloc, input)?;
+    let parts = parts_of(alloc, &lines, TRIAL)?;
+    push_run::<B>(out, alloc, &parts, size)
 }
 
-/// The replies of a new core to the events, where each run has at most so many of them.
-pub(crate) fn replies<B: Book>(
-    alloc: Global,
-    trial: Trial<'_>,
-    size: usize,
-) -> Result<Vec<Reply>, Fail> {
-    let script = read(alloc, trial.script)??;
-    replies_to::<B>(alloc, trial, &script, size)
+/// The replies of a new core to the script of an input, where each run has at most so many events.
+pub(crate) fn told<B: Book>(alloc: Global, input: &str, size: usize) -> Result<String, Fail> {
+    let mut out = Vec::new(alloc);
+    push_trial::<B>(&mut out, alloc, input.as_bytes(), size)?;
+    Ok(String::from_utf8(out)?)
 }

@@ -1,6 +1,0 @@
--- the keys that are left
-use Rattle.std.proofs.Common.{length}
-use Rattle.tests_runs.proofs.cells.+is_full.Given as goal
-
-abbrev pub decreases-is_full : goal.decreases-is_full
-decreases-is_full l = length l.keys.now
