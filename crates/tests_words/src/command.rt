@@ -1,8 +1,6 @@
 //! Command lines: those that are taken, and the words that are refused.
 use crate::equal::assert_equal;
 use metric_command::{Line, LineFault, command_of, lines_are_taken, others_are_refused};
-use std::alloc::{AllocError, Global};
-use std::test::Fail;
 
 const TRIAL: Result<Line, LineFault> = Ok(Line::Replay { trial: true });
 
@@ -18,84 +16,71 @@ const MOST: Result<Line, LineFault> = Ok(Line::Threads { each: 1_000_000 });
 
 const MISUSE: Result<Line, LineFault> = Err(LineFault::Usage);
 
-// Command lines, with words that are divided by single spaces.
-const LINES: &[(&str, Result<Line, LineFault>)] = &[
-    ("metric_kit", TRIAL),
-    ("metric_kit show", SHOW),
-    ("metric_kit replay", REPLAY),
-    ("metric_kit replay --trial", TRIAL),
-    ("./kit replay --trial", TRIAL),
-    ("metric_kit --", TRIAL),
-    ("metric_kit replay --", REPLAY),
-    ("metric_kit threads --each 0", NONE_EACH),
-    ("metric_kit threads --each 12", TWELVE_EACH),
-    ("metric_kit threads --each=012", TWELVE_EACH),
-    ("metric_kit threads --each 1000000", MOST),
+// The words of command lines. Without the name a line asks for a trial.
+const LINES: &[(&[&str], Result<Line, LineFault>)] = &[
+    (&[], TRIAL),
+    (&["metric_kit"], TRIAL),
+    (&["metric_kit", "show"], SHOW),
+    (&["metric_kit", "replay"], REPLAY),
+    (&["metric_kit", "replay", "--trial"], TRIAL),
+    (&["./kit", "replay", "--trial"], TRIAL),
+    (&["metric_kit", "--"], TRIAL),
+    (&["metric_kit", "replay", "--"], REPLAY),
+    (&["metric_kit", "threads", "--each", "0"], NONE_EACH),
+    (&["metric_kit", "threads", "--each", "12"], TWELVE_EACH),
+    (&["metric_kit", "threads", "--each=012"], TWELVE_EACH),
+    (&["metric_kit", "threads", "--each", "1000000"], MOST),
     // Help and version are a misuse.
-    ("metric_kit help", MISUSE),
-    ("metric_kit help show", MISUSE),
-    ("metric_kit --help", MISUSE),
-    ("metric_kit -h", MISUSE),
-    ("metric_kit show --help", MISUSE),
-    ("metric_kit replay -h", MISUSE),
-    ("metric_kit --version", MISUSE),
-    ("metric_kit -V", MISUSE),
-    ("metric_kit replay --version", MISUSE),
+    (&["metric_kit", "help"], MISUSE),
+    (&["metric_kit", "help", "show"], MISUSE),
+    (&["metric_kit", "--help"], MISUSE),
+    (&["metric_kit", "-h"], MISUSE),
+    (&["metric_kit", "show", "--help"], MISUSE),
+    (&["metric_kit", "replay", "-h"], MISUSE),
+    (&["metric_kit", "--version"], MISUSE),
+    (&["metric_kit", "-V"], MISUSE),
+    (&["metric_kit", "replay", "--version"], MISUSE),
     // So is every other word.
-    ("metric_kit reply", MISUSE),
-    ("metric_kit Show", MISUSE),
-    ("metric_kit sho", MISUSE),
-    ("metric_kit ", MISUSE),
-    ("metric_kit --trial", MISUSE),
-    ("metric_kit --trial replay", MISUSE),
-    ("metric_kit show --trial", MISUSE),
-    ("metric_kit show replay", MISUSE),
-    ("metric_kit replay --trial --trial", MISUSE),
-    ("metric_kit replay --trial=true", MISUSE),
-    ("metric_kit replay --tria", MISUSE),
-    ("metric_kit replay -t", MISUSE),
-    ("metric_kit replay trial", MISUSE),
-    ("metric_kit -- show", MISUSE),
-    ("metric_kit replay --trial input", MISUSE),
+    (&["metric_kit", "reply"], MISUSE),
+    (&["metric_kit", "Show"], MISUSE),
+    (&["metric_kit", "sho"], MISUSE),
+    (&["metric_kit", ""], MISUSE),
+    (&["metric_kit", "--trial"], MISUSE),
+    (&["metric_kit", "--trial", "replay"], MISUSE),
+    (&["metric_kit", "show", "--trial"], MISUSE),
+    (&["metric_kit", "show", "replay"], MISUSE),
+    (&["metric_kit", "replay", "--trial", "--trial"], MISUSE),
+    (&["metric_kit", "replay", "--trial=true"], MISUSE),
+    (&["metric_kit", "replay", "--tria"], MISUSE),
+    (&["metric_kit", "replay", "-t"], MISUSE),
+    (&["metric_kit", "replay", "trial"], MISUSE),
+    (&["metric_kit", "--", "show"], MISUSE),
+    (&["metric_kit", "replay", "--trial", "input"], MISUSE),
     // So is `threads` without a number from 0 to 1,000,000, given once.
-    ("metric_kit threads", MISUSE),
-    ("metric_kit threads 12", MISUSE),
-    ("metric_kit threads --each", MISUSE),
-    ("metric_kit threads --each=", MISUSE),
-    ("metric_kit threads --each twelve", MISUSE),
-    ("metric_kit threads --each 1000001", MISUSE),
-    ("metric_kit threads --each -1", MISUSE),
-    ("metric_kit threads --each=-1", MISUSE),
-    ("metric_kit threads --each 18446744073709551616", MISUSE),
-    ("metric_kit threads --each 1 --each 1", MISUSE),
-    ("metric_kit replay --each 1", MISUSE),
+    (&["metric_kit", "threads"], MISUSE),
+    (&["metric_kit", "threads", "12"], MISUSE),
+    (&["metric_kit", "threads", "--each"], MISUSE),
+    (&["metric_kit", "threads", "--each="], MISUSE),
+    (&["metric_kit", "threads", "--each", "twelve"], MISUSE),
+    (&["metric_kit", "threads", "--each", "1000001"], MISUSE),
+    (&["metric_kit", "threads", "--each", "-1"], MISUSE),
+    (&["metric_kit", "threads", "--each=-1"], MISUSE),
+    (
+        &["metric_kit", "threads", "--each", "18446744073709551616"],
+        MISUSE,
+    ),
+    (
+        &["metric_kit", "threads", "--each", "1", "--each", "1"],
+        MISUSE,
+    ),
+    (&["metric_kit", "replay", "--each", "1"], MISUSE),
 ];
 
-// What a text is as a command line.
-fn line_of(alloc: Global, text: &str) -> Result<Result<Line, LineFault>, AllocError> {
-    let words: Vec<&str> = text.split(' ').collect(alloc)?;
-    Ok(command_of(alloc, &words))
-}
-
 #[test]
-fn a_command_line_is_read_or_is_a_misuse(rt: HostRuntime) -> Result<(), Fail> {
-    for (text, line) in LINES {
-        assert_equal(&rt, (text, line_of(rt.alloc(), text)?), (text, *line));
-    }
-    Ok(())
-}
-
-#[test]
-fn a_line_without_the_name_asks_for_a_trial(rt: HostRuntime) {
-    assert_equal(&rt, command_of(rt.alloc(), &[]), TRIAL);
+fn a_command_line_is_read_or_is_a_misuse(rt: HostRuntime) {
     lines_are_taken();
     others_are_refused();
-}
-
-#[test]
-fn each_fault_has_its_text(rt: HostRuntime) -> Result<(), Fail> {
-    for (fault, text) in [(LineFault::Usage, "usage"), (LineFault::Memory, "memory")] {
-        assert_equal(&rt, fault.to_string(rt.alloc())?.as_str(), text);
+    for (words, line) in LINES {
+        assert_equal(&rt, command_of(rt.alloc(), words), *line);
     }
-    Ok(())
 }

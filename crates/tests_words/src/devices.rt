@@ -1,8 +1,8 @@
 //! Sources that are read and sinks that are written, whole and with failures.
 use crate::equal::assert_equal;
 use metric_io::{
-    Broken, CutSink, CutSource, MAX_BYTES, ReadFault, Sink, Source, SourceFault, StdSink,
-    StdSource, read_all, write_all,
+    Broken, CutSink, CutSource, MAX_BYTES, MAX_READS, ReadFault, Sink, StdSink, StdSource,
+    read_all, write_all,
 };
 use std::alloc::{AllocError, Global};
 use std::io;
@@ -10,76 +10,6 @@ use std::io::{ErrorKind, Read, Write};
 use std::test::Fail;
 
 const ALPHABET: &[u8] = b"abcdefghijklmnopqrstuvwxyz";
-
-// A reader and a writer whose device is gone.
-#[derive(Drop)]
-struct Unplugged;
-
-impl Read for Unplugged {
-    fn read(&mut self, _buf: &mut [u8]) -> io::Result<usize> {
-        Err(io::Error::from(ErrorKind::BrokenPipe))
-    }
-}
-
-impl Write for Unplugged {
-    fn write(&mut self, _buf: &[u8]) -> io::Result<usize> {
-        Err(io::Error::from(ErrorKind::BrokenPipe))
-    }
-
-    fn flush(&mut self) -> io::Result<()> {
-        Err(io::Error::from(ErrorKind::BrokenPipe))
-    }
-}
-
-// A reader and a writer of which a signal interrupts every other read or write.
-#[derive(Drop)]
-struct Halting<D: Drop> {
-    is_halted: bool,
-    device: D,
-}
-
-impl<D: Drop> Halting<D> {
-    fn turn(&mut self) -> io::Result<()> {
-        self.is_halted = !self.is_halted;
-        if self.is_halted {
-            Err(io::Error::from(ErrorKind::Interrupted))
-        } else {
-            Ok(())
-        }
-    }
-}
-
-impl<D: Read + Drop> Read for Halting<D> {
-    fn read(&mut self, buf: &mut [u8]) -> io::Result<usize> {
-        self.turn()?;
-        self.device.read(buf)
-    }
-}
-
-impl<D: Write + Drop> Write for Halting<D> {
-    fn write(&mut self, buf: &[u8]) -> io::Result<usize> {
-        self.turn()?;
-        self.device.write(buf)
-    }
-
-    fn flush(&mut self) -> io::Result<()> {
-        self.device.flush()
-    }
-}
-
-// A writer that takes nothing.
-#[derive(Drop)]
-struct Full;
-
-impl Write for Full {
-    fn write(&mut self, _buf: &[u8]) -> io::Result<usize> {
-        Ok(0)
-    }
-
-    fn flush(&mut self) -> io::Result<()> {
-        Ok(())
-    }
-}
 
 // An input and what is read of it.
 struct Reading {
@@ -168,104 +98,27 @@ fn an_input_is_read_whole_or_up_to_a_failure(rt: HostRuntime) {
 }
 
 #[test]
-fn a_source_that_failed_goes_on_failing(rt: HostRuntime) {
-    let mut source = CutSource::new(ALPHABET, Some(3))
-        .in_pieces(3)
-        .interrupted_at(2);
-    let mut buffer = [0; 4];
-    for given in [
-        Ok(3),
-        Err(SourceFault::Interrupted),
-        Err(SourceFault::Broken),
-        Err(SourceFault::Broken),
-    ] {
-        assert_equal(&rt, source.read(&mut buffer), given);
-    }
-}
-
-fn read_with_halts(alloc: Global) -> Result<Vec<u8>, ReadFault> {
-    let mut source = StdSource::new(Halting {
-        is_halted: false,
-        device: ALPHABET,
-    });
-    read_all(alloc, &mut source)
-}
-
-#[test]
-fn a_read_that_a_signal_interrupts_is_tried_again(rt: HostRuntime) -> Result<(), Fail> {
-    assert_equal(&rt, read_with_halts(rt.alloc())?.as_slice(), ALPHABET);
-    Ok(())
-}
-
-// A vector to which the alphabet was written.
-fn written_with_halts(alloc: Global) -> Result<Vec<u8>, Broken> {
-    let mut sink = StdSink::new(Halting {
-        is_halted: false,
-        device: Vec::new(alloc),
-    });
-    write_and_flush(&mut sink)?;
-    Ok(sink.into_inner().device)
-}
-
-fn write_and_flush<S: Sink>(sink: &mut S) -> Result<(), Broken> {
-    write_all(sink, ALPHABET)?;
-    sink.flush()
-}
-
-#[test]
-fn a_write_that_a_signal_interrupts_is_tried_again(rt: HostRuntime) -> Result<(), Fail> {
-    assert_equal(&rt, written_with_halts(rt.alloc())?.as_slice(), ALPHABET);
-    Ok(())
-}
-
-// How many bytes are read, where they are read whole.
-fn length_read<S: Source>(alloc: Global, source: &mut S) -> Option<usize> {
-    match read_all(alloc, source) {
-        Ok(all) => Some(all.len()),
-        Err(_) => None,
-    }
-}
-
-#[test]
-fn an_input_may_have_as_many_bytes_as_the_limit(rt: HostRuntime) {
-    for (more, read) in [(0, Some(MAX_BYTES)), (1, None)] {
+fn an_input_has_no_more_bytes_than_the_limit(rt: HostRuntime) {
+    for (more, is_whole) in [(0, true), (1, false)] {
         let bytes = io::repeat(b'a').take(MAX_BYTES as u64 + more);
-        assert_equal(
-            &rt,
-            length_read(rt.alloc(), &mut StdSource::new(bytes)),
-            read,
-        );
+        let read = read_all(rt.alloc(), &mut StdSource::new(bytes));
+        assert_equal(&rt, read.is_ok(), is_whole);
     }
 }
 
-// How many of so many bytes are read one by one, and by how many reads.
-fn read_by_bytes(alloc: Global, count: usize) -> Result<(Option<usize>, u64), AllocError> {
+// Whether so many bytes are read one by one, or not, by as many reads as there may be.
+fn is_read_by_bytes(alloc: Global, count: usize, is_whole: bool) -> Result<bool, AllocError> {
     let bytes = vec![in alloc; b'a'; count]?;
     let mut source = CutSource::new(&bytes, None).in_pieces(1);
-    let length = length_read(alloc, &mut source);
-    Ok((length, source.reads()))
+    Ok(read_all(alloc, &mut source).is_ok() == is_whole && source.reads() == MAX_READS)
 }
 
 #[test]
 fn the_read_that_finds_the_end_is_one_of_the_limit(rt: HostRuntime) -> Result<(), Fail> {
-    for (count, read) in [(4_194_303, Some(4_194_303)), (4_194_304, None)] {
-        assert_equal(&rt, read_by_bytes(rt.alloc(), count)?, (read, 4_194_304));
+    for (count, is_whole) in [(4_194_303, true), (4_194_304, false)] {
+        assert!(rt; is_read_by_bytes(rt.alloc(), count, is_whole)?);
     }
     Ok(())
-}
-
-#[test]
-fn readers_of_std_are_sources(rt: HostRuntime) {
-    let mut source = StdSource::new(ALPHABET);
-    let mut first = [0; 4];
-    assert!(rt; source.read(&mut first) == Ok(4) && first == *b"abcd");
-    assert_equal(&rt, source.into_inner(), &ALPHABET[4..]);
-}
-
-#[test]
-fn a_reader_without_its_device_fails(rt: HostRuntime) {
-    let fault = read_all(rt.alloc(), &mut StdSource::new(Unplugged)).err();
-    assert_equal(&rt, fault, Some(ReadFault::Read));
 }
 
 // The room of a sink and the most of one write; what is taken of the alphabet.
@@ -278,50 +131,104 @@ const WRITES: &[(Option<usize>, usize, &[u8])] = &[
     (Some(20), 26, b"abcdefghijklmnopqrst"),
 ];
 
-// Whether a sink takes so much of the alphabet, and tells whether it took all.
+// Whether a sink takes so much of the alphabet, and tells whether it took all; its flush fails apart from that.
 fn takes(sink: &mut CutSink, taken: &[u8]) -> bool {
     let is_whole = write_all(sink, ALPHABET).is_ok();
-    sink.taken() == taken && is_whole == (taken == ALPHABET)
+    sink.taken() == taken && is_whole == (taken == ALPHABET) && sink.flush() == Err(Broken)
 }
 
 #[test]
 fn a_sink_takes_all_or_fails_after_a_prefix(rt: HostRuntime) {
     for (room, most, taken) in WRITES {
-        let mut sink = CutSink::new(rt.alloc(), *room).in_pieces(*most);
+        let mut sink = CutSink::new(rt.alloc(), *room)
+            .in_pieces(*most)
+            .with_failing_flush();
         assert!(rt; takes(&mut sink, taken));
     }
 }
 
-// Whether a full sink whose flush fails refuses a byte, and takes none.
-fn fails_to_flush(sink: &mut CutSink) -> bool {
-    sink.flush() == Err(Broken) && sink.write(b"d") == Err(Broken) && sink.write(b"") == Ok(0)
+// A device of which every other call fails, the first one too.
+#[derive(Drop)]
+struct Halting {
+    is_halted: bool,
+    error: ErrorKind,
+    given: &'static [u8],
+    taken: Vec<u8>,
+}
+
+fn device(alloc: Global, error: ErrorKind) -> Halting {
+    Halting {
+        is_halted: false,
+        error,
+        given: ALPHABET,
+        taken: Vec::new(alloc),
+    }
+}
+
+impl Halting {
+    fn turn(&mut self) -> io::Result<()> {
+        self.is_halted = !self.is_halted;
+        if self.is_halted {
+            Err(io::Error::from(self.error))
+        } else {
+            Ok(())
+        }
+    }
+}
+
+impl Read for Halting {
+    fn read(&mut self, buf: &mut [u8]) -> io::Result<usize> {
+        self.turn()?;
+        self.given.read(buf)
+    }
+}
+
+impl Write for Halting {
+    fn write(&mut self, buf: &[u8]) -> io::Result<usize> {
+        self.turn()?;
+        self.taken.write(buf)
+    }
+
+    // Shows by a full stop that it was reached.
+    fn flush(&mut self) -> io::Result<()> {
+        self.turn()?;
+        self.taken.write_all(b".")
+    }
+}
+
+// What is read of the device, and what it is left with.
+fn read(alloc: Global, error: ErrorKind) -> Result<Vec<u8>, ReadFault> {
+    let mut source = StdSource::new(device(alloc, error));
+    let mut all = read_all(alloc, &mut source)?;
+    all.extend_from_slice(source.into_inner().given)?;
+    Ok(all)
+}
+
+// What the device took. The flush after a write that was taken fails, and the next does not.
+fn written(alloc: Global, error: ErrorKind) -> Result<Vec<u8>, Broken> {
+    let mut sink = StdSink::new(device(alloc, error));
+    write_all(&mut sink, ALPHABET)?;
+    if sink.flush() == Err(Broken) {
+        sink.flush()?;
+    }
+    Ok(sink.into_inner().taken)
 }
 
 #[test]
-fn a_flush_fails_apart_from_the_writes(rt: HostRuntime) {
-    let mut sink = CutSink::new(rt.alloc(), Some(3)).with_failing_flush();
-    assert!(rt; write_all(&mut sink, b"abc").is_ok() && fails_to_flush(&mut sink));
-    assert_equal(&rt, sink.taken(), b"abc".as_slice());
-}
-
-fn written(alloc: Global) -> Result<Vec<u8>, Broken> {
-    let mut sink = StdSink::new(Vec::new(alloc));
-    write_and_flush(&mut sink)?;
-    Ok(sink.into_inner())
-}
-
-#[test]
-fn writers_of_std_are_sinks(rt: HostRuntime) -> Result<(), Fail> {
-    assert_equal(&rt, written(rt.alloc())?.as_slice(), ALPHABET);
+fn calls_that_a_signal_interrupts_are_made_again(rt: HostRuntime) -> Result<(), Fail> {
+    let error = ErrorKind::Interrupted;
+    assert_equal(&rt, read(rt.alloc(), error)?.as_slice(), ALPHABET);
+    assert_equal(
+        &rt,
+        written(rt.alloc(), error)?.as_slice(),
+        b"abcdefghijklmnopqrstuvwxyz.".as_slice(),
+    );
     Ok(())
 }
 
-fn is_broken<S: Sink>(sink: &mut S) -> bool {
-    write_all(sink, b"a") == Err(Broken)
-}
-
 #[test]
-fn writers_that_fail_are_broken(rt: HostRuntime) {
-    assert_equal(&rt, StdSink::new(Unplugged).flush(), Err(Broken));
-    assert!(rt; is_broken(&mut StdSink::new(Unplugged)) && is_broken(&mut StdSink::new(Full)));
+fn devices_that_fail_are_broken(rt: HostRuntime) {
+    let error = ErrorKind::BrokenPipe;
+    assert_equal(&rt, read(rt.alloc(), error).err(), Some(ReadFault::Read));
+    assert_equal(&rt, written(rt.alloc(), error).err(), Some(Broken));
 }

@@ -13,6 +13,8 @@ mod devices;
 #[cfg(test)]
 mod equal;
 #[cfg(test)]
+mod faults;
+#[cfg(test)]
 mod names;
 #[cfg(test)]
 mod parts;

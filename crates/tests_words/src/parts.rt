@@ -1,6 +1,6 @@
 //! Inputs divided into their parts, and the first lines with which no input goes on.
 use crate::equal::assert_equal;
-use metric_parts::{InputFault, Needs, Parts, Script, one_reading, parts_of};
+use metric_parts::{Needs, Parts, Script, one_reading, parts_of};
 use metric_text::lines;
 use std::alloc::Global;
 use std::test::Fail;
@@ -25,124 +25,88 @@ const REPLAY: Needs = Needs {
     script: true,
 };
 
-// The lines of a script with their numbers, and the number after the last.
+// Each line of a script, and the number of the line after the last.
 fn write_script(out: &mut String, script: &Script<'_>) -> Result<(), Fail> {
-    for (place, line) in script.lines().iter().enumerate() {
-        let number = script.line_number(place);
-        let text = str::from_utf8(line)?;
-        write!(out, "{number}:{text} ")?;
+    for line in script.lines() {
+        out.push_str(str::from_utf8(line)?)?;
+        out.push('/')?;
     }
     let end = script.line_number(script.lines().len());
     Ok(write!(out, "{end}")?)
 }
 
-// The parts that not every command needs, `-` where there is none.
-fn write_others(out: &mut String, parts: &Parts<'_>) -> Result<(), Fail> {
+// Each part as it was read, `-` where a certificate is not needed.
+fn shown(alloc: Global, parts: &Parts<'_>) -> Result<String, Fail> {
+    let catalogue = parts.catalogue.as_str();
+    let config = parts.config.as_str();
     let certificate = match &parts.certificate {
         Some(text) => text.as_str(),
         None => "-",
     };
-    write!(out, "[{certificate}][")?;
-    match &parts.script {
-        Some(script) => write_script(out, script)?,
-        None => out.push('-')?,
+    let mut out = format!(in alloc; "[{catalogue}][{config}][{certificate}]")?;
+    if let Some(script) = &parts.script {
+        write_script(&mut out, script)?;
     }
-    Ok(out.push(']')?)
-}
-
-// Each part as it was read.
-fn shown(alloc: Global, parts: &Parts<'_>) -> Result<String, Fail> {
-    let catalogue = parts.catalogue.as_str();
-    let config = parts.config.as_str();
-    let mut out = format!(in alloc; "[{catalogue}][{config}]")?;
-    write_others(&mut out, parts)?;
     Ok(out)
 }
 
 // What is read of lines, or their fault as it is printed.
-fn told_of(alloc: Global, lines: &[&[u8]], needs: Needs) -> Result<String, Fail> {
+fn told(alloc: Global, lines: &[&[u8]], needs: Needs) -> Result<String, Fail> {
     match parts_of(alloc, lines, needs) {
         Ok(parts) => shown(alloc, &parts),
         Err(fault) => Ok(fault.to_string(alloc)?),
     }
 }
 
-fn told(alloc: Global, input: &[u8], needs: Needs) -> Result<String, Fail> {
-    let lines = lines(alloc, input)?;
-    told_of(alloc, &lines, needs)
-}
+const ALL: &[u8] =
+    b"%% catalogue\nformat = 1\n\n%% config\nformat = 1\n%% certificate\nformat = 2\n%% script\nstart 0\n# x\n";
 
-const ALL: &str =
-    "%% catalogue\nformat = 1\n\n%% config\nformat = 1\n%% certificate\nformat = 2\n%% script\nstart 0\n# x\n";
-
-const READ: &[(&str, Needs, &str)] = &[
-    (ALL, MAKE, "[format = 1\n][format = 1][-][-]"),
-    (ALL, CHECK, "[format = 1\n][format = 1][format = 2][-]"),
-    (
-        ALL,
-        TRIAL,
-        "[format = 1\n][format = 1][-][9:start 0 10:# x 11]",
-    ),
+// Inputs, and what is read of them for what a command needs.
+const INPUTS: &[(&[u8], Needs, &str)] = &[
+    (ALL, MAKE, "[format = 1\n][format = 1][-]"),
+    (ALL, CHECK, "[format = 1\n][format = 1][format = 2]"),
+    (ALL, TRIAL, "[format = 1\n][format = 1][-]start 0/# x/11"),
     (
         ALL,
         REPLAY,
-        "[format = 1\n][format = 1][format = 2][9:start 0 10:# x 11]",
+        "[format = 1\n][format = 1][format = 2]start 0/# x/11",
     ),
-    ("%% catalogue\n%% config\n%% script", TRIAL, "[][][-][4]"),
+    (b"%% catalogue\n%% config\n%% script", TRIAL, "[][][-]4"),
     // Lines are joined by line feeds, and a carriage return is dropped before one.
     (
-        "%% catalogue\r\na = \"\"\"\r\nb\"\"\"\r\n%% config\r\n\r\nc\r\r\nd",
+        b"%% catalogue\r\na = \"\"\"\r\nb\"\"\"\r\n%% config\r\n\r\nc\r\r\nd",
         MAKE,
-        "[a = \"\"\"\nb\"\"\"][\nc\r\nd][-][-]",
+        "[a = \"\"\"\nb\"\"\"][\nc\r\nd][-]",
     ),
     // What only looks like a header is contents.
-    ("%% catalogue\n%%\n%% config\n", MAKE, "[%%][][-][-]"),
+    (b"%% catalogue\n%%\n%% config\n", MAKE, "[%%][][-]"),
     (
-        "%% catalogue\n%%script\n%% config\n",
+        b"%% catalogue\n%%script\n%% config\n",
         MAKE,
-        "[%%script][][-][-]",
+        "[%%script][][-]",
     ),
     (
-        "%% catalogue\n %% script\n%% config\n",
+        b"%% catalogue\n %% script\n%% config\n",
         MAKE,
-        "[ %% script][][-][-]",
+        "[ %% script][][-]",
+    ),
+    (b"%% catalogue\n# %% x\n%% config\n", MAKE, "[# %% x][][-]"),
+    (
+        b"%% catalogue\n%%\tconfig\n%% config\n",
+        MAKE,
+        "[%%\tconfig][][-]",
+    ),
+    (b"%% catalogue\r\n%% config\r\n", MAKE, "[][][-]"),
+    (
+        b"%% catalogue\n%% config\n%% script\nanything\n",
+        MAKE,
+        "[][][-]",
     ),
     (
-        "%% catalogue\n# %% x\n%% config\n",
+        b"%% catalogue\n%% config\n%% certificate\nanything\n",
         MAKE,
-        "[# %% x][][-][-]",
+        "[][][-]",
     ),
-    (
-        "%% catalogue\n%%\tconfig\n%% config\n",
-        MAKE,
-        "[%%\tconfig][][-][-]",
-    ),
-    ("%% catalogue\r\n%% config\r\n", MAKE, "[][][-][-]"),
-    (
-        "%% catalogue\n%% config\n%% script\nanything\n",
-        MAKE,
-        "[][][-][-]",
-    ),
-    (
-        "%% catalogue\n%% config\n%% certificate\nanything\n",
-        MAKE,
-        "[][][-][-]",
-    ),
-];
-
-#[test]
-fn the_parts_that_are_needed_are_read(rt: HostRuntime) -> Result<(), Fail> {
-    for (text, needs, wanted) in READ {
-        assert_equal(
-            &rt,
-            (text, told(rt.alloc(), text.as_bytes(), *needs)?.as_str()),
-            (text, *wanted),
-        );
-    }
-    Ok(())
-}
-
-const FAULTY: &[(&[u8], Needs, &str)] = &[
     // The first line is the catalogue's header, and nothing else.
     (b"", MAKE, "input line 1"),
     (b"\n", MAKE, "input line 1"),
@@ -272,24 +236,13 @@ const FAULTY: &[(&[u8], Needs, &str)] = &[
 ];
 
 #[test]
-fn the_first_line_with_which_no_input_goes_on_is_told(rt: HostRuntime) -> Result<(), Fail> {
-    for (input, needs, wanted) in FAULTY {
-        assert_equal(
-            &rt,
-            (input, told(rt.alloc(), input, *needs)?.as_str()),
-            (input, *wanted),
-        );
-    }
-    Ok(())
-}
-
-#[test]
-fn want_of_memory_is_printed(rt: HostRuntime) -> Result<(), Fail> {
+fn parts_are_read_up_to_the_first_line_with_which_no_input_goes_on(
+    rt: HostRuntime,
+) -> Result<(), Fail> {
     one_reading();
-    assert_equal(
-        &rt,
-        InputFault::Memory.to_string(rt.alloc())?.as_str(),
-        "memory",
-    );
+    for (input, needs, wanted) in INPUTS {
+        let lines = lines(rt.alloc(), input)?;
+        assert_equal(&rt, told(rt.alloc(), &lines, *needs)?.as_str(), *wanted);
+    }
     Ok(())
 }

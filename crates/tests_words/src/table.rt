@@ -1,15 +1,15 @@
 //! The fields of a table, read by each reader, with its faults.
 use crate::equal::assert_equal;
-use metric_base::Items;
 use metric_table::{
-    FieldFaults, flag_or, format_field, integer_of, integers_of, list_of, member, only,
-    optional_text, required, short_text, table_of, tables_field, text_field, text_of, texts_of,
+    FieldFaults, flag_or, format_field, integer_of, integers_of, list_of, only, optional_text,
+    required, short_text, table_of, tables_field, text_field, text_of, texts_of,
 };
 use std::alloc::{AllocError, Global};
+use std::fmt::Debug;
 use std::test::Fail;
 use toml::{Table, Value};
 
-#[derive(Clone, Copy, Debug, PartialEq)]
+#[derive(Clone, Copy, Debug)]
 enum Fault {
     Missing,
     WrongKind,
@@ -30,179 +30,138 @@ const FAULTS: FieldFaults<Fault> = FieldFaults {
 fn table(alloc: Global) -> Result<Table, Fail> {
     Ok(toml::table_from_str(
         alloc,
-        "format = 1\nname = \"é\"\nflag = true\nnumbers = [3, -1]\ntexts = [\"a\", \"\"]\nrow = [{a = 1}, {}]\n",
+        "format = 1\nname = \"é\"\nflag = true\nnumbers = [3, -1]\ntexts = [\"a\", \"\"]\nrow = [{a = 1}, {}]\none = {a = 1}\n",
     )?)
 }
 
-// Whether a field is read so, where it is needed and where it is optional.
-fn reads_text(
-    table: &Table,
-    name: &str,
-    needed: Result<&str, Fault>,
-    optional: Result<Option<&str>, Fault>,
-) -> bool {
-    text_field(table, name, &FAULTS) == needed && optional_text(table, name, &FAULTS) == optional
+// An answer as it is printed.
+fn shown<T: Debug + Drop>(alloc: Global, answer: Result<T, Fault>) -> Result<String, AllocError> {
+    format!(in alloc; "{answer:?}")
 }
 
+// A reader of a table, with the names that it is given.
+enum OfTable {
+    Only(&'static [&'static str]),
+    Format,
+    Text(&'static str),
+    OptionalText(&'static str),
+    Flag(&'static str),
+    Tables(&'static str),
+}
+
+// What a reader answers; a flag that is not there is false, and a list has at most two tables.
+fn told_of_table(alloc: Global, table: &Table, reader: &OfTable) -> Result<String, AllocError> {
+    match reader {
+        OfTable::Only(names) => shown(alloc, only(table, names, &FAULTS)),
+        OfTable::Format => shown(alloc, format_field(table, &FAULTS)),
+        OfTable::Text(name) => shown(alloc, text_field(table, name, &FAULTS)),
+        OfTable::OptionalText(name) => shown(alloc, optional_text(table, name, &FAULTS)),
+        OfTable::Flag(name) => shown(alloc, flag_or(table, name, false, &FAULTS)),
+        OfTable::Tables(name) => shown(alloc, tables_field(alloc, table, name, 2, &FAULTS)),
+    }
+}
+
+const ALL: &[&str] = &["format", "name", "flag", "numbers", "texts", "row", "one"];
+
+const OF_TABLE: &[(OfTable, &str)] = &[
+    (OfTable::Only(ALL), "Ok(())"),
+    (OfTable::Only(&["format"]), "Err(Unknown)"),
+    (OfTable::Format, "Ok(())"),
+    (OfTable::Text("name"), "Ok(\"é\")"),
+    (OfTable::Text("flag"), "Err(WrongKind)"),
+    (OfTable::Text("absent"), "Err(Missing)"),
+    (OfTable::OptionalText("name"), "Ok(Some(\"é\"))"),
+    (OfTable::OptionalText("flag"), "Err(WrongKind)"),
+    (OfTable::OptionalText("absent"), "Ok(None)"),
+    (OfTable::Flag("flag"), "Ok(true)"),
+    (OfTable::Flag("name"), "Err(WrongKind)"),
+    (OfTable::Flag("absent"), "Ok(false)"),
+    (
+        OfTable::Tables("row"),
+        "Ok(Items { items: [{\"a\": Integer(1)}, {}] })",
+    ),
+    (OfTable::Tables("numbers"), "Err(WrongKind)"),
+    (OfTable::Tables("absent"), "Ok(Items { items: [] })"),
+];
+
 #[test]
-fn texts_are_read(rt: HostRuntime) -> Result<(), Fail> {
+fn fields_are_read(rt: HostRuntime) -> Result<(), Fail> {
     let table = table(rt.alloc())?;
-    for (name, needed, optional) in [
-        ("name", Ok("é"), Ok(Some("é"))),
-        ("flag", Err(Fault::WrongKind), Err(Fault::WrongKind)),
-        ("absent", Err(Fault::Missing), Ok(None)),
-    ] {
-        assert!(rt; reads_text(&table, name, needed, optional), "{name}");
+    for (reader, wanted) in OF_TABLE {
+        let told = told_of_table(rt.alloc(), &table, reader)?;
+        assert_equal(&rt, told.as_str(), *wanted);
     }
     Ok(())
 }
 
-#[test]
-fn flags_are_read(rt: HostRuntime) -> Result<(), Fail> {
-    let table = table(rt.alloc())?;
-    for (name, wanted) in [
-        ("flag", Ok(true)),
-        ("absent", Ok(false)),
-        ("name", Err(Fault::WrongKind)),
-    ] {
-        assert_equal(
-            &rt,
-            (name, flag_or(&table, name, false, &FAULTS)),
-            (name, wanted),
-        );
-    }
-    Ok(())
+// A reader of a value; of a list, with the most values that it may have.
+enum OfValue {
+    Integer,
+    Text,
+    Table,
+    List(usize),
+    Integers(usize),
+    Texts(usize),
 }
 
-const ALL: &[&str] = &["format", "name", "flag", "numbers", "texts", "row"];
-
-#[test]
-fn other_fields_are_refused(rt: HostRuntime) -> Result<(), Fail> {
-    let table = table(rt.alloc())?;
-    for (names, wanted) in [(ALL, Ok(())), (&["format"], Err(Fault::Unknown))] {
-        assert_equal(&rt, only(&table, names, &FAULTS), wanted);
-    }
-    Ok(())
-}
-
-fn has_format_alone(table: &Table) -> bool {
-    format_field(table, &FAULTS).is_ok() && member(table, "absent").is_none()
-}
-
-#[test]
-fn the_format_is_read(rt: HostRuntime) -> Result<(), Fail> {
-    let table = table(rt.alloc())?;
-    assert!(rt; has_format_alone(&table));
-    Ok(())
-}
-
-fn integers(alloc: Global, table: &Table, name: &str, most: usize) -> Result<Items<i64>, Fault> {
-    integers_of(alloc, required(table, name, &FAULTS)?, most, &FAULTS)
-}
-
-// The integers of a list, or the fault.
-fn told(alloc: Global, table: &Table, name: &str, most: usize) -> Result<String, AllocError> {
-    match integers(alloc, table, name, most) {
-        Ok(numbers) => {
-            let numbers = numbers.as_slice();
-            format!(in alloc; "{numbers:?}")
-        }
-        Err(fault) => format!(in alloc; "{fault:?}"),
+fn told_of_value(alloc: Global, value: &Value, reader: &OfValue) -> Result<String, AllocError> {
+    match reader {
+        OfValue::Integer => shown(alloc, integer_of(value, &FAULTS)),
+        OfValue::Text => shown(alloc, text_of(value, &FAULTS)),
+        OfValue::Table => shown(alloc, table_of(value, &FAULTS)),
+        OfValue::List(most) => shown(alloc, list_of(value, *most, &FAULTS)),
+        OfValue::Integers(most) => shown(alloc, integers_of(alloc, value, *most, &FAULTS)),
+        OfValue::Texts(most) => shown(alloc, texts_of(alloc, value, *most, &FAULTS)),
     }
 }
 
-#[test]
-fn lists_of_integers_are_read(rt: HostRuntime) -> Result<(), Fail> {
-    let table = table(rt.alloc())?;
-    for (name, most, wanted) in [
-        ("numbers", 2, "[3, -1]"),
-        ("numbers", 1, "TooMany"),
-        ("texts", 2, "WrongKind"),
-        ("flag", 2, "WrongKind"),
-    ] {
-        assert_equal(&rt, told(rt.alloc(), &table, name, most)?.as_str(), wanted);
-    }
-    Ok(())
-}
+// Fields, and what the readers answer of their values.
+const OF_VALUES: &[(&str, OfValue, &str)] = &[
+    ("format", OfValue::Integer, "Ok(1)"),
+    ("name", OfValue::Integer, "Err(WrongKind)"),
+    ("name", OfValue::Text, "Ok(\"é\")"),
+    ("format", OfValue::Text, "Err(WrongKind)"),
+    ("one", OfValue::Table, "Ok({\"a\": Integer(1)})"),
+    ("row", OfValue::Table, "Err(WrongKind)"),
+    (
+        "texts",
+        OfValue::List(2),
+        "Ok([String(\"a\"), String(\"\")])",
+    ),
+    ("texts", OfValue::List(1), "Err(TooMany)"),
+    ("flag", OfValue::List(2), "Err(WrongKind)"),
+    (
+        "numbers",
+        OfValue::Integers(2),
+        "Ok(Items { items: [3, -1] })",
+    ),
+    ("numbers", OfValue::Integers(1), "Err(TooMany)"),
+    ("texts", OfValue::Integers(2), "Err(WrongKind)"),
+    (
+        "texts",
+        OfValue::Texts(2),
+        "Ok(Items { items: [Text { string: \"a\" }, Text { string: \"\" }] })",
+    ),
+    ("texts", OfValue::Texts(1), "Err(TooMany)"),
+    ("numbers", OfValue::Texts(2), "Err(WrongKind)"),
+];
 
-// Whether a value is read so as an integer and as a text, and is no table.
-fn reads_value(value: &Value, integer: Result<i64, Fault>, text: Result<&str, Fault>) -> bool {
-    integer_of(value, &FAULTS) == integer
-        && text_of(value, &FAULTS) == text
-        && table_of(value, &FAULTS).is_err()
-}
-
 #[test]
-fn values_have_one_kind(rt: HostRuntime) -> Result<(), Fail> {
+fn values_are_read(rt: HostRuntime) -> Result<(), Fail> {
     let table = table(rt.alloc())?;
-    for (name, integer, text) in [
-        ("format", Ok(1), Err(Fault::WrongKind)),
-        ("name", Err(Fault::WrongKind), Ok("é")),
-        ("row", Err(Fault::WrongKind), Err(Fault::WrongKind)),
-    ] {
+    for (name, reader, wanted) in OF_VALUES {
         let value = required(&table, name, &FAULTS)?;
-        assert!(rt; reads_value(value, integer, text), "{name}");
+        let told = told_of_value(rt.alloc(), value, reader)?;
+        assert_equal(&rt, told.as_str(), *wanted);
     }
     Ok(())
-}
-
-// How many texts a list has, which is one of at most two values.
-fn count_of_texts(alloc: Global, table: &Table, name: &str, most: usize) -> Result<usize, Fault> {
-    let value = required(table, name, &FAULTS)?;
-    if list_of(value, 2, &FAULTS).is_err() {
-        return Err(Fault::Unknown);
-    }
-    Ok(texts_of(alloc, value, most, &FAULTS)?.len())
-}
-
-#[test]
-fn lists_of_texts_are_read(rt: HostRuntime) -> Result<(), Fail> {
-    let table = table(rt.alloc())?;
-    for (name, most, wanted) in [
-        ("texts", 2, Ok(2)),
-        ("texts", 1, Err(Fault::TooMany)),
-        ("numbers", 2, Err(Fault::WrongKind)),
-    ] {
-        assert_equal(
-            &rt,
-            (name, count_of_texts(rt.alloc(), &table, name, most)),
-            (name, wanted),
-        );
-    }
-    Ok(())
-}
-
-fn count_of_tables(alloc: Global, table: &Table, name: &str) -> Result<usize, Fault> {
-    Ok(tables_field(alloc, table, name, 2, &FAULTS)?.len())
-}
-
-#[test]
-fn lists_of_tables_are_read(rt: HostRuntime) -> Result<(), Fail> {
-    let table = table(rt.alloc())?;
-    for (name, wanted) in [
-        ("row", Ok(2)),
-        ("absent", Ok(0)),
-        ("numbers", Err(Fault::WrongKind)),
-    ] {
-        assert_equal(
-            &rt,
-            (name, count_of_tables(rt.alloc(), &table, name)),
-            (name, wanted),
-        );
-    }
-    Ok(())
-}
-
-// The fault of a free text of so many characters.
-fn fault_of(alloc: Global, count: usize) -> Result<Option<Fault>, AllocError> {
-    let text = "é".repeat(alloc, count.min(2000))?;
-    Ok(short_text(&text, &FAULTS).err())
 }
 
 #[test]
 fn free_texts_have_at_most_1023_characters(rt: HostRuntime) -> Result<(), Fail> {
-    for (count, fault) in [(1023, None), (1024, Some(Fault::TooMany))] {
-        assert_equal(&rt, fault_of(rt.alloc(), count)?, fault);
+    for (count, is_short) in [(1023, true), (1024, false)] {
+        let text = "é".repeat(rt.alloc(), count)?;
+        assert_equal(&rt, short_text(&text, &FAULTS).is_ok(), is_short);
     }
     Ok(())
 }
