@@ -78,6 +78,11 @@ const INPUTS: &[(&[u8], Needs, &str)] = &[
         MAKE,
         "[a = \"\"\"\nb\"\"\"][\nc\r\nd][-]",
     ),
+    (
+        b"%% catalogue\n%% config\n%% script\na\r\nb\r\r\n\r\n\nc\r",
+        TRIAL,
+        "[][][-]a/b\r///c\r/9",
+    ),
     // What only looks like a header is contents.
     (b"%% catalogue\n%%\n%% config\n", MAKE, "[%%][][-]"),
     (

@@ -1,8 +1,8 @@
 //! The fields of a table, read by each reader, with its faults.
 use crate::equal::assert_equal;
 use metric_table::{
-    FieldFaults, flag_or, format_field, integer_of, integers_of, list_of, only, optional_text,
-    required, short_text, table_of, tables_field, text_field, text_of, texts_of,
+    FieldFaults, flag_or, format_field, integer_of, integers_of, list_of, member, only,
+    optional_text, required, short_text, table_of, tables_field, text_field, text_of, texts_of,
 };
 use std::alloc::{AllocError, Global};
 use std::fmt::Debug;
@@ -26,16 +26,23 @@ const FAULTS: FieldFaults<Fault> = FieldFaults {
     memory: Fault::Memory,
 };
 
+const FIELDS: &str = "\
+format = 1
+name = \"é\"
+flag = true
+numbers = [3, -1]
+texts = [\"a\", \"\"]
+row = [{a = 1}, {}]
+one = {a = 1}
+";
+
 // Promises nothing of the table, so that no test is proved by the parts of its text.
 fn table(alloc: Global) -> Result<Table, Fail> {
-    Ok(toml::table_from_str(
-        alloc,
-        "format = 1\nname = \"é\"\nflag = true\nnumbers = [3, -1]\ntexts = [\"a\", \"\"]\nrow = [{a = 1}, {}]\none = {a = 1}\n",
-    )?)
+    Ok(toml::table_from_str(alloc, FIELDS)?)
 }
 
 // An answer as it is printed.
-fn shown<T: Debug + Drop>(alloc: Global, answer: Result<T, Fault>) -> Result<String, AllocError> {
+fn shown<T: Debug + Drop>(alloc: Global, answer: T) -> Result<String, AllocError> {
     format!(in alloc; "{answer:?}")
 }
 
@@ -43,6 +50,7 @@ fn shown<T: Debug + Drop>(alloc: Global, answer: Result<T, Fault>) -> Result<Str
 enum OfTable {
     Only(&'static [&'static str]),
     Format,
+    Member(&'static str),
     Text(&'static str),
     OptionalText(&'static str),
     Flag(&'static str),
@@ -54,6 +62,7 @@ fn told_of_table(alloc: Global, table: &Table, reader: &OfTable) -> Result<Strin
     match reader {
         OfTable::Only(names) => shown(alloc, only(table, names, &FAULTS)),
         OfTable::Format => shown(alloc, format_field(table, &FAULTS)),
+        OfTable::Member(name) => shown(alloc, member(table, name)),
         OfTable::Text(name) => shown(alloc, text_field(table, name, &FAULTS)),
         OfTable::OptionalText(name) => shown(alloc, optional_text(table, name, &FAULTS)),
         OfTable::Flag(name) => shown(alloc, flag_or(table, name, false, &FAULTS)),
@@ -67,6 +76,8 @@ const OF_TABLE: &[(OfTable, &str)] = &[
     (OfTable::Only(ALL), "Ok(())"),
     (OfTable::Only(&["format"]), "Err(Unknown)"),
     (OfTable::Format, "Ok(())"),
+    (OfTable::Member("format"), "Some(Integer(1))"),
+    (OfTable::Member("absent"), "None"),
     (OfTable::Text("name"), "Ok(\"é\")"),
     (OfTable::Text("flag"), "Err(WrongKind)"),
     (OfTable::Text("absent"), "Err(Missing)"),

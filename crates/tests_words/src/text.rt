@@ -164,7 +164,7 @@ fn push_numbers(out: &mut Vec<u8>) -> Result<(), AllocError> {
     push_labelled(out, " name=", "a\"b")
 }
 
-fn push_text(out: &mut Vec<u8>, text: &Text) -> Result<(), AllocError> {
+fn push_texts(out: &mut Vec<u8>, text: &Text) -> Result<(), AllocError> {
     push_list(out, slice::from_ref(text))?;
     push_quoted(out, text.as_str())
 }
@@ -178,7 +178,7 @@ fn push_pairs(out: &mut Vec<u8>, value: &AttrValue) -> Result<(), AllocError> {
 fn lists(alloc: Global) -> Result<Vec<u8>, AllocError> {
     let mut out = Vec::new(alloc);
     push_numbers(&mut out)?;
-    push_text(&mut out, &Text::new(alloc, "k")?)?;
+    push_texts(&mut out, &Text::new(alloc, "k")?)?;
     push_pairs(&mut out, &AttrValue::Flag(true))?;
     Ok(out)
 }
