@@ -1,18 +1,17 @@
 //! The answers of seats in one thread beside the replies of a core.
 use crate::equal::assert_equal;
 use crate::samples::{BOTH, CODES, HITS, MAIN};
-use crate::seats::{Seats, seats_of};
+use crate::seats::{BookSeats, seats_of};
 use crate::texts::write_reply;
 use metric_book::{Book, JournalBook};
 use metric_core::Core;
 use metric_history::{Event, Reply};
 use metric_marked::Marked;
 use metric_parts::{Needs, parts_of};
-use metric_plan::Plan;
 use metric_script::{ScriptEvents, events_of};
 use metric_sdk::certified_plan;
 use metric_text::lines;
-use std::alloc::Global;
+use std::alloc::{AllocError, Global};
 use std::sync::Wait;
 use std::test::Fail;
 
@@ -21,8 +20,8 @@ const SCRIPT: Needs = Needs {
     script: true,
 };
 
-fn script_of(alloc: Global, script: &str) -> Result<ScriptEvents, Fail> {
-    let input = format!(in alloc; "%% catalogue\n%% config\n%% script\n{script}")?;
+/// The events of an input whose only part with lines is the script.
+pub(crate) fn script_of(alloc: Global, input: &str) -> Result<ScriptEvents, Fail> {
     let lines = lines(alloc, input.as_bytes())?;
     script_in(alloc, &lines)
 }
@@ -35,42 +34,46 @@ fn script_in(alloc: Global, lines: &[&[u8]]) -> Result<ScriptEvents, Fail> {
     }
 }
 
-fn core_of<B: Book>(alloc: Global, plan: Plan, since: u64) -> Result<Core<B>, Fail> {
-    match Core::new(alloc, plan, since) {
-        Ok(core) => Ok(core),
+fn write_replies(out: &mut String, replies: &[Reply]) -> Result<(), AllocError> {
+    for reply in replies {
+        write_reply(out, reply)?;
+    }
+    Ok(())
+}
+
+fn write_run<B: Book>(
+    out: &mut String,
+    alloc: Global,
+    core: &mut Core<B>,
+    events: &[Event],
+) -> Result<(), AllocError> {
+    let replies = core.run(alloc, events)?;
+    write_replies(out, &replies)
+}
+
+// Writes a line for the reply of a core to each event.
+fn write_core<B: Book>(
+    out: &mut String,
+    alloc: Global,
+    sample: &Sample,
+    script: &ScriptEvents,
+) -> Result<(), Fail> {
+    let plan = certified_plan(alloc, sample.catalogue, sample.config)?;
+    match Core::<B>::new(alloc, plan, script.start) {
+        Ok(mut core) => Ok(write_run(out, alloc, &mut core, script.events.as_slice())?),
         Err(_) => Err(Fail::from("memory")),
     }
 }
 
-// A line for each reply.
-fn replies_text(alloc: Global, replies: &[Reply]) -> Result<String, Fail> {
-    let mut out = String::new(alloc);
-    for reply in replies {
-        write_reply(&mut out, reply)?;
-    }
-    Ok(out)
-}
-
-fn told_by<B: Book>(alloc: Global, core: &mut Core<B>, events: &[Event]) -> Result<String, Fail> {
-    let replies = core.run(alloc, events)?;
-    replies_text(alloc, &replies)
-}
-
-// A line for the reply of a core to each event.
-fn of_core<B: Book>(alloc: Global, sample: &Sample, script: &ScriptEvents) -> Result<String, Fail> {
-    let plan = certified_plan(alloc, sample.catalogue, sample.config)?;
-    let mut core: Core<B> = core_of(alloc, plan, script.start)?;
-    told_by(alloc, &mut core, script.events.as_slice())
-}
-
-// A line for the answer of a seat or the provider to each event.
-fn of_seats<R: Wait, B: Book>(
+// Writes a line for the answer of a seat or the provider to each event.
+fn write_seats<R: Wait, B: Book>(
+    out: &mut String,
     rt: &R,
     alloc: Global,
     sample: &Sample,
     script: &ScriptEvents,
-) -> Result<String, Fail> {
-    let mut seats: Seats<B> = seats_of(
+) -> Result<(), Fail> {
+    let mut seats: BookSeats<B> = seats_of(
         rt,
         alloc,
         sample.catalogue,
@@ -78,7 +81,7 @@ fn of_seats<R: Wait, B: Book>(
         script.start,
         1,
     )?;
-    seats.told(rt, alloc, script.events.as_slice())
+    Ok(seats.write_answers(out, rt, alloc, script.events.as_slice())?)
 }
 
 struct Sample {
@@ -123,7 +126,10 @@ const SAMPLES: &[Sample] = &[
     Sample {
         catalogue: ROUTES,
         config: MAIN,
-        script: "start 0
+        script: "%% catalogue
+%% config
+%% script
+start 0
 record 0 0 5 \"route\"=\"/b\"
 record 0 0 1 \"route\"=\"/a\"
 record 0 0 2 \"route\"=\"/b\"
@@ -140,7 +146,10 @@ accepted
     Sample {
         catalogue: HITS,
         config: BOTH,
-        script: "start 0
+        script: "%% catalogue
+%% config
+%% script
+start 0
 record 0 0 5
 collect 1 0 10
 record 0 0 7
@@ -159,7 +168,10 @@ accepted
     Sample {
         catalogue: SMALL,
         config: MAIN,
-        script: "start 0
+        script: "%% catalogue
+%% config
+%% script
+start 0
 record 0 0 4
 record 0 0 4
 record 0 0 4
@@ -177,59 +189,86 @@ done
 8 Closed
 ",
     },
+    // The first refusal comes, in the order of their numbers, and all budget is left.
     Sample {
         catalogue: CODES,
         config: MAIN,
-        script: "start 0
+        script: "%% catalogue
+%% config
+%% script
+start 0
 record 0 1 1
+record 0 1 10 \"zone\"=1 \"zone\"=1
 record 0 0 1 \"route\"=\"/a\" \"route\"=\"/b\"
+record 0 0 10 \"zone\"=1 \"zone\"=1
 record 0 0 1 \"zone\"=1 \"route\"=\"/b\"
+record 0 0 10 \"zone\"=1 \"code\"=404
 record 0 0 1 \"route\"=\"/a\" \"code\"=\"200\"
+record 0 0 10 \"code\"=404
 record 0 0 1 \"code\"=200
+record 0 0 10 \"code\"=200
+record 0 0 10 \"route\"=\"/a\"
+record 0 0 1 \"route\"=\"/a\"
+record 0 0 10 \"route\"=\"/a\"
+record 0 0 1 \"route\"=\"/a\"
+close 0
 record 0 0 10 \"route\"=\"/a\"
 record 0 0 1 \"route\"=\"/a\"
 collect 0 1 5
 close 1
 ",
         answers: "1 UnknownInstrument
+1 UnknownInstrument
+3 DuplicateKey
 3 DuplicateKey
 4 UnknownKey
+4 UnknownKey
 5 UnknownValue
+5 UnknownValue
+6 MissingKey
 6 MissingKey
 7 ValueRange
 accepted
+7 ValueRange
+9 Budget
+done
+7 ValueRange
+8 Closed
 1 UnknownInstrument
 1 UnknownInstrument
 ",
     },
 ];
 
-// The first answers, of a core or of seats, that are not those of the sample.
-fn other_answers<R: Wait, B: Book>(
+// Writes the answers of seats after those of a core.
+fn write_both<R: Wait, B: Book>(
+    out: &mut String,
     rt: &R,
     alloc: Global,
     sample: &Sample,
-) -> Result<Option<String>, Fail> {
+) -> Result<(), Fail> {
     let script = script_of(alloc, sample.script)?;
-    let core = of_core::<B>(alloc, sample, &script)?;
-    if core.as_str() != sample.answers {
-        return Ok(Some(core));
-    }
-    let seats = of_seats::<R, B>(rt, alloc, sample, &script)?;
-    Ok(if seats.as_str() == sample.answers {
-        None
-    } else {
-        Some(seats)
-    })
+    write_core::<B>(out, alloc, sample, &script)?;
+    write_seats::<R, B>(out, rt, alloc, sample, &script)
+}
+
+// The answers of a core and of seats over each book, one after the other.
+fn told<R: Wait>(rt: &R, alloc: Global, sample: &Sample) -> Result<String, Fail> {
+    let mut out = String::new(alloc);
+    write_both::<R, JournalBook>(&mut out, rt, alloc, sample)?;
+    write_both::<R, Marked>(&mut out, rt, alloc, sample)?;
+    Ok(out)
 }
 
 #[test]
 fn seats_answer_as_core(rt: HostRuntime) -> Result<(), Fail> {
     for sample in SAMPLES {
-        let other = other_answers::<_, JournalBook>(&rt, rt.alloc(), sample)?;
-        assert_equal(&rt, other, None);
-        let other = other_answers::<_, Marked>(&rt, rt.alloc(), sample)?;
-        assert_equal(&rt, other, None);
+        let wanted = sample.answers.repeat(rt.alloc(), 4)?;
+        assert_equal(
+            &rt,
+            told(&rt, rt.alloc(), sample)?.as_str(),
+            wanted.as_str(),
+        );
     }
     Ok(())
 }

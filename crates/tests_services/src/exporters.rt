@@ -1,12 +1,13 @@
 //! Runs of calls on exporters: what each call answers, and what the sink took.
-use crate::counted_sink::sink_of;
 use crate::equal::assert_equal;
-use crate::sample_batch::{SampleBatch, TEXT};
-use crate::wavering::WaveringExporter;
-use metric_export::{ExportFault, ExporterState, MetricExporter, TextExporter, write_batch};
+use crate::samples::FIVE;
+use crate::seats::{Seats, hit_once};
+use metric_export::{ExportFault, MetricExporter, TextExporter};
+use metric_history::Batch;
 use metric_io::CutSink;
-use std::alloc::Global;
-use std::process::Abort;
+use metric_plan::Plan;
+use std::alloc::{AllocError, Global};
+use std::sync::Wait;
 use std::test::Fail;
 
 #[derive(Clone, Copy)]
@@ -16,63 +17,17 @@ enum Call {
     ShutDown,
 }
 
-fn answer_to<E: MetricExporter>(
-    alloc: Global,
-    exporter: &mut E,
-    sample: &SampleBatch,
-    call: Call,
-) -> Result<(), ExportFault> {
-    match call {
-        Call::Export => exporter.export(alloc, &sample.plan, &sample.batch),
-        Call::Flush => exporter.force_flush(),
-        Call::ShutDown => exporter.shutdown(),
-    }
-}
-
-fn push_answer(out: &mut String, answer: Result<(), ExportFault>) -> Result<(), Fail> {
-    match answer {
-        Ok(()) => out.push_str("ok ")?,
-        Err(fault) => write!(out, "{fault} ")?,
-    }
-    Ok(())
-}
-
-// What the calls answer.
-fn answers<E: MetricExporter>(
-    alloc: Global,
-    exporter: &mut E,
-    sample: &SampleBatch,
-    calls: &[Call],
-) -> Result<String, Fail> {
-    let mut out = String::new(alloc);
-    for call in calls {
-        push_answer(&mut out, answer_to(alloc, exporter, sample, *call))?;
-    }
-    Ok(out)
-}
-
-// Calls of an exporter over a sink that has so much room and flushes or not, and what comes of them: the answers, the
-// exporter's state, how often the sink is called, and how many bytes of the text it holds.
+// How much room the sink has and whether flushes work, the calls of an exporter of texts, what it then holds, and what is
+// told: the answers, the exporter's state, and whether it holds that.
 struct Run {
     room: Option<usize>,
     flushes: bool,
     calls: &'static [Call],
-    answers: &'static str,
-    state: ExporterState,
-    called: u64,
-    held: usize,
+    held: &'static str,
+    told: &'static str,
 }
 
 const RUNS: &[Run] = &[
-    Run {
-        room: None,
-        flushes: true,
-        calls: &[Call::Export, Call::Export],
-        answers: "ok ok ",
-        state: ExporterState::Open,
-        called: 2,
-        held: 2 * TEXT.len(),
-    },
     Run {
         room: None,
         flushes: true,
@@ -84,131 +39,136 @@ const RUNS: &[Run] = &[
             Call::ShutDown,
             Call::Flush,
         ],
-        answers: "ok ok ok 2 ShutDown 2 ShutDown 2 ShutDown ",
-        state: ExporterState::ShutDown,
-        called: 3,
-        held: TEXT.len(),
+        held: FIVE,
+        told: "ok ok ok 2 ShutDown 2 ShutDown 2 ShutDown ShutDown true",
     },
-    // The first bytes are `collected 10 1`, a line feed and `strea`.
     Run {
         room: Some(20),
         flushes: true,
         calls: &[Call::Export, Call::Export, Call::Flush],
-        answers: "1 Write 1 Write 1 Write ",
-        state: ExporterState::Broken,
-        called: 2,
-        held: 20,
-    },
-    Run {
-        room: Some(20),
-        flushes: true,
-        calls: &[Call::Export, Call::ShutDown, Call::Export],
-        answers: "1 Write 1 Write 2 ShutDown ",
-        state: ExporterState::ShutDown,
-        called: 2,
-        held: 20,
-    },
-    Run {
-        room: Some(0),
-        flushes: false,
-        calls: &[Call::Flush, Call::Export],
-        answers: "1 Write 1 Write ",
-        state: ExporterState::Broken,
-        called: 1,
-        held: 0,
+        held: "collected 10 1\nstrea",
+        told: "1 Write 1 Write 1 Write Broken true",
     },
     Run {
         room: None,
         flushes: false,
+        calls: &[Call::Export, Call::Flush, Call::Export],
+        held: FIVE,
+        told: "ok 1 Write 1 Write Broken true",
+    },
+    Run {
+        room: Some(0),
+        flushes: false,
         calls: &[Call::ShutDown, Call::Export],
-        answers: "1 Write 2 ShutDown ",
-        state: ExporterState::ShutDown,
-        called: 1,
-        held: 0,
+        held: "",
+        told: "1 Write 2 ShutDown ShutDown true",
     },
 ];
 
-// The calls of a run come to what it says.
-fn assert_run<R: Abort>(
+// The faults of exporters, in the order of their numbers.
+const FAULTS: &[ExportFault] = &[
+    ExportFault::Write,
+    ExportFault::ShutDown,
+    ExportFault::Memory,
+];
+
+fn write_answer(out: &mut String, answer: Result<(), ExportFault>) -> Result<(), AllocError> {
+    match answer {
+        Ok(()) => out.push_str("ok "),
+        Err(fault) => write!(out, "{fault} "),
+    }
+}
+
+fn write_answers<E: MetricExporter>(
+    out: &mut String,
+    alloc: Global,
+    exporter: &mut E,
+    plan: &Plan,
+    batch: &Batch,
+    calls: &[Call],
+) -> Result<(), AllocError> {
+    for call in calls {
+        let answer = match call {
+            Call::Export => exporter.export(alloc, plan, batch),
+            Call::Flush => exporter.force_flush(),
+            Call::ShutDown => exporter.shutdown(),
+        };
+        write_answer(out, answer)?;
+    }
+    Ok(())
+}
+
+/// A sink that has room for so many bytes, and of which flushes fail or not.
+pub(crate) fn sink_of(alloc: Global, room: Option<usize>, flushes: bool) -> CutSink {
+    let sink = CutSink::new(alloc, room);
+    if flushes {
+        sink
+    } else {
+        sink.with_failing_flush()
+    }
+}
+
+// Writes the state of an exporter, and whether its sink holds this text.
+fn write_held(
+    out: &mut String,
+    exporter: TextExporter<CutSink>,
+    held: &str,
+) -> Result<(), AllocError> {
+    let state = exporter.state();
+    let sink = exporter.into_inner();
+    let is_held = sink.taken() == held.as_bytes();
+    write!(out, "{state:?} {is_held}")
+}
+
+fn write_run(
+    out: &mut String,
+    alloc: Global,
+    plan: &Plan,
+    batch: &Batch,
+    run: &Run,
+) -> Result<(), AllocError> {
+    let mut exporter = TextExporter::new(sink_of(alloc, run.room, run.flushes));
+    write_answers(out, alloc, &mut exporter, plan, batch, run.calls)?;
+    write_held(out, exporter, run.held)
+}
+
+// Writes a run on the batch of the delta reader.
+fn write_collected<R: Wait>(
+    out: &mut String,
     rt: &R,
     alloc: Global,
-    sample: &SampleBatch,
+    seats: &mut Seats,
     run: &Run,
 ) -> Result<(), Fail> {
-    let mut exporter = TextExporter::new(sink_of(alloc, run.room, run.flushes));
-    let told = answers(alloc, &mut exporter, sample, run.calls)?;
-    assert_equal(rt, told.as_str(), run.answers);
-    assert_equal(rt, exporter.state(), run.state);
-    assert_equal(rt, exporter.sink().calls(), run.called);
-    let sink = exporter.into_inner();
-    assert_equal(rt, sink.taken().len(), run.held);
-    Ok(())
+    let Some(reader) = seats.collectors.last_mut() else {
+        return Err(Fail::from("no reader"));
+    };
+    let batch = reader.collect(rt, alloc, &seats.provider, 0, 10)?;
+    Ok(write_run(out, alloc, seats.provider.plan(), &batch, run)?)
+}
+
+// The same, after a recording of 5.
+fn write_hit<R: Wait>(out: &mut String, rt: &R, alloc: Global, run: &Run) -> Result<(), Fail> {
+    let mut seats = hit_once(rt, alloc, 1)?;
+    write_collected(out, rt, alloc, &mut seats, run)
 }
 
 #[test]
 fn texts_are_exported(rt: HostRuntime) -> Result<(), Fail> {
-    let sample = SampleBatch::new(rt.alloc())?;
     for run in RUNS {
-        assert_run(&rt, rt.alloc(), &sample, run)?;
+        let mut told = String::new(rt.alloc());
+        write_hit(&mut told, &rt, rt.alloc(), run)?;
+        assert_equal(&rt, told.as_str(), run.told);
     }
     Ok(())
 }
 
-// A sink that has so much room takes the front of the text.
-fn assert_front<R: Abort>(
-    rt: &R,
-    alloc: Global,
-    sample: &SampleBatch,
-    room: usize,
-) -> Result<(), Fail> {
-    let mut exporter = TextExporter::new(sink_of(alloc, Some(room), true));
-    let told = answers(alloc, &mut exporter, sample, &[Call::Export])?;
-    assert_equal(rt, told.as_str() == "ok ", room == TEXT.len());
-    assert_equal(
-        rt,
-        Some(exporter.sink().taken()),
-        TEXT.as_bytes().get(..room),
-    );
-    Ok(())
-}
-
 #[test]
-fn what_was_written_is_the_front_of_the_text(rt: HostRuntime) -> Result<(), Fail> {
-    let sample = SampleBatch::new(rt.alloc())?;
-    for room in [0, 1, 20, TEXT.len() - 1, TEXT.len()] {
-        assert_front(&rt, rt.alloc(), &sample, room)?;
+fn faults_are_printed(rt: HostRuntime) -> Result<(), Fail> {
+    let mut printed = String::new(rt.alloc());
+    for fault in FAULTS {
+        write_answer(&mut printed, Err(*fault))?;
     }
-    Ok(())
-}
-
-const WAVERING: &[Call] = &[
-    Call::Export,
-    Call::Export,
-    Call::Export,
-    Call::Flush,
-    Call::ShutDown,
-    Call::Export,
-];
-
-fn wavering_answers(alloc: Global, sample: &SampleBatch) -> Result<String, Fail> {
-    let mut exporter = WaveringExporter::new(alloc, 2);
-    answers(alloc, &mut exporter, sample, WAVERING)
-}
-
-#[test]
-fn an_exporter_may_go_on(rt: HostRuntime) -> Result<(), Fail> {
-    let sample = SampleBatch::new(rt.alloc())?;
-    let told = wavering_answers(rt.alloc(), &sample)?;
-    assert_equal(&rt, told.as_str(), "ok 1 Write ok ok ok 2 ShutDown ");
-    Ok(())
-}
-
-#[test]
-fn a_batch_is_written(rt: HostRuntime) -> Result<(), Fail> {
-    let sample = SampleBatch::new(rt.alloc())?;
-    let mut sink = CutSink::new(rt.alloc(), None).in_pieces(7);
-    let answer = write_batch(rt.alloc(), &mut sink, &sample.plan, &sample.batch);
-    assert_equal(&rt, answer, Ok(()));
-    assert_equal(&rt, sink.taken(), TEXT.as_bytes());
+    assert_equal(&rt, printed.as_str(), "1 Write 2 ShutDown 3 Memory ");
     Ok(())
 }

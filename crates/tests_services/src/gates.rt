@@ -1,11 +1,8 @@
 //! A recording that is held inside its lock, and one of another instrument.
-ghost use Rattle.std.specs.Prelude.{IsTrue};
-
 use crate::equal::assert_equal;
 use crate::samples::{MAIN, PAIR};
 use metric_catalogue::Refusal;
 use metric_marked::Marked;
-use metric_plan::Plan;
 use metric_provider::{Gate, Provider, Recorder, start};
 use metric_sdk::certified_plan;
 use std::alloc::Global;
@@ -26,18 +23,8 @@ struct Flags {
     is_seen: AtomicBool,
 }
 
-impl Flags {
-    fn new() -> Flags {
-        Flags {
-            is_inside: AtomicBool::new(false),
-            is_answered: AtomicBool::new(false),
-            is_seen: AtomicBool::new(false),
-        }
-    }
-}
-
-fn is_set_within(flag: &AtomicBool, turns: u32) -> bool {
-    for _ in 0..turns {
+fn is_set_in_time(flag: &AtomicBool) -> bool {
+    for _ in 0..TURNS {
         if flag.load(Ordering::SeqCst) {
             return true;
         }
@@ -56,7 +43,7 @@ impl Gate for Holding<'_> {
     fn inside<R: Wait>(&self, _rt: &R, instrument: u32) {
         if instrument == 0 {
             self.flags.is_inside.store(true, Ordering::SeqCst);
-            let is_seen = is_set_within(&self.flags.is_answered, TURNS);
+            let is_seen = is_set_in_time(&self.flags.is_answered);
             self.flags.is_seen.store(is_seen, Ordering::SeqCst);
         }
     }
@@ -64,10 +51,14 @@ impl Gate for Holding<'_> {
 
 type Held<'a> = Provider<Marked, Holding<'a>>;
 
-// Records on the first instrument.
-fn record_first<R: Wait>(rt: &R, provider: &Held<'_>, seat: Recorder) -> Result<(), Refusal> {
+fn record<R: Wait>(
+    rt: &R,
+    provider: &Held<'_>,
+    seat: Recorder,
+    instrument: u32,
+) -> Result<(), Refusal> {
     let mut seat = seat;
-    seat.record(rt, provider, 0, &[], 1)
+    seat.record(rt, provider, instrument, &[], 1)
 }
 
 // Records on the second instrument while the first one is held, and tells that it was answered.
@@ -77,38 +68,13 @@ fn record_second<R: Wait>(
     seat: Recorder,
     flags: &Flags,
 ) -> Result<(), Refusal> {
-    let mut seat = seat;
-    is_set_within(&flags.is_inside, TURNS);
-    let answer = seat.record(rt, provider, 1, &[], 1);
+    is_set_in_time(&flags.is_inside);
+    let answer = record(rt, provider, seat, 1);
     flags.is_answered.store(true, Ordering::SeqCst);
     answer
 }
 
 type Answers = (Result<(), Refusal>, Result<(), Refusal>);
-
-// A provider whose first instrument is held, and the seats of its recorders.
-#[derive(Drop)]
-struct HeldSeats<'a> {
-    provider: Held<'a>,
-    recorders: Vec<Recorder>,
-}
-
-fn held_seats<'a, R: Wait>(
-    rt: &R,
-    alloc: Global,
-    plan: Plan,
-    flags: &'a Flags,
-) -> Result<HeldSeats<'a>, Fail>
-    requires { IsTrue plan.is_certified }
-{
-    match start(rt, alloc, plan, 0, 0, Holding { flags }) {
-        Ok((provider, recorders, _)) => Ok(HeldSeats {
-            provider,
-            recorders,
-        }),
-        Err((_, _, refused)) => Err(Fail::from(refused)),
-    }
-}
 
 // What the threads of the two recorders are answered.
 fn both_answers<R: Threads + Wait + Sync>(
@@ -122,30 +88,33 @@ fn both_answers<R: Threads + Wait + Sync>(
     };
     Ok(join(
         rt,
-        move || record_first(rt, provider, first),
+        move || record(rt, provider, first, 0),
         move || record_second(rt, provider, second, flags),
     ))
 }
 
+// What they are answered by a provider whose first instrument is held.
 fn answers<R: Threads + Wait + Sync>(
     rt: &R,
     alloc: Global,
     flags: &Flags,
 ) -> Result<Answers, Fail> {
     let plan = certified_plan(alloc, PAIR, MAIN)?;
-    let HeldSeats {
-        provider,
-        recorders,
-    } = held_seats(rt, alloc, plan, flags)?;
-    both_answers(rt, &provider, recorders, flags)
+    match start(rt, alloc, plan, 0, 0, Holding { flags }) {
+        Ok((provider, recorders, _)) => both_answers(rt, &provider, recorders, flags),
+        Err((_, _, refused)) => Err(Fail::from(refused)),
+    }
 }
 
 #[test]
 fn second_instrument_answers_first(rt: HostRuntime) -> Result<(), Fail> {
-    let flags = Flags::new();
-    let (first, second) = answers(&rt, rt.alloc(), &flags)?;
-    assert_equal(&rt, first, Ok(()));
-    assert_equal(&rt, second, Ok(()));
-    assert!(rt; flags.is_seen.load(Ordering::SeqCst));
+    let flags = Flags {
+        is_inside: AtomicBool::new(false),
+        is_answered: AtomicBool::new(false),
+        is_seen: AtomicBool::new(false),
+    };
+    let answers = answers(&rt, rt.alloc(), &flags)?;
+    let is_seen = flags.is_seen.load(Ordering::SeqCst);
+    assert_equal(&rt, (answers, is_seen), ((Ok(()), Ok(())), true));
     Ok(())
 }

@@ -2,23 +2,13 @@
 //! readers.
 //!
 //! A module has what no clause says: that a seat's call makes its step, that what is given is called through its trait,
-//! and that a call succeeds while memory is there.
+//! and that a call succeeds while memory is there. Most tests have what they are told written as one text, case by case.
 #![tactic(auto)]
 
 #[cfg(test)]
 mod agreement;
 #[cfg(test)]
-mod audits;
-#[cfg(test)]
-mod collections;
-#[cfg(test)]
-mod counted_sink;
-#[cfg(test)]
-mod counter;
-#[cfg(test)]
 mod equal;
-#[cfg(test)]
-mod export_faults;
 #[cfg(test)]
 mod exporters;
 #[cfg(test)]
@@ -26,9 +16,7 @@ mod gates;
 #[cfg(test)]
 mod periods;
 #[cfg(test)]
-mod refusals;
-#[cfg(test)]
-mod sample_batch;
+mod runs;
 #[cfg(test)]
 mod samples;
 #[cfg(test)]
@@ -38,10 +26,6 @@ mod setups;
 #[cfg(test)]
 mod slots;
 #[cfg(test)]
-mod strangers;
-#[cfg(test)]
 mod texts;
 #[cfg(test)]
 mod ticks;
-#[cfg(test)]
-mod wavering;

@@ -1,130 +1,171 @@
 //! Runs of a periodic reader: what is exported, and how the run is counted.
-use crate::counted_sink::sink_of;
 use crate::equal::assert_equal;
-use crate::seats::{Seats, hit_once};
-use crate::wavering::WaveringExporter;
-use metric_export::{ExporterState, ListTicker, MetricExporter, TextExporter, Tick};
-use metric_marked::Marked;
+use crate::exporters::sink_of;
+use crate::samples::FIVE;
+use crate::seats::hit_once;
+use crate::texts::write_numbers;
+use metric_export::{ListTicker, TextExporter, Tick};
+use metric_io::CutSink;
 use metric_periodic::{Periodic, PeriodicEnd};
-use metric_provider::{Collector, NoGate, Provider};
-use std::alloc::Global;
+use metric_provider::Collector;
+use metric_sdk::MeterProvider;
+use std::alloc::{AllocError, Global};
 use std::sync::Wait;
 use std::test::Fail;
 
 const TICKS: &[Tick] = &[Tick::At(10), Tick::At(20), Tick::Stop(30)];
 
-// The end of a run with these ticks and at most so many turns.
-fn end_of<R: Wait, E: MetricExporter>(
+// The text of the delta reader's batch at the start.
+const AT_START: &str = "collected 0 1
+stream reader=\"D\" meter=\"m\" version=\"\" schema=\"\" name=\"hits\" unit=\"\" description=\"\" kind=sum monotonic=yes temporality=delta
+point {} start=0 time=0 value=5
+";
+
+// Whether the provider is that of another run, how many turns there are at most, how much room the sink has and whether
+// flushes work, the text that is held of the first batch and that of the rest, and what is told of the end.
+struct Run {
+    is_elsewhere: bool,
+    turns: u32,
+    room: Option<usize>,
+    flushes: bool,
+    first: &'static str,
+    rest: &'static str,
+    told: &'static str,
+}
+
+const RUNS: &[Run] = &[
+    Run {
+        is_elsewhere: false,
+        turns: 9,
+        room: None,
+        flushes: true,
+        told: "exported 3 failed 0 refused 0 true false true",
+        first: FIVE,
+        rest: "collected 20 0\ncollected 30 0\n",
+    },
+    Run {
+        is_elsewhere: false,
+        turns: 2,
+        room: None,
+        flushes: true,
+        told: "exported 3 failed 0 refused 0 false false true",
+        first: FIVE,
+        rest: "collected 20 0\ncollected 20 0\n",
+    },
+    Run {
+        is_elsewhere: false,
+        turns: 1,
+        room: None,
+        flushes: true,
+        told: "exported 2 failed 0 refused 0 false false true",
+        first: FIVE,
+        rest: "collected 10 0\n",
+    },
+    Run {
+        is_elsewhere: false,
+        turns: 0,
+        room: None,
+        flushes: true,
+        told: "exported 1 failed 0 refused 0 false false true",
+        first: AT_START,
+        rest: "",
+    },
+    Run {
+        is_elsewhere: false,
+        turns: 9,
+        room: None,
+        flushes: false,
+        told: "exported 3 failed 1 refused 0 true false true",
+        first: FIVE,
+        rest: "collected 20 0\ncollected 30 0\n",
+    },
+    Run {
+        is_elsewhere: false,
+        turns: 9,
+        room: Some(20),
+        flushes: true,
+        told: "exported 0 failed 4 refused 0 true false true",
+        first: "collected 10 1\nstrea",
+        rest: "",
+    },
+    Run {
+        is_elsewhere: true,
+        turns: 9,
+        room: None,
+        flushes: true,
+        told: "exported 0 failed 0 refused 3 true true true",
+        first: "",
+        rest: "",
+    },
+];
+
+type End = PeriodicEnd<TextExporter<CutSink>>;
+
+fn end_of<R: Wait>(
     rt: &R,
     alloc: Global,
-    exporter: E,
-    turns: u32,
-    provider: &Provider<Marked, NoGate>,
+    provider: &MeterProvider,
     reader: Collector,
-) -> PeriodicEnd<E> {
+    run: &Run,
+) -> End {
+    let exporter = TextExporter::new(sink_of(alloc, run.room, run.flushes));
     let mut ticker = ListTicker::new(TICKS);
-    Periodic::new(exporter, turns).run(rt, alloc, provider, reader, &mut ticker)
+    Periodic::new(exporter, run.turns).run(rt, alloc, provider, reader, &mut ticker)
+}
+
+// The end of a run with the provider of another run.
+fn end_elsewhere<R: Wait>(
+    rt: &R,
+    alloc: Global,
+    reader: Collector,
+    run: &Run,
+) -> Result<End, Fail> {
+    let other = hit_once(rt, alloc, 2)?;
+    Ok(end_of(rt, alloc, &other.provider, reader, run))
 }
 
 // The end of a run of the delta reader, after a recording of 5.
-fn end_after_hit<R: Wait, E: MetricExporter + Drop>(
-    rt: &R,
-    alloc: Global,
-    exporter: E,
-    turns: u32,
-) -> Result<PeriodicEnd<E>, Fail> {
-    let mut seats: Seats<Marked> = hit_once(rt, alloc, 1)?;
+fn end_after_hit<R: Wait>(rt: &R, alloc: Global, run: &Run) -> Result<End, Fail> {
+    let mut seats = hit_once(rt, alloc, 1)?;
     match seats.collectors.pop() {
-        Some(reader) => Ok(end_of(rt, alloc, exporter, turns, &seats.provider, reader)),
+        Some(reader) if run.is_elsewhere => end_elsewhere(rt, alloc, reader, run),
+        Some(reader) => Ok(end_of(rt, alloc, &seats.provider, reader, run)),
         None => Err(Fail::from("no reader")),
     }
 }
 
-fn counts<E>(alloc: Global, end: &PeriodicEnd<E>) -> Result<String, Fail> {
-    let (exported, failed, refused) = (end.exported, end.failed, end.refused);
+// Writes the counts of an end, whether the ticker stopped the run, whether the reader is handed back, and whether these texts
+// are held.
+fn write_end(out: &mut String, end: &End, run: &Run) -> Result<(), AllocError> {
+    write_numbers(
+        out,
+        &[
+            ("exported ", end.exported),
+            (" failed ", end.failed),
+            (" refused ", end.refused),
+        ],
+    )?;
     let (stopped, is_kept) = (end.stopped, end.kept.is_some());
-    Ok(format!(in alloc; "{exported} {failed} {refused} {stopped} {is_kept}")?)
+    let rest = end
+        .exporter
+        .sink()
+        .taken()
+        .strip_prefix(run.first.as_bytes());
+    let is_held = rest == Some(run.rest.as_bytes());
+    write!(out, " {stopped} {is_kept} {is_held}")
 }
 
-// How many turns there are at most and which export fails, the counts of the end, and the times of the batches that
-// were taken with how many points each has.
-const RUNS: &[(u32, u64, &str, &[(u64, usize)])] = &[
-    (9, 0, "3 0 0 true false", &[(10, 1), (20, 0), (30, 0)]),
-    (2, 0, "3 0 0 false false", &[(10, 1), (20, 0), (20, 0)]),
-    (1, 0, "2 0 0 false false", &[(10, 1), (10, 0)]),
-    (0, 0, "1 0 0 false false", &[(0, 1)]),
-    (9, 1, "2 1 0 true false", &[(20, 0), (30, 0)]),
-    (9, 2, "2 1 0 true false", &[(10, 1), (30, 0)]),
-    (9, 3, "2 1 0 true false", &[(10, 1), (20, 0)]),
-    (9, 4, "3 0 0 true false", &[(10, 1), (20, 0), (30, 0)]),
-];
+fn write_run<R: Wait>(out: &mut String, rt: &R, alloc: Global, run: &Run) -> Result<(), Fail> {
+    let end = end_after_hit(rt, alloc, run)?;
+    Ok(write_end(out, &end, run)?)
+}
 
 #[test]
 fn batches_are_exported(rt: HostRuntime) -> Result<(), Fail> {
-    for (turns, fails_at, wanted, taken) in RUNS {
-        let exporter = WaveringExporter::new(rt.alloc(), *fails_at);
-        let end = end_after_hit(&rt, rt.alloc(), exporter, *turns)?;
-        assert_equal(&rt, counts(rt.alloc(), &end)?.as_str(), *wanted);
-        assert_equal(&rt, end.exporter.taken(), *taken);
+    for run in RUNS {
+        let mut told = String::new(rt.alloc());
+        write_run(&mut told, &rt, rt.alloc(), run)?;
+        assert_equal(&rt, told.as_str(), run.told);
     }
-    Ok(())
-}
-
-const ALL: &str = "collected 10 1
-stream reader=\"D\" meter=\"m\" version=\"\" schema=\"\" name=\"hits\" unit=\"\" description=\"\" kind=sum monotonic=yes temporality=delta
-point {} start=0 time=10 value=5
-collected 20 0
-collected 30 0
-";
-
-// How many bytes there is room for and whether flushes work, the counts of the end, and what is held.
-const WRITTEN: &[(Option<usize>, bool, &str, &str)] = &[
-    (None, true, "3 0 0 true false", ALL),
-    (None, false, "3 1 0 true false", ALL),
-    (Some(20), true, "0 4 0 true false", "collected 10 1\nstrea"),
-];
-
-#[test]
-fn texts_are_written(rt: HostRuntime) -> Result<(), Fail> {
-    for (room, flushes, wanted, held) in WRITTEN {
-        let exporter = TextExporter::new(sink_of(rt.alloc(), *room, *flushes));
-        let end = end_after_hit(&rt, rt.alloc(), exporter, 9)?;
-        assert_equal(&rt, counts(rt.alloc(), &end)?.as_str(), *wanted);
-        assert_equal(&rt, end.exporter.state(), ExporterState::ShutDown);
-        assert_equal(&rt, end.exporter.sink().taken(), held.as_bytes());
-    }
-    Ok(())
-}
-
-// The delta reader's seat of another run.
-fn stranger<R: Wait>(rt: &R, alloc: Global) -> Result<Collector, Fail> {
-    let mut other: Seats<Marked> = hit_once(rt, alloc, 2)?;
-    match other.collectors.pop() {
-        Some(reader) => Ok(reader),
-        None => Err(Fail::from("no reader")),
-    }
-}
-
-fn end_by_stranger<R: Wait>(
-    rt: &R,
-    alloc: Global,
-    provider: &Provider<Marked, NoGate>,
-) -> Result<PeriodicEnd<WaveringExporter>, Fail> {
-    let reader = stranger(rt, alloc)?;
-    let exporter = WaveringExporter::new(alloc, 0);
-    Ok(end_of(rt, alloc, exporter, 9, provider, reader))
-}
-
-// A seat of another run is refused each time, and comes back.
-fn end_of_stranger<R: Wait>(rt: &R, alloc: Global) -> Result<PeriodicEnd<WaveringExporter>, Fail> {
-    let one: Seats<Marked> = hit_once(rt, alloc, 1)?;
-    end_by_stranger(rt, alloc, &one.provider)
-}
-
-#[test]
-fn a_refused_reader_is_kept(rt: HostRuntime) -> Result<(), Fail> {
-    let end = end_of_stranger(&rt, rt.alloc())?;
-    assert_equal(&rt, counts(rt.alloc(), &end)?.as_str(), "0 0 3 true true");
-    assert!(rt; end.exporter.taken().is_empty());
     Ok(())
 }

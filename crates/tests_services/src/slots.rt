@@ -1,183 +1,146 @@
-//! A slot by its own calls, over each book, for a recorder and a reader that say what they were told.
-ghost use Rattle.std.specs.Prelude.{IsTrue};
+//! A slot by its own calls, and what it comes to by the seats of recorders that were told of nothing.
+ghost use Rattle.std.specs.Prelude.{◌≡◌, IsTrue, length};
+ghost use Rattle.metric_provider.specs.Totals.{AreAllSeats};
 
 use crate::equal::assert_equal;
-use crate::samples::BOTH;
-use crate::texts::{write_batch, write_refusal};
-use metric_book::{Book, JournalBook};
-use metric_catalogue::Refusal;
+use crate::samples::{HITS, MAIN};
+use crate::texts::{write_batch, write_numbers};
 use metric_history::Facts;
 use metric_marked::Marked;
 use metric_plan::Plan;
-use metric_provider::{Slot, Told};
+use metric_provider::{NoGate, Recorder, Slot, Told, settle, start};
 use metric_sdk::certified_plan;
-use std::alloc::Global;
+use std::alloc::{AllocError, Global};
+use std::sync::Wait;
 use std::test::Fail;
 
-// A counter whose least value is 2.
-const PAIRS: &str = "format = 1
-[[meter]]
-name = 'm'
-[[meter.instrument]]
-name = 'pairs'
-kind = 'counter'
-range = [2, 9]
-[[recorder]]
-name = 'r'
-budget = [{ instrument = 0, amount = 2 }]
-";
-
-// The delta reader.
-const READER: u32 = 1;
-
-#[derive(Clone, Copy)]
-enum Call {
-    // How many recordings the recorder was told of, how far they are together above the least, and a value.
-    Record(u64, u64, i64),
-    // How many recordings the reader has seen, and a time.
-    Collect(u64, u64),
-    Close,
-}
-
-const CALLS: &[Call] = &[
-    Call::Record(0, 0, 5),
-    // Told of nothing, though one was taken; of one, further above the least than one can be.
-    Call::Record(0, 0, 4),
-    Call::Record(1, 8, 4),
-    Call::Record(1, 3, 9),
-    Call::Record(2, 10, 2),
-    Call::Collect(1, 10),
-    Call::Collect(0, 20),
-    Call::Close,
-    Call::Record(2, 10, 2),
-    Call::Close,
-    Call::Collect(0, 30),
-    Call::Collect(2, 30),
-];
-
-// What the recorder or the reader was then told, how many recordings the slot has with which sum, and the answer.
-const ANSWERS: &str = "told 1 3, slot 1 5: ok
-told 0 0, slot 1 5: 12 Stranger
-told 1 8, slot 1 5: 12 Stranger
-told 2 10, slot 2 14: ok
-told 2 10, slot 2 14: 9 Budget
-seen 1, slot 2 14: 12 Stranger
-seen 2, slot 2 14: 1 0, 0 to 2, 0 to 20: stream 1 [0 0] 14
-slot 2 14: ok
-told 2 10, slot 2 14: 8 Closed
-slot 2 14: 8 Closed
-seen 0, slot 2 14: 12 Stranger
-seen 2, slot 2 14: 1 0, 2 to 2, 20 to 30: stream 1
-";
-
-/// The answer to a recording of the first recorder on an instrument without keys.
-pub(crate) fn record<B: Book>(
-    slot: &mut Slot<B>,
-    facts: &Facts,
-    told: &mut Told,
-    value: i64,
-) -> Result<Result<(), Refusal>, Fail> {
-    if facts.keys.is_empty() && !facts.budgets.is_empty() && facts.admits(&value) {
-        Ok(slot.record(facts, told, 0, [0; 8], value))
-    } else {
-        Err(Fail::from("not of this instrument"))
+// Writes the answer to a recording, and what its recorder was told.
+fn write_recorded(out: &mut String, slot: &mut Slot<Marked>, facts: &Facts) -> Result<(), Fail> {
+    if !facts.keys.is_empty() || facts.budgets.is_empty() || !facts.admits(&5) {
+        return Err(Fail::from("no such recording"));
     }
+    let mut told = Told {
+        count: 0,
+        amount: 0,
+    };
+    let answer = slot.record(facts, &mut told, 0, [0; 8], 5);
+    Ok(writeln!(out, "{answer:?} {told:?}")?)
 }
 
-fn write_slot<B: Book>(out: &mut String, slot: &Slot<B>) -> Result<(), Fail> {
-    let count = slot.cell().count();
-    let sum = slot.cell().sum();
-    Ok(write!(out, "slot {count} {sum}: ")?)
-}
-
-fn write_answer(out: &mut String, answer: Result<(), Refusal>) -> Result<(), Fail> {
-    match answer {
-        Ok(()) => Ok(out.push_str("ok\n")?),
-        Err(refusal) => write_refusal(out, refusal),
-    }
-}
-
-fn write_recorded<B: Book>(
-    out: &mut String,
-    slot: &mut Slot<B>,
-    facts: &Facts,
-    told: Told,
-    value: i64,
-) -> Result<(), Fail> {
-    let mut told = told;
-    let answer = record(slot, facts, &mut told, value)?;
-    let Told { count, amount } = told;
-    write!(out, "told {count} {amount}, ")?;
-    write_slot(out, slot)?;
-    write_answer(out, answer)
-}
-
-fn write_collected<B: Book>(
+// Writes the batch of the first reader, and what that has seen.
+fn write_collected(
     out: &mut String,
     alloc: Global,
-    slot: &mut Slot<B>,
+    slot: &mut Slot<Marked>,
     facts: &Facts,
-    seen: u64,
-    now: u64,
 ) -> Result<(), Fail> {
-    if facts.delta.len() <= READER as usize {
-        return Err(Fail::from("no such reader"));
+    if facts.delta.is_empty() {
+        return Err(Fail::from("no reader"));
     }
-    let mut seen = seen;
-    let answer = slot.collect(alloc, facts, &mut seen, READER, now);
-    write!(out, "seen {seen}, ")?;
-    write_slot(out, slot)?;
-    match answer {
-        Ok(batch) => write_batch(out, &batch),
-        Err(refusal) => write_refusal(out, refusal),
-    }
+    let mut seen = 0;
+    let batch = slot.collect(alloc, facts, &mut seen, 0, 10)?;
+    write_batch(out, &batch)?;
+    Ok(write_numbers(out, &[("seen ", seen), (" of ", slot.cell().count())])?)
 }
 
-fn write_closed<B: Book>(out: &mut String, slot: &mut Slot<B>) -> Result<(), Fail> {
-    let answer = slot.close();
-    write_slot(out, slot)?;
-    write_answer(out, answer)
-}
-
-fn write_call<B: Book>(
+// Writes the answers to a recording and a collection, and to two ends.
+fn write_calls(
     out: &mut String,
     alloc: Global,
-    slot: &mut Slot<B>,
+    slot: &mut Slot<Marked>,
     facts: &Facts,
-    call: Call,
 ) -> Result<(), Fail> {
-    match call {
-        Call::Record(count, amount, value) => {
-            write_recorded(out, slot, facts, Told { count, amount }, value)
-        }
-        Call::Collect(seen, now) => write_collected(out, alloc, slot, facts, seen, now),
-        Call::Close => write_closed(out, slot),
-    }
+    write_recorded(out, slot, facts)?;
+    write_collected(out, alloc, slot, facts)?;
+    let ends = [slot.close(), slot.close()];
+    Ok(writeln!(out, ", ends {ends:?}")?)
 }
 
-// What the calls are answered by a slot of the plan's first instrument.
-fn answers<B: Book>(alloc: Global, plan: &Plan) -> Result<String, Fail>
-    requires { IsTrue plan.now.is_certified }
+// Writes what the recordings of a slot come to.
+fn write_settled(
+    out: &mut String,
+    alloc: Global,
+    plan: &Plan,
+    slot: &Slot<Marked>,
+    recorders: &[Recorder],
+) -> Result<(), AllocError>
+    requires one { length plan.now.facts.instruments ≡ 1 }
+    requires recorders { AreAllSeats plan.now recorders.now }
 {
-    if plan.all_facts().is_empty() {
-        return Err(Fail::from("no instrument"));
+    match settle(alloc, plan, std::slice::from_ref(slot), recorders) {
+        Ok(totals) => writeln!(out, "{totals:?}"),
+        Err(fault) => writeln!(out, "{fault}"),
     }
-    let mut slot: Slot<B> = Slot::new(alloc, plan, 0, 0)?;
+}
+
+// Writes what a slot of the only instrument answers, if it is called, and what it comes to.
+fn write_slot(
+    out: &mut String,
+    alloc: Global,
+    plan: &Plan,
+    recorders: &[Recorder],
+    is_called: bool,
+) -> Result<(), Fail>
+    requires certified { IsTrue plan.now.is_certified }
+    requires one { length plan.now.facts.instruments ≡ 1 }
+    requires recorders { AreAllSeats plan.now recorders.now }
+{
+    let mut slot: Slot<Marked> = Slot::new(alloc, plan, 0, 0)?;
+    if is_called {
+        write_calls(out, alloc, &mut slot, plan.facts(0))?;
+    }
+    Ok(write_settled(out, alloc, plan, &slot, recorders)?)
+}
+
+// Writes the same for the seats of a plan that are told of nothing.
+#[tactic(auto, using(crate::proofs::SeatLaws::one_seat))]
+fn write_untold<R: Wait>(
+    out: &mut String,
+    rt: &R,
+    alloc: Global,
+    plan: Plan,
+    is_called: bool,
+) -> Result<(), Fail>
+    requires certified { IsTrue plan.is_certified }
+    requires recorder { length plan.facts.contents.recorders ≡ 1 }
+    requires one { length plan.facts.instruments ≡ 1 }
+{
+    match start::<R, Marked, NoGate>(rt, alloc, plan, 0, 1, NoGate) {
+        Ok((provider, recorders, _)) => {
+            write_slot(out, alloc, provider.plan(), &recorders, is_called)
+        }
+        Err((_, _, refused)) => Err(Fail::from(refused)),
+    }
+}
+
+fn told<R: Wait>(rt: &R, alloc: Global, is_called: bool) -> Result<String, Fail> {
+    let plan = certified_plan(alloc, HITS, MAIN)?;
+    if plan.catalogue().recorders().len() != 1 || plan.all_facts().len() != 1 {
+        return Err(Fail::from("not one recorder and one instrument"));
+    }
     let mut out = String::new(alloc);
-    for call in CALLS {
-        write_call(&mut out, alloc, &mut slot, plan.facts(0), *call)?;
-    }
+    write_untold(&mut out, rt, alloc, plan, is_called)?;
     Ok(out)
 }
 
-fn told<B: Book>(alloc: Global) -> Result<String, Fail> {
-    let plan = certified_plan(alloc, PAIRS, BOTH)?;
-    answers::<B>(alloc, &plan)
-}
+// Whether the slot is called, and what is told.
+const SLOTS: &[(bool, &str)] = &[
+    (false, "[Total { count: 0, sum: 0 }]\n"),
+    (
+        true,
+        "Ok(()) Told { count: 1, amount: 5 }
+0 0, 0 to 1, 0 to 10: stream 0 [0 0] 5
+seen 1 of 1, ends [Ok(()), Err(Closed)]
+3 AuditMismatch
+",
+    ),
+];
 
 #[test]
-fn a_slot_answers_each_call(rt: HostRuntime) -> Result<(), Fail> {
-    assert_equal(&rt, told::<JournalBook>(rt.alloc())?.as_str(), ANSWERS);
-    assert_equal(&rt, told::<Marked>(rt.alloc())?.as_str(), ANSWERS);
+fn a_slot_comes_to_what_seats_were_told(rt: HostRuntime) -> Result<(), Fail> {
+    for (is_called, wanted) in SLOTS {
+        let told = told(&rt, rt.alloc(), *is_called)?;
+        assert_equal(&rt, told.as_str(), *wanted);
+    }
     Ok(())
 }

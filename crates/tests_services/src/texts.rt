@@ -1,74 +1,84 @@
 //! Replies and batches as texts, with all their parts.
 use metric_aggregate::PointValue;
 use metric_catalogue::Refusal;
-use metric_history::{Batch, Point, Reply};
-use std::test::Fail;
+use metric_history::{Batch, Point, Reply, StreamPoints};
+use std::alloc::AllocError;
 
-// The set key and the sum of a point; only sums are recorded here.
-fn write_point(out: &mut String, point: &Point) -> Result<(), Fail> {
-    match point.set {
-        Some(set) => {
-            let first = set[0];
-            let second = set[1];
-            write!(out, " [{first} {second}]")?;
-        }
-        None => out.push_str(" overflow")?,
-    }
-    match &point.value {
-        PointValue::Sum(sum) => Ok(write!(out, " {sum}")?),
-        _ => Ok(out.push_str(" no sum")?),
-    }
-}
-
-fn write_points(out: &mut String, batch: &Batch) -> Result<(), Fail> {
-    for stream in batch.streams.as_slice() {
-        let number = stream.stream;
-        write!(out, " stream {number}")?;
-        for point in stream.points.as_slice() {
-            write_point(out, point)?;
-        }
+/// Writes numbers, each after its label.
+pub(crate) fn write_numbers(out: &mut String, numbers: &[(&str, u64)]) -> Result<(), AllocError> {
+    for (label, number) in numbers {
+        write!(out, "{label}{number}")?;
     }
     Ok(())
 }
 
-// Whose batch it is, and what it covers.
-fn write_window(out: &mut String, batch: &Batch) -> Result<(), Fail> {
-    let reader = batch.reader;
-    let instrument = batch.instrument;
-    let from = batch.from;
-    let mark = batch.mark;
-    write!(out, "{reader} {instrument}, {from} to {mark},")?;
-    let start = batch.start;
-    let time = batch.time;
-    Ok(write!(out, " {start} to {time}:")?)
-}
-
-/// Writes a line with all that a batch has.
-pub(crate) fn write_batch(out: &mut String, batch: &Batch) -> Result<(), Fail> {
-    write_window(out, batch)?;
-    write_points(out, batch)?;
-    Ok(out.push_str("\n")?)
-}
-
-/// Writes the line of a refusal.
-pub(crate) fn write_refusal(out: &mut String, refusal: Refusal) -> Result<(), Fail> {
-    Ok(writeln!(out, "{refusal}")?)
-}
-
-/// Writes a line with all that a reply has.
-pub(crate) fn write_reply(out: &mut String, reply: &Reply) -> Result<(), Fail> {
-    match reply {
-        Reply::Accepted => Ok(out.push_str("accepted\n")?),
-        Reply::Done => Ok(out.push_str("done\n")?),
-        Reply::Refused(refusal) => write_refusal(out, *refusal),
-        Reply::Collected(batch) => write_batch(out, batch),
+// The set key and the sum of a point; only sums of streams with at most two keys are recorded here.
+fn write_point(out: &mut String, point: &Point) -> Result<(), AllocError> {
+    match (&point.set, &point.value) {
+        (Some(set), PointValue::Sum(sum)) => write_numbers(
+            out,
+            &[
+                (" [", u64::from(set[0])),
+                (" ", u64::from(set[1])),
+                ("] ", sum.unsigned_abs()),
+            ],
+        ),
+        _ => out.push_str(" no sum of a series"),
     }
 }
 
+fn write_stream(out: &mut String, stream: &StreamPoints) -> Result<(), AllocError> {
+    write_numbers(out, &[(" stream ", u64::from(stream.stream))])?;
+    for point in stream.points.as_slice() {
+        write_point(out, point)?;
+    }
+    Ok(())
+}
+
+// Of which reader and instrument a batch is, which recordings it covers, and from when to when.
+fn write_window(out: &mut String, batch: &Batch) -> Result<(), AllocError> {
+    write_numbers(
+        out,
+        &[
+            ("", u64::from(batch.reader)),
+            (" ", u64::from(batch.instrument)),
+            (", ", batch.from),
+            (" to ", batch.mark),
+            (", ", batch.start),
+            (" to ", batch.time),
+        ],
+    )
+}
+
+/// Writes a line with all that a batch has.
+pub(crate) fn write_batch(out: &mut String, batch: &Batch) -> Result<(), AllocError> {
+    write_window(out, batch)?;
+    out.push_str(":")?;
+    for stream in batch.streams.as_slice() {
+        write_stream(out, stream)?;
+    }
+    out.push_str("\n")
+}
+
 /// Writes a line for each batch.
-pub(crate) fn write_batches(out: &mut String, batches: &[Batch]) -> Result<(), Fail> {
+pub(crate) fn write_batches(out: &mut String, batches: &[Batch]) -> Result<(), AllocError> {
     for batch in batches {
         write_batch(out, batch)?;
     }
     Ok(())
+}
+
+/// Writes the line of a refusal.
+pub(crate) fn write_refusal(out: &mut String, refusal: Refusal) -> Result<(), AllocError> {
+    writeln!(out, "{refusal}")
+}
+
+/// Writes a line with all that a reply has.
+pub(crate) fn write_reply(out: &mut String, reply: &Reply) -> Result<(), AllocError> {
+    match reply {
+        Reply::Accepted => out.push_str("accepted\n"),
+        Reply::Done => out.push_str("done\n"),
+        Reply::Refused(refusal) => write_refusal(out, *refusal),
+        Reply::Collected(batch) => write_batch(out, batch),
+    }
 }
