@@ -84,23 +84,6 @@ const ENCODED: &[(u32, &[Attr<'static>], Result<SetKey, Refusal>)] = &[
     (0, &[], Err(Refusal::MissingKey)),
 ];
 
-fn encoded(
-    alloc: Global,
-    instrument: u32,
-    attrs: &[Attr<'_>],
-) -> Result<Result<SetKey, Refusal>, CatalogueFault> {
-    Ok(shop(alloc)?.encode(instrument, attrs))
-}
-
-#[test]
-fn attributes_name_a_set_key_or_are_refused(rt: HostRuntime) -> Result<(), Fail> {
-    encode_ignores_order();
-    for (instrument, attrs, wanted) in ENCODED {
-        assert!(rt; encoded(rt.alloc(), *instrument, attrs)? == *wanted);
-    }
-    Ok(())
-}
-
 fn owned_value(alloc: Global, value: ValueRef<'_>) -> Result<AttrValue, AllocError> {
     match value {
         ValueRef::Text(text) => Ok(AttrValue::Text(Text::new(alloc, text)?)),
@@ -136,86 +119,36 @@ fn encoded_with_room(
 }
 
 // Whether both ways to encode owned attributes answer this.
-fn are_encoded(
+fn are_owned_encoded(
     alloc: Global,
+    shop: &Catalogue,
     instrument: u32,
     attrs: &[OwnedAttr],
     wanted: Result<SetKey, Refusal>,
-) -> Result<bool, Fail> {
-    let shop = shop(alloc)?;
+) -> Result<bool, AllocError> {
     let is_encoded = shop.encode_owned(instrument, attrs) == wanted;
-    Ok(is_encoded && encoded_with_room(alloc, &shop, instrument, attrs)? == wanted)
+    Ok(is_encoded && encoded_with_room(alloc, shop, instrument, attrs)? == wanted)
 }
 
-#[test]
-fn owned_attributes_are_encoded_alike(rt: HostRuntime) -> Result<(), Fail> {
-    for (instrument, attrs, wanted) in ENCODED {
-        let attrs = owned(rt.alloc(), attrs)?;
-        assert!(rt; are_encoded(rt.alloc(), *instrument, attrs.as_slice(), *wanted)?);
-    }
-    Ok(())
-}
-
-// Keys that no instrument declares.
-const STRANGE: &[&str] = &["s0", "s1", "s2", "s3", "s4", "s5", "s6", "s7", "s8", "s9"];
-
-fn push_flag(attrs: &mut Items<OwnedAttr>, alloc: Global, key: &str) -> Result<(), AllocError> {
-    let value = ValueRef::Flag(true);
-    attrs.push(owned_attr(alloc, Attr { key, value })?)
-}
-
-fn push_strange(attrs: &mut Items<OwnedAttr>, alloc: Global) -> Result<(), AllocError> {
-    for key in STRANGE {
-        push_flag(attrs, alloc, key)?;
-    }
-    Ok(())
-}
-
-// Attributes of strange keys, and of one more.
-fn strange(alloc: Global, last: &str) -> Result<Items<OwnedAttr>, AllocError> {
-    let mut attrs = Items::new(alloc);
-    push_strange(&mut attrs, alloc)?;
-    push_flag(&mut attrs, alloc, last)?;
-    Ok(attrs)
-}
-
-#[test]
-fn long_lists_are_refused_alike(rt: HostRuntime) -> Result<(), Fail> {
-    for (last, refusal) in [
-        ("s7", Refusal::DuplicateKey),
-        ("s10", Refusal::UnknownKey),
-        ("route", Refusal::UnknownKey),
-    ] {
-        let attrs = strange(rt.alloc(), last)?;
-        assert!(rt; are_encoded(rt.alloc(), 0, attrs.as_slice(), Err(refusal))?);
-    }
-    Ok(())
-}
-
-// The number of a value of the key with this name, of the first instrument.
-fn number_in(shop: &Catalogue, name: &str, value: ValueRef<'_>) -> Option<u16> {
-    let keys = shop.instruments().first()?.keys.as_slice();
-    let key = keys.iter().find(|key| key.name.as_str() == name)?;
-    key.values.number_of(value)
-}
-
-fn number_of(
+// Whether all ways to encode attributes answer this.
+fn are_encoded(
     alloc: Global,
-    name: &str,
-    value: ValueRef<'_>,
-) -> Result<Option<u16>, CatalogueFault> {
-    Ok(number_in(&shop(alloc)?, name, value))
+    shop: &Catalogue,
+    instrument: u32,
+    attrs: &[Attr<'_>],
+    wanted: Result<SetKey, Refusal>,
+) -> Result<bool, AllocError> {
+    let is_encoded = shop.encode(instrument, attrs) == wanted;
+    let owned = owned(alloc, attrs)?;
+    Ok(is_encoded && are_owned_encoded(alloc, shop, instrument, owned.as_slice(), wanted)?)
 }
 
 #[test]
-fn values_are_numbered(rt: HostRuntime) -> Result<(), Fail> {
-    for (name, value, number) in [
-        ("route", ValueRef::Text("/b"), Some(1)),
-        ("code", ValueRef::Whole(404), Some(1)),
-        ("code", ValueRef::Text("200"), Some(2)),
-        ("code", ValueRef::Flag(true), None),
-    ] {
-        assert_equal(&rt, number_of(rt.alloc(), name, value)?, number);
+fn attributes_name_a_set_key_or_are_refused(rt: HostRuntime) -> Result<(), Fail> {
+    encode_ignores_order();
+    let shop = shop(rt.alloc())?;
+    for (instrument, attrs, wanted) in ENCODED {
+        assert!(rt; are_encoded(rt.alloc(), &shop, *instrument, attrs, *wanted)?);
     }
     Ok(())
 }
@@ -256,7 +189,7 @@ const KINDS: &[(&str, Option<Kind>)] = &[
 #[test]
 fn kinds_have_names(rt: HostRuntime) {
     for (text, kind) in KINDS {
-        assert!(rt; Kind::named(text) == *kind);
+        assert_equal(&rt, Kind::named(text), *kind);
     }
     assert!(rt; Kind::Counter.is_monotonic() && !Kind::UpDownCounter.is_monotonic());
 }

@@ -12,14 +12,16 @@ mod certificates;
 #[cfg(test)]
 mod config;
 #[cfg(test)]
+mod declared;
+#[cfg(test)]
 mod encoding;
 #[cfg(test)]
 mod equal;
 #[cfg(test)]
+mod memory;
+#[cfg(test)]
 mod patterns;
 #[cfg(test)]
 mod streams;
-#[cfg(test)]
-mod tables;
 #[cfg(test)]
 mod words;

@@ -1,18 +1,16 @@
 //! Matches, reasons and faults of name patterns.
 use crate::equal::assert_equal;
 use metric_base::{Copied, Items};
-use metric_glob::{Pattern, PatternFault, Reason};
+use metric_glob::{Pattern, Reason};
 use metric_names::Name;
 use std::alloc::{AllocError, Global};
 use std::test::Fail;
 
-fn write_numbers(out: &mut String, numbers: &[u16]) -> Result<(), AllocError> {
-    write!(out, " {numbers:?}")
-}
-
 fn write_rows(out: &mut String, rows: &[Items<u16>]) -> Result<(), AllocError> {
+    out.push_str(" rows")?;
     for row in rows {
-        write_numbers(out, row.as_slice())?;
+        let row = row.as_slice();
+        write!(out, " {row:?}")?;
     }
     Ok(())
 }
@@ -20,42 +18,12 @@ fn write_rows(out: &mut String, rows: &[Items<u16>]) -> Result<(), AllocError> {
 fn write_reason(out: &mut String, reason: &Reason) -> Result<(), AllocError> {
     match reason {
         Reason::Takes(takes) => {
-            out.push_str("takes")?;
-            write_numbers(out, takes.as_slice())
+            let takes = takes.as_slice();
+            write!(out, " takes {takes:?}")
         }
-        Reason::Rows(rows) => {
-            out.push_str("rows")?;
-            write_rows(out, rows.as_slice())
-        }
+        Reason::Rows(rows) => write_rows(out, rows.as_slice()),
     }
 }
-
-// A reason as a text.
-fn shown(alloc: Global, reason: &Reason) -> Result<String, AllocError> {
-    let mut out = String::new(alloc);
-    write_reason(&mut out, reason)?;
-    Ok(out)
-}
-
-// A pattern, a name, and why the name matches or does not.
-const REASONS: &[(&str, &str, &str)] = &[
-    ("http.*", "HTTP.server", "takes [6]"),
-    ("h?ts", "HITS", "takes []"),
-    ("*", "a", "takes [1]"),
-    ("a*", "a", "takes [0]"),
-    ("**", "abc", "takes [0, 3]"),
-    ("*b*", "abcb", "takes [1, 2]"),
-    ("*b", "abcb", "takes [3]"),
-    ("a*c?*", "abcbcdc", "takes [1, 3]"),
-    (
-        "a*b*c",
-        "aXbYd",
-        "rows [0] [1, 2] [1, 2] [1, 2, 3, 4] [1, 2, 3, 4] [1, 2, 3, 4]",
-    ),
-    ("b", "a", "rows [0] []"),
-    ("a?", "a", "rows [0] [1]"),
-    ("?", "ab", "rows [0] [1] []"),
-];
 
 // A pattern, and a name that is matched with it.
 #[derive(Drop)]
@@ -70,35 +38,45 @@ fn pair_of(alloc: Global, pattern: &str, name: &str) -> Result<Pair, Fail> {
     Ok(Pair { pattern, name })
 }
 
-// Why a name matches a pattern or does not.
-fn why(alloc: Global, pair: &Pair) -> Result<String, AllocError> {
-    shown(alloc, &pair.pattern.why(alloc, &pair.name)?)
+// Whether the name matches, whether the reason is confirmed, and the reason.
+fn write_told(out: &mut String, pair: &Pair, reason: &Reason) -> Result<(), AllocError> {
+    let does_match = pair.pattern.matches(&pair.name);
+    let is_confirmed = pair.pattern.confirms(&pair.name, reason);
+    write!(out, "{does_match} {is_confirmed}")?;
+    write_reason(out, reason)
 }
 
-// Whether a name matches a pattern, where the reason is confirmed.
-fn is_matched(alloc: Global, pair: &Pair) -> Result<Option<bool>, AllocError> {
+fn told_of(alloc: Global, pair: &Pair) -> Result<String, AllocError> {
+    let mut out = String::new(alloc);
     let reason = pair.pattern.why(alloc, &pair.name)?;
-    let does_match = matches!(reason, Reason::Takes(_));
-    let is_confirmed = pair.pattern.confirms(&pair.name, &reason);
-    let is_told = is_confirmed && pair.pattern.matches(&pair.name) == does_match;
-    Ok(is_told.then_some(does_match))
+    write_told(&mut out, pair, &reason)?;
+    Ok(out)
 }
 
-fn does_match(alloc: Global, pattern: &str, name: &str) -> Result<Option<bool>, Fail> {
-    let pair = pair_of(alloc, pattern, name)?;
-    Ok(is_matched(alloc, &pair)?)
-}
-
-// Why a name matches or does not, where all ways to ask agree on it.
 fn told(alloc: Global, pattern: &str, name: &str) -> Result<String, Fail> {
     let pair = pair_of(alloc, pattern, name)?;
-    let told = why(alloc, &pair)?;
-    if is_matched(alloc, &pair)? == Some(told.as_str().starts_with("takes")) {
-        Ok(told)
-    } else {
-        Err(Fail::from("the answers differ"))
-    }
+    Ok(told_of(alloc, &pair)?)
 }
+
+// A pattern, a name, and why the name matches or does not.
+const REASONS: &[(&str, &str, &str)] = &[
+    ("http.*", "HTTP.server", "true true takes [6]"),
+    ("h?ts", "HITS", "true true takes []"),
+    ("*", "a", "true true takes [1]"),
+    ("a*", "a", "true true takes [0]"),
+    ("**", "abc", "true true takes [0, 3]"),
+    ("*b*", "abcb", "true true takes [1, 2]"),
+    ("*b", "abcb", "true true takes [3]"),
+    ("a*c?*", "abcbcdc", "true true takes [1, 3]"),
+    (
+        "a*b*c",
+        "aXbYd",
+        "false true rows [0] [1, 2] [1, 2] [1, 2, 3, 4] [1, 2, 3, 4] [1, 2, 3, 4]",
+    ),
+    ("b", "a", "false true rows [0] []"),
+    ("a?", "a", "false true rows [0] [1]"),
+    ("?", "ab", "false true rows [0] [1] []"),
+];
 
 #[test]
 fn a_reason_says_why_a_name_matches_or_does_not(rt: HostRuntime) -> Result<(), Fail> {
@@ -108,80 +86,51 @@ fn a_reason_says_why_a_name_matches_or_does_not(rt: HostRuntime) -> Result<(), F
     Ok(())
 }
 
-fn items(alloc: Global, values: &[u16]) -> Result<Items<u16>, AllocError> {
-    Ok(Items::from_vec(Vec::from_slice(alloc, values)?))
+// So many times a text, between two others.
+fn repeated(
+    alloc: Global,
+    front: &str,
+    part: &str,
+    count: usize,
+    end: &str,
+) -> Result<String, AllocError> {
+    let parts = part.repeat(alloc, count.min(256))?;
+    [front, parts.as_str(), end].concat(alloc)
 }
 
-// A reason that somebody states.
-#[derive(Clone, Copy)]
-enum Stated {
-    Takes(&'static [u16]),
-    Rows(&'static [&'static [u16]]),
+// Why a name of 255 letters `a` matches 254 stars and this character, or does not.
+fn told_of_stars(alloc: Global, last: &str) -> Result<String, Fail> {
+    let name = repeated(alloc, "", "a", 255, "")?;
+    let pattern = repeated(alloc, "", "*", 254, last)?;
+    told(alloc, pattern.as_str(), name.as_str())
 }
 
-fn rows_of(alloc: Global, lists: &[&[u16]]) -> Result<Items<Items<u16>>, AllocError> {
-    let mut rows = Items::new(alloc);
-    for list in lists {
-        rows.push(items(alloc, list)?)?;
-    }
-    Ok(rows)
-}
+// Every place of the stars.
+const PLACES: &str =
+    " [0, 1, 2, 3, 4, 5, 6, 7, 8, 9, 10, 11, 12, 13, 14, 15, 16, 17, 18, 19, 20, 21, 22, 23, 24, 25, 26, 27, 28, 29, \
+30, 31, 32, 33, 34, 35, 36, 37, 38, 39, 40, 41, 42, 43, 44, 45, 46, 47, 48, 49, 50, 51, 52, 53, 54, 55, 56, \
+57, 58, 59, 60, 61, 62, 63, 64, 65, 66, 67, 68, 69, 70, 71, 72, 73, 74, 75, 76, 77, 78, 79, 80, 81, 82, 83, \
+84, 85, 86, 87, 88, 89, 90, 91, 92, 93, 94, 95, 96, 97, 98, 99, 100, 101, 102, 103, 104, 105, 106, 107, 108, \
+109, 110, 111, 112, 113, 114, 115, 116, 117, 118, 119, 120, 121, 122, 123, 124, 125, 126, 127, 128, 129, 130, \
+131, 132, 133, 134, 135, 136, 137, 138, 139, 140, 141, 142, 143, 144, 145, 146, 147, 148, 149, 150, 151, 152, \
+153, 154, 155, 156, 157, 158, 159, 160, 161, 162, 163, 164, 165, 166, 167, 168, 169, 170, 171, 172, 173, 174, \
+175, 176, 177, 178, 179, 180, 181, 182, 183, 184, 185, 186, 187, 188, 189, 190, 191, 192, 193, 194, 195, 196, \
+197, 198, 199, 200, 201, 202, 203, 204, 205, 206, 207, 208, 209, 210, 211, 212, 213, 214, 215, 216, 217, 218, \
+219, 220, 221, 222, 223, 224, 225, 226, 227, 228, 229, 230, 231, 232, 233, 234, 235, 236, 237, 238, 239, 240, \
+241, 242, 243, 244, 245, 246, 247, 248, 249, 250, 251, 252, 253, 254]";
 
-fn reason_of(alloc: Global, stated: Stated) -> Result<Reason, AllocError> {
-    match stated {
-        Stated::Takes(takes) => Ok(Reason::Takes(items(alloc, takes)?)),
-        Stated::Rows(lists) => Ok(Reason::Rows(rows_of(alloc, lists)?)),
-    }
-}
-
-// A pattern, a name, what is stated of them, and whether it is true.
-const STATED: &[(&str, &str, Stated, bool)] = &[
-    ("http.*", "HTTP.server", Stated::Takes(&[6]), true),
-    ("http.*", "HTTP.server", Stated::Takes(&[5]), false),
-    ("http.*", "HTTP.server", Stated::Takes(&[7]), false),
-    ("http.*", "HTTP.server", Stated::Takes(&[6, 0]), false),
-    ("http.*", "HTTP.server", Stated::Takes(&[]), false),
-    ("h?t", "HITS", Stated::Takes(&[]), false),
-    ("a*", "a", Stated::Rows(&[&[0], &[1]]), false),
-    ("b", "a", Stated::Rows(&[&[0], &[]]), true),
-    ("b", "a", Stated::Rows(&[&[0]]), false),
-    ("b", "a", Stated::Rows(&[&[], &[]]), false),
-    ("b", "a", Stated::Rows(&[&[0, 0], &[]]), false),
-    ("b", "a", Stated::Rows(&[&[0], &[1]]), false),
-    // Places past the pattern's end do no harm.
-    ("b*", "a", Stated::Rows(&[&[0, 2, 3, 65535], &[0, 7]]), true),
+// The last character of the pattern, and what is repeated in the reason: each star takes as little as it can, and the last
+// takes the rest; and all places of the stars are reached before each letter, but never the end.
+const STARS: &[(&str, &str, &str, usize, &str)] = &[
+    ("*", "true true takes [", "0, ", 254, "255]"),
+    ("b", "false true rows", PLACES, 256, ""),
 ];
 
-fn is_confirmed(pair: &Pair, reason: &Reason) -> bool {
-    pair.pattern.confirms(&pair.name, reason)
-}
-
-fn confirms(alloc: Global, pattern: &str, name: &str, stated: Stated) -> Result<bool, Fail> {
-    let pair = pair_of(alloc, pattern, name)?;
-    Ok(is_confirmed(&pair, &reason_of(alloc, stated)?))
-}
-
 #[test]
-fn only_true_reasons_are_confirmed(rt: HostRuntime) -> Result<(), Fail> {
-    for (pattern, name, stated, is_true) in STATED {
-        let is_confirmed = confirms(rt.alloc(), pattern, name, *stated)?;
-        assert_equal(&rt, (name, is_confirmed), (name, *is_true));
-    }
-    Ok(())
-}
-
-// So many times a text, and what follows.
-fn repeated(alloc: Global, part: &str, count: usize, end: &str) -> Result<String, AllocError> {
-    let front = part.repeat(alloc, count.min(256))?;
-    [front.as_str(), end].concat(alloc)
-}
-
-#[test]
-fn the_longest_patterns_answer_at_once(rt: HostRuntime) -> Result<(), Fail> {
-    let name = repeated(rt.alloc(), "a", 255, "")?;
-    for (last, wanted) in [("*", true), ("b", false)] {
-        let pattern = repeated(rt.alloc(), "*", 254, last)?;
-        assert_equal(&rt, does_match(rt.alloc(), &pattern, &name)?, Some(wanted));
+fn the_longest_patterns_have_reasons(rt: HostRuntime) -> Result<(), Fail> {
+    for (last, front, part, count, end) in STARS {
+        let due = repeated(rt.alloc(), front, part, *count, end)?;
+        assert_equal(&rt, told_of_stars(rt.alloc(), last)?.as_str(), due.as_str());
     }
     Ok(())
 }
@@ -199,38 +148,26 @@ fn as_pattern(alloc: Global, text: &str) -> Result<String, AllocError> {
     }
 }
 
-// A text, how often it stands, what follows, and the fault.
-const PATTERNS: &[(&str, usize, &str, &str)] = &[
-    ("*", 1, "", ""),
-    ("http. ?", 1, "", ""),
-    ("~", 255, "", ""),
-    ("", 1, "", "1 Empty"),
-    ("é", 1, "", "2 BadCharacter at 0"),
-    ("ab\u{7f}é", 1, "", "2 BadCharacter at 2"),
-    ("a", 256, "\t", "2 BadCharacter at 256"),
-    ("a", 256, "", "3 TooLong"),
+// 256 letters.
+const TOO_LONG: &str = "\
+aaaaaaaaaaaaaaaaaaaaaaaaaaaaaaaaaaaaaaaaaaaaaaaaaaaaaaaaaaaaaaaa\
+aaaaaaaaaaaaaaaaaaaaaaaaaaaaaaaaaaaaaaaaaaaaaaaaaaaaaaaaaaaaaaaa\
+aaaaaaaaaaaaaaaaaaaaaaaaaaaaaaaaaaaaaaaaaaaaaaaaaaaaaaaaaaaaaaaa\
+aaaaaaaaaaaaaaaaaaaaaaaaaaaaaaaaaaaaaaaaaaaaaaaaaaaaaaaaaaaaaaaa";
+
+const PATTERNS: &[(&str, &str)] = &[
+    ("*", "*"),
+    ("http. ?", "http. ?"),
+    ("", "1 Empty"),
+    ("é", "2 BadCharacter at 0"),
+    ("ab\u{7f}é", "2 BadCharacter at 2"),
+    (TOO_LONG, "3 TooLong"),
 ];
 
 #[test]
 fn a_pattern_is_up_to_255_printable_characters(rt: HostRuntime) -> Result<(), Fail> {
-    for (part, count, end, fault) in PATTERNS {
-        let text = repeated(rt.alloc(), part, *count, end)?;
-        let wanted = if fault.is_empty() {
-            text.as_str()
-        } else {
-            *fault
-        };
-        assert_equal(&rt, as_pattern(rt.alloc(), &text)?.as_str(), wanted);
+    for (text, wanted) in PATTERNS {
+        assert_equal(&rt, as_pattern(rt.alloc(), text)?.as_str(), *wanted);
     }
-    Ok(())
-}
-
-#[test]
-fn want_of_memory_is_printed(rt: HostRuntime) -> Result<(), Fail> {
-    assert_equal(
-        &rt,
-        PatternFault::Memory.to_string(rt.alloc())?.as_str(),
-        "4 Memory",
-    );
     Ok(())
 }

@@ -1,14 +1,14 @@
 //! What views select, what they and the defaults make of instruments, and the warnings.
+use crate::declared::{Declared, read_both};
 use crate::equal::assert_equal;
-use crate::words::{kind_word, temporality_word, write_counted};
-use crate::{catalogue, config};
+use crate::words::{temporality_word, write_joined};
 use metric_base::Copied;
 use metric_catalogue::{Catalogue, Meter};
 use metric_resolve::{
-    Streams, Warning, collisions_are_of_one_identity, identity_order, resolve,
-    streams_are_what_views_give, unfit_views_sum_gauges,
+    Streams, collisions_are_of_one_identity, identity_order, resolve, streams_are_what_views_give,
+    unfit_views_sum_gauges,
 };
-use metric_views::{Config, Fill, Stream, StreamAggregation, fill};
+use metric_views::{Fill, Stream, StreamAggregation, fill};
 use std::alloc::{AllocError, Global};
 use std::cmp::Ordering;
 use std::test::Fail;
@@ -82,63 +82,33 @@ aggregation = "drop"
 "#;
 
 const SHOWN: &str = "\
-0 0 0 calls|given|By| counter sum [false, false, true] 7 cumulative
-0 0 1 Hits|asked|By| counter [-1, 1] [true, true, true] 2000 cumulative
-0 1 - heat||| gauge last [] 2000 cumulative
-0 2 3 wait|until the answer|ms| histogram [5, 7] [false] 2000 cumulative
-0 2 4 WAIT|until the answer|ms| histogram [5, 7] [true] 2000 cumulative
-0 3 - stock||| up_down_counter sum [] 2000 cumulative
-1 0 0 calls|given|By| counter [0, 5, 10, 25, 50, 75, 100, 250, 500, 750, 1000, 2500, 5000, 7500, 10000] [false, false, true] 7 delta
-1 0 1 Hits|asked|By| counter [-1, 1] [true, true, true] 3 delta
-1 1 - heat||| gauge last [] 4 delta
-1 2 3 wait|until the answer|ms| histogram [5, 7] [false] 2000 delta
-1 2 4 WAIT|until the answer|ms| histogram [5, 7] [true] 2000 delta
-unfit 2 1
-collision 3 4
-collision 9 10
+(0, 0, Some(0)) calls|given|By| sum ([false, false, true], 7, Counter) cumulative
+(0, 0, Some(1)) Hits|asked|By| [-1, 1] ([true, true, true], 2000, Counter) cumulative
+(0, 1, None) heat||| last ([], 2000, Gauge) cumulative
+(0, 2, Some(3)) wait|until the answer|ms| [5, 7] ([false], 2000, Histogram) cumulative
+(0, 2, Some(4)) WAIT|until the answer|ms| [5, 7] ([true], 2000, Histogram) cumulative
+(0, 3, None) stock||| sum ([], 2000, UpDownCounter) cumulative
+(1, 0, Some(0)) calls|given|By| [0, 5, 10, 25, 50, 75, 100, 250, 500, 750, 1000, 2500, 5000, 7500, 10000] ([false, false, true], 7, Counter) delta
+(1, 0, Some(1)) Hits|asked|By| [-1, 1] ([true, true, true], 3, Counter) delta
+(1, 1, None) heat||| last ([], 4, Gauge) delta
+(1, 2, Some(3)) wait|until the answer|ms| [5, 7] ([false], 2000, Histogram) delta
+(1, 2, Some(4)) WAIT|until the answer|ms| [5, 7] ([true], 2000, Histogram) delta
+[Unfit { view: 2, instrument: 1 }, Collision { a: 3, b: 4 }, Collision { a: 9, b: 10 }]
+order Less Greater Less Equal Greater Less Less Greater Less Equal
+(0, 0, Some(0)) calls|given|By| sum ([false, false, true], 7, Counter) cumulative
+(0, 2, None) wait|until the answer|ms| [5, 7] ([true], 2000, Histogram) cumulative
+unfit
+dropped
 ";
 
-// A catalogue and a config.
-#[derive(Drop)]
-struct Declared {
-    catalogue: Catalogue,
-    config: Config,
-}
-
-// Promises nothing of either, so that no test is proved by the parts of their texts.
-fn read_both(alloc: Global, catalogue: &str, config: &str) -> Result<Declared, Fail> {
-    let catalogue = Catalogue::read(alloc, catalogue)?;
-    let config = Config::read(alloc, config)?;
-    Ok(Declared { catalogue, config })
-}
-
-// What a catalogue and a config give.
-fn resolved(alloc: Global, catalogue: &str, config: &str) -> Result<Streams, Fail> {
-    let declared = read_both(alloc, catalogue, config)?;
-    Ok(resolve(alloc, &declared.catalogue, &declared.config)?)
-}
-
-// The number of a stream's view.
-fn write_view(out: &mut String, view: Option<u32>) -> Result<(), AllocError> {
-    match view {
-        Some(view) => write!(out, "{view}"),
-        None => out.push_str("-"),
-    }
-}
-
-fn write_numbers(out: &mut String, stream: &Stream) -> Result<(), AllocError> {
-    let reader = stream.reader;
-    let instrument = stream.instrument;
-    write!(out, "{reader} {instrument} ")?;
-    write_view(out, stream.view)
-}
-
-fn write_texts(out: &mut String, stream: &Stream) -> Result<(), AllocError> {
+// The numbers of a stream's reader, instrument and view, and the texts.
+fn write_names(out: &mut String, stream: &Stream) -> Result<(), AllocError> {
+    let numbers = (stream.reader, stream.instrument, stream.view);
+    write!(out, "{numbers:?} ")?;
     let name = stream.name.get().as_str();
     let description = stream.description.get().as_str();
     let unit = stream.unit.get().as_str();
-    let kind = kind_word(stream.kind);
-    write!(out, " {name}|{description}|{unit}| {kind}")
+    write_joined(out, &[name, "|", description, "|", unit, "|"])
 }
 
 fn write_aggregation(out: &mut String, aggregation: &StreamAggregation) -> Result<(), AllocError> {
@@ -152,205 +122,50 @@ fn write_aggregation(out: &mut String, aggregation: &StreamAggregation) -> Resul
     }
 }
 
-fn write_kept(out: &mut String, stream: &Stream) -> Result<(), AllocError> {
-    let kept = stream.kept.get().as_slice();
-    let limit = stream.limit;
+// Which keys it keeps, how many series it holds, and of which kind the instrument is.
+fn write_series(out: &mut String, stream: &Stream) -> Result<(), AllocError> {
+    let series = (stream.kept.get().as_slice(), stream.limit, stream.kind);
     let temporality = temporality_word(stream.temporality);
-    writeln!(out, " {kept:?} {limit} {temporality}")
+    writeln!(out, " {series:?} {temporality}")
 }
 
 fn write_stream(out: &mut String, stream: &Stream) -> Result<(), AllocError> {
-    write_numbers(out, stream)?;
-    write_texts(out, stream)?;
+    write_names(out, stream)?;
     write_aggregation(out, &stream.aggregation)?;
-    write_kept(out, stream)
+    write_series(out, stream)
 }
 
-fn write_warning(out: &mut String, warning: Warning) -> Result<(), AllocError> {
-    match warning {
-        Warning::Unfit { view, instrument } => {
-            write_counted(out, "unfit", &[u64::from(view), u64::from(instrument)])
-        }
-        Warning::Collision { a, b } => {
-            write_counted(out, "collision", &[u64::from(a), u64::from(b)])
-        }
-    }
-}
-
-fn write_warnings(out: &mut String, warnings: &[Warning]) -> Result<(), AllocError> {
-    for warning in warnings {
-        write_warning(out, *warning)?;
-        out.push_str("\n")?;
-    }
-    Ok(())
-}
-
-fn write_copy(out: &mut String, alloc: Global, stream: &Stream) -> Result<(), AllocError> {
-    write_stream(out, &stream.copy(alloc)?)
-}
-
-fn write_streams(out: &mut String, alloc: Global, streams: &[Stream]) -> Result<(), AllocError> {
+fn write_copies(out: &mut String, alloc: Global, streams: &[Stream]) -> Result<(), AllocError> {
     for stream in streams {
-        write_copy(out, alloc, stream)?;
+        write_stream(out, &stream.copy(alloc)?)?;
     }
     Ok(())
 }
 
-// Each stream by a line, and each warning.
-fn shown_of(alloc: Global, streams: &Streams) -> Result<String, AllocError> {
-    let mut out = String::new(alloc);
-    write_streams(&mut out, alloc, streams.list())?;
-    write_warnings(&mut out, streams.warnings())?;
-    Ok(out)
+fn meter_of<'a>(catalogue: &'a Catalogue, stream: &Stream) -> Option<&'a Meter> {
+    let instrument = catalogue.instruments().get(stream.instrument as usize)?;
+    catalogue.meters().get(instrument.meter as usize)
 }
 
-fn shown(alloc: Global, catalogue: &str, config: &str) -> Result<String, Fail> {
-    let streams = resolved(alloc, catalogue, config)?;
-    Ok(shown_of(alloc, &streams)?)
+fn order_of(catalogue: &Catalogue, left: &Stream, right: &Stream) -> Option<Ordering> {
+    let left_meter = meter_of(catalogue, left)?;
+    let right_meter = meter_of(catalogue, right)?;
+    Some(identity_order(left, left_meter, right, right_meter))
 }
 
-#[test]
-fn every_part_of_the_streams_is_given(rt: HostRuntime) -> Result<(), Fail> {
-    streams_are_what_views_give();
-    collisions_are_of_one_identity();
-    unfit_views_sum_gauges();
-    for (config, wanted) in [(CONFIG, SHOWN), ("format = 1", "")] {
-        assert_equal(&rt, shown(rt.alloc(), SHOP, config)?.as_str(), wanted);
+// How each stream stands to the next by their identities.
+fn write_orders(
+    out: &mut String,
+    catalogue: &Catalogue,
+    streams: &[Stream],
+) -> Result<(), AllocError> {
+    out.push_str("order")?;
+    for pair in streams.windows(2) {
+        if let Some(order) = order_of(catalogue, &pair[0], &pair[1]) {
+            write!(out, " {order:?}")?;
+        }
     }
-    Ok(())
-}
-
-// How many streams and warnings a catalogue and a config give.
-fn counts_of(alloc: Global, catalogue: &str, config: &str) -> Result<(usize, usize), Fail> {
-    let streams = resolved(alloc, catalogue, config)?;
-    Ok((streams.list().len(), streams.warnings().len()))
-}
-
-#[test]
-fn each_reader_has_a_stream_of_each_instrument(rt: HostRuntime) -> Result<(), Fail> {
-    let catalogue = catalogue::at_limits(rt.alloc())?;
-    let config = config::of_readers(rt.alloc())?;
-    assert_equal(&rt, counts_of(rt.alloc(), &catalogue, &config)?, (8192, 0));
-    Ok(())
-}
-
-// A view of one reader, and which instruments it selects. No other view is there, so the others have the default.
-const CRITERIA: &[(&str, [Option<u32>; 4])] = &[
-    ("", [Some(0), Some(0), Some(0), Some(0)]),
-    ("instrument_name = 'h*'", [Some(0), Some(0), None, None]),
-    (
-        "instrument_name = '????'",
-        [Some(0), Some(0), Some(0), None],
-    ),
-    ("instrument_type = 'counter'", [Some(0), None, None, None]),
-    (
-        "instrument_type = 'up_down_counter'",
-        [None, None, None, Some(0)],
-    ),
-    ("instrument_type = 'histogram'", [None, None, Some(0), None]),
-    ("instrument_type = 'gauge'", [None, Some(0), None, None]),
-    ("instrument_unit = 'By'", [Some(0), None, None, None]),
-    ("instrument_unit = 'by'", [None, None, None, None]),
-    ("instrument_unit = ''", [None, Some(0), None, Some(0)]),
-    ("meter_name = 'shop'", [Some(0), Some(0), None, None]),
-    ("meter_version = ''", [None, None, Some(0), Some(0)]),
-    (
-        "meter_schema_url = 'https://shop/1'",
-        [Some(0), Some(0), None, None],
-    ),
-    (
-        "meter_name = 'shop'\ninstrument_type = 'histogram'",
-        [None, None, None, None],
-    ),
-];
-
-// A config of one reader and this view.
-fn with_view(alloc: Global, view: &str) -> Result<String, AllocError> {
-    ["format = 1\n[[reader]]\nname = 'r'\n[[view]]\n", view, "\n"].concat(alloc)
-}
-
-// Whether these are the views of the streams.
-fn has_views(streams: &[Stream], views: &[Option<u32>]) -> bool {
-    streams.len() == views.len()
-        && streams
-            .iter()
-            .zip(views)
-            .all(|(stream, view)| stream.view == *view)
-}
-
-fn selects(alloc: Global, config: &str, views: &[Option<u32>]) -> Result<bool, Fail> {
-    let streams = resolved(alloc, SHOP, config)?;
-    Ok(has_views(streams.list(), views))
-}
-
-#[test]
-fn a_view_selects_by_all_its_criteria(rt: HostRuntime) -> Result<(), Fail> {
-    for (view, wanted) in CRITERIA {
-        let config = with_view(rt.alloc(), view)?;
-        assert!(rt; selects(rt.alloc(), &config, wanted)?, "{view}");
-    }
-    Ok(())
-}
-
-const TWO: &str = "format = 1
-[[meter]]
-name = 'm'
-instrument = [{ name = 'c', kind = 'counter', range = [0, 9] }, { name = 'g', kind = 'gauge', range = [0, 9] }]
-";
-
-// Readers and views, and what they give of a counter and a gauge: reader, instrument, view; then the warnings.
-const SMALL: &[(&str, &str)] = &[
-    ("", ""),
-    ("reader = [{name = 'a'}]", "0 0 -, 0 1 -, "),
-    (
-        "reader = [{name = 'a'}, {name = 'b'}]\nview = [{instrument_name = 'c'}, {instrument_name = '?'}]",
-        "0 0 0, 0 0 1, 0 1 1, 1 0 0, 1 0 1, 1 1 1, collision 0 1\ncollision 3 4\n",
-    ),
-    (
-        "reader = [{name = 'a'}]\nview = [{instrument_name = 'c', aggregation = 'drop'}]",
-        "0 1 -, ",
-    ),
-    (
-        "reader = [{name = 'a'}]\nview = [{instrument_name = 'g', aggregation = 'sum'}]",
-        "0 0 -, 0 1 -, unfit 0 1\n",
-    ),
-    (
-        "reader = [{name = 'a'}]\nview = [{instrument_name = 'c', stream_name = 'A'}, {instrument_name = 'g', stream_name = 'a'}]",
-        "0 0 0, 0 1 1, collision 0 1\n",
-    ),
-];
-
-fn write_all_numbers(out: &mut String, streams: &[Stream]) -> Result<(), AllocError> {
-    for stream in streams {
-        write_numbers(out, stream)?;
-        out.push_str(", ")?;
-    }
-    Ok(())
-}
-
-fn numbers_of(alloc: Global, streams: &Streams) -> Result<String, AllocError> {
-    let mut out = String::new(alloc);
-    write_all_numbers(&mut out, streams.list())?;
-    write_warnings(&mut out, streams.warnings())?;
-    Ok(out)
-}
-
-fn numbers(alloc: Global, tables: &str) -> Result<String, Fail> {
-    let config = ["format = 1\n", tables].concat(alloc)?;
-    let streams = resolved(alloc, TWO, &config)?;
-    Ok(numbers_of(alloc, &streams)?)
-}
-
-#[test]
-fn streams_stand_by_reader_instrument_and_view(rt: HostRuntime) -> Result<(), Fail> {
-    for (tables, wanted) in SMALL {
-        assert_equal(
-            &rt,
-            (tables, numbers(rt.alloc(), tables)?.as_str()),
-            (tables, *wanted),
-        );
-    }
-    Ok(())
+    out.push_str("\n")
 }
 
 // What the view of this number, or the default, makes of an instrument for the first reader, where these are there.
@@ -383,99 +198,188 @@ fn write_fill(out: &mut String, fill: &Fill) -> Result<(), AllocError> {
     }
 }
 
-fn write_filled(
-    out: &mut String,
-    alloc: Global,
-    declared: &Declared,
-    instrument: u32,
-    view: Option<u32>,
-) -> Result<(), Fail> {
-    match fill_of(alloc, declared, instrument, view)? {
-        Some(fill) => Ok(write_fill(out, &fill)?),
-        None => Err(Fail::from("no such number")),
-    }
-}
+// An instrument, and a view that is asked what it makes of it.
+const FILLS: &[(u32, Option<u32>)] = &[(0, Some(0)), (2, None), (1, Some(2)), (0, Some(5))];
 
-fn filled(
-    alloc: Global,
-    declared: &Declared,
-    instrument: u32,
-    view: Option<u32>,
-) -> Result<String, Fail> {
-    let mut out = String::new(alloc);
-    write_filled(&mut out, alloc, declared, instrument, view)?;
-    Ok(out)
-}
-
-// An instrument, a view, and what the view makes of it.
-const FILLS: &[(u32, Option<u32>, &str)] = &[
-    (
-        0,
-        Some(0),
-        "0 0 0 calls|given|By| counter sum [false, false, true] 7 cumulative\n",
-    ),
-    (
-        2,
-        None,
-        "0 2 - wait|until the answer|ms| histogram [5, 7] [true] 2000 cumulative\n",
-    ),
-    (1, Some(2), "unfit\n"),
-    (0, Some(5), "dropped\n"),
-];
-
-#[test]
-fn one_view_makes_one_stream_of_an_instrument(rt: HostRuntime) -> Result<(), Fail> {
-    let declared = read_both(rt.alloc(), SHOP, CONFIG)?;
-    for (instrument, view, wanted) in FILLS {
-        let filled = filled(rt.alloc(), &declared, *instrument, *view)?;
-        assert_equal(&rt, filled.as_str(), *wanted);
+fn write_fills(out: &mut String, alloc: Global, declared: &Declared) -> Result<(), AllocError> {
+    for (instrument, view) in FILLS {
+        if let Some(fill) = fill_of(alloc, declared, *instrument, *view)? {
+            write_fill(out, &fill)?;
+        }
     }
     Ok(())
 }
 
-fn meter_of<'a>(catalogue: &'a Catalogue, stream: &Stream) -> Option<&'a Meter> {
-    let instrument = catalogue.instruments().get(stream.instrument as usize)?;
-    catalogue.meters().get(instrument.meter as usize)
-}
-
-fn order_in(
-    catalogue: &Catalogue,
-    streams: &[Stream],
-    left: usize,
-    right: usize,
-) -> Option<Ordering> {
-    let left = streams.get(left)?;
-    let right = streams.get(right)?;
-    Some(identity_order(
-        left,
-        meter_of(catalogue, left)?,
-        right,
-        meter_of(catalogue, right)?,
-    ))
-}
-
-// How two streams stand by their identities.
-fn order_of(
+fn write_all(
+    out: &mut String,
     alloc: Global,
     declared: &Declared,
-    left: usize,
-    right: usize,
-) -> Result<Option<Ordering>, Fail> {
+    streams: &Streams,
+) -> Result<(), AllocError> {
+    let warnings = streams.warnings();
+    write_copies(out, alloc, streams.list())?;
+    writeln!(out, "{warnings:?}")?;
+    write_orders(out, &declared.catalogue, streams.list())?;
+    write_fills(out, alloc, declared)
+}
+
+// Each stream by a line, the warnings, the order of the streams, and what single views make.
+fn shown_of(alloc: Global, declared: &Declared) -> Result<String, AllocError> {
+    let mut out = String::new(alloc);
     let streams = resolve(alloc, &declared.catalogue, &declared.config)?;
-    Ok(order_in(&declared.catalogue, streams.list(), left, right))
+    write_all(&mut out, alloc, declared, &streams)?;
+    Ok(out)
+}
+
+fn shown(alloc: Global, catalogue: &str, config: &str) -> Result<String, Fail> {
+    let declared = read_both(alloc, catalogue, config)?;
+    Ok(shown_of(alloc, &declared)?)
 }
 
 #[test]
-fn identities_stand_by_reader_meter_and_name(rt: HostRuntime) -> Result<(), Fail> {
-    let declared = read_both(rt.alloc(), SHOP, CONFIG)?;
-    for (left, right, wanted) in [
-        (3, 4, Ordering::Equal),
-        (0, 3, Ordering::Less),
-        (3, 0, Ordering::Greater),
-        (4, 6, Ordering::Less),
-        (1, 2, Ordering::Greater),
-    ] {
-        assert!(rt; order_of(rt.alloc(), &declared, left, right)? == Some(wanted));
+fn every_part_of_the_streams_is_given(rt: HostRuntime) -> Result<(), Fail> {
+    streams_are_what_views_give();
+    collisions_are_of_one_identity();
+    unfit_views_sum_gauges();
+    for (config, wanted) in [(CONFIG, SHOWN), ("format = 1", "[]\norder\n")] {
+        assert_equal(&rt, shown(rt.alloc(), SHOP, config)?.as_str(), wanted);
+    }
+    Ok(())
+}
+
+const TWO: &str = "format = 1
+[[meter]]
+name = 'm'
+instrument = [{ name = 'c', kind = 'counter', range = [0, 9] }, { name = 'g', kind = 'gauge', range = [0, 9] }]
+";
+
+// A catalogue, a config, and what they give: reader, instrument and view of each stream, and the warnings.
+const GIVEN: &[(&str, &str, &str)] = &[
+    (
+        SHOP,
+        "format = 1\nreader = [{name = 'r'}]\nview = [{}]",
+        "(0, 0, Some(0)) (0, 1, Some(0)) (0, 2, Some(0)) (0, 3, Some(0)) []",
+    ),
+    (
+        SHOP,
+        "format = 1\nreader = [{name = 'r'}]\nview = [{instrument_name = 'h*'}]",
+        "(0, 0, Some(0)) (0, 1, Some(0)) (0, 2, None) (0, 3, None) []",
+    ),
+    (
+        SHOP,
+        "format = 1\nreader = [{name = 'r'}]\nview = [{instrument_name = '????'}]",
+        "(0, 0, Some(0)) (0, 1, Some(0)) (0, 2, Some(0)) (0, 3, None) []",
+    ),
+    (
+        SHOP,
+        "format = 1\nreader = [{name = 'r'}]\nview = [{instrument_type = 'counter'}]",
+        "(0, 0, Some(0)) (0, 1, None) (0, 2, None) (0, 3, None) []",
+    ),
+    (
+        SHOP,
+        "format = 1\nreader = [{name = 'r'}]\nview = [{instrument_type = 'up_down_counter'}]",
+        "(0, 0, None) (0, 1, None) (0, 2, None) (0, 3, Some(0)) []",
+    ),
+    (
+        SHOP,
+        "format = 1\nreader = [{name = 'r'}]\nview = [{instrument_type = 'histogram'}]",
+        "(0, 0, None) (0, 1, None) (0, 2, Some(0)) (0, 3, None) []",
+    ),
+    (
+        SHOP,
+        "format = 1\nreader = [{name = 'r'}]\nview = [{instrument_type = 'gauge'}]",
+        "(0, 0, None) (0, 1, Some(0)) (0, 2, None) (0, 3, None) []",
+    ),
+    (
+        SHOP,
+        "format = 1\nreader = [{name = 'r'}]\nview = [{instrument_unit = 'By'}]",
+        "(0, 0, Some(0)) (0, 1, None) (0, 2, None) (0, 3, None) []",
+    ),
+    (
+        SHOP,
+        "format = 1\nreader = [{name = 'r'}]\nview = [{instrument_unit = 'by'}]",
+        "(0, 0, None) (0, 1, None) (0, 2, None) (0, 3, None) []",
+    ),
+    (
+        SHOP,
+        "format = 1\nreader = [{name = 'r'}]\nview = [{instrument_unit = ''}]",
+        "(0, 0, None) (0, 1, Some(0)) (0, 2, None) (0, 3, Some(0)) []",
+    ),
+    (
+        SHOP,
+        "format = 1\nreader = [{name = 'r'}]\nview = [{meter_name = 'shop'}]",
+        "(0, 0, Some(0)) (0, 1, Some(0)) (0, 2, None) (0, 3, None) []",
+    ),
+    (
+        SHOP,
+        "format = 1\nreader = [{name = 'r'}]\nview = [{meter_version = ''}]",
+        "(0, 0, None) (0, 1, None) (0, 2, Some(0)) (0, 3, Some(0)) []",
+    ),
+    (
+        SHOP,
+        "format = 1\nreader = [{name = 'r'}]\nview = [{meter_schema_url = 'https://shop/1'}]",
+        "(0, 0, Some(0)) (0, 1, Some(0)) (0, 2, None) (0, 3, None) []",
+    ),
+    (
+        SHOP,
+        "format = 1\nreader = [{name = 'r'}]\nview = [{meter_name = 'shop', instrument_type = 'histogram'}]",
+        "(0, 0, None) (0, 1, None) (0, 2, None) (0, 3, None) []",
+    ),
+    ("format = 1", "format = 1\nreader = [{name = 'a'}]", "[]"),
+    (TWO, "format = 1", "[]"),
+    (
+        TWO,
+        "format = 1\nreader = [{name = 'a'}]",
+        "(0, 0, None) (0, 1, None) []",
+    ),
+    (
+        TWO,
+        "format = 1\nreader = [{name = 'a'}, {name = 'b'}]\nview = [{instrument_name = 'c'}, {instrument_name = '?'}]",
+        "(0, 0, Some(0)) (0, 0, Some(1)) (0, 1, Some(1)) (1, 0, Some(0)) (1, 0, Some(1)) (1, 1, Some(1)) [Collision { a: 0, b: 1 }, Collision { a: 3, b: 4 }]",
+    ),
+    (
+        TWO,
+        "format = 1\nreader = [{name = 'a'}]\nview = [{instrument_name = 'c', aggregation = 'drop'}]",
+        "(0, 1, None) []",
+    ),
+    (
+        TWO,
+        "format = 1\nreader = [{name = 'a'}]\nview = [{instrument_name = 'g', aggregation = 'sum'}]",
+        "(0, 0, None) (0, 1, None) [Unfit { view: 0, instrument: 1 }]",
+    ),
+    (
+        TWO,
+        "format = 1\nreader = [{name = 'a'}]\nview = [{instrument_name = 'c', stream_name = 'A'}, {instrument_name = 'g', stream_name = 'a'}]",
+        "(0, 0, Some(0)) (0, 1, Some(1)) [Collision { a: 0, b: 1 }]",
+    ),
+];
+
+fn write_numbers(out: &mut String, streams: &[Stream]) -> Result<(), AllocError> {
+    for stream in streams {
+        let numbers = (stream.reader, stream.instrument, stream.view);
+        write!(out, "{numbers:?} ")?;
+    }
+    Ok(())
+}
+
+fn given_of(alloc: Global, streams: &Streams) -> Result<String, AllocError> {
+    let warnings = streams.warnings();
+    let mut out = String::new(alloc);
+    write_numbers(&mut out, streams.list())?;
+    write!(out, "{warnings:?}")?;
+    Ok(out)
+}
+
+fn given(alloc: Global, catalogue: &str, config: &str) -> Result<String, Fail> {
+    let declared = read_both(alloc, catalogue, config)?;
+    let streams = resolve(alloc, &declared.catalogue, &declared.config)?;
+    Ok(given_of(alloc, &streams)?)
+}
+
+#[test]
+fn views_select_by_all_their_criteria(rt: HostRuntime) -> Result<(), Fail> {
+    for (catalogue, config, wanted) in GIVEN {
+        assert_equal(&rt, given(rt.alloc(), catalogue, config)?.as_str(), *wanted);
     }
     Ok(())
 }

@@ -2,7 +2,7 @@
 use crate::certificates::plain_numbers::{are_bounds, are_entries};
 use crate::certificates::plain_orders::are_orders;
 use crate::certificates::plain_reasons::are_reasons;
-use crate::certificates::telling::Declared;
+use crate::declared::Declared;
 use metric_cert::Certificate;
 use metric_resolve::resolve;
 use metric_views::Stream;

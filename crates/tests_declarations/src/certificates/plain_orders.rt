@@ -1,5 +1,5 @@
 //! Whether the orders of readers are right.
-use crate::certificates::telling::Declared;
+use crate::declared::Declared;
 use metric_catalogue::{Catalogue, Meter};
 use metric_cert::ReaderOrder;
 use metric_views::Stream;
