@@ -1,71 +1,59 @@
 //! Works measured one after the other, and the table that tells of them.
 use crate::floors::Floor;
 use crate::watch::Measured;
+use crate::works::{Work, least};
 use std::alloc::{AllocError, Global};
+use std::sync::Wait;
+use std::time::Clock;
 
 /// What a figure counts.
 #[derive(Clone, Copy)]
-pub(crate) enum Unit {
-    /// So much for each operation, as `ns a recording`.
-    Each(&'static str),
-    /// Megabytes in a second, where each operation is a byte.
-    Speed,
+pub(crate) struct Unit {
+    pub name: &'static str,
+    /// Whether it counts millions of operations in a second, and not so much for each operation.
+    is_speed: bool,
 }
+
+/// Megabytes in a second, where each operation is a byte.
+pub(crate) const SPEED: Unit = Unit {
+    name: "MB/s",
+    is_speed: true,
+};
 
 impl Unit {
-    fn name(self) -> &'static str {
-        match self {
-            Unit::Each(name) => name,
-            Unit::Speed => "MB/s",
+    /// So much for each operation, as `ns a recording`.
+    pub(crate) fn each(name: &'static str) -> Unit {
+        Unit {
+            name,
+            is_speed: false,
         }
     }
 
-    // The figure of one operation, in thousandths.
+    // The hundredths of a figure, by the thousandths of one operation.
     fn figure(self, each: u64) -> u64 {
-        match self {
-            Unit::Each(_) => each,
-            Unit::Speed => speed(each),
+        if self.is_speed {
+            100_000_000 / each.max(1)
+        } else {
+            each / 10
         }
     }
 }
 
-/// What a line tells: of what and in which state, a size, how many operations the work has, and what a figure counts.
+/// What a line tells: of what, a size, how many operations the work has, and what a figure counts.
 #[derive(Clone, Copy)]
 pub(crate) struct Row {
     pub name: &'static str,
-    pub state: &'static str,
     pub size: u64,
     pub operations: u64,
     pub unit: Unit,
-    pub floor: Floor,
 }
-
-impl Row {
-    /// A work with as many operations as its size.
-    pub(crate) fn new(name: &'static str, size: u64, unit: Unit, floor: Floor) -> Row {
-        Row {
-            name,
-            state: "",
-            size,
-            operations: size,
-            unit,
-            floor,
-        }
-    }
-}
-
-// How wide the columns of names and of units are.
-const NAMES: usize = 34;
-
-const UNITS: usize = 28;
-
-// The last columns of a title.
-const COLUMNS: &str = "      figure  unit                             floor    times  beside\n";
 
 /// The table of what was measured, and a number in which the results of all works are.
 #[derive(Drop)]
 pub(crate) struct Bench {
     pub alloc: Global,
+    /// Beside what the lines stand that come.
+    pub floor: Floor,
     text: String,
     tally: u64,
 }
@@ -75,36 +63,54 @@ impl Bench {
     pub(crate) fn new(alloc: Global) -> Bench {
         Bench {
             alloc,
+            floor: Floor { name: "", each: 0 },
             text: String::new(alloc),
             tally: 0,
         }
     }
 
-    /// Begins a part of the table: its title, and what a size counts in it.
-    pub(crate) fn begin(&mut self, title: &str, size: &str) -> Result<(), AllocError> {
+    /// Begins a part of the table: its title, what a size counts in it, and beside what its lines stand.
+    pub(crate) fn begin(
+        &mut self,
+        title: &str,
+        size: &str,
+        floor: Floor,
+    ) -> Result<(), AllocError> {
+        self.floor = floor;
         push_title(&mut self.text, title, size)
+    }
+
+    /// Measures work, and adds its line.
+    pub(crate) fn measure<R: Wait + Clock>(
+        &mut self,
+        rt: &R,
+        row: &Row,
+        work: &Work<'_>,
+    ) -> anyhow::Result<()> {
+        let measured = least(rt, self.alloc, work)?;
+        self.tell(row, measured)?;
+        Ok(())
     }
 
     /// Adds the line of measured work, whose result goes into the tally.
     pub(crate) fn tell(&mut self, row: &Row, measured: Measured) -> Result<(), AllocError> {
-        let nanoseconds = self.take(measured);
-        self.add(row, nanoseconds)
+        self.count(measured.number);
+        self.add(row, measured.nanoseconds)
     }
 
-    /// The nanoseconds of measured work, whose result goes into the tally.
-    pub(crate) fn take(&mut self, measured: Measured) -> u64 {
-        self.tally = self.tally.wrapping_add(measured.number);
-        measured.nanoseconds
+    /// Takes the result of work into the tally.
+    pub(crate) fn count(&mut self, number: u64) {
+        self.tally = self.tally.wrapping_add(number);
     }
 
     /// Adds a line: of nanoseconds for all operations, of their bytes, or of as many times.
     pub(crate) fn add(&mut self, row: &Row, all: u64) -> Result<(), AllocError> {
-        push_row(&mut self.text, row, each(all, row.operations))
+        push_row(&mut self.text, row, self.floor, each(all, row.operations))
     }
 
     /// Ends the table by a line with the number in which the results of all works are.
     pub(crate) fn end(&mut self) -> Result<(), AllocError> {
-        push_tally(&mut self.text, self.tally)
+        writeln!(self.text, "\ntally {}", self.tally)
     }
 
     /// The table.
@@ -119,62 +125,56 @@ pub(crate) fn each(all: u64, operations: u64) -> u64 {
     u64::try_from(thousandths).unwrap_or(u64::MAX)
 }
 
-// Thousandths of a megabyte in a second, where a byte takes so many thousandths of a nanosecond.
-fn speed(each: u64) -> u64 {
-    1_000_000_000 / each.max(1)
-}
+// The last columns of a title.
+const COLUMNS: &str = "      figure  unit                             floor    times  beside\n";
 
 fn push_title(out: &mut String, title: &str, size: &str) -> Result<(), AllocError> {
-    out.push_str("\n")?;
-    push_left(out, title, 36)?;
-    write!(out, "{size:>12}")?;
+    write!(out, "\n{title:<36}{size:>12}")?;
     out.push_str(COLUMNS)
 }
 
-fn push_tally(out: &mut String, tally: u64) -> Result<(), AllocError> {
-    writeln!(out, "\ntally {tally}")
+// What stands in a column of a line.
+#[derive(Clone, Copy)]
+enum Cell {
+    // A text at the left.
+    Text(&'static str, usize),
+    // A number at the right.
+    Whole(u64, usize),
+    // A number of hundredths, of which the whole ones are at the right.
+    Hundredths(u64, usize),
 }
 
-// A line, by what one operation takes, in thousandths.
-fn push_row(out: &mut String, row: &Row, each: u64) -> Result<(), AllocError> {
-    push_name(out, row)?;
-    push_figures(out, row, each)?;
-    push_beside(out, row, each)
+// A line, by what one operation takes, in thousandths: what was measured, its size, the figure and its unit, that of the
+// floor, how many times the floor it is, and what the floor is.
+fn push_row(out: &mut String, row: &Row, floor: Floor, each: u64) -> Result<(), AllocError> {
+    let times = each.saturating_mul(100) / floor.each.max(1);
+    let cells = [
+        Cell::Text(row.name, 34),
+        Cell::Whole(row.size, 12),
+        Cell::Hundredths(row.unit.figure(each), 9),
+        Cell::Text(row.unit.name, 28),
+        Cell::Hundredths(row.unit.figure(floor.each), 7),
+        Cell::Hundredths(times, 6),
+        Cell::Text(floor.name, 0),
+    ];
+    push_cells(out, &cells)
 }
 
-// What was measured, and its size.
-fn push_name(out: &mut String, row: &Row) -> Result<(), AllocError> {
-    let size = row.size;
-    let rest = NAMES.saturating_sub(row.name.len());
-    out.push_str("  ")?;
-    out.push_str(row.name)?;
-    push_left(out, row.state, rest)?;
-    write!(out, "{size:>12}")
-}
-
-// The figure with its unit, and that of the floor.
-fn push_figures(out: &mut String, row: &Row, each: u64) -> Result<(), AllocError> {
-    push_hundredths(out, row.unit.figure(each) / 10, 9)?;
-    out.push_str("  ")?;
-    push_left(out, row.unit.name(), UNITS)?;
-    push_hundredths(out, row.unit.figure(row.floor.each) / 10, 7)
-}
-
-// How many times the floor it is, and what the floor is.
-fn push_beside(out: &mut String, row: &Row, each: u64) -> Result<(), AllocError> {
-    let floor = row.floor;
-    push_hundredths(out, each.saturating_mul(100) / floor.each.max(1), 6)?;
-    out.push_str("  ")?;
-    out.push_str(floor.name)?;
+fn push_cells(out: &mut String, cells: &[Cell]) -> Result<(), AllocError> {
+    for cell in cells {
+        push_cell(out, *cell)?;
+    }
     out.push_str("\n")
 }
 
-// A text at the left of a column.
-fn push_left(out: &mut String, text: &str, width: usize) -> Result<(), AllocError> {
-    write!(out, "{text:<width$}")
+fn push_cell(out: &mut String, cell: Cell) -> Result<(), AllocError> {
+    match cell {
+        Cell::Text(text, width) => write!(out, "  {text:<width$}"),
+        Cell::Whole(number, width) => write!(out, "{number:>width$}"),
+        Cell::Hundredths(number, width) => push_hundredths(out, number, width),
+    }
 }
 
-// A number of hundredths, whose whole ones are at the right of a column.
 fn push_hundredths(out: &mut String, hundredths: u64, width: usize) -> Result<(), AllocError> {
     let whole = hundredths / 100;
     let rest = hundredths % 100;

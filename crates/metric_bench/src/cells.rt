@@ -56,31 +56,22 @@ impl Instrument {
         Ok(Instrument { cell, recordings })
     }
 
-    /// Makes each recording once. How many were accepted.
-    pub(crate) fn record_all(&mut self) -> u64 {
-        record_all(&mut self.cell, &self.recordings)
-    }
-
     /// Makes each recording so many times. How many were accepted.
     pub(crate) fn repeat(&mut self, rounds: u32) -> u64 {
         let mut accepted: u64 = 0;
         for _ in 0..rounds {
-            accepted = accepted.wrapping_add(self.record_all());
+            accepted = accepted.wrapping_add(record_all(&mut self.cell, &self.recordings));
         }
         accepted
     }
 
-    /// How many points the reader's streams have.
-    pub(crate) fn points(&mut self, alloc: Global, reader: u32) -> anyhow::Result<u64> {
-        if reader as usize >= self.cell.facts().delta.len() {
-            return Ok(0);
+    /// How many streams the first reader collects.
+    pub(crate) fn collect(&mut self, alloc: Global) -> anyhow::Result<u64> {
+        if self.cell.facts().delta.len() == 0 {
+            anyhow::bail!("no reader");
         }
-        let batch = self.cell.collect(alloc, reader, 0)?;
-        let mut points: u64 = 0;
-        for stream in batch.streams.as_slice() {
-            points = points.wrapping_add(stream.points.len() as u64);
-        }
-        Ok(points)
+        let batch = self.cell.collect(alloc, 0, 0)?;
+        Ok(batch.streams.as_slice().len() as u64)
     }
 }
 

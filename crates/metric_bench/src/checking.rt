@@ -1,105 +1,212 @@
 //! What it costs to read a catalogue and a config, to find their streams, to make certificates, to check them, and to
 //! start what they certify.
-use crate::bench::{Bench, Row, Unit};
+use crate::bench::{Bench, Row, SPEED, Unit};
 use crate::floors::{Floor, copy};
-use crate::inputs::{Texts, texts_of};
+use crate::inputs::{RECORDERS, SOME_VALUES, Shape, catalogue, config};
 use crate::seats::started;
-use crate::sizes::{PAIR, SIZES, Size};
-use crate::watch::{Measured, Watch, least};
+use crate::watch::Watch;
+use crate::works::Work;
 use metric_resolve::resolve;
 use metric_sdk::{Catalogue, Certificate, Config, Plan, certified_plan, check, make};
 use std::alloc::Global;
 use std::sync::Wait;
 use std::time::Clock;
 
+// How many instruments there are in a catalogue, and how many views in a config.
+const SIZES: &[(u32, u32)] = &[(1, 1), (16, 16), (128, 64), (512, 256)];
+
+// How many keys an instrument has.
+const KEYS: u32 = 4;
+
+/// What is done with a catalogue, a config and their certificate.
+#[derive(Clone, Copy)]
+pub(crate) enum Step {
+    ReadCatalogue,
+    ReadConfig,
+    ReadCertificate,
+    Resolve,
+    Make,
+    Check,
+    Start,
+}
+
+// Lines for each size: their names, and what is done.
+#[derive(Clone, Copy)]
+struct Part {
+    title: &'static str,
+    size: &'static str,
+    lines: &'static [(&'static str, Step)],
+}
+
+const PARTS: &[Part] = &[
+    Part {
+        title: "files",
+        size: "bytes",
+        lines: &[
+            ("a catalogue read", Step::ReadCatalogue),
+            ("a config read", Step::ReadConfig),
+        ],
+    },
+    Part {
+        title: "streams",
+        size: "pairs",
+        lines: &[("resolved", Step::Resolve)],
+    },
+    Part {
+        title: "certificates",
+        size: "pairs",
+        lines: &[
+            ("made", Step::Make),
+            ("checked", Step::Check),
+            ("read, by its bytes", Step::ReadCertificate),
+        ],
+    },
+    Part {
+        title: "starts",
+        size: "pairs",
+        lines: &[("started", Step::Start)],
+    },
+];
+
 /// Measures catalogues and configs that are read, their streams, certificates, and starts of what they certify.
 pub(crate) fn measure<R: Wait + Clock>(rt: &R, bench: &mut Bench) -> anyhow::Result<()> {
     let floor = copy(rt, bench.alloc)?;
-    measure_part(rt, bench, Part::Files, floor)?;
-    measure_part(rt, bench, Part::Streams, floor)?;
-    let floor = copy(rt, bench.alloc)?;
-    measure_part(rt, bench, Part::Certificates, floor)?;
-    measure_part(rt, bench, Part::Starts, floor)
-}
-
-// What is done with a catalogue and a config.
-#[derive(Clone, Copy)]
-enum Part {
-    Files,
-    Streams,
-    Certificates,
-    Starts,
-}
-
-impl Part {
-    fn title(self) -> &'static str {
-        match self {
-            Part::Files => "files",
-            Part::Streams => "streams",
-            Part::Certificates => "certificates",
-            Part::Starts => "starts",
-        }
+    for part in PARTS {
+        bench.begin(part.title, part.size, floor)?;
+        measure_part(rt, bench, part, floor)?;
     }
-
-    // What a size counts.
-    fn size(self) -> &'static str {
-        match self {
-            Part::Files => "bytes",
-            _ => "pairs",
-        }
-    }
+    Ok(())
 }
 
 fn measure_part<R: Wait + Clock>(
     rt: &R,
     bench: &mut Bench,
-    part: Part,
+    part: &Part,
     floor: Floor,
 ) -> anyhow::Result<()> {
-    bench.begin(part.title(), part.size())?;
-    for size in SIZES {
-        measure_size(rt, bench, part, *size, floor)?;
+    for (instruments, views) in SIZES {
+        let texts = texts_of(bench.alloc, *instruments, *views)?;
+        measure_lines(rt, bench, part, &texts, floor)?;
     }
     Ok(())
 }
 
-fn measure_size<R: Wait + Clock>(
+fn measure_lines<R: Wait + Clock>(
     rt: &R,
     bench: &mut Bench,
-    part: Part,
-    size: Size,
-    floor: Floor,
-) -> anyhow::Result<()> {
-    let texts = texts_of(bench.alloc, size)?;
-    let pairs = size.pairs();
-    match part {
-        Part::Files => measure_files(rt, bench, &texts, floor),
-        Part::Streams => measure_streams(rt, bench, &texts, pairs, floor),
-        Part::Certificates => measure_certificate(rt, bench, &texts, pairs, floor),
-        Part::Starts => measure_start(rt, bench, &texts, pairs, floor),
-    }
-}
-
-fn measure_files<R: Clock>(
-    rt: &R,
-    bench: &mut Bench,
+    part: &Part,
     texts: &Texts,
     floor: Floor,
 ) -> anyhow::Result<()> {
-    let alloc = bench.alloc;
-    let measured = least(rt, |_| instruments_in(alloc, &texts.catalogue))?;
-    let bytes = texts.catalogue.len() as u64;
-    bench.tell(
-        &Row::new("a catalogue read", bytes, Unit::Speed, floor),
-        measured,
-    )?;
-    let measured = least(rt, |_| views_in(alloc, &texts.config))?;
-    let bytes = texts.config.len() as u64;
-    bench.tell(
-        &Row::new("a config read", bytes, Unit::Speed, floor),
-        measured,
-    )?;
+    for (name, step) in part.lines {
+        bench.floor = texts.floor_of(*step, floor);
+        bench.measure(rt, &texts.row_of(*step, *name), &Work::Step(*step, texts))?;
+    }
     Ok(())
+}
+
+/// A catalogue, a config and their certificate.
+pub(crate) struct Texts {
+    catalogue: String,
+    config: String,
+    certificate: String,
+    // How many pairs of an instrument and a view there are.
+    pairs: u64,
+}
+
+impl Drop for Texts {
+    // A call of its own, so that what owns texts does not carry the steps of dropping each.
+    fn drop(self) {
+        let Texts {
+            catalogue: _catalogue,
+            config: _config,
+            certificate: _certificate,
+            pairs: _,
+        } = self;
+    }
+}
+
+fn texts_of(alloc: Global, instruments: u32, views: u32) -> anyhow::Result<Texts> {
+    let shape = Shape {
+        instruments,
+        differ: false,
+        keys: KEYS,
+        values: SOME_VALUES,
+        recorders: RECORDERS,
+    };
+    let mut texts = Texts {
+        catalogue: catalogue(alloc, &shape)?,
+        config: config(alloc, 1, views)?,
+        certificate: String::new(alloc),
+        pairs: u64::from(instruments) * u64::from(views),
+    };
+    texts.certificate = certificate_of(alloc, &texts)?;
+    Ok(texts)
+}
+
+fn certificate_of(alloc: Global, texts: &Texts) -> anyhow::Result<String> {
+    let files = files_of(alloc, texts)?;
+    let certificate = make(alloc, &files.catalogue, &files.config)?;
+    Ok(certificate.write(alloc)?)
+}
+
+impl Texts {
+    // The bytes of what is read or made, else of the catalogue.
+    fn bytes_of(&self, step: Step) -> u64 {
+        let text = match step {
+            Step::ReadConfig => &self.config,
+            Step::ReadCertificate | Step::Make | Step::Check => &self.certificate,
+            _ => &self.catalogue,
+        };
+        text.len() as u64
+    }
+
+    // What is read is measured by its bytes, all else by its pairs.
+    fn row_of(&self, step: Step, name: &'static str) -> Row {
+        let (size, unit) = match step.is_reading() {
+            true => (self.bytes_of(step), SPEED),
+            false => (self.pairs, Unit::each("ns a pair")),
+        };
+        Row {
+            name,
+            size,
+            operations: size,
+            unit,
+        }
+    }
+
+    fn floor_of(&self, step: Step, floor: Floor) -> Floor {
+        match step.is_reading() {
+            true => floor,
+            false => floor.shared(self.bytes_of(step), self.pairs),
+        }
+    }
+}
+
+impl Step {
+    fn is_reading(self) -> bool {
+        matches!(
+            self,
+            Step::ReadCatalogue | Step::ReadConfig | Step::ReadCertificate
+        )
+    }
+}
+
+/// Does a step. A number that depends on it.
+pub(crate) fn step_done<R: Wait + Clock>(
+    rt: &R,
+    alloc: Global,
+    step: Step,
+    texts: &Texts,
+    watch: &mut Watch,
+) -> anyhow::Result<u64> {
+    match step {
+        Step::ReadCatalogue => instruments_in(alloc, &texts.catalogue),
+        Step::ReadConfig => views_in(alloc, &texts.config),
+        Step::ReadCertificate => streams_in(alloc, &texts.certificate),
+        Step::Start => start_once(rt, alloc, texts, watch),
+        _ => done_with_files(rt, alloc, step, texts, watch),
+    }
 }
 
 fn instruments_in(alloc: Global, text: &str) -> anyhow::Result<u64> {
@@ -112,144 +219,9 @@ fn views_in(alloc: Global, text: &str) -> anyhow::Result<u64> {
     Ok(config.views().len() as u64)
 }
 
-// A catalogue and a config that were read.
-#[derive(Drop)]
-struct Files {
-    catalogue: Catalogue,
-    config: Config,
-}
-
-fn files_of(alloc: Global, texts: &Texts) -> anyhow::Result<Files> {
-    let catalogue = Catalogue::read(alloc, &texts.catalogue)?;
-    let config = Config::read(alloc, &texts.config)?;
-    Ok(Files { catalogue, config })
-}
-
-fn measure_streams<R: Clock>(
-    rt: &R,
-    bench: &mut Bench,
-    texts: &Texts,
-    pairs: u64,
-    floor: Floor,
-) -> anyhow::Result<()> {
-    let measured = streams_measured(rt, bench.alloc, texts)?;
-    let floor = floor.shared(texts.catalogue.len() as u64, pairs);
-    bench.tell(&Row::new("resolved", pairs, PAIR, floor), measured)?;
-    Ok(())
-}
-
-fn streams_measured<R: Clock>(rt: &R, alloc: Global, texts: &Texts) -> anyhow::Result<Measured> {
-    let files = files_of(alloc, texts)?;
-    least(rt, |_| streams_of(alloc, &files))
-}
-
-fn streams_of(alloc: Global, files: &Files) -> anyhow::Result<u64> {
-    let streams = resolve(alloc, &files.catalogue, &files.config)?;
-    Ok(streams.list().len() as u64)
-}
-
-// A certificate: made, checked and read.
-fn measure_certificate<R: Clock>(
-    rt: &R,
-    bench: &mut Bench,
-    texts: &Texts,
-    pairs: u64,
-    floor: Floor,
-) -> anyhow::Result<()> {
-    let text = certificate_text(bench.alloc, texts)?;
-    measure_text(rt, bench, texts, &text, pairs, floor)
-}
-
-fn measure_text<R: Clock>(
-    rt: &R,
-    bench: &mut Bench,
-    texts: &Texts,
-    text: &str,
-    pairs: u64,
-    floor: Floor,
-) -> anyhow::Result<()> {
-    let alloc = bench.alloc;
-    let bytes = text.len() as u64;
-    let beside = floor.shared(bytes, pairs);
-    let made = make_measured(rt, alloc, texts)?;
-    bench.tell(&Row::new("made", pairs, PAIR, beside), made)?;
-    let checked = check_measured(rt, alloc, texts, text)?;
-    bench.tell(&Row::new("checked", pairs, PAIR, beside), checked)?;
-    let read = least(rt, |_| read_certificate(alloc, text))?;
-    bench.tell(
-        &Row::new("read, by its bytes", bytes, Unit::Speed, floor),
-        read,
-    )?;
-    Ok(())
-}
-
-fn certificate_text(alloc: Global, texts: &Texts) -> anyhow::Result<String> {
-    let files = files_of(alloc, texts)?;
-    let certificate = make(alloc, &files.catalogue, &files.config)?;
-    Ok(certificate.write(alloc)?)
-}
-
-fn make_measured<R: Clock>(rt: &R, alloc: Global, texts: &Texts) -> anyhow::Result<Measured> {
-    let files = files_of(alloc, texts)?;
-    least(rt, |_| make_certificate(alloc, &files))
-}
-
-fn make_certificate(alloc: Global, files: &Files) -> anyhow::Result<u64> {
-    let certificate = make(alloc, &files.catalogue, &files.config)?;
-    Ok(certificate.streams.len() as u64)
-}
-
-fn read_certificate(alloc: Global, text: &str) -> anyhow::Result<u64> {
+fn streams_in(alloc: Global, text: &str) -> anyhow::Result<u64> {
     let certificate = Certificate::read(alloc, text)?;
     Ok(certificate.streams.len() as u64)
-}
-
-fn check_measured<R: Clock>(
-    rt: &R,
-    alloc: Global,
-    texts: &Texts,
-    text: &str,
-) -> anyhow::Result<Measured> {
-    let certificate = Certificate::read(alloc, text)?;
-    least(
-        rt,
-        |watch| check_once(rt, alloc, texts, &certificate, watch),
-    )
-}
-
-fn check_once<R: Clock>(
-    rt: &R,
-    alloc: Global,
-    texts: &Texts,
-    certificate: &Certificate,
-    watch: &mut Watch,
-) -> anyhow::Result<u64> {
-    let files = files_of(alloc, texts)?;
-    watch.start(rt);
-    let checked = checked(alloc, files, certificate);
-    watch.stop(rt);
-    Ok(checked?.streams().len() as u64)
-}
-
-fn checked(alloc: Global, files: Files, certificate: &Certificate) -> anyhow::Result<Plan> {
-    match check(alloc, files.catalogue, files.config, certificate) {
-        Ok(plan) => Ok(plan),
-        Err(refused) => Err(refused.2.into()),
-    }
-}
-
-fn measure_start<R: Wait + Clock>(
-    rt: &R,
-    bench: &mut Bench,
-    texts: &Texts,
-    pairs: u64,
-    floor: Floor,
-) -> anyhow::Result<()> {
-    let alloc = bench.alloc;
-    let measured = least(rt, |watch| start_once(rt, alloc, texts, watch))?;
-    let floor = floor.shared(texts.catalogue.len() as u64, pairs);
-    bench.tell(&Row::new("started", pairs, PAIR, floor), measured)?;
-    Ok(())
 }
 
 fn start_once<R: Wait + Clock>(
@@ -263,4 +235,79 @@ fn start_once<R: Wait + Clock>(
     let seats = started(rt, alloc, plan);
     watch.stop(rt);
     Ok(seats?.recorders.len() as u64)
+}
+
+// A catalogue and a config that were read.
+#[derive(Drop)]
+struct Files {
+    catalogue: Catalogue,
+    config: Config,
+}
+
+fn files_of(alloc: Global, texts: &Texts) -> anyhow::Result<Files> {
+    Ok(Files {
+        catalogue: Catalogue::read(alloc, &texts.catalogue)?,
+        config: Config::read(alloc, &texts.config)?,
+    })
+}
+
+// What is done with files that were read before.
+fn done_with_files<R: Clock>(
+    rt: &R,
+    alloc: Global,
+    step: Step,
+    texts: &Texts,
+    watch: &mut Watch,
+) -> anyhow::Result<u64> {
+    let files = files_of(alloc, texts)?;
+    match step {
+        Step::Resolve => resolve_once(rt, alloc, &files, watch),
+        Step::Make => make_once(rt, alloc, &files, watch),
+        _ => check_once(rt, alloc, files, &texts.certificate, watch),
+    }
+}
+
+fn resolve_once<R: Clock>(
+    rt: &R,
+    alloc: Global,
+    files: &Files,
+    watch: &mut Watch,
+) -> anyhow::Result<u64> {
+    watch.start(rt);
+    let streams = resolve(alloc, &files.catalogue, &files.config);
+    watch.stop(rt);
+    Ok(streams?.list().len() as u64)
+}
+
+fn make_once<R: Clock>(
+    rt: &R,
+    alloc: Global,
+    files: &Files,
+    watch: &mut Watch,
+) -> anyhow::Result<u64> {
+    watch.start(rt);
+    let certificate = make(alloc, &files.catalogue, &files.config);
+    watch.stop(rt);
+    Ok(certificate?.streams.len() as u64)
+}
+
+fn check_once<R: Clock>(
+    rt: &R,
+    alloc: Global,
+    files: Files,
+    text: &str,
+    watch: &mut Watch,
+) -> anyhow::Result<u64> {
+    let certificate = Certificate::read(alloc, text)?;
+    watch.start(rt);
+    let plan = checked(alloc, files, &certificate);
+    watch.stop(rt);
+    Ok(plan?.streams().len() as u64)
+}
+
+fn checked(alloc: Global, files: Files, certificate: &Certificate) -> anyhow::Result<Plan> {
+    match check(alloc, files.catalogue, files.config, certificate) {
+        Ok(plan) => Ok(plan),
+        Err(refused) => Err(refused.2.into()),
+    }
 }

@@ -2,7 +2,8 @@
 use crate::bench::each;
 use crate::inputs::sets;
 use crate::walk::Walk;
-use crate::watch::least;
+use crate::watch::Watch;
+use crate::works::{Work, least};
 use indexmap::IndexMap;
 use metric_sdk::SetKey;
 use std::alloc::{AllocError, Global};
@@ -19,11 +20,6 @@ pub(crate) struct Floor {
 }
 
 impl Floor {
-    /// The floor of one that has this many of them.
-    pub(crate) fn many(self, count: u64) -> Floor {
-        self.shared(count, 1)
-    }
-
     /// The floor of one of so many which together have this many of them.
     pub(crate) fn shared(self, count: u64, among: u64) -> Floor {
         let all = u128::from(self.each) * u128::from(count);
@@ -41,11 +37,58 @@ const BYTES: usize = 1_048_576;
 // How often an operation is done in one measurement.
 const EVENTS: u32 = 200_000;
 
-// The thousandths of a nanosecond that an addition takes under a lock that nobody else takes.
-fn addition<R: Wait + Clock>(rt: &R) -> anyhow::Result<u64> {
+// The floor of work with so many operations.
+fn floor_of<R: Wait + Clock>(
+    rt: &R,
+    alloc: Global,
+    name: &'static str,
+    operations: u64,
+    work: &Work<'_>,
+) -> anyhow::Result<Floor> {
+    let measured = least(rt, alloc, work)?;
+    Ok(Floor {
+        name,
+        each: each(measured.nanoseconds, operations),
+    })
+}
+
+/// A look-up in a map of so many set keys.
+pub(crate) fn look_up<R: Wait + Clock>(rt: &R, alloc: Global, count: u32) -> anyhow::Result<Floor> {
+    let work = Work::LookUps(count);
+    floor_of(
+        rt,
+        alloc,
+        "a look-up by a set key",
+        u64::from(EVENTS),
+        &work,
+    )
+}
+
+/// What a recording takes at least that has to look up each of its series under a lock.
+pub(crate) fn locked<R: Wait + Clock>(
+    rt: &R,
+    alloc: Global,
+    series: u32,
+    streams: u32,
+) -> anyhow::Result<Floor> {
+    let name = "a lock, a look-up for each stream, an addition";
+    let addition = floor_of(rt, alloc, name, u64::from(EVENTS), &Work::Additions)?;
+    let look_ups = look_up(rt, alloc, series)?.shared(u64::from(streams), 1);
+    Ok(Floor {
+        name,
+        each: addition.each.saturating_add(look_ups.each),
+    })
+}
+
+/// A copy of a byte.
+pub(crate) fn copy<R: Wait + Clock>(rt: &R, alloc: Global) -> anyhow::Result<Floor> {
+    floor_of(rt, alloc, "a copy of the bytes", BYTES as u64, &Work::Copy)
+}
+
+/// Makes additions under a lock that nobody else takes. The sum.
+pub(crate) fn add_events<R: Wait>(rt: &R) -> u64 {
     let sum = Mutex::new(0);
-    let measured = least(rt, |_| Ok(add_all(rt, &sum, EVENTS)))?;
-    Ok(each(measured.nanoseconds, u64::from(EVENTS)))
+    add_all(rt, &sum, EVENTS)
 }
 
 /// Makes so many additions under a lock. The sum.
@@ -57,38 +100,24 @@ pub(crate) fn add_all<R: Wait>(rt: &R, sum: &Mutex<u64>, events: u32) -> u64 {
     *sum.lock(rt)
 }
 
-/// What a recording takes at least that has to look up each of its series under a lock.
-pub(crate) fn locked<R: Wait + Clock>(
+/// Looks up set keys in a map of so many. The sum of what was found.
+pub(crate) fn look_up_sets<R: Clock>(
     rt: &R,
     alloc: Global,
-    series: u32,
-    streams: u32,
-) -> anyhow::Result<Floor> {
-    let look_ups = look_up(rt, alloc, series)?.many(u64::from(streams));
-    Ok(Floor {
-        name: "a lock, a look-up for each stream, an addition",
-        each: addition(rt)?.saturating_add(look_ups.each),
-    })
-}
-
-/// A look-up in a map of so many set keys.
-pub(crate) fn look_up<R: Clock>(rt: &R, alloc: Global, count: u32) -> anyhow::Result<Floor> {
+    count: u32,
+    watch: &mut Watch,
+) -> anyhow::Result<u64> {
     let sets = sets(alloc, count)?;
-    look_up_in(rt, alloc, &sets)
+    let map = map_of(alloc, &sets)?;
+    watch.start(rt);
+    let found = look_all_up(&map, &sets);
+    watch.stop(rt);
+    Ok(found)
 }
 
-fn look_up_in<R: Clock>(rt: &R, alloc: Global, sets: &[SetKey]) -> anyhow::Result<Floor> {
-    let map = map_of(alloc, sets)?;
+// Looks up one set key after the other.
+fn look_all_up(map: &IndexMap<SetKey, u64>, sets: &[SetKey]) -> u64 {
     let walk = Walk::new();
-    let measured = least(rt, |_| Ok(look_all_up(&map, sets, &walk)))?;
-    Ok(Floor {
-        name: "a look-up by a set key",
-        each: each(measured.nanoseconds, u64::from(EVENTS)),
-    })
-}
-
-// Looks up one set key after the other. The sum of what was found.
-fn look_all_up(map: &IndexMap<SetKey, u64>, sets: &[SetKey], walk: &Walk) -> u64 {
     let mut found: u64 = 0;
     let mut at = 0;
     for _ in 0..EVENTS {
@@ -109,24 +138,17 @@ pub(crate) fn map_of(alloc: Global, sets: &[SetKey]) -> Result<IndexMap<SetKey, 
     Ok(map)
 }
 
-/// A copy of a byte.
-pub(crate) fn copy<R: Clock>(rt: &R, alloc: Global) -> anyhow::Result<Floor> {
+/// Copies bytes to where others stood. The last one.
+pub(crate) fn copy_bytes<R: Clock>(
+    rt: &R,
+    alloc: Global,
+    watch: &mut Watch,
+) -> anyhow::Result<u64> {
     let from: Vec<u8> = vec![in alloc; 1; BYTES]?;
-    copy_of(rt, alloc, &from)
-}
-
-fn copy_of<R: Clock>(rt: &R, alloc: Global, from: &[u8]) -> anyhow::Result<Floor> {
-    let mut to: Vec<u8> = Vec::with_capacity(alloc, BYTES)?;
-    let measured = least(rt, |_| copy_into(&mut to, from))?;
-    Ok(Floor {
-        name: "a copy of the bytes",
-        each: each(measured.nanoseconds, BYTES as u64),
-    })
-}
-
-// Copies all bytes. The last one.
-fn copy_into(to: &mut Vec<u8>, from: &[u8]) -> anyhow::Result<u64> {
+    let mut to = from.clone()?;
     to.clear();
-    to.extend_from_slice(from)?;
+    watch.start(rt);
+    to.extend_from_slice(&from)?;
+    watch.stop(rt);
     Ok(u64::from(to.last().copied().unwrap_or(0)))
 }

@@ -1,70 +1,60 @@
 //! What it costs to find the bucket of a value.
 use crate::bench::{Bench, Row, Unit};
-use crate::floors::{Floor, look_up};
-use crate::inputs::{kinds_plan, value_of};
-use crate::watch::{Measured, least};
+use crate::floors::look_up;
+use crate::inputs::{kinds, plan_of, value_of};
+use crate::works::Work;
 use metric_aggregate::{Aggregate, BucketAgg};
 use metric_base::Boundaries;
 use metric_sdk::Plan;
 use metric_views::StreamAggregation;
 use std::alloc::Global;
+use std::sync::Wait;
 use std::time::Clock;
 
 /// Measures histograms.
-pub(crate) fn measure<R: Clock>(rt: &R, bench: &mut Bench, events: u32) -> anyhow::Result<()> {
+pub(crate) fn measure<R: Wait + Clock>(
+    rt: &R,
+    bench: &mut Bench,
+    events: u32,
+) -> anyhow::Result<()> {
     let floor = look_up(rt, bench.alloc, 1)?;
-    let plan = kinds_plan(bench.alloc, 0, 1)?;
-    measure_plan(rt, bench, &plan, events, floor)
+    bench.begin("values of one histogram", "boundaries", floor)?;
+    let plan = plan_of(bench.alloc, &kinds(0), 1)?;
+    measure_plan(rt, bench, &plan, events)
 }
 
-fn measure_plan<R: Clock>(
+fn measure_plan<R: Wait + Clock>(
     rt: &R,
     bench: &mut Bench,
     plan: &Plan,
     events: u32,
-    floor: Floor,
 ) -> anyhow::Result<()> {
-    bench.begin("values of one histogram", "boundaries")?;
     for stream in plan.streams() {
         if let StreamAggregation::Histogram(boundaries) = &stream.aggregation {
-            measure_boundaries(rt, bench, boundaries.get(), events, floor)?;
+            let boundaries = boundaries.get();
+            let row = row_of(boundaries, events);
+            bench.measure(rt, &row, &Work::Values(boundaries, events))?;
         }
     }
     Ok(())
 }
 
-fn measure_boundaries<R: Clock>(
-    rt: &R,
-    bench: &mut Bench,
-    boundaries: &Boundaries,
-    events: u32,
-    floor: Floor,
-) -> anyhow::Result<()> {
-    let measured = additions_measured(rt, bench.alloc, boundaries, events)?;
-    let row = Row {
+fn row_of(boundaries: &Boundaries, events: u32) -> Row {
+    Row {
         name: "a value added",
-        state: "",
         size: boundaries.as_slice().len() as u64,
         operations: u64::from(events),
-        unit: Unit::Each("ns a value"),
-        floor,
-    };
-    bench.tell(&row, measured)?;
-    Ok(())
+        unit: Unit::each("ns a value"),
+    }
 }
 
-fn additions_measured<R: Clock>(
-    rt: &R,
+/// Adds so many values to a histogram. How many fitted.
+pub(crate) fn add_values(
     alloc: Global,
     boundaries: &Boundaries,
     events: u32,
-) -> anyhow::Result<Measured> {
+) -> anyhow::Result<u64> {
     let mut histogram = BucketAgg::new(alloc, boundaries, true)?;
-    least(rt, |_| Ok(add_values(&mut histogram, events)))
-}
-
-// Adds so many values. How many fitted.
-fn add_values(histogram: &mut BucketAgg, events: u32) -> u64 {
     let mut added: u64 = 0;
     for event in 0..events {
         let value = value_of(event);
@@ -73,5 +63,5 @@ fn add_values(histogram: &mut BucketAgg, events: u32) -> u64 {
             added = added.wrapping_add(1);
         }
     }
-    added
+    Ok(added)
 }

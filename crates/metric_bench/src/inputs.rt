@@ -1,20 +1,7 @@
 //! Catalogues and configs of a size, set keys and attributes.
-use crate::sizes::{LISTS, Size};
 use metric_sdk::{Attr, Plan, SetKey, ValueRef, certified_plan};
 use std::alloc::{AllocError, Global};
-
-/// How many instruments [`kinds`] has.
-pub(crate) const KINDS: u32 = 4;
-
-/// The name of the stream of an instrument of [`kinds`].
-pub(crate) fn kind_name(number: u32) -> &'static str {
-    match number {
-        0 => "sum",
-        1 => "last value",
-        2 => "histogram of 15",
-        _ => "histogram of 128",
-    }
-}
+use std::ops::Range;
 
 /// How many different set keys there are at most.
 pub(crate) const MOST_SETS: u32 = 262_144;
@@ -22,166 +9,163 @@ pub(crate) const MOST_SETS: u32 = 262_144;
 /// How many threads may record.
 pub(crate) const MOST_THREADS: u32 = 64;
 
-// How many recorders there are, where no threads record.
-const RECORDERS: u32 = 4;
-
-// How many recordings a recorder may make on an instrument.
-const BUDGET: u64 = 1_000_000_000_000;
+/// How many recorders there are, where no threads record.
+pub(crate) const RECORDERS: u32 = 4;
 
 /// How many keys have more than one value.
 pub(crate) const WIDE_KEYS: u32 = 3;
 
-// How many values a key has whose values are to tell many series apart.
-const MANY_VALUES: u32 = 64;
+/// How many values a key has whose values are to tell many series apart.
+pub(crate) const MANY_VALUES: u32 = 64;
 
-// How many values a key has in a catalogue that is read and checked.
-const SOME_VALUES: u32 = 8;
+/// How many values a key has in a catalogue that is read and checked.
+pub(crate) const SOME_VALUES: u32 = 8;
 
-// How many keys an instrument has in such a catalogue.
-const KEYS_OF_COUNTERS: u32 = 4;
-
-const HEAD: &str = "format = 1\n[[meter]]\nname = 'm'\n";
+/// The kinds of instruments: a counter, a gauge, and histograms of 15 and of 128 boundaries.
+pub(crate) const KINDS: &[&str] = &[
+    "kind = 'counter'\nrange = [0, 9999]\n",
+    "kind = 'gauge'\nrange = [0, 9999]\n",
+    "kind = 'histogram'\nrange = [0, 9999]\n",
+    "kind = 'histogram'\nrange = [0, 9999]\nboundaries = [0, 78, 156, 234, 312, 390, 468, 546, 624, \
+     702, 780, 858, 936, 1014, 1092, 1170, 1248, 1326, 1404, 1482, 1560, 1638, 1716, 1794, 1872, \
+     1950, 2028, 2106, 2184, 2262, 2340, 2418, 2496, 2574, 2652, 2730, 2808, 2886, 2964, 3042, \
+     3120, 3198, 3276, 3354, 3432, 3510, 3588, 3666, 3744, 3822, 3900, 3978, 4056, 4134, 4212, \
+     4290, 4368, 4446, 4524, 4602, 4680, 4758, 4836, 4914, 4992, 5070, 5148, 5226, 5304, 5382, \
+     5460, 5538, 5616, 5694, 5772, 5850, 5928, 6006, 6084, 6162, 6240, 6318, 6396, 6474, 6552, \
+     6630, 6708, 6786, 6864, 6942, 7020, 7098, 7176, 7254, 7332, 7410, 7488, 7566, 7644, 7722, \
+     7800, 7878, 7956, 8034, 8112, 8190, 8268, 8346, 8424, 8502, 8580, 8658, 8736, 8814, 8892, \
+     8970, 9048, 9126, 9204, 9282, 9360, 9438, 9516, 9594, 9672, 9750, 9828, 9906]\n",
+];
 
 // The names of the keys.
 const KEYS: &[&str] = &[
     "key.0", "key.1", "key.2", "key.3", "key.4", "key.5", "key.6", "key.7",
 ];
 
-fn push_instrument(out: &mut String, number: u32, kind: &str) -> Result<(), AllocError> {
-    writeln!(out, "[[meter.instrument]]\nname = 'hits.{number}'")?;
-    writeln!(out, "kind = '{kind}'\nrange = [0, 9999]")
+// The names of the values that a key has at most.
+const VALUES: &[&str] = &[
+    "value.0", "value.1", "value.2", "value.3", "value.4", "value.5", "value.6", "value.7",
+    "value.8", "value.9", "value.10", "value.11", "value.12", "value.13", "value.14", "value.15",
+    "value.16", "value.17", "value.18", "value.19", "value.20", "value.21", "value.22", "value.23",
+    "value.24", "value.25", "value.26", "value.27", "value.28", "value.29", "value.30", "value.31",
+    "value.32", "value.33", "value.34", "value.35", "value.36", "value.37", "value.38", "value.39",
+    "value.40", "value.41", "value.42", "value.43", "value.44", "value.45", "value.46", "value.47",
+    "value.48", "value.49", "value.50", "value.51", "value.52", "value.53", "value.54", "value.55",
+    "value.56", "value.57", "value.58", "value.59", "value.60", "value.61", "value.62", "value.63",
+];
+
+// The texts round the numbers of a catalogue and a config.
+const BUDGET: &str = "\namount = 1000000000000\n";
+
+const LIMIT: &str = "'\nlimit = { counter = 1000000, gauge = 1000000, histogram = 1000000 }\n";
+
+/// The instruments, keys and recorders of a catalogue. Each recorder has a budget for each instrument.
+#[derive(Clone, Copy)]
+pub(crate) struct Shape {
+    /// How many instruments there are.
+    pub instruments: u32,
+    /// Whether they are of the [`KINDS`] one after the other; else they are counters.
+    pub differ: bool,
+    /// How many keys each has.
+    pub keys: u32,
+    /// How many values each of the first keys has.
+    pub values: u32,
+    /// How many recorders there are.
+    pub recorders: u32,
 }
 
-fn push_keys(out: &mut String, count: u32, values: u32) -> Result<(), AllocError> {
-    for key in 0..count {
-        writeln!(out, "[[meter.instrument.key]]\nname = 'key.{key}'")?;
-        push_values(out, if key < WIDE_KEYS { values } else { 1 })?;
-    }
-    Ok(())
-}
-
-fn push_values(out: &mut String, count: u32) -> Result<(), AllocError> {
-    write!(out, "values = ['value.0'")?;
-    for value in 1..count {
-        write!(out, ", 'value.{value}'")?;
-    }
-    writeln!(out, "]")
-}
-
-// 128 boundaries.
-fn push_boundaries(out: &mut String) -> Result<(), AllocError> {
-    write!(out, "boundaries = [0")?;
-    for number in 1u32..128 {
-        let boundary = number.wrapping_mul(78);
-        write!(out, ", {boundary}")?;
-    }
-    writeln!(out, "]")
-}
-
-fn push_recorders(out: &mut String, count: u32, instruments: u32) -> Result<(), AllocError> {
-    for recorder in 0..count {
-        writeln!(out, "[[recorder]]\nname = 'recorder.{recorder}'")?;
-        push_budgets(out, instruments)?;
-    }
-    Ok(())
-}
-
-fn push_budgets(out: &mut String, instruments: u32) -> Result<(), AllocError> {
-    for instrument in 0..instruments {
-        writeln!(out, "[[recorder.budget]]\ninstrument = {instrument}")?;
-        writeln!(out, "amount = {BUDGET}")?;
-    }
-    Ok(())
-}
-
-fn push_counters(out: &mut String, count: u32, keys: u32, values: u32) -> Result<(), AllocError> {
-    for number in 0..count {
-        push_instrument(out, number, "counter")?;
-        push_keys(out, keys, values)?;
-    }
-    Ok(())
-}
-
-/// A catalogue of so many counters, each with so many keys of a few values.
-pub(crate) fn counters(alloc: Global, count: u32, keys: u32) -> Result<String, AllocError> {
-    let mut out = String::from_str(alloc, HEAD)?;
-    push_counters(&mut out, count, keys, SOME_VALUES)?;
-    push_recorders(&mut out, RECORDERS, count)?;
+/// A catalogue of a shape.
+pub(crate) fn catalogue(alloc: Global, shape: &Shape) -> Result<String, AllocError> {
+    let mut out = String::from_str(alloc, "format = 1\n[[meter]]\nname = 'm'\n")?;
+    push_instruments(&mut out, shape)?;
+    push_recorders(&mut out, shape)?;
     Ok(out)
 }
 
-/// A catalogue of a counter and a recorder for each of so many threads, with three keys each.
-pub(crate) fn threaded(alloc: Global, threads: u32) -> Result<String, AllocError> {
-    let mut out = String::from_str(alloc, HEAD)?;
-    push_counters(&mut out, threads, WIDE_KEYS, MANY_VALUES)?;
-    push_recorders(&mut out, threads, threads)?;
-    Ok(out)
+fn push_instruments(out: &mut String, shape: &Shape) -> Result<(), AllocError> {
+    for number in 0..shape.instruments {
+        writeln!(out, "[[meter.instrument]]\nname = 'hits.{number}'")?;
+        out.push_str(kind_of(if shape.differ { number } else { 0 }))?;
+        push_keys(out, shape)?;
+    }
+    Ok(())
 }
 
-/// A catalogue with an instrument for each kind of stream, with so many keys: a sum, a last value, and histograms of
-/// 15 and of 128 boundaries.
-pub(crate) fn kinds(alloc: Global, keys: u32) -> Result<String, AllocError> {
-    let mut out = String::from_str(alloc, HEAD)?;
-    for number in 0..KINDS {
-        push_kind(&mut out, number, keys)?;
+fn kind_of(number: u32) -> &'static str {
+    match KINDS.get(number as usize) {
+        Some(kind) => *kind,
+        None => "",
     }
-    push_recorders(&mut out, RECORDERS, KINDS)?;
-    Ok(out)
 }
 
-fn push_kind(out: &mut String, number: u32, keys: u32) -> Result<(), AllocError> {
-    match number {
-        0 => push_instrument(out, number, "counter")?,
-        1 => push_instrument(out, number, "gauge")?,
-        _ => push_instrument(out, number, "histogram")?,
-    }
-    if number == 3 {
-        push_boundaries(out)?;
-    }
-    push_keys(out, keys, MANY_VALUES)
-}
-
-/// A config of so many readers, with the highest limits of series.
-pub(crate) fn readers(alloc: Global, count: u32) -> Result<String, AllocError> {
-    let mut out = String::from_str(alloc, "format = 1\n")?;
-    for reader in 0..count {
-        writeln!(out, "[[reader]]\nname = 'reader.{reader}'")?;
-        writeln!(
+fn push_keys(out: &mut String, shape: &Shape) -> Result<(), AllocError> {
+    for key in 0..shape.keys {
+        let values = if key < WIDE_KEYS { shape.values } else { 1 };
+        write!(
             out,
-            "limit = {{ counter = 1000000, gauge = 1000000, histogram = 1000000 }}"
+            "[[meter.instrument.key]]\nname = 'key.{key}'\nvalues = ['value.0'"
+        )?;
+        push_numbered(out, 1..values, ", 'value.", "'")?;
+        out.push_str("]\n")?;
+    }
+    Ok(())
+}
+
+fn push_recorders(out: &mut String, shape: &Shape) -> Result<(), AllocError> {
+    for recorder in 0..shape.recorders {
+        writeln!(out, "[[recorder]]\nname = 'recorder.{recorder}'")?;
+        push_numbered(
+            out,
+            0..shape.instruments,
+            "[[recorder.budget]]\ninstrument = ",
+            BUDGET,
         )?;
     }
-    Ok(out)
+    Ok(())
 }
 
-// A config of one reader and so many views, each of which selects one instrument by its name.
-fn views(alloc: Global, count: u32) -> Result<String, AllocError> {
-    let mut out = readers(alloc, 1)?;
-    for number in 0..count {
-        writeln!(out, "[[view]]\ninstrument_name = 'hits.{number}'")?;
-        writeln!(out, "keep = ['key.0']")?;
+// Each number between two texts.
+fn push_numbered(
+    out: &mut String,
+    numbers: Range<u32>,
+    before: &str,
+    after: &str,
+) -> Result<(), AllocError> {
+    for number in numbers {
+        write!(out, "{before}{number}{after}")?;
     }
+    Ok(())
+}
+
+/// A config of so many readers with the highest limits of series, and of so many views, each of which selects one
+/// instrument by its name.
+pub(crate) fn config(alloc: Global, readers: u32, views: u32) -> Result<String, AllocError> {
+    let mut out = String::from_str(alloc, "format = 1\n")?;
+    push_numbered(&mut out, 0..readers, "[[reader]]\nname = 'reader.", LIMIT)?;
+    push_numbered(
+        &mut out,
+        0..views,
+        "[[view]]\ninstrument_name = 'hits.",
+        "'\nkeep = ['key.0']\n",
+    )?;
     Ok(out)
 }
 
-/// A catalogue and a config.
-#[derive(Drop)]
-pub(crate) struct Texts {
-    pub catalogue: String,
-    pub config: String,
+/// The shape of a catalogue with an instrument of each kind, each with so many keys.
+pub(crate) fn kinds(keys: u32) -> Shape {
+    Shape {
+        instruments: KINDS.len() as u32,
+        differ: true,
+        keys,
+        values: MANY_VALUES,
+        recorders: RECORDERS,
+    }
 }
 
-/// A catalogue and a config of a size.
-pub(crate) fn texts_of(alloc: Global, size: Size) -> Result<Texts, AllocError> {
-    let catalogue = counters(alloc, size.instruments, KEYS_OF_COUNTERS)?;
-    let config = views(alloc, size.views)?;
-    Ok(Texts { catalogue, config })
-}
-
-/// The certified plan of [`kinds`] with so many keys, for so many readers.
-pub(crate) fn kinds_plan(alloc: Global, keys: u32, count: u32) -> anyhow::Result<Plan> {
-    let catalogue = kinds(alloc, keys)?;
-    let config = readers(alloc, count)?;
+/// The certified plan of a shape, for so many readers.
+pub(crate) fn plan_of(alloc: Global, shape: &Shape, readers: u32) -> anyhow::Result<Plan> {
+    let catalogue = catalogue(alloc, shape)?;
+    let config = config(alloc, readers, 0)?;
     Ok(certified_plan(alloc, &catalogue, &config)?)
 }
 
@@ -194,15 +178,13 @@ pub(crate) fn sets(alloc: Global, count: u32) -> Result<Vec<SetKey>, AllocError>
     Ok(sets)
 }
 
-/// The set key whose first entries are the number's digits, one more each.
+/// The set key whose first three entries are the number's digits, one more each, where a digit is below
+/// [`MANY_VALUES`].
 pub(crate) fn set_of(number: u32) -> SetKey {
-    let mut set = [0; 8];
-    let mut rest = number;
-    for entry in set.iter_mut().take(WIDE_KEYS as usize) {
-        *entry = (rest % MANY_VALUES + 1) as u16;
-        rest /= MANY_VALUES;
-    }
-    set
+    let first = (number % MANY_VALUES + 1) as u16;
+    let second = (number / MANY_VALUES % MANY_VALUES + 1) as u16;
+    let third = (number / MANY_VALUES / MANY_VALUES % MANY_VALUES + 1) as u16;
+    [first, second, third, 0, 0, 0, 0, 0]
 }
 
 /// A value of the ranges, another one for each of the numbers that follow one another.
@@ -210,77 +192,47 @@ pub(crate) fn value_of(number: u32) -> i64 {
     i64::from(number.wrapping_mul(7919) % 10_000)
 }
 
-/// The names of the values that a key has at most.
-pub(crate) fn value_names(alloc: Global) -> Result<Vec<String>, AllocError> {
-    let mut names = Vec::new(alloc);
-    for number in 0..MANY_VALUES {
-        names.push(format!(in alloc; "value.{number}")?)?;
-    }
-    Ok(names)
-}
-
 // The name of the value whose number is the last digit.
-fn last_digit<'a>(names: &'a [String], number: u32) -> ValueRef<'a> {
-    let digit = (number % MANY_VALUES) as usize;
-    match names.get(digit) {
-        Some(name) => ValueRef::Text(name.as_str()),
+fn value_name(number: u32) -> ValueRef<'static> {
+    match VALUES.get((number % MANY_VALUES) as usize) {
+        Some(name) => ValueRef::Text(*name),
         None => ValueRef::Whole(0),
     }
 }
 
 /// The attributes of the first three keys, whose values are the digits of a number.
-pub(crate) fn three_attributes<'a>(names: &'a [String], number: u32) -> [Attr<'a>; 3] {
+pub(crate) fn three_attributes(number: u32) -> [Attr<'static>; 3] {
     [
         Attr {
             key: "key.0",
-            value: last_digit(names, number),
+            value: value_name(number),
         },
         Attr {
             key: "key.1",
-            value: last_digit(names, number / MANY_VALUES),
+            value: value_name(number / MANY_VALUES),
         },
         Attr {
             key: "key.2",
-            value: last_digit(names, number / MANY_VALUES / MANY_VALUES),
+            value: value_name(number / MANY_VALUES / MANY_VALUES),
         },
     ]
 }
 
-// The name of the key at a place.
-fn key_name(place: usize) -> &'static str {
-    match KEYS.get(place) {
-        Some(name) => *name,
-        None => "",
-    }
-}
-
-// So many attributes, one for each key, whose first values are the digits of a number.
-fn attributes<'a>(
-    alloc: Global,
-    names: &'a [String],
-    count: u32,
-    number: u32,
-) -> Result<Vec<Attr<'a>>, AllocError> {
-    let mut attributes: Vec<Attr<'a>> = Vec::new(alloc);
-    let mut rest = number;
-    for place in 0..count as usize {
-        let key = key_name(place);
-        let value = last_digit(names, rest);
-        attributes.push(Attr { key, value })?;
-        rest /= MANY_VALUES;
+// So many attributes, one for each key, of which the first has the value of this number.
+fn attributes(alloc: Global, count: u32, number: u32) -> Result<Vec<Attr<'static>>, AllocError> {
+    let mut attributes = Vec::new(alloc);
+    for key in KEYS.iter().take(count as usize) {
+        let value = value_name(if attributes.is_empty() { number } else { 0 });
+        attributes.push(Attr { key: *key, value })?;
     }
     Ok(attributes)
 }
 
 /// Lists of so many attributes, with different values.
-pub(crate) fn lists<'a>(
-    alloc: Global,
-    names: &'a [String],
-    count: u32,
-) -> Result<Vec<Vec<Attr<'a>>>, AllocError> {
+pub(crate) fn lists(alloc: Global, count: u32) -> Result<Vec<Vec<Attr<'static>>>, AllocError> {
     let mut lists = Vec::new(alloc);
-    for number in 0..LISTS {
-        lists.push(attributes(alloc, names, count, number)?)?;
+    for number in 0..MANY_VALUES {
+        lists.push(attributes(alloc, count, number)?)?;
     }
     Ok(lists)
 }

@@ -6,11 +6,8 @@
 #![tactic(auto)]
 
 mod bench;
-mod busy;
-mod called;
 mod cells;
 mod checking;
-mod collecting;
 mod floors;
 mod histograms;
 mod inputs;
@@ -18,17 +15,16 @@ mod memory;
 mod recording;
 mod replaying;
 mod seats;
-mod sizes;
 mod slots;
 mod tasks;
 mod threads;
 mod walk;
 mod watch;
 mod words;
+mod works;
 
 use crate::bench::Bench;
-use crate::inputs::value_names;
-use crate::words::{Part, Words};
+use crate::words::Words;
 use std::process::ExitCode;
 use std::rt::Files;
 use std::sync::Wait;
@@ -49,13 +45,13 @@ fn main(rt: HostRuntime) -> anyhow::Result<ExitCode> {
 // Prints the table of the part that the words name.
 fn print_table<R: Files + Print + AllocGlobal + Threads + Wait + Clock + Sync>(
     rt: &R,
-    words: &Words,
+    words: &Words<'_>,
 ) -> anyhow::Result<ExitCode> {
-    let Some(part) = words.part else {
+    if words.are_none() {
         return Ok(ExitCode::SUCCESS);
-    };
+    }
     let mut bench = Bench::new(rt.alloc());
-    measure(rt, &mut bench, part, words)?;
+    measure(rt, &mut bench, words)?;
     print!(rt; "{}", bench.text())?;
     Ok(ExitCode::SUCCESS)
 }
@@ -63,17 +59,16 @@ fn print_table<R: Files + Print + AllocGlobal + Threads + Wait + Clock + Sync>(
 fn measure<R: Files + AllocGlobal + Threads + Wait + Clock + Sync>(
     rt: &R,
     bench: &mut Bench,
-    part: Part,
-    words: &Words,
+    words: &Words<'_>,
 ) -> anyhow::Result<()> {
-    if part.covers(Part::Memory) {
+    if words.ask_for("memory") {
         memory::measure(rt, bench)?;
     }
-    measure_recordings(rt, bench, part, words)?;
-    if part.covers(Part::Check) {
+    measure_recordings(rt, bench, words)?;
+    if words.ask_for("check") {
         checking::measure(rt, bench)?;
     }
-    if part.covers(Part::Replay) {
+    if words.ask_for("replay") {
         replaying::measure(rt, bench)?;
     }
     bench.end()?;
@@ -83,23 +78,19 @@ fn measure<R: Files + AllocGlobal + Threads + Wait + Clock + Sync>(
 fn measure_recordings<R: Threads + Wait + Clock + Sync>(
     rt: &R,
     bench: &mut Bench,
-    part: Part,
-    words: &Words,
+    words: &Words<'_>,
 ) -> anyhow::Result<()> {
-    let names = value_names(bench.alloc)?;
-    if part.covers(Part::Record) {
-        recording::measure(rt, bench, words, &names)?;
-        called::measure(rt, bench, words, &names)?;
+    if words.ask_for("record") {
+        recording::measure(rt, bench, words)?;
     }
-    if part.covers(Part::Histogram) {
+    if words.ask_for("histogram") {
         histograms::measure(rt, bench, words.events)?;
     }
-    if part.covers(Part::Collect) {
-        collecting::measure(rt, bench, words)?;
+    if words.ask_for("collect") {
+        recording::measure_collections(rt, bench, words)?;
     }
-    if part.covers(Part::Threads) {
-        threads::measure(rt, bench, words, &names)?;
-        busy::measure(rt, bench, &names)?;
+    if words.ask_for("threads") {
+        threads::measure(rt, bench, words)?;
     }
     Ok(())
 }

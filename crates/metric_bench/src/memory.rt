@@ -2,7 +2,7 @@
 use crate::bench::{Bench, Row, Unit, each};
 use crate::cells::Instrument;
 use crate::floors::{Floor, map_of};
-use crate::inputs::{KINDS, WIDE_KEYS, kind_name, kinds_plan, sets};
+use crate::inputs::{WIDE_KEYS, kinds, plan_of, sets};
 use metric_sdk::{Plan, SetKey};
 use std::alloc::Global;
 use std::fs;
@@ -14,28 +14,41 @@ const SERIES: u32 = 100_000;
 // The bytes of a page.
 const PAGE: u64 = 4_096;
 
+// The kinds of instruments, in the order of their numbers.
+const KINDS: &[(u32, &str)] = &[
+    (0, "sum"),
+    (1, "last value"),
+    (2, "histogram of 15"),
+    (3, "histogram of 128"),
+];
+
 /// Measures the memory of series: of each kind, and beside it that of a map of as many set keys to numbers. It is
 /// the memory that the process has in use, before and after the series came, so this is measured first.
 pub(crate) fn measure<R: Files + AllocGlobal>(rt: &R, bench: &mut Bench) -> anyhow::Result<()> {
-    let plan = kinds_plan(bench.alloc, WIDE_KEYS, 1)?;
-    let floor = floor_of_map(rt, bench.alloc)?;
-    measure_plan(rt, bench, &plan, floor)
+    let plan = plan_of(bench.alloc, &kinds(WIDE_KEYS), 1)?;
+    let bytes = bytes_of_map(rt, bench.alloc)?;
+    let floor = Floor {
+        name: "a map of set keys",
+        each: each(bytes, u64::from(SERIES)),
+    };
+    bench.begin("memory", "series", floor)?;
+    measure_plan(rt, bench, &plan)
 }
 
 fn measure_plan<R: Files + AllocGlobal>(
     rt: &R,
     bench: &mut Bench,
     plan: &Plan,
-    floor: Floor,
 ) -> anyhow::Result<()> {
-    bench.begin("memory", "series")?;
-    for kind in 0..KINDS {
-        let bytes = bytes_of_series(rt, bench.alloc, plan, kind)?;
-        let unit = Unit::Each("B a series");
-        bench.add(
-            &Row::new(kind_name(kind), u64::from(SERIES), unit, floor),
-            bytes,
-        )?;
+    for (kind, name) in KINDS {
+        let bytes = bytes_of_series(rt, bench.alloc, plan, *kind)?;
+        let row = Row {
+            name: *name,
+            size: u64::from(SERIES),
+            operations: u64::from(SERIES),
+            unit: Unit::each("B a series"),
+        };
+        bench.add(&row, bytes)?;
     }
     Ok(())
 }
@@ -48,21 +61,17 @@ fn bytes_of_series<R: Files + AllocGlobal>(
 ) -> anyhow::Result<u64> {
     let mut instrument = Instrument::new(alloc, plan, kind, SERIES)?;
     let before = in_use(rt)?;
-    instrument.record_all();
+    instrument.repeat(1);
     Ok(in_use(rt)?.saturating_sub(before))
 }
 
 // The memory of a map of set keys.
-fn floor_of_map<R: Files + AllocGlobal>(rt: &R, alloc: Global) -> anyhow::Result<Floor> {
+fn bytes_of_map<R: Files + AllocGlobal>(rt: &R, alloc: Global) -> anyhow::Result<u64> {
     let sets = sets(alloc, SERIES)?;
-    let bytes = bytes_of_map(rt, alloc, &sets)?;
-    Ok(Floor {
-        name: "a map of set keys",
-        each: each(bytes, u64::from(SERIES)),
-    })
+    more_by_map(rt, alloc, &sets)
 }
 
-fn bytes_of_map<R: Files + AllocGlobal>(
+fn more_by_map<R: Files + AllocGlobal>(
     rt: &R,
     alloc: Global,
     sets: &[SetKey],

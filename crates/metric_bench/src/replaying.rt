@@ -1,15 +1,16 @@
 //! What it costs to replay a script.
-use crate::bench::{Bench, Row, Unit};
-use crate::floors::{Floor, copy};
-use crate::inputs::{counters, readers};
-use crate::watch::least;
+use crate::bench::{Bench, Row, SPEED};
+use crate::floors::copy;
+use crate::inputs::{RECORDERS, SOME_VALUES, Shape, catalogue, config};
+use crate::works::Work;
 use metric_commands::{ReplayOptions, replay};
 use metric_sdk::{CutSink, CutSource};
 use std::alloc::{AllocError, Global};
+use std::sync::Wait;
 use std::time::Clock;
 
 // How many events there are, with a name of their number.
-const EVENTS: &[(u32, &'static str)] = &[
+const EVENTS: &[(u32, &str)] = &[
     (100, "100 events"),
     (10_000, "10000 events"),
     (100_000, "100000 events"),
@@ -18,33 +19,37 @@ const EVENTS: &[(u32, &'static str)] = &[
 // How many recordings come before each collection.
 const BETWEEN: u32 = 100;
 
+// What is declared: four counters of three keys.
+const SHAPE: Shape = Shape {
+    instruments: 4,
+    differ: false,
+    keys: 3,
+    values: SOME_VALUES,
+    recorders: RECORDERS,
+};
+
+const ATTRIBUTES: &str = " \"key.0\"=\"value.0\" \"key.1\"=\"value.1\" \"key.2\"=\"value.7\"\n";
+
 /// Measures replays.
-pub(crate) fn measure<R: Clock>(rt: &R, bench: &mut Bench) -> anyhow::Result<()> {
+pub(crate) fn measure<R: Wait + Clock>(rt: &R, bench: &mut Bench) -> anyhow::Result<()> {
     let floor = copy(rt, bench.alloc)?;
-    bench.begin("replays, by the bytes read", "bytes")?;
+    bench.begin("replays, by the bytes read", "bytes", floor)?;
     for (count, name) in EVENTS {
         let input = input(bench.alloc, *count)?;
-        measure_replay(rt, bench, &input, name, floor)?;
+        let bytes = input.len() as u64;
+        let row = Row {
+            name: *name,
+            size: bytes,
+            operations: bytes,
+            unit: SPEED,
+        };
+        bench.measure(rt, &row, &Work::Replay(&input))?;
     }
     Ok(())
 }
 
-fn measure_replay<R: Clock>(
-    rt: &R,
-    bench: &mut Bench,
-    input: &str,
-    name: &'static str,
-    floor: Floor,
-) -> anyhow::Result<()> {
-    let alloc = bench.alloc;
-    let measured = least(rt, |_| replayed(alloc, input))?;
-    let bytes = input.len() as u64;
-    bench.tell(&Row::new(name, bytes, Unit::Speed, floor), measured)?;
-    Ok(())
-}
-
-// Replays an input. How many bytes it writes.
-fn replayed(alloc: Global, input: &str) -> anyhow::Result<u64> {
+/// Replays an input. How many bytes it writes.
+pub(crate) fn replayed(alloc: Global, input: &str) -> anyhow::Result<u64> {
     let mut source = CutSource::new(input.as_bytes(), None);
     let mut sink = CutSink::new(alloc, None);
     let options = ReplayOptions { trial: true };
@@ -56,15 +61,18 @@ fn replayed(alloc: Global, input: &str) -> anyhow::Result<u64> {
 
 // An input with a script of so many events.
 fn input(alloc: Global, count: u32) -> Result<String, AllocError> {
-    let mut out = String::from_str(alloc, "%% catalogue\n")?;
-    out.push_str(&counters(alloc, 4, 3)?)?;
-    out.push_str("%% config\n")?;
-    out.push_str(&readers(alloc, 2)?)?;
+    let mut out = declarations(alloc)?;
     out.push_str("%% script\nstart 0\n")?;
     for number in 0..count {
         push_event(&mut out, number)?;
     }
     Ok(out)
+}
+
+fn declarations(alloc: Global) -> Result<String, AllocError> {
+    let catalogue = catalogue(alloc, &SHAPE)?;
+    let config = config(alloc, 2, 0)?;
+    format!(in alloc; "%% catalogue\n{catalogue}%% config\n{config}")
 }
 
 fn push_event(out: &mut String, number: u32) -> Result<(), AllocError> {
@@ -75,9 +83,5 @@ fn push_event(out: &mut String, number: u32) -> Result<(), AllocError> {
     }
     let recorder = number / 4 % 4;
     let value = number % 10;
-    write!(out, "record {recorder} {instrument} {value}")?;
-    writeln!(
-        out,
-        " \"key.0\"=\"value.0\" \"key.1\"=\"value.1\" \"key.2\"=\"value.7\""
-    )
+    write!(out, "record {recorder} {instrument} {value}{ATTRIBUTES}")
 }

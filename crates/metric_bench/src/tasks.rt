@@ -22,74 +22,22 @@ const TURNS: u32 = 1_000_000;
 pub(crate) struct Caller<'a> {
     pub provider: &'a MeterProvider,
     pub recorder: Recorder,
-    pub rounds: Rounds<'a>,
+    pub rounds: Rounds,
 }
 
 impl Caller<'_> {
-    // Makes a recording of the series of this number. Whether it was accepted.
-    fn record<R: Wait>(&mut self, rt: &R, number: u32) -> bool {
+    // Makes so many recordings, or fewer where it is over before.
+    fn repeat<R: Wait>(&mut self, rt: &R, events: u32, is_over: &AtomicBool) -> u64 {
         self.rounds
-            .record(rt, self.provider, &mut self.recorder, number)
-    }
-
-    // Makes so many recordings. How many were accepted.
-    fn repeat<R: Wait>(&mut self, rt: &R, events: u32) -> u64 {
-        self.rounds
-            .repeat(rt, self.provider, &mut self.recorder, events)
+            .repeat(rt, self.provider, &mut self.recorder, events, is_over)
     }
 }
 
-/// A caller that records until it is over.
-#[derive(Drop)]
-pub(crate) struct UntilOver<'a> {
-    pub caller: Caller<'a>,
-    pub is_over: &'a AtomicBool,
-}
-
-impl UntilOver<'_> {
-    // Makes recordings until then. How many were accepted.
-    fn repeat<R: Wait>(&mut self, rt: &R) -> u64 {
-        let mut accepted: u64 = 0;
-        let mut number: u32 = 0;
-        for _ in 0..u32::MAX {
-            if self.is_over.load(Ordering::SeqCst) {
-                break;
-            }
-            if self.caller.record(rt, number) {
-                accepted = accepted.wrapping_add(1);
-            }
-            number = self.caller.rounds.after(number);
-        }
-        accepted
-    }
-}
-
-/// A seat that collects, and then tells that it is over.
+/// A seat that collects all instruments.
 #[derive(Drop)]
 pub(crate) struct Collections<'a> {
-    pub alloc: Global,
     pub provider: &'a MeterProvider,
     pub collector: Collector,
-    pub is_over: &'a AtomicBool,
-}
-
-impl Collections<'_> {
-    // Collects all instruments so many times. How many batches there were, or nothing where a collection failed.
-    fn repeat<R: Wait>(&mut self, rt: &R, times: u32) -> Option<u64> {
-        let mut batches: u64 = 0;
-        for _ in 0..times {
-            let answer = self.collector.collect_all(rt, self.alloc, self.provider, 0);
-            batches = batches.wrapping_add(answer.ok()?.len() as u64);
-        }
-        Some(batches)
-    }
-
-    // Collects so many times, and then tells the others that it is over.
-    fn collect<R: Wait>(&mut self, rt: &R, times: u32) -> Option<u64> {
-        let batches = self.repeat(rt, times);
-        self.is_over.store(true, Ordering::SeqCst);
-        batches
-    }
 }
 
 /// What a thread does.
@@ -97,36 +45,12 @@ impl Collections<'_> {
 pub(crate) enum Task<'a> {
     /// Recordings.
     Record(Caller<'a>),
-    /// Recordings until it is over.
-    RecordUntil(UntilOver<'a>),
+    /// Recordings until it is over, whose time is not measured.
+    RecordUntil(Caller<'a>),
     /// Collections, after which it is over.
     Collect(Collections<'a>),
     /// Additions under a lock.
     Add(&'a Mutex<u64>),
-}
-
-impl Task<'_> {
-    // Whether the time that it takes is measured.
-    fn is_measured(&self) -> bool {
-        !matches!(self, Task::RecordUntil(_))
-    }
-
-    // Begins anew: it is not over.
-    fn make_ready(&self) {
-        if let Task::Collect(collections) = self {
-            collections.is_over.store(false, Ordering::SeqCst);
-        }
-    }
-
-    // Does it so many times. A number that depends on all of it, or nothing where it failed.
-    fn work<R: Wait>(&mut self, rt: &R, events: u32) -> Option<u64> {
-        match self {
-            Task::Record(caller) => Some(caller.repeat(rt, events)),
-            Task::RecordUntil(caller) => Some(caller.repeat(rt)),
-            Task::Collect(collections) => collections.collect(rt, events),
-            Task::Add(sum) => Some(add_all(rt, sum, events)),
-        }
-    }
 }
 
 /// A thread's task, and what came of it.
@@ -134,6 +58,31 @@ impl Task<'_> {
 pub(crate) struct Runner<'a> {
     task: Task<'a>,
     measured: Option<Measured>,
+}
+
+// What threads share that do their tasks at once.
+#[derive(Drop)]
+struct Race {
+    alloc: Global,
+    threads: u64,
+    // How many of them have started.
+    started: AtomicU64,
+    // How often each does its task.
+    events: u32,
+    is_over: AtomicBool,
+}
+
+impl Race {
+    // Waits until all threads have started, or for a while.
+    fn wait_for_all(&self) {
+        self.started.fetch_add(1, Ordering::SeqCst);
+        for _ in 0..TURNS {
+            if self.started.load(Ordering::SeqCst) >= self.threads {
+                break;
+            }
+            thread::yield_now();
+        }
+    }
 }
 
 impl<'a> Runner<'a> {
@@ -145,84 +94,111 @@ impl<'a> Runner<'a> {
         }
     }
 
-    // Does the task so many times, once so many threads have started.
-    fn run<R: Wait + Clock>(&mut self, rt: &R, started: &AtomicU64, threads: u64, events: u32) {
-        self.task.make_ready();
-        wait_for_all(started, threads);
-        self.measured = self.done(rt, events);
+    // Does the task, once all threads have started.
+    fn run<R: Wait + Clock>(&mut self, rt: &R, race: &Race) {
+        race.wait_for_all();
+        let watch = Watch::new(rt);
+        let number = self.task.work(rt, race);
+        self.measured = self.task.measured(watch.took(rt), number);
+    }
+}
+
+impl Task<'_> {
+    // Does it. A number that depends on all of it.
+    fn work<R: Wait>(&mut self, rt: &R, race: &Race) -> u64 {
+        match self {
+            Task::Record(caller) => caller.repeat(rt, race.events, &race.is_over),
+            Task::RecordUntil(caller) => caller.repeat(rt, u32::MAX, &race.is_over),
+            Task::Collect(collections) => collections.repeat(rt, race),
+            Task::Add(sum) => add_all(rt, sum, race.events),
+        }
     }
 
-    // What comes of the task, or nothing where it or the clock failed.
-    fn done<R: Wait + Clock>(&mut self, rt: &R, events: u32) -> Option<Measured> {
-        let watch = Watch::new(rt);
-        let number = self.task.work(rt, events)?;
-        let took = watch.took(rt)?;
+    // What came of it, or nothing where the clock failed.
+    fn measured(&self, took: Option<u64>, number: u64) -> Option<Measured> {
+        let nanoseconds = match self {
+            Task::RecordUntil(_) => 0,
+            _ => took?,
+        };
         Some(Measured {
-            nanoseconds: if self.task.is_measured() { took } else { 0 },
+            nanoseconds,
             number,
         })
     }
 }
 
-// Waits until so many threads have started, or for a while.
-fn wait_for_all(started: &AtomicU64, threads: u64) {
-    started.fetch_add(1, Ordering::SeqCst);
-    for _ in 0..TURNS {
-        if started.load(Ordering::SeqCst) >= threads {
-            break;
+impl Collections<'_> {
+    // Collects, and then tells the others that it is over. How many batches there were.
+    fn repeat<R: Wait>(&mut self, rt: &R, race: &Race) -> u64 {
+        let mut batches: u64 = 0;
+        for _ in 0..race.events {
+            let answer = self.collector.collect_all(rt, race.alloc, self.provider, 0);
+            if let Ok(more) = answer {
+                batches = batches.wrapping_add(more.len() as u64);
+            }
         }
-        thread::yield_now();
+        race.is_over.store(true, Ordering::SeqCst);
+        batches
     }
 }
 
-// Lets each runner do its task in a thread of its own, so many times.
-fn run_all<R: Threads + Wait + Clock + Sync>(rt: &R, runners: &mut Vec<Runner<'_>>, events: u32) {
+// Lets each runner do its task in a thread of its own.
+fn run_all<R: Threads + Wait + Clock + Sync>(
+    rt: &R,
+    alloc: Global,
+    runners: &mut Vec<Runner<'_>>,
+    events: u32,
+) {
     let count = runners.len();
     if count == 0 {
         return;
     }
-    let threads = count as u64;
-    let started = AtomicU64::new(0);
-    let started = &started;
+    let race = Race {
+        alloc,
+        threads: count as u64,
+        started: AtomicU64::new(0),
+        events,
+        is_over: AtomicBool::new(false),
+    };
+    let race = &race;
     thread::for_each_mut(
         rt,
         runners.as_mut_slice(),
         count,
-        &|_, runner: &mut Runner<'_>| { runner.run(rt, started, threads, events) },
+        &|_, runner: &mut Runner<'_>| { runner.run(rt, race) },
     );
 }
 
 /// The least time that the tasks take together, so many times each: that of the thread that takes longest.
 pub(crate) fn least_together<R: Threads + Wait + Clock + Sync>(
     rt: &R,
+    alloc: Global,
     runners: &mut Vec<Runner<'_>>,
     events: u32,
 ) -> anyhow::Result<Measured> {
-    let mut least = u64::MAX;
-    let mut number: u64 = 0;
+    let mut least = Measured {
+        nanoseconds: u64::MAX,
+        number: 0,
+    };
     for _ in 0..REPETITIONS {
-        run_all(rt, runners, events);
-        let all = together(runners).context("a collection or the clock failed")?;
-        least = least.min(all.nanoseconds);
-        number = number.wrapping_add(all.number);
+        run_all(rt, alloc, runners, events);
+        let all = together(runners).context("the clock failed")?;
+        least.nanoseconds = least.nanoseconds.min(all.nanoseconds);
+        least.number = least.number.wrapping_add(all.number);
     }
-    Ok(Measured {
-        nanoseconds: least,
-        number,
-    })
+    Ok(least)
 }
 
 // The time of the thread that took longest, and what came of all, or nothing where one failed.
 fn together(runners: &[Runner<'_>]) -> Option<Measured> {
-    let mut nanoseconds: u64 = 0;
-    let mut number: u64 = 0;
+    let mut all = Measured {
+        nanoseconds: 0,
+        number: 0,
+    };
     for runner in runners {
         let measured = runner.measured?;
-        nanoseconds = nanoseconds.max(measured.nanoseconds);
-        number = number.wrapping_add(measured.number);
+        all.nanoseconds = all.nanoseconds.max(measured.nanoseconds);
+        all.number = all.number.wrapping_add(measured.number);
     }
-    Some(Measured {
-        nanoseconds,
-        number,
-    })
+    Some(all)
 }

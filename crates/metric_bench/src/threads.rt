@@ -1,19 +1,29 @@
-//! What recordings cost that several threads make at once.
+//! What recordings cost that several threads make at once, and a collection beside them.
 use crate::bench::{Bench, Row, Unit, each};
-use crate::floors::Floor;
-use crate::inputs::{readers, threaded};
-use crate::seats::{Rounds, Seats, seated};
-use crate::sizes::{THREADS, THREADS_SERIES};
-use crate::tasks::{Caller, Runner, Task, least_together};
+use crate::floors::{Floor, look_up};
+use crate::inputs::{MANY_VALUES, Shape, WIDE_KEYS, plan_of};
+use crate::seats::{Rounds, Seats, record_by_last, started};
+use crate::tasks::{Caller, Collections, Runner, Task, least_together};
 use crate::watch::Measured;
 use crate::words::Words;
 use crossbeam_utils::CachePadded;
-use metric_sdk::{MeterProvider, Recorder};
+use metric_sdk::{Collector, MeterProvider, Recorder};
 use std::alloc::{AllocError, Global};
-use std::mem;
 use std::sync::{Mutex, Wait};
 use std::thread::Threads;
 use std::time::Clock;
+
+// How many threads record, where no word says it.
+const THREADS: &[u32] = &[1, 2, 4];
+
+// How many threads record beside a collection.
+const BESIDE: &[u32] = &[0, 1, 4];
+
+// How many collections are measured at once.
+const COLLECTIONS: u32 = 50;
+
+// How many series threads record.
+const SERIES: u32 = 1_000;
 
 // How often as much a bare lock is taken as recordings are made.
 const MORE: u32 = 8;
@@ -21,40 +31,80 @@ const MORE: u32 = 8;
 // What a bare lock costs.
 const LOCK: &str = "a lock with an addition, as many threads";
 
-// Whether threads share one of something, or have one each.
+// What threads record: one instrument, an instrument each, or one instrument until all have been collected.
 #[derive(Clone, Copy)]
 enum Sharing {
     One,
     Each,
+    Beside,
 }
 
 impl Sharing {
     // Which one the thread of this number has.
     fn number(self, thread: u32) -> u32 {
         match self {
-            Sharing::One => 0,
             Sharing::Each => thread,
+            _ => 0,
         }
     }
 
-    fn name(self) -> &'static str {
+    // The names of the line of the time, and of that of the throughput.
+    fn names(self) -> (&'static str, &'static str) {
         match self {
-            Sharing::One => "one instrument",
-            Sharing::Each => "an instrument each",
+            Sharing::Each => ("an instrument each", "an instrument each, throughput"),
+            _ => ("one instrument", "one instrument, throughput"),
+        }
+    }
+
+    fn caller<'a>(self, provider: &'a MeterProvider, recorder: Recorder) -> Caller<'a> {
+        Caller {
+            provider,
+            rounds: Rounds {
+                instrument: self.number(recorder.number()),
+                series: SERIES,
+            },
+            recorder,
+        }
+    }
+
+    fn task<'a>(self, caller: Caller<'a>) -> Task<'a> {
+        match self {
+            Sharing::Beside => Task::RecordUntil(caller),
+            _ => Task::Record(caller),
         }
     }
 }
 
-/// Measures recordings of threads, of values with these names.
+/// Measures recordings of threads, and collections beside them.
 pub(crate) fn measure<R: Threads + Wait + Clock + Sync>(
     rt: &R,
     bench: &mut Bench,
-    words: &Words,
-    names: &[String],
+    words: &Words<'_>,
 ) -> anyhow::Result<()> {
-    bench.begin("threads, 3 attributes, 1000 series", "threads")?;
-    measure_sharing(rt, bench, words, names, Sharing::One)?;
-    measure_sharing(rt, bench, words, names, Sharing::Each)
+    let floor = look_up(rt, bench.alloc, SERIES)?;
+    bench.begin("threads, 3 attributes, 1000 series", "threads", floor)?;
+    measure_sharing(rt, bench, words, Sharing::One)?;
+    measure_sharing(rt, bench, words, Sharing::Each)?;
+    let floor = floor.shared(u64::from(SERIES), 1);
+    bench.begin("collect_all of 1000 series beside", "threads", floor)?;
+    measure_collections(rt, bench)
+}
+
+fn measure_collections<R: Threads + Wait + Clock + Sync>(
+    rt: &R,
+    bench: &mut Bench,
+) -> anyhow::Result<()> {
+    for threads in BESIDE {
+        let measured = seats_measured(rt, bench.alloc, COLLECTIONS, Sharing::Beside, *threads)?;
+        let row = Row {
+            name: "recordings on its instrument",
+            size: u64::from(*threads),
+            operations: u64::from(COLLECTIONS),
+            unit: Unit::each("ns a collection"),
+        };
+        bench.tell(&row, measured)?;
+    }
+    Ok(())
 }
 
 // What one operation costs each of so many threads, in thousandths of a nanosecond.
@@ -68,51 +118,52 @@ struct Figures {
 fn measure_sharing<R: Threads + Wait + Clock + Sync>(
     rt: &R,
     bench: &mut Bench,
-    words: &Words,
-    names: &[String],
+    words: &Words<'_>,
     sharing: Sharing,
 ) -> anyhow::Result<()> {
-    let one = figures_of(rt, bench, words.events, names, sharing, 1)?;
+    let one = figures_of(rt, bench, words.events, sharing, 1)?;
     for threads in words.threads_or(THREADS) {
         let several = match *threads {
             1 => one,
-            threads => figures_of(rt, bench, words.events, names, sharing, threads)?,
+            threads => figures_of(rt, bench, words.events, sharing, threads)?,
         };
-        bench.add(&row_of_time(sharing, several), several.recording)?;
-        let throughput = times(one.recording, several.recording, several.threads);
-        bench.add(&row_of_throughput(sharing, one, several), throughput)?;
+        add_figures(bench, sharing, one, several)?;
     }
     Ok(())
 }
 
-// The row of the time of a recording.
-fn row_of_time(sharing: Sharing, several: Figures) -> Row {
-    Row {
-        name: sharing.name(),
-        state: "",
+// A line of the time of a recording, and one of how many recordings are made beside one thread.
+fn add_figures(
+    bench: &mut Bench,
+    sharing: Sharing,
+    one: Figures,
+    several: Figures,
+) -> Result<(), AllocError> {
+    let (time, throughput) = sharing.names();
+    let row = Row {
+        name: time,
         size: u64::from(several.threads),
         operations: 1000,
-        unit: Unit::Each("ns a recording of each thread"),
-        floor: Floor {
-            name: LOCK,
-            each: several.lock,
-        },
-    }
-}
-
-// The row of how many recordings are made beside one thread.
-fn row_of_throughput(sharing: Sharing, one: Figures, several: Figures) -> Row {
-    Row {
-        name: sharing.name(),
-        state: ", throughput",
-        size: u64::from(several.threads),
-        operations: 1000,
-        unit: Unit::Each("times one thread"),
-        floor: Floor {
-            name: LOCK,
-            each: times(one.lock, several.lock, several.threads),
-        },
-    }
+        unit: Unit::each("ns a recording of each thread"),
+    };
+    bench.floor = Floor {
+        name: LOCK,
+        each: several.lock,
+    };
+    bench.add(&row, several.recording)?;
+    let row = Row {
+        name: throughput,
+        unit: Unit::each("times one thread"),
+        ..row
+    };
+    bench.floor = Floor {
+        name: LOCK,
+        each: times(one.lock, several.lock, several.threads),
+    };
+    bench.add(
+        &row,
+        times(one.recording, several.recording, several.threads),
+    )
 }
 
 // How many times as much so many threads do as one, in thousandths, by what one operation takes each of them.
@@ -128,32 +179,82 @@ fn figures_of<R: Threads + Wait + Clock + Sync>(
     rt: &R,
     bench: &mut Bench,
     events: u32,
-    names: &[String],
     sharing: Sharing,
     threads: u32,
 ) -> anyhow::Result<Figures> {
     let more = events.saturating_mul(MORE);
-    let recording = recordings_measured(rt, bench.alloc, events, names, sharing, threads)?;
+    let recording = seats_measured(rt, bench.alloc, events, sharing, threads)?;
     let lock = lock_measured(rt, bench.alloc, more, sharing, threads)?;
+    bench.count(recording.number);
+    bench.count(lock.number);
     Ok(Figures {
         threads,
-        recording: each(bench.take(recording), u64::from(events)),
-        lock: each(bench.take(lock), u64::from(more)),
+        recording: each(recording.nanoseconds, u64::from(events)),
+        lock: each(lock.nanoseconds, u64::from(more)),
     })
 }
 
-fn recordings_measured<R: Threads + Wait + Clock + Sync>(
+// So many recordings, or collections, beside so many threads, once each series of the first instrument is held.
+fn seats_measured<R: Threads + Wait + Clock + Sync>(
     rt: &R,
     alloc: Global,
     events: u32,
-    names: &[String],
     sharing: Sharing,
     threads: u32,
 ) -> anyhow::Result<Measured> {
-    let mut seats = seats_of(rt, alloc, threads)?;
-    let recorders = mem::replace(&mut seats.recorders, Vec::new(alloc));
-    let mut runners = runners_of(alloc, &seats.provider, names, recorders, sharing)?;
-    least_together(rt, &mut runners, events)
+    let mut seats = seats_of(rt, alloc, threads.saturating_add(1))?;
+    let rounds = Rounds {
+        instrument: 0,
+        series: SERIES,
+    };
+    record_by_last(rt, &mut seats, rounds, 1)?;
+    let mut runners = runners_of(
+        alloc,
+        &seats.provider,
+        &mut seats.recorders,
+        &mut seats.collectors,
+        sharing,
+        threads,
+    )?;
+    least_together(rt, alloc, &mut runners, events)
+}
+
+// A provider with so many recorders and instruments.
+fn seats_of<R: Wait>(rt: &R, alloc: Global, count: u32) -> anyhow::Result<Seats> {
+    let shape = Shape {
+        instruments: count,
+        differ: false,
+        keys: WIDE_KEYS,
+        values: MANY_VALUES,
+        recorders: count,
+    };
+    started(rt, alloc, plan_of(alloc, &shape, 1)?)
+}
+
+// The last of the recorders, and a collector where all are collected.
+fn runners_of<'a>(
+    alloc: Global,
+    provider: &'a MeterProvider,
+    recorders: &mut Vec<Recorder>,
+    collectors: &mut Vec<Collector>,
+    sharing: Sharing,
+    threads: u32,
+) -> Result<Vec<Runner<'a>>, AllocError> {
+    let mut runners = Vec::new(alloc);
+    for _ in 0..threads {
+        if let Some(recorder) = recorders.pop() {
+            let caller = sharing.caller(provider, recorder);
+            runners.push(Runner::new(sharing.task(caller)))?;
+        }
+    }
+    if let (Sharing::Beside, Some(collector)) = (sharing, collectors.pop()) {
+        let collections = Collections {
+            provider,
+            collector,
+        };
+        runners.push(Runner::new(Task::Collect(collections)))?;
+    }
+    Ok(runners)
 }
 
 fn lock_measured<R: Threads + Wait + Clock + Sync>(
@@ -165,48 +266,7 @@ fn lock_measured<R: Threads + Wait + Clock + Sync>(
 ) -> anyhow::Result<Measured> {
     let sums = sums(alloc, threads)?;
     let mut runners = adders_of(alloc, &sums, threads, sharing)?;
-    least_together(rt, &mut runners, events)
-}
-
-/// A provider with a recorder and an instrument for each thread.
-pub(crate) fn seats_of<R: Wait>(rt: &R, alloc: Global, threads: u32) -> anyhow::Result<Seats> {
-    let catalogue = threaded(alloc, threads)?;
-    let config = readers(alloc, 1)?;
-    seated(rt, alloc, &catalogue, &config)
-}
-
-fn runners_of<'a>(
-    alloc: Global,
-    provider: &'a MeterProvider,
-    names: &'a [String],
-    recorders: Vec<Recorder>,
-    sharing: Sharing,
-) -> Result<Vec<Runner<'a>>, AllocError> {
-    let mut runners = Vec::new(alloc);
-    for recorder in recorders {
-        let instrument = sharing.number(recorder.number());
-        let caller = caller_of(provider, names, recorder, instrument);
-        runners.push(Runner::new(Task::Record(caller)))?;
-    }
-    Ok(runners)
-}
-
-/// A caller that records the series of threads.
-pub(crate) fn caller_of<'a>(
-    provider: &'a MeterProvider,
-    names: &'a [String],
-    recorder: Recorder,
-    instrument: u32,
-) -> Caller<'a> {
-    Caller {
-        provider,
-        recorder,
-        rounds: Rounds {
-            names,
-            instrument,
-            series: THREADS_SERIES,
-        },
-    }
+    least_together(rt, alloc, &mut runners, events)
 }
 
 // So many sums, each behind a lock.

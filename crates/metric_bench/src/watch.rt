@@ -1,14 +1,5 @@
 //! How long work takes.
-use anyhow::Context;
 use std::time::{Clock, Instant};
-
-// How often each work is done, at least and at most. The least of the times counts.
-const AT_LEAST: u32 = 3;
-
-const AT_MOST: u32 = 7;
-
-// After how many nanoseconds of work it is not done once more than at least.
-const ENOUGH: u64 = 300_000_000;
 
 /// Takes the time of work that is done once: from its beginning, or from where it starts the watch, to its end, or to
 /// where it stops the watch. So what has to be made ready, and what is left over, is not measured.
@@ -58,31 +49,4 @@ pub(crate) struct Measured {
     pub nanoseconds: u64,
     /// A number that depends on all of the work, so that no part of it can be left out.
     pub number: u64,
-}
-
-/// The least time that work takes whose number depends on all of it.
-pub(crate) fn least<R: Clock, W: FnMut(&mut Watch) -> anyhow::Result<u64>>(
-    rt: &R,
-    mut work: W,
-) -> anyhow::Result<Measured>
-    requires { W.IsAlwaysCallable work }
-{
-    let mut least = u64::MAX;
-    let mut number: u64 = 0;
-    let mut spent: u64 = 0;
-    for repetition in 0..AT_MOST {
-        if repetition >= AT_LEAST && spent > ENOUGH {
-            break;
-        }
-        let mut watch = Watch::new(rt);
-        let one = work(&mut watch)?;
-        let took = watch.took(rt).context("the clock failed")?;
-        spent = spent.saturating_add(took);
-        least = least.min(took);
-        number = number.wrapping_add(one);
-    }
-    Ok(Measured {
-        nanoseconds: least,
-        number,
-    })
 }
