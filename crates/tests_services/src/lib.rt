@@ -29,3 +29,5 @@ mod slots;
 mod texts;
 #[cfg(test)]
 mod ticks;
+#[cfg(test)]
+mod wavering;

@@ -13,7 +13,8 @@ use std::alloc::{AllocError, Global};
 use std::sync::Wait;
 use std::test::Fail;
 
-const TICKS: &[Tick] = &[Tick::At(10), Tick::At(20), Tick::Stop(30)];
+/// When the periodic readers collect.
+pub(crate) const TICKS: &[Tick] = &[Tick::At(10), Tick::At(20), Tick::Stop(30)];
 
 // The text of the delta reader's batch at the start.
 const AT_START: &str = "collected 0 1
