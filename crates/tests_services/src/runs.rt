@@ -169,8 +169,8 @@ fn write_last<R: Wait>(
     }
 }
 
-// Writes what the recordings come to, or why they do not and how many seats are handed back.
-fn write_finish<R: Wait>(
+/// Writes what the recordings come to, or why they do not and how many seats are handed back.
+pub(crate) fn write_finish<R: Wait>(
     out: &mut String,
     rt: &R,
     alloc: Global,
