@@ -479,23 +479,22 @@ fn encode_lists<R: Clock>(
     watch.start(rt);
     let sum = encode_all(&catalogue, all, lists.events);
     watch.stop(rt);
-    Ok(sum)
+    sum
 }
 
 // The set keys of one list of attributes after the other. The sum of their first entries.
-fn encode_all(catalogue: &Catalogue, all: &[Vec<Attr<'_>>], events: u32) -> u64 {
+fn encode_all(catalogue: &Catalogue, all: &[Vec<Attr<'_>>], events: u32) -> anyhow::Result<u64> {
     let walk = Walk::new();
     let mut sum: u64 = 0;
     let mut at = 0;
     for _ in 0..events {
         at = walk.after(at, all.len());
         if let Some(attributes) = all.get(at) {
-            if let Ok(set) = catalogue.encode(0, attributes) {
-                sum = sum.wrapping_add(u64::from(set[0]));
-            }
+            let set = catalogue.encode(0, attributes)?;
+            sum = sum.wrapping_add(u64::from(set[0]));
         }
     }
-    sum
+    Ok(sum)
 }
 
 fn record_lists<R: Wait + Clock>(
@@ -510,27 +509,26 @@ fn record_lists<R: Wait + Clock>(
     watch.start(rt);
     let accepted = record_all(rt, &seats.provider, recorder, all, lists.events);
     watch.stop(rt);
-    Ok(accepted)
+    accepted
 }
 
-// Recordings with one list of attributes after the other. How many were accepted.
+// Recordings with one list of attributes after the other. How many there were.
 fn record_all<R: Wait>(
     rt: &R,
     provider: &MeterProvider,
     recorder: &mut Recorder,
     all: &[Vec<Attr<'_>>],
     events: u32,
-) -> u64 {
+) -> anyhow::Result<u64> {
     let walk = Walk::new();
     let mut accepted: u64 = 0;
     let mut at = 0;
     for _ in 0..events {
         at = walk.after(at, all.len());
         if let Some(attributes) = all.get(at) {
-            if recorder.record(rt, provider, 0, attributes, 1).is_ok() {
-                accepted = accepted.wrapping_add(1);
-            }
+            recorder.record(rt, provider, 0, attributes, 1)?;
+            accepted = accepted.wrapping_add(1);
         }
     }
-    accepted
+    Ok(accepted)
 }

@@ -104,39 +104,43 @@ impl<'a> Runner<'a> {
 }
 
 impl Task<'_> {
-    // Does it. A number that depends on all of it.
-    fn work<R: Wait>(&mut self, rt: &R, race: &Race) -> u64 {
+    // Does it. A number that depends on all of it, or nothing where a collection failed.
+    fn work<R: Wait>(&mut self, rt: &R, race: &Race) -> Option<u64> {
         match self {
-            Task::Record(caller) => caller.repeat(rt, race.events, &race.is_over),
-            Task::RecordUntil(caller) => caller.repeat(rt, u32::MAX, &race.is_over),
-            Task::Collect(collections) => collections.repeat(rt, race),
-            Task::Add(sum) => add_all(rt, sum, race.events),
+            Task::Record(caller) => Some(caller.repeat(rt, race.events, &race.is_over)),
+            Task::RecordUntil(caller) => Some(caller.repeat(rt, u32::MAX, &race.is_over)),
+            Task::Collect(collections) => collections.collect(rt, race),
+            Task::Add(sum) => Some(add_all(rt, sum, race.events)),
         }
     }
 
-    // What came of it, or nothing where the clock failed.
-    fn measured(&self, took: Option<u64>, number: u64) -> Option<Measured> {
+    // What came of it, or nothing where it or the clock failed.
+    fn measured(&self, took: Option<u64>, number: Option<u64>) -> Option<Measured> {
         let nanoseconds = match self {
             Task::RecordUntil(_) => 0,
             _ => took?,
         };
         Some(Measured {
             nanoseconds,
-            number,
+            number: number?,
         })
     }
 }
 
 impl Collections<'_> {
-    // Collects, and then tells the others that it is over. How many batches there were.
-    fn repeat<R: Wait>(&mut self, rt: &R, race: &Race) -> u64 {
+    // Collects. How many batches there were, or nothing where a collection failed.
+    fn repeat<R: Wait>(&mut self, rt: &R, race: &Race) -> Option<u64> {
         let mut batches: u64 = 0;
         for _ in 0..race.events {
             let answer = self.collector.collect_all(rt, race.alloc, self.provider, 0);
-            if let Ok(more) = answer {
-                batches = batches.wrapping_add(more.len() as u64);
-            }
+            batches = batches.wrapping_add(answer.ok()?.len() as u64);
         }
+        Some(batches)
+    }
+
+    // Collects, and then tells the others that it is over, also where a collection failed.
+    fn collect<R: Wait>(&mut self, rt: &R, race: &Race) -> Option<u64> {
+        let batches = self.repeat(rt, race);
         race.is_over.store(true, Ordering::SeqCst);
         batches
     }
@@ -182,7 +186,7 @@ pub(crate) fn least_together<R: Threads + Wait + Clock + Sync>(
     };
     for _ in 0..REPETITIONS {
         run_all(rt, alloc, runners, events);
-        let all = together(runners).context("the clock failed")?;
+        let all = together(runners).context("a collection or the clock failed")?;
         least.nanoseconds = least.nanoseconds.min(all.nanoseconds);
         least.number = least.number.wrapping_add(all.number);
     }

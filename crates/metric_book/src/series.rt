@@ -1,32 +1,16 @@
 //! The series of recordings.
 ghost use Rattle.std.specs.Prelude.{◌≡◌, bytes_eq, ◌++◌, ◌∷◌, [], take};
 ghost use Rattle.std.specs.List.{list_any};
-ghost use Rattle.metric_history.specs.Series.{restricted, series, all_series, has, distinct};
+ghost use Rattle.metric_history.specs.Series.{series, all_series, has, distinct};
 
 use metric_catalogue::SetKey;
-use metric_history::Entry;
-
-// Puts 0 in place of each key that is not kept.
-fn clear_dropped(kept: &[bool], set: &mut [u16])
-    ensures { set.new ≡ restricted kept.now set.old }
-{
-    if let Some((keep, kept)) = kept.split_first() {
-        if let Some((first, rest)) = set.split_first_mut() {
-            if !*keep {
-                *first = 0;
-            }
-            clear_dropped(kept, rest);
-        }
-    }
-}
+use metric_history::{Entry, restrict};
 
 /// The series of a recording in a stream that keeps these keys.
 pub fn series_of(kept: &[bool], entry: &Entry) -> SetKey
     ensures { result ≡ series kept.now entry.now }
 {
-    let mut set = entry.set;
-    clear_dropped(kept, &mut set);
-    set
+    restrict(kept, &entry.set)
 }
 
 /// Whether some recording is of the series.

@@ -9,4 +9,5 @@ mod Named
 mod Numbered
 mod Collided
 mod Rising
+mod Holding
 mod Validity

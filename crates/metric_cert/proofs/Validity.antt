@@ -1,24 +1,19 @@
 -- What the maker gives for what is safe is valid.
-use Rattle.std.proofs.Common.{◌≡◌, ◌≢◌, ℕ, Bool, true, false, cond, List, Decides, Option, Some, None, Result, Ok, Err, inr, refl, sym, subst, ◌∙◌, arith}
+use Rattle.std.proofs.Common.{◌≡◌, ◌≢◌, ℕ, Bool, true, false, cond, List, Option, Some, None, Result, Ok, Err, inr, refl, sym, subst, ◌∙◌, arith}
 use Rattle.std.specs.List.{AllZip}
-use Rattle.std.specs.Prelude.{IfOk, IfSome, IsOkUnless, nat_le, slice_get}
-use Rattle.std.specs.Str.{bytes_eq}
+use Rattle.std.specs.Prelude.{IfOk, IsOkUnless, nat_le, slice_get}
 use Rattle.std.proofs.lemmas.Bool.{leb-true, leb-false}
 use Rattle.std.proofs.lemmas.List.Elements.{All-weaker}
-use Rattle.std.proofs.lemmas.Slice.Eq.{bytes_eq-Decides}
 use Rattle.metric_glob.specs.Reasons.{Confirms}
 use Rattle.metric_glob.specs.declared.reason.Reason.{Reason}
 use Rattle.metric_glob.specs.declared.reason.Reason.TheVariants.{Takes, Rows}
 use Rattle.metric_catalogue.specs.declared.contents.Contents.{Contents}
 use Rattle.metric_catalogue.specs.declared.contents.Instrument.{Instrument}
-use Rattle.metric_catalogue.specs.declared.contents.Kind.{Kind}
-use Rattle.metric_catalogue.specs.declared.contents.Kind.TheVariants.{Counter, UpDownCounter, Histogram, Gauge}
 use Rattle.metric_catalogue.specs.declared.contents.Meter.{Meter}
 use Rattle.metric_views.specs.declared.config.Config.{Config}
 use Rattle.metric_views.specs.declared.config.Criteria.{Criteria}
 use Rattle.metric_views.specs.declared.config.View.{View}
 use Rattle.metric_views.specs.declared.stream.Stream.{Stream}
-use Rattle.metric_views.specs.Selection.{is_kind, is_text, passes}
 use Rattle.metric_resolve.specs.Applying.{meter_at}
 use Rattle.metric_resolve.specs.Resolved.{streams_of}
 use Rattle.metric_bounds.specs.Amounts.{total_of}
@@ -39,42 +34,8 @@ use Rattle.metric_cert.specs.declared.stream.By.TheVariants.{Product, Budget}
 use Rattle.metric_cert.specs.declared.stream.StreamSets.{StreamSets}
 use Rattle.metric_cert.specs.Making.{IsEvidenceBy, IsMade, IsMadeBy, IsMadeEvidence, IsMadeFor, IsMadeReason, IsMadeWith, entry_of, entry_with, first_miss, holds, make_faults, or_else}
 use Rattle.metric_cert.specs.Valid.{Holds, IsEntryOf, IsReasonOf, IsTrueEvidence, IsTrueOf, IsValid, all_pairs, pattern_for}
+use Rattle.metric_cert.proofs.Holding.{holds-Decides}
 use Rattle.metric_cert.proofs.Pairs.{AllZip-mapped, AllZip-weaker}
-
--- the tests of the criteria
-passes-Decides : {T : Type 0} (test : T → Bool) (P : T → Type 0) → ((x : T) → Decides (test x) (P x)) → (o : Option T) → Decides (passes test o) (IfSome o P)
-passes-Decides test P h None = (λ e. tt, λ p. refl)
-passes-Decides test P h (Some x) = h x
-
-is_kind-Decides : (a b : Kind) → Decides (is_kind a b) (a ≡ b)
-is_kind-Decides Counter Counter = (λ e. refl, λ p. refl)
-is_kind-Decides Counter UpDownCounter = (λ e. absurd cc, λ p. absurd cc)
-is_kind-Decides Counter Histogram = (λ e. absurd cc, λ p. absurd cc)
-is_kind-Decides Counter Gauge = (λ e. absurd cc, λ p. absurd cc)
-is_kind-Decides UpDownCounter Counter = (λ e. absurd cc, λ p. absurd cc)
-is_kind-Decides UpDownCounter UpDownCounter = (λ e. refl, λ p. refl)
-is_kind-Decides UpDownCounter Histogram = (λ e. absurd cc, λ p. absurd cc)
-is_kind-Decides UpDownCounter Gauge = (λ e. absurd cc, λ p. absurd cc)
-is_kind-Decides Histogram Counter = (λ e. absurd cc, λ p. absurd cc)
-is_kind-Decides Histogram UpDownCounter = (λ e. absurd cc, λ p. absurd cc)
-is_kind-Decides Histogram Histogram = (λ e. refl, λ p. refl)
-is_kind-Decides Histogram Gauge = (λ e. absurd cc, λ p. absurd cc)
-is_kind-Decides Gauge Counter = (λ e. absurd cc, λ p. absurd cc)
-is_kind-Decides Gauge UpDownCounter = (λ e. absurd cc, λ p. absurd cc)
-is_kind-Decides Gauge Histogram = (λ e. absurd cc, λ p. absurd cc)
-is_kind-Decides Gauge Gauge = (λ e. refl, λ p. refl)
-
-is_text-Decides : (own : List ℕ) (o : Option (List ℕ)) → Decides (is_text own o) (IfSome o (λ text. text ≡ own))
-is_text-Decides own o = passes-Decides (λ text. bytes_eq text own) (λ text. text ≡ own) (λ text. bytes_eq-Decides text own) o
-
-pub holds-Decides : (criterion : Criterion) (criteria : Criteria) (meter : Meter) (instrument : Instrument)
-    → Decides (holds criterion criteria meter instrument) (Holds criterion criteria meter instrument)
-holds-Decides InstrumentType criteria meter instrument =
-    passes-Decides (λ kind. is_kind kind instrument.kind) (λ kind. kind ≡ instrument.kind) (λ kind. is_kind-Decides kind instrument.kind) criteria.instrument_type
-holds-Decides InstrumentUnit criteria meter instrument = is_text-Decides instrument.unit criteria.instrument_unit
-holds-Decides MeterName criteria meter instrument = is_text-Decides meter.name criteria.meter_name
-holds-Decides MeterVersion criteria meter instrument = is_text-Decides meter.version criteria.meter_version
-holds-Decides MeterSchemaUrl criteria meter instrument = is_text-Decides meter.schema_url criteria.meter_schema_url
 
 -- the first criterion that fails
 missed : {P : Type 0} (held : Bool) (criterion : Criterion) (next : Option Criterion) (c : Criterion) → or_else held criterion next ≡ Some c

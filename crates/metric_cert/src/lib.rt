@@ -3,6 +3,7 @@
 
 mod bound;
 mod certificate;
+mod criteria;
 mod decimals;
 mod entry;
 mod fault;
@@ -22,6 +23,7 @@ mod tables;
 
 pub use bound::InstrumentBound;
 pub use certificate::Certificate;
+pub use criteria::pattern_for;
 pub use fault::CertFault;
 pub use make_fault::MakeFault;
 pub use making::make;

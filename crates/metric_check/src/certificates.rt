@@ -1,8 +1,7 @@
 //! The check of a certificate.
-ghost use Rattle.std.specs.Prelude.{◌≡◌, ◌≢◌, ◌∷◌, [], IfErr, IfOk, OnOk, Some, true};
+ghost use Rattle.std.specs.Prelude.{◌≡◌, ◌≢◌, IfErr, IfOk, OnOk, Some, true};
 ghost use Rattle.metric_bounds.specs.First.{Reports};
 ghost use Rattle.metric_cert.specs.Valid.{IsValid};
-ghost use Rattle.metric_glob.specs.declared.characters.TheConstants.{ANY_TEXT};
 ghost use Rattle.metric_plan.specs.Plans.{plan_of};
 ghost use Rattle.metric_resolve.specs.Resolved.{streams_of};
 ghost use Rattle.metric_check.specs.Findings.{CheckFinds, StreamsFind};
@@ -20,7 +19,7 @@ use metric_glob::Pattern;
 use metric_plan::{CheckFault, Plan};
 use metric_resolve::streams_by;
 use metric_views::{Config, Stream};
-use std::alloc::{AllocError, Global};
+use std::alloc::Global;
 
 /// The certified plan of a catalogue and a config, where a certificate shows that they can overflow neither
 /// a limit nor a number, whoever made it.
@@ -64,7 +63,7 @@ fn checked_streams(
         (CheckFinds catalogue.now config.now certificate.now) result }
     ensures streams { IfOk result (λ streams. streams ≡ streams_of catalogue.now config.now) }
 {
-    let any = any_name(alloc)?;
+    let any = Pattern::any(alloc)?;
     let reasons = certificate.reasons.as_slice();
     check_reasons(&any, catalogue, config, reasons)?;
     let selection = ByReasons {
@@ -95,14 +94,4 @@ fn check_streams(
     check_orders(catalogue, config, streams, certificate.orders.as_slice())?;
     check_bounds(alloc, catalogue, streams, bounds)?;
     check_limits(catalogue, streams, entries, bounds)
-}
-
-// The pattern of any name, by which a view without a pattern is read.
-fn any_name(alloc: Global) -> Result<Pattern, AllocError>
-    ensures { IfOk result (λ pattern. pattern ≡ ANY_TEXT ∷ []) }
-{
-    match Pattern::parse(alloc, "*") {
-        Ok(pattern) => Ok(pattern),
-        Err(_) => Err(AllocError),
-    }
 }

@@ -1,7 +1,8 @@
 //! Patterns of instrument names.
-ghost use Rattle.std.specs.Prelude.{◌≡◌, ◌↔◌, IsTrue, IfOk, IsOkUnless};
+ghost use Rattle.std.specs.Prelude.{◌≡◌, ◌↔◌, ◌∷◌, [], IsTrue, IfOk, IsOkUnless};
 ghost use Rattle.metric_base.specs.Steps.{Gives};
 ghost use Rattle.metric_glob.specs.Matching.{Matches, is_match};
+ghost use Rattle.metric_glob.specs.declared.characters.TheConstants.{ANY_TEXT};
 ghost use Rattle.metric_glob.specs.Patterns.{CheckedPattern, IsPattern, pattern_of};
 ghost use Rattle.metric_glob.specs.Reasons.{Confirms, Shows};
 
@@ -75,6 +76,16 @@ impl Pattern {
         check(text.as_bytes())?;
         let text = Text::new(alloc, text)?;
         Ok(Pattern { text })
+    }
+
+    /// The pattern that every name matches, `*`. Fails only where memory is refused.
+    pub fn any(alloc: Global) -> Result<Pattern, AllocError>
+        ensures { IfOk result (λ pattern. pattern ≡ ANY_TEXT ∷ []) }
+    {
+        match Pattern::parse(alloc, "*") {
+            Ok(pattern) => Ok(pattern),
+            Err(_) => Err(AllocError),
+        }
     }
 
     /// The pattern's text.

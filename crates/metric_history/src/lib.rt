@@ -10,9 +10,11 @@ mod facts;
 mod flat;
 mod instruments;
 pub mod laws;
+mod series;
 
 pub use batch::{Batch, Point, StreamPoints};
 pub use entry::Entry;
 pub use event::{Event, Reply};
 pub use facts::{Facts, FactsFields, KeyFacts, NumberedStream, same_facts};
 pub use instruments::all_facts;
+pub use series::restrict;

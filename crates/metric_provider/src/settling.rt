@@ -101,6 +101,19 @@ fn is_sum(total: &Total, facts: &Facts, amount: u128) -> bool
     ensures { IsTrue result
         ↔ (total.now.sum ≡ pos amount +ℤ pos total.now.count *ℤ facts.now.lo) }
 {
-    let least = i128::from(total.count) * i128::from(facts.lo);
-    least <= total.sum && total.sum.abs_diff(least) == amount
+    is_above(total.sum, least_sum(total.count, facts.lo), amount)
+}
+
+// The sum of so many of the least values.
+fn least_sum(count: u64, lo: i64) -> i128
+    ensures { result ≡ pos count *ℤ lo }
+{
+    i128::from(count) * i128::from(lo)
+}
+
+// Whether a sum is so far above another one.
+fn is_above(sum: i128, least: i128, amount: u128) -> bool
+    ensures { IsTrue result ↔ (sum ≡ pos amount +ℤ least) }
+{
+    least <= sum && sum.abs_diff(least) == amount
 }

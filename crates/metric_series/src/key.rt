@@ -1,6 +1,5 @@
 //! The key under which a table finds a series.
 ghost use Rattle.std.specs.Prelude.{◌≡◌};
-ghost use Rattle.metric_history.specs.Series.{restricted};
 ghost use Rattle.metric_series.specs.SeriesKeys.{number_of};
 
 use metric_catalogue::SetKey;
@@ -60,27 +59,4 @@ impl Hash for SeriesKey {
     fn hash<H: Hasher>(&self, state: &mut H) {
         state.write_u128(self.number());
     }
-}
-
-// Puts 0 in place of each key that is not kept.
-fn clear_dropped(kept: &[bool], set: &mut [u16])
-    ensures { set.new ≡ restricted kept.now set.old }
-{
-    if let Some((keep, kept)) = kept.split_first() {
-        if let Some((first, rest)) = set.split_first_mut() {
-            if !*keep {
-                *first = 0;
-            }
-            clear_dropped(kept, rest);
-        }
-    }
-}
-
-/// The set of the keys that are kept.
-pub fn restrict(kept: &[bool], set: &SetKey) -> SetKey
-    ensures { result ≡ restricted kept.now set.now }
-{
-    let mut set = *set;
-    clear_dropped(kept, &mut set);
-    set
 }

@@ -12,14 +12,14 @@ ghost use Rattle.metric_series.specs.Ready.{AddsAt, FitsAt, IsPlace, IsReadyTabl
 ghost use Rattle.metric_series.specs.Tables.{StandsTable, Table};
 
 use crate::fault::SeriesFault;
-use crate::key::{SeriesKey, restrict};
+use crate::key::SeriesKey;
 use crate::place::Place;
 use crate::seeded::Seeded;
 use indexmap::IndexMap;
 use metric_aggregate::Aggregate;
 use metric_base::{Few, Shared};
 use metric_catalogue::SetKey;
-use metric_history::Point;
+use metric_history::{Point, restrict};
 use std::alloc::{AllocError, Global};
 use std::marker::Model;
 

@@ -20,11 +20,11 @@ both false b p q = (λ e. absurd cc, λ h. absurd (contrary (p.1 h.0)))
     contrary e = cc
 
 -- a criterion that is given
-passes-Decides : {T : Type 0} (test : T → Bool) (P : T → Type 0) → ((x : T) → Decides (test x) (P x)) → (o : Option T) → Decides (passes test o) (IfSome o P)
+pub passes-Decides : {T : Type 0} (test : T → Bool) (P : T → Type 0) → ((x : T) → Decides (test x) (P x)) → (o : Option T) → Decides (passes test o) (IfSome o P)
 passes-Decides test P h None = (λ e. tt, λ p. refl)
 passes-Decides test P h (Some x) = h x
 
-is_kind-Decides : (a b : Kind) → Decides (is_kind a b) (a ≡ b)
+pub is_kind-Decides : (a b : Kind) → Decides (is_kind a b) (a ≡ b)
 is_kind-Decides Counter Counter = (λ e. refl, λ p. refl)
 is_kind-Decides Counter UpDownCounter = (λ e. absurd cc, λ p. absurd cc)
 is_kind-Decides Counter Histogram = (λ e. absurd cc, λ p. absurd cc)
@@ -42,7 +42,7 @@ is_kind-Decides Gauge UpDownCounter = (λ e. absurd cc, λ p. absurd cc)
 is_kind-Decides Gauge Histogram = (λ e. absurd cc, λ p. absurd cc)
 is_kind-Decides Gauge Gauge = (λ e. refl, λ p. refl)
 
-is_text-Decides : (own : List ℕ) (o : Option (List ℕ)) → Decides (is_text own o) (IfSome o (λ text. text ≡ own))
+pub is_text-Decides : (own : List ℕ) (o : Option (List ℕ)) → Decides (is_text own o) (IfSome o (λ text. text ≡ own))
 is_text-Decides own o = passes-Decides (λ text. bytes_eq text own) (λ text. text ≡ own) (λ text. bytes_eq-Decides text own) o
 
 pub selects-Decides : (criteria : Criteria) (meter : Meter) (instrument : Instrument) → Decides (selects criteria meter instrument) (Selects criteria meter instrument)

@@ -19,5 +19,6 @@ pub use choices::{Aggregation, ByKind, Temporality, is_unfit};
 pub use config::{Config, Criteria, Reader, Settings, Setup, View};
 pub use fault::{ConfigPlace, ViewDefect, ViewFault};
 pub use filling::fill;
+pub use selection::{is_of_kind, is_text};
 pub use stream::{Fill, Stream, StreamAggregation};
 pub use template::Template;

@@ -56,11 +56,24 @@ fn is_named(criterion: &Option<Pattern>, name: &Name) -> bool
     }
 }
 
-fn is_of_kind(criterion: &Option<Kind>, kind: Kind) -> bool
+/// Whether a criterion of the kind is not given, or asks for this kind (Metrics SDK, instrument selection
+/// criteria).
+pub fn is_of_kind(criterion: &Option<Kind>, kind: Kind) -> bool
     ensures { result ≡ passes (λ wanted. is_kind wanted kind) criterion.now }
 {
     match criterion {
         Some(wanted) => is_kind(*wanted, kind),
+        None => true,
+    }
+}
+
+/// Whether a criterion of a text is not given, or is this text, byte by byte (Metrics SDK, instrument selection
+/// criteria).
+pub fn is_text(criterion: &Option<Text>, own: &str) -> bool
+    ensures { result ≡ is_text own.now criterion.now }
+{
+    match criterion {
+        Some(text) => text.as_str() == own,
         None => true,
     }
 }
@@ -73,14 +86,5 @@ fn is_kind(kind: Kind, other: Kind) -> bool
         Kind::UpDownCounter => matches!(other, Kind::UpDownCounter),
         Kind::Histogram => matches!(other, Kind::Histogram),
         Kind::Gauge => matches!(other, Kind::Gauge),
-    }
-}
-
-fn is_text(criterion: &Option<Text>, own: &str) -> bool
-    ensures { result ≡ is_text own.now criterion.now }
-{
-    match criterion {
-        Some(text) => text.as_str() == own,
-        None => true,
     }
 }

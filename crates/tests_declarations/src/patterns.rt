@@ -169,5 +169,6 @@ fn a_pattern_is_up_to_255_printable_characters(rt: HostRuntime) -> Result<(), Fa
     for (text, wanted) in PATTERNS {
         assert_equal(&rt, as_pattern(rt.alloc(), text)?.as_str(), *wanted);
     }
+    assert_equal(&rt, Pattern::any(rt.alloc())?.as_str(), "*");
     Ok(())
 }

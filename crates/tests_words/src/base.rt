@@ -43,13 +43,38 @@ fn are_kept(alloc: Global, values: [u64; 2]) -> Result<bool, AllocError> {
     Ok(is_few_copied && is_copied(alloc, &items)? && items.as_slice() == values.as_slice())
 }
 
+// The copies of texts, whose list and the copy of which have all.
+fn texts_copied(alloc: Global, texts: &[Text]) -> Result<bool, AllocError> {
+    let list = copy_all(alloc, texts)?;
+    Ok(!list.is_empty() && is_copied(alloc, &list)? && list.as_slice() == texts)
+}
+
+fn are_texts_copied(alloc: Global) -> Result<bool, AllocError> {
+    texts_copied(
+        alloc,
+        &[
+            Text::new(alloc, "a")?,
+            Text::new(alloc, "")?,
+            Text::new(alloc, "b")?,
+        ],
+    )
+}
+
+// A number, an absent one and one that is there.
 fn are_numbers_copied(alloc: Global) -> Result<bool, AllocError> {
-    Ok(is_copied(alloc, &-7i64)? && is_copied(alloc, &7u16)? && Some(7u64).copy(alloc)? == Some(7))
+    let absent: Option<u64> = None;
+    Ok(
+        is_copied(alloc, &-7i64)?
+            && is_copied(alloc, &7u16)?
+            && absent.copy(alloc)? == absent
+            && Some(7u64).copy(alloc)? == Some(7),
+    )
 }
 
 #[test]
 fn lists_and_numbers_are_copied(rt: HostRuntime) -> Result<(), Fail> {
-    assert!(rt; are_kept(rt.alloc(), [7, 9])? && are_numbers_copied(rt.alloc())?);
+    assert!(rt; are_kept(rt.alloc(), [7, 9])?);
+    assert!(rt; are_texts_copied(rt.alloc())? && are_numbers_copied(rt.alloc())?);
     Ok(())
 }
 

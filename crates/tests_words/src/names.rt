@@ -1,6 +1,6 @@
 //! Names, units and values, with the printed faults.
 use crate::equal::assert_equal;
-use metric_base::{Copied, Text, is_same};
+use metric_base::{Copied, Text, copy_all, is_same};
 use metric_names::{AttrValue, Name, NameFault, Unit, ValueRef, first_other_than_printable};
 use std::alloc::{AllocError, Global};
 use std::cmp::Ordering;
@@ -169,14 +169,25 @@ fn is_copied(alloc: Global, value: ValueRef<'_>) -> Result<bool, AllocError> {
     Ok(is_same(&copy, &own) && value.is(&copy) && copy.as_ref().is(&own))
 }
 
+// Whether the copy of a list of values is the list.
+fn are_copied(alloc: Global, values: &[ValueRef<'_>]) -> Result<bool, AllocError> {
+    let mut own = Vec::new(alloc);
+    for value in values {
+        own.push(owned(alloc, *value)?)?;
+    }
+    Ok(copy_all(alloc, own.as_slice())?.as_slice() == own.as_slice())
+}
+
 #[test]
 fn values_are_copied(rt: HostRuntime) -> Result<(), Fail> {
-    for value in [
+    let values = [
         ValueRef::Text("1"),
         ValueRef::Whole(1),
         ValueRef::Flag(true),
-    ] {
-        assert!(rt; is_copied(rt.alloc(), value)?);
+    ];
+    for value in &values {
+        assert!(rt; is_copied(rt.alloc(), *value)?);
     }
+    assert!(rt; are_copied(rt.alloc(), &values)?);
     Ok(())
 }

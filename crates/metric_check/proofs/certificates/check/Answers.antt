@@ -1,5 +1,5 @@
 -- where no fault is found the certificate is valid, and the streams are safe; where it is valid, only memory refuses
-use Rattle.std.proofs.Common.{List, sym, subst}
+use Rattle.std.proofs.Common.{List, sym, subst, rules}
 use Rattle.metric_bounds.specs.Safe.{AreSafe}
 use Rattle.metric_views.specs.declared.stream.Stream.{Stream}
 use Rattle.metric_cert.specs.Valid.{IsValid}
@@ -25,3 +25,6 @@ returns-in-Ok-clause-valid c =
 pub returns-in-Err-clause-memory : goal.returns-in-Err-clause-memory
 returns-in-Err-clause-memory c =
     memory_alone c.args.catalogue c.args.config c.args.certificate.now c.in-Err.fault c.in-Err.ensures.found
+
+pub returns-in-Err-clause-fault : goal.returns-in-Err-clause-fault
+returns-in-Err-clause-fault c = search rules

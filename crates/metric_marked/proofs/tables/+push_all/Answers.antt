@@ -33,3 +33,6 @@ returns-clause-in_range n c =
     subst (λ v. JudgesValue (Stands c.in-Some.first.now.table) c.args.entry.now.set v true) (to_z-of_z w64 c.args.entry.now.value in64) c.in-Ok.ensures.in_range in
     subst (λ ts. JudgesAll ts c.args.entry.now true) (sym c.in-Some.ensures.cases.0)
     (judges-cons c.in-Some.first.now c.in-Some.rest.now c.args.entry.now true true own c.in_default-push_all.ensures.in_range)
+
+pub returns-in-Err-push_all-clause-err : goal.returns-in-Err-push_all-clause-err
+returns-in-Err-push_all-clause-err c = search rules

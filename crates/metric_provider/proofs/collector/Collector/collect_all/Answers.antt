@@ -25,3 +25,6 @@ loop-instrument-preserved g c =
       each = more.each;
       seen = more.seen;
     }
+
+pub loop-instrument-init : goal.loop-instrument-init
+loop-instrument-init g c = search rules

@@ -1,0 +1,6 @@
+-- the last way out, which a wrong bound breaks
+use Rattle.std.proofs.Common.{rules}
+use Rattle.metric_names.proofs.unit.check.Goals as goal
+
+pub returns : goal.returns
+returns c = search rules
