@@ -43,21 +43,13 @@ fn are_kept(alloc: Global, values: [u64; 2]) -> Result<bool, AllocError> {
     Ok(is_few_copied && is_copied(alloc, &items)? && items.as_slice() == values.as_slice())
 }
 
-// The copies of texts, whose list and the copy of which have all.
-fn texts_copied(alloc: Global, texts: &[Text]) -> Result<bool, AllocError> {
-    let list = copy_all(alloc, texts)?;
-    Ok(!list.is_empty() && is_copied(alloc, &list)? && list.as_slice() == texts)
-}
-
-fn are_texts_copied(alloc: Global) -> Result<bool, AllocError> {
-    texts_copied(
-        alloc,
-        &[
-            Text::new(alloc, "a")?,
-            Text::new(alloc, "")?,
-            Text::new(alloc, "b")?,
-        ],
-    )
+// Whether a list has all of these texts, and its copy has them too.
+fn are_texts_copied(alloc: Global, texts: &[&str]) -> Result<bool, AllocError> {
+    let mut list = Items::new(alloc);
+    for text in texts {
+        list.push(Text::new(alloc, text)?)?;
+    }
+    Ok(!list.is_empty() && list.len() == texts.len() && is_copied(alloc, &list)?)
 }
 
 // A number, an absent one and one that is there.
@@ -74,7 +66,8 @@ fn are_numbers_copied(alloc: Global) -> Result<bool, AllocError> {
 #[test]
 fn lists_and_numbers_are_copied(rt: HostRuntime) -> Result<(), Fail> {
     assert!(rt; are_kept(rt.alloc(), [7, 9])?);
-    assert!(rt; are_texts_copied(rt.alloc())? && are_numbers_copied(rt.alloc())?);
+    assert!(rt; are_texts_copied(rt.alloc(), &["a", "", "b"])?);
+    assert!(rt; are_numbers_copied(rt.alloc())?);
     Ok(())
 }
 
