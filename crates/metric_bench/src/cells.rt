@@ -1,11 +1,11 @@
 //! Recordings into the cell of an instrument, with their set keys in hand.
 ghost use Rattle.std.specs.Prelude.{◌≡◌, ◌<◌, ◌==◌, true, length, All, IsTrue};
 ghost use Rattle.std.specs.List.{list_all};
-ghost use Rattle.metric_history.specs.Facts.{in_bounds, is_entry, is_full_set};
+ghost use Rattle.metric_facts.specs.Facts.{in_bounds, is_entry, is_full_set};
 
 use crate::inputs::{set_of, value_of};
 use metric_core::Cell;
-use metric_history::{Facts, KeyFacts};
+use metric_facts::{Facts, KeyFacts};
 use metric_sdk::{Marked, Plan, SetKey};
 use std::alloc::{AllocError, Global};
 

@@ -1,9 +1,9 @@
 //! Recordings into an instrument as it stands behind a lock, with their set keys in hand.
 ghost use Rattle.std.specs.Prelude.{◌≡◌, ◌<◌, true, length, All};
-ghost use Rattle.metric_history.specs.Facts.{in_bounds, is_full_set};
+ghost use Rattle.metric_facts.specs.Facts.{in_bounds, is_full_set};
 
 use crate::cells::{Recording, are_sound, recordings};
-use metric_history::Facts;
+use metric_facts::Facts;
 use metric_sdk::{Marked, Plan, Told};
 use metric_slot::Slot;
 use std::alloc::Global;

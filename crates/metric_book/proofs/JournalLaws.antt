@@ -4,8 +4,8 @@ use Rattle.std.specs.Prelude.{slice_get, slice_index, slice_set}
 use Rattle.std.proofs.lemmas.List.{length-set, length-replicate}
 use Rattle.std.proofs.lemmas.Option.{same_Some}
 use Rattle.metric_history.specs.declared.entry.Entry.{Entry}
-use Rattle.metric_history.specs.declared.facts.Facts.{Facts}
-use Rattle.metric_history.specs.Facts.{RunFacts}
+use Rattle.metric_facts.specs.declared.facts.Facts.{Facts}
+use Rattle.metric_facts.specs.Facts.{RunFacts}
 use Rattle.metric_history.specs.Windows.{fits_all}
 use Rattle.metric_book.specs.Journals.{BeginsJournal, MovesMark, TakesRecording, no_marks}
 use Rattle.metric_book.specs.JournalStands.{JournalValue, StandsForList, empty_journal}

@@ -1,7 +1,7 @@
 -- For which journals a book that keeps the list stands.
 use Rattle.std.specs.Prelude.{◌≡◌, ℕ, true, List, [], length}
 use Rattle.metric_history.specs.declared.entry.Entry.{Entry}
-use Rattle.metric_history.specs.declared.facts.Facts.{Facts}
+use Rattle.metric_facts.specs.declared.facts.Facts.{Facts}
 use Rattle.metric_book.specs.Journals.{no_marks}
 use Rattle.metric_book.specs.Ranges.{windows_in_range}
 

@@ -2,9 +2,9 @@
 use Rattle.std.specs.Prelude.{ℕ, Bool, not, ◌||◌, List, slice_index}
 use Rattle.std.specs.List.{list_all}
 use Rattle.metric_history.specs.declared.entry.Entry.{Entry}
-use Rattle.metric_history.specs.declared.facts.Facts.{Facts}
-use Rattle.metric_history.specs.declared.facts.NumberedStream.{NumberedStream}
-use Rattle.metric_history.specs.Facts.{is_delta, is_of_reader}
+use Rattle.metric_facts.specs.declared.facts.Facts.{Facts}
+use Rattle.metric_facts.specs.declared.facts.NumberedStream.{NumberedStream}
+use Rattle.metric_facts.specs.Facts.{is_delta, is_of_reader}
 use Rattle.metric_history.specs.Ranges.{stays_in_range}
 use Rattle.metric_history.specs.Windows.{window}
 

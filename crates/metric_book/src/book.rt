@@ -2,7 +2,7 @@
 ghost use Rattle.std.specs.Prelude.{◌≡◌, ◌<◌, ℕ, List, length, IfOk, OnOk, OnErr};
 ghost use Rattle.metric_book.specs.Journals.{BeginsJournal, HasReader, JudgesRecording, MayTake, MovesMark, ReportsWindow, TakesRecording};
 ghost use Rattle.metric_history.specs.declared.entry.Entry.{Entry as entries};
-ghost use Rattle.metric_history.specs.declared.facts.Facts.{Facts as facts};
+ghost use Rattle.metric_facts.specs.declared.facts.Facts.{Facts as facts};
 
 use metric_base::Items;
 use metric_catalogue::Refusal;

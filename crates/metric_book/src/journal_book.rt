@@ -3,7 +3,7 @@ ghost use Rattle.std.specs.Prelude.{◌≡◌, ◌≤◌, ◌++◌, ◌∷◌, [
 ghost use Rattle.metric_book.specs.Journals.{window_of};
 ghost use Rattle.metric_book.specs.JournalStands.{empty_journal};
 ghost use Rattle.metric_book.specs.Ranges.{windows_in_range};
-ghost use Rattle.metric_history.specs.Facts.{is_delta};
+ghost use Rattle.metric_facts.specs.Facts.{is_delta};
 ghost use Rattle.metric_history.specs.Windows.{fits_all, fits_stream as stays_in_range, window};
 
 use crate::book::{Book, Window};
@@ -11,7 +11,8 @@ use crate::points::stream_points;
 use crate::sums::fits_stream;
 use metric_base::Copied;
 use metric_catalogue::Refusal;
-use metric_history::{Entry, Facts};
+use metric_facts::Facts;
+use metric_history::Entry;
 use metric_plan::Plan;
 use metric_views::Stream;
 use std::alloc::{AllocError, Global};

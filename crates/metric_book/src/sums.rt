@@ -2,7 +2,7 @@
 ghost use Rattle.std.specs.Prelude.{◌≡◌, true, if◌then◌else◌, ◌*◌, ◌^◌, ◌-◌, pos, ◌+ℤ◌, neg_ℤ, ◌≤ℤ◌, length};
 ghost use Rattle.metric_aggregate.specs.Range.{fits_i64, sum_in_range};
 ghost use Rattle.metric_aggregate.specs.Value.{sum_of};
-ghost use Rattle.metric_history.specs.Facts.{stream_aggregation};
+ghost use Rattle.metric_history.specs.Aggregations.{stream_aggregation};
 ghost use Rattle.metric_history.specs.Series.{series, all_series, has, rows, place_found, belongs as is_row};
 ghost use Rattle.metric_history.specs.Points.{values};
 ghost use Rattle.metric_history.specs.Windows.{fits_stream as is_in_range};

@@ -11,7 +11,7 @@ use Rattle.metric_history.specs.declared.event.Reply.{Reply}
 use Rattle.metric_history.specs.declared.event.Reply.TheVariants.{Accepted, Collected, Done, Refused}
 use Rattle.metric_history.specs.History.{History}
 use Rattle.metric_history.specs.Legal.{LegalRecord, LegalCollect, LegalClose, Legal, AllLegal}
-use Rattle.metric_history.specs.Facts.{RunFacts}
+use Rattle.metric_facts.specs.Facts.{RunFacts}
 use Rattle.metric_commands.specs.Replies.{is_want_of_memory}
 
 -- a refusal that is want of memory is excluded

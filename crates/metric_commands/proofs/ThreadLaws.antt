@@ -1,6 +1,6 @@
 -- What comes of threads is an answer to the input.
 use Rattle.std.proofs.Common.{◌≡◌, ◌+◌, ℕ, List, [], ◌∷◌, IsTrue, length, ap, refl, suc}
-use Rattle.metric_history.specs.declared.facts.Facts.{Facts}
+use Rattle.metric_facts.specs.declared.facts.Facts.{Facts}
 use Rattle.metric_plan.specs.Plans.{PlanValue}
 use Rattle.metric_provider.specs.Seats.{RecorderValue}
 use Rattle.metric_provider.specs.Totals.{told_totals}

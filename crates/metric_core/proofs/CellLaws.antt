@@ -9,9 +9,9 @@ use Rattle.std.proofs.lemmas.List.Folds.{sum_by-replicate}
 use Rattle.std.proofs.lemmas.List.Sums.{get_or-le-sum_by, sum_by_push}
 use Rattle.metric_book.specs.Journals.{MayAnswer, MayTake, Standing, no_marks}
 use Rattle.metric_history.specs.declared.entry.Entry.{Entry}
-use Rattle.metric_history.specs.declared.facts.Facts.{Facts}
+use Rattle.metric_facts.specs.declared.facts.Facts.{Facts}
 use Rattle.metric_history.specs.Answers.{spent}
-use Rattle.metric_history.specs.Facts.{in_bounds, is_full_set}
+use Rattle.metric_facts.specs.Facts.{in_bounds, is_full_set}
 use Rattle.metric_history.specs.SumLaws.{sum_push}
 use Rattle.metric_core.proofs.BudgetLaws.{raised_within, sum_raised}
 use Rattle.metric_core.specs.BudgetLaws.{has_room}

@@ -17,8 +17,8 @@ use Rattle.metric_history.specs.declared.event.Event.TheVariants.{Record, Collec
 use Rattle.metric_history.specs.declared.event.Reply.{Reply}
 use Rattle.metric_history.specs.declared.event.Reply.TheVariants.{Accepted, Collected, Done, Refused}
 use Rattle.metric_history.specs.Events.{instrument_of}
-use Rattle.metric_history.specs.declared.facts.Facts.{Facts}
-use Rattle.metric_history.specs.Facts.{RunFacts}
+use Rattle.metric_facts.specs.declared.facts.Facts.{Facts}
+use Rattle.metric_facts.specs.Facts.{RunFacts}
 use Rattle.metric_history.specs.Answers.{Told, recorded, collected, closing, batch}
 use Rattle.metric_history.specs.History.{History, answered, added_by, accepted, collects, mark_of, batch_time, previous_of, closes, is_closed, told_of}
 use Rattle.metric_history.specs.Legal.{LegalRecord, LegalCollect, LegalClose, Legal}

@@ -14,9 +14,9 @@ use Rattle.metric_catalogue.specs.declared.refusal.Refusal.{Refusal}
 use Rattle.metric_history.specs.Encoded.{encoded}
 use Rattle.metric_history.specs.declared.event.Event.{Event}
 use Rattle.metric_history.specs.declared.event.Event.TheVariants.{Record, Collect, Close}
-use Rattle.metric_history.specs.declared.facts.Facts.{Facts}
+use Rattle.metric_facts.specs.declared.facts.Facts.{Facts}
 use Rattle.metric_history.specs.Events.{instrument_of}
-use Rattle.metric_history.specs.Facts.{EncodesFullSets, is_full_set}
+use Rattle.metric_facts.specs.Facts.{EncodesFullSets, is_full_set}
 use Rattle.metric_plan.specs.Counting.{counts_fit}
 use Rattle.metric_plan.specs.PlanFacts.{plan_facts_at}
 use Rattle.metric_plan.specs.Plans.{IsPlan, PlanValue}

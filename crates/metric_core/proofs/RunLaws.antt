@@ -11,7 +11,7 @@ use Rattle.metric_history.specs.declared.event.Event.{Event}
 use Rattle.metric_history.specs.declared.event.Reply.{Reply}
 use Rattle.metric_history.specs.declared.event.Reply.TheVariants.{Refused}
 use Rattle.metric_history.specs.Events.{instrument_of}
-use Rattle.metric_history.specs.Facts.{RunFacts}
+use Rattle.metric_facts.specs.Facts.{RunFacts}
 use Rattle.metric_history.specs.History.{History, answered, told_of}
 use Rattle.metric_history.specs.Legal.{Legal, AllLegal, grown}
 use Rattle.metric_core.specs.Cells.{CellValue}

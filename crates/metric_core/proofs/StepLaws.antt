@@ -8,9 +8,9 @@ use Rattle.metric_catalogue.specs.declared.refusal.Refusal.{Refusal}
 use Rattle.metric_catalogue.specs.declared.refusal.Refusal.TheVariants.{UnknownRecorder, ValueRange, Closed, Budget, SumRange}
 use Rattle.metric_history.specs.declared.entry.Entry.{Entry}
 use Rattle.metric_history.specs.declared.event.Reply.TheVariants.{Accepted}
-use Rattle.metric_history.specs.declared.facts.Facts.{Facts}
+use Rattle.metric_facts.specs.declared.facts.Facts.{Facts}
 use Rattle.metric_history.specs.Answers.{Told, recorded, spent}
-use Rattle.metric_history.specs.Facts.{in_bounds}
+use Rattle.metric_facts.specs.Facts.{in_bounds}
 use Rattle.metric_history.specs.Legal.{LegalRecord}
 use Rattle.metric_history.specs.Windows.{fits_all}
 use Rattle.metric_core.specs.Cells.{CellStands, CellValue, told_by}

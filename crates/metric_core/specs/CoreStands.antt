@@ -1,8 +1,8 @@
 -- For which history a core stands.
 use Rattle.std.specs.Prelude.{◌≡◌, ℕ, List, Some, length, slice_get, slice_index, slice_index_or}
 use Rattle.metric_book.specs.Journals.{Standing}
-use Rattle.metric_history.specs.declared.facts.Facts.{Facts}
-use Rattle.metric_history.specs.Facts.{RunFacts}
+use Rattle.metric_facts.specs.declared.facts.Facts.{Facts}
+use Rattle.metric_facts.specs.Facts.{RunFacts}
 use Rattle.metric_history.specs.Answers.{Told}
 use Rattle.metric_history.specs.History.{History, told_of}
 use Rattle.metric_core.specs.Cells.{CellValue, CellStands}

@@ -11,8 +11,8 @@ use Rattle.metric_history.specs.declared.event.Event.TheVariants.{Record, Collec
 use Rattle.metric_history.specs.declared.event.Reply.{Reply}
 use Rattle.metric_history.specs.declared.event.Reply.TheVariants.{Accepted, Collected, Done}
 use Rattle.metric_history.specs.Answers.{recorded, collected, closing}
-use Rattle.metric_history.specs.declared.facts.Facts.{Facts}
-use Rattle.metric_history.specs.Facts.{RunFacts, is_full_set}
+use Rattle.metric_facts.specs.declared.facts.Facts.{Facts}
+use Rattle.metric_facts.specs.Facts.{RunFacts, is_full_set}
 use Rattle.metric_history.specs.History.{History, answered}
 use Rattle.metric_history.specs.Legal.{Legal, LegalRecord, LegalCollect, LegalClose}
 use Rattle.metric_core.specs.Cells.{CellValue, CellStands, told_by}

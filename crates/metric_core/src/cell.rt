@@ -3,12 +3,13 @@ ghost use Rattle.std.specs.Prelude.{◌≡◌, ◌≤◌, ◌<◌, ◌+◌, ◌-
 ghost use Rattle.metric_core.specs.Cells.{CellKept, CellStands, new_cell};
 ghost use Rattle.metric_core.specs.CellAnswers.{AnswersClose, AnswersRecording, GainsEntry, KeepsJournal, ReportsBatch, entry_of, with_batch, with_entry};
 ghost use Rattle.metric_book.specs.Journals.{no_marks};
-ghost use Rattle.metric_history.specs.Facts.{in_bounds, is_full_set};
+ghost use Rattle.metric_facts.specs.Facts.{in_bounds, is_full_set};
 
 use metric_base::Copied;
 use metric_book::Book;
 use metric_catalogue::{Refusal, SetKey};
-use metric_history::{Batch, Entry, Facts};
+use metric_facts::Facts;
+use metric_history::{Batch, Entry};
 use metric_plan::Plan;
 use std::alloc::{AllocError, Global};
 use std::marker::Model;

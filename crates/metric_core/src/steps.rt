@@ -7,7 +7,7 @@ ghost use Rattle.metric_history.specs.Events.{attr_count};
 use crate::cell::Cell;
 use metric_book::Book;
 use metric_catalogue::{Catalogue, Refusal, SetKey};
-use metric_history::laws::attributes_name_full_sets;
+use metric_facts::laws::attributes_name_full_sets;
 use metric_history::{Event, Reply};
 use metric_plan::Plan;
 use std::alloc::Global;

@@ -5,8 +5,8 @@ use Rattle.metric_catalogue.specs.declared.refusal.Refusal.{Refusal}
 use Rattle.metric_catalogue.specs.declared.refusal.Refusal.TheVariants.{UnknownRecorder, UnknownReader, ValueRange, Closed, Budget, SumRange}
 use Rattle.metric_history.specs.declared.batch.Batch.{Batch}
 use Rattle.metric_history.specs.declared.entry.Entry.{Entry}
-use Rattle.metric_history.specs.declared.facts.FactsFields.{FactsFields as Facts}
-use Rattle.metric_history.specs.Facts.{is_delta, in_bounds}
+use Rattle.metric_facts.specs.declared.facts.FactsFields.{FactsFields as Facts}
+use Rattle.metric_facts.specs.Facts.{is_delta, in_bounds}
 use Rattle.metric_history.specs.Points.{reported}
 use Rattle.metric_history.specs.Windows.{window, fits_all}
 

@@ -11,7 +11,7 @@ use Rattle.metric_history.specs.declared.event.Event.TheVariants.{Record, Collec
 use Rattle.metric_history.specs.declared.event.Reply.{Reply}
 use Rattle.metric_history.specs.declared.event.Reply.TheVariants.{Accepted, Collected, Done, Refused}
 use Rattle.metric_history.specs.declared.batch.Batch.{Batch}
-use Rattle.metric_history.specs.Facts.{RunFacts}
+use Rattle.metric_facts.specs.Facts.{RunFacts}
 use Rattle.metric_history.specs.Answers.{recorded, collected, closing}
 use Rattle.metric_history.specs.History.{History, told_of}
 

@@ -1,6 +1,5 @@
 pub mod Events
-pub mod Facts
-pub mod Flat
+pub mod Aggregations
 pub mod Encoded
 pub mod Series
 pub mod Points

@@ -12,7 +12,7 @@ use Rattle.metric_aggregate.specs.Value.{sum_of}
 use Rattle.metric_aggregate.specs.ValueLaws.{sum_of-push}
 use Rattle.metric_history.specs.declared.entry.Entry.{Entry}
 use Rattle.metric_views.specs.declared.stream.Stream.{Stream}
-use Rattle.metric_history.specs.Facts.{stream_aggregation}
+use Rattle.metric_history.specs.Aggregations.{stream_aggregation}
 use Rattle.metric_history.specs.Series.{series, all_series, has, distinct, held, belongs, rows, place_of, place_found}
 use Rattle.metric_history.specs.SeriesLaws.{key_is_same, held_same}
 use Rattle.metric_history.specs.Points.{values}

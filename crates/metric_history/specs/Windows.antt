@@ -4,9 +4,10 @@ use Rattle.std.specs.List.{list_all}
 use Rattle.metric_aggregate.specs.Range.{in_range}
 use Rattle.metric_history.specs.declared.entry.Entry.{Entry}
 use Rattle.metric_views.specs.declared.stream.Stream.{Stream}
-use Rattle.metric_history.specs.declared.facts.FactsFields.{FactsFields as Facts}
-use Rattle.metric_history.specs.declared.facts.NumberedStream.{NumberedStream}
-use Rattle.metric_history.specs.Facts.{is_delta, stream_aggregation}
+use Rattle.metric_facts.specs.declared.facts.FactsFields.{FactsFields as Facts}
+use Rattle.metric_facts.specs.declared.facts.NumberedStream.{NumberedStream}
+use Rattle.metric_facts.specs.Facts.{is_delta}
+use Rattle.metric_history.specs.Aggregations.{stream_aggregation}
 use Rattle.metric_history.specs.Series.{rows, place_of}
 use Rattle.metric_history.specs.Points.{values}
 

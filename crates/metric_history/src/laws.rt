@@ -5,7 +5,6 @@ ghost use Rattle.std.specs.List.Sorted.{IsPermutation, IsSorted};
 ghost use Rattle.std.specs.Ordering.{nat_cmp};
 ghost use Rattle.metric_views.specs.declared.stream.Stream.{Stream};
 ghost use Rattle.metric_history.specs.declared.entry.Entry.{Entry};
-ghost use Rattle.metric_history.specs.Facts.{EncodesFullSets};
 ghost use Rattle.metric_history.specs.Legal.{KeepsLegal};
 ghost use Rattle.metric_history.specs.Points.{CountsOnce, ascending as in_order};
 ghost use Rattle.metric_history.specs.Series.{distinct, others};
@@ -33,11 +32,4 @@ pub fn recordings_are_counted_once()
 #[tactic(auto, using(crate::proofs::LegalLaws::legal_grown))]
 pub fn runs_keep_histories_legal()
     ensures { KeepsLegal }
-{}
-
-/// The set key that attributes name is a full set of the instrument: for each declared key a declared value, or
-/// none where the key may be absent.
-#[tactic(auto, using(crate::proofs::FullSets::encoded_sets_are_full))]
-pub fn attributes_name_full_sets()
-    ensures { EncodesFullSets }
 {}

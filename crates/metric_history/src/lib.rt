@@ -6,15 +6,10 @@
 mod batch;
 mod entry;
 mod event;
-mod facts;
-mod flat;
-mod instruments;
 pub mod laws;
 mod series;
 
 pub use batch::{Batch, Point, StreamPoints};
 pub use entry::Entry;
 pub use event::{Event, Reply};
-pub use facts::{Facts, FactsFields, KeyFacts, NumberedStream, same_facts};
-pub use instruments::all_facts;
 pub use series::restrict;

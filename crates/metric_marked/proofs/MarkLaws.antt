@@ -4,10 +4,10 @@ use Rattle.std.specs.Prelude.{replicate, slice_index, slice_set}
 use Rattle.std.proofs.lemmas.Bool.{cases_eq}
 use Rattle.std.proofs.lemmas.List.{drop-append-le, drop_all, get_or-set_same, get_or-set_other, length-set, length-replicate, length_push}
 use Rattle.metric_book.specs.Journals.{no_marks}
-use Rattle.metric_history.specs.Facts.{is_delta}
+use Rattle.metric_facts.specs.Facts.{is_delta}
 use Rattle.metric_history.specs.Windows.{window}
 use Rattle.metric_history.specs.declared.entry.Entry.{Entry}
-use Rattle.metric_history.specs.declared.facts.Facts.{Facts}
+use Rattle.metric_facts.specs.declared.facts.Facts.{Facts}
 use Rattle.metric_marked.specs.Marks.{ClosesWindow, EmptyFor, MarkedValue, StandAll, StandsMarked, TakesAll, windows_of}
 use Rattle.metric_marked.specs.declared.stream_table.StreamTable.{StreamTable}
 use Rattle.metric_marked.proofs.TableLaws.{stands-same}

@@ -6,8 +6,8 @@ use Rattle.std.proofs.lemmas.Bool.Decides.{nat_tests}
 use Rattle.std.proofs.lemmas.List.{append-nil}
 use Rattle.metric_history.specs.declared.batch.StreamPoints.{StreamPoints}
 use Rattle.metric_history.specs.declared.entry.Entry.{Entry}
-use Rattle.metric_history.specs.declared.facts.NumberedStream.{NumberedStream}
-use Rattle.metric_history.specs.Facts.{is_of_reader}
+use Rattle.metric_facts.specs.declared.facts.NumberedStream.{NumberedStream}
+use Rattle.metric_facts.specs.Facts.{is_of_reader}
 use Rattle.metric_history.specs.Points.{stream_points}
 use Rattle.metric_history.specs.Windows.{fits_stream}
 use Rattle.metric_series.specs.Calls.{ForgetsAll, JudgesValue, TakesRecording, is_in_range}

@@ -5,7 +5,8 @@ ghost use Rattle.metric_marked.specs.Marks.{AddsAllPoints, AddsPoints, EmptiesOn
 
 use crate::stream_table::StreamTable;
 use metric_base::Items;
-use metric_history::{Entry, NumberedStream, StreamPoints};
+use metric_facts::NumberedStream;
+use metric_history::{Entry, StreamPoints};
 use metric_series::{SeriesFault, SeriesTable};
 use std::alloc::{AllocError, Global};
 

@@ -12,8 +12,8 @@ use Rattle.metric_views.specs.declared.config.Reader.{Reader}
 use Rattle.metric_views.specs.declared.stream.Stream.{Stream}
 use Rattle.metric_bounds.specs.Amounts.{total_of}
 use Rattle.metric_bounds.specs.Safe.{AreSafe}
-use Rattle.metric_history.specs.declared.facts.Facts.{Facts}
-use Rattle.metric_history.specs.Facts.{facts_from}
+use Rattle.metric_facts.specs.declared.facts.Facts.{Facts}
+use Rattle.metric_facts.specs.Facts.{facts_from}
 use Rattle.metric_plan.specs.Counting.{counts_fit, is_counted}
 use Rattle.metric_plan.specs.Plans.{RangesFit}
 

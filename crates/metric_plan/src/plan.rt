@@ -10,7 +10,7 @@ use crate::counting::is_counted;
 use crate::fault::CheckFault;
 use metric_base::{Few, Items, copy_all};
 use metric_catalogue::Catalogue;
-use metric_history::{Facts, all_facts};
+use metric_facts::{Facts, all_facts};
 use metric_resolve::resolve;
 use metric_views::{Config, Stream};
 use std::alloc::{AllocError, Global};

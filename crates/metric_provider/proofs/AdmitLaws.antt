@@ -8,8 +8,8 @@ use Rattle.metric_base.specs.Steps.{◌>>=◌, require, require_some}
 use Rattle.metric_catalogue.specs.Encoding.{Given, encode_of}
 use Rattle.metric_catalogue.specs.declared.refusal.Refusal.{Refusal}
 use Rattle.metric_catalogue.specs.declared.refusal.Refusal.TheVariants.{UnknownInstrument, ValueRange}
-use Rattle.metric_history.specs.declared.facts.Facts.{Facts}
-use Rattle.metric_history.specs.Facts.{EncodesFullSets, in_bounds, is_full_set}
+use Rattle.metric_facts.specs.declared.facts.Facts.{Facts}
+use Rattle.metric_facts.specs.Facts.{EncodesFullSets, in_bounds, is_full_set}
 use Rattle.metric_plan.specs.Plans.{IsPlan, PlanValue}
 use Rattle.metric_provider.specs.Providers.{KnowsRecording}
 use Rattle.metric_provider.specs.Recordings.{declared_set}

@@ -8,7 +8,7 @@ use Rattle.metric_base.specs.Steps.{◌>>=◌, require, require_some}
 use Rattle.metric_catalogue.specs.declared.refusal.Refusal.TheVariants.{Stranger, UnknownInstrument}
 use Rattle.metric_catalogue.specs.declared.refusal.Refusal.{Refusal}
 use Rattle.metric_history.specs.declared.batch.Batch.{Batch}
-use Rattle.metric_history.specs.declared.facts.Facts.{Facts}
+use Rattle.metric_facts.specs.declared.facts.Facts.{Facts}
 use Rattle.metric_provider.specs.Collections.{AnswersCollector, AreNextBatches, IsNextAt, IsNextBatch, RefusesCollection, collectable, with_all_seen, with_seen}
 use Rattle.metric_provider.specs.Seats.{CollectorValue, ProviderValue, is_collector_of}
 

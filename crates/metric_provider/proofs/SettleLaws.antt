@@ -9,7 +9,7 @@ use Rattle.std.proofs.lemmas.Option.{same_Some}
 use Rattle.metric_base.specs.StepLaws.{require_ok}
 use Rattle.metric_base.specs.Steps.{◌>>=◌, require}
 use Rattle.metric_core.specs.Cells.{CellValue}
-use Rattle.metric_history.specs.declared.facts.Facts.{Facts}
+use Rattle.metric_facts.specs.declared.facts.Facts.{Facts}
 use Rattle.metric_provider.specs.declared.fault.FinishFault.TheVariants.{RecorderMissing, Stranger}
 use Rattle.metric_provider.specs.declared.totals.Total.{Total}
 use Rattle.metric_provider.specs.Recordings.{told_at}

@@ -2,7 +2,7 @@
 use Rattle.std.specs.Prelude.{◌≡◌, Option, Some, None, Result, Ok, Err}
 use Rattle.metric_catalogue.specs.declared.refusal.Refusal.{Refusal}
 use Rattle.metric_catalogue.specs.declared.refusal.Refusal.TheVariants.{UnknownInstrument, Closed}
-use Rattle.metric_history.specs.declared.facts.Facts.{Facts}
+use Rattle.metric_facts.specs.declared.facts.Facts.{Facts}
 
 -- `UnknownInstrument` exactly where there are no facts of the instrument, else nothing but `Closed`
 abbrev pub AnswersClosing : Option Facts → Result (Unit {0}) Refusal → Type 0

@@ -4,7 +4,7 @@ use Rattle.metric_base.specs.Steps.{◌>>=◌, require, require_some}
 use Rattle.metric_catalogue.specs.declared.refusal.Refusal.{Refusal}
 use Rattle.metric_catalogue.specs.declared.refusal.Refusal.TheVariants.{Stranger, UnknownInstrument, Memory}
 use Rattle.metric_history.specs.declared.batch.Batch.{Batch}
-use Rattle.metric_history.specs.declared.facts.Facts.{Facts}
+use Rattle.metric_facts.specs.declared.facts.Facts.{Facts}
 use Rattle.metric_safety.specs.WindowBounds.{IsReportWithin}
 use Rattle.metric_slot.specs.SlotAnswers.{Continues}
 use Rattle.metric_provider.specs.Seats.{CollectorValue, ProviderValue, is_collector_of}

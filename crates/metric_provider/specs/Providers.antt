@@ -1,7 +1,7 @@
 -- What a provider keeps, and what its calls under a lock are given.
 use Rattle.std.specs.Prelude.{◌≡◌, ◌<◌, ℕ, ℤ, IsTrue, List, Some, true, length, slice_get}
-use Rattle.metric_history.specs.declared.facts.Facts.{Facts}
-use Rattle.metric_history.specs.Facts.{in_bounds, is_full_set}
+use Rattle.metric_facts.specs.declared.facts.Facts.{Facts}
+use Rattle.metric_facts.specs.Facts.{in_bounds, is_full_set}
 use Rattle.metric_plan.specs.Plans.{IsPlan, PlanValue}
 
 -- What each provider keeps: a certificate vouches for the plan, and there is a slot for each instrument.

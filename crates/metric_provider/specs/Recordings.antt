@@ -4,8 +4,8 @@ use Rattle.metric_base.specs.Steps.{◌>>=◌, require, require_some}
 use Rattle.metric_catalogue.specs.Encoding.{Given, encode_of}
 use Rattle.metric_catalogue.specs.declared.refusal.Refusal.{Refusal}
 use Rattle.metric_catalogue.specs.declared.refusal.Refusal.TheVariants.{Stranger, UnknownInstrument, ValueRange, Closed, Budget, Memory}
-use Rattle.metric_history.specs.declared.facts.Facts.{Facts}
-use Rattle.metric_history.specs.Facts.{in_bounds}
+use Rattle.metric_facts.specs.declared.facts.Facts.{Facts}
+use Rattle.metric_facts.specs.Facts.{in_bounds}
 use Rattle.metric_plan.specs.Plans.{PlanValue}
 use Rattle.metric_slot.specs.declared.told.Told.{Told}
 use Rattle.metric_slot.specs.Tellings.{told_more}

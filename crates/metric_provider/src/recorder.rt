@@ -9,7 +9,7 @@ use crate::gate::Gate;
 use crate::provider::Provider;
 use metric_book::Book;
 use metric_catalogue::{Attr, Refusal, SetKey};
-use metric_history::laws::attributes_name_full_sets;
+use metric_facts::laws::attributes_name_full_sets;
 use metric_plan::Plan;
 use metric_slot::Told;
 use std::alloc::{AllocError, Global};

@@ -9,7 +9,7 @@ use crate::recorder::Recorder;
 use crate::totals::Total;
 use metric_book::Book;
 use metric_core::Cell;
-use metric_history::{Facts, same_facts};
+use metric_facts::{Facts, same_facts};
 use metric_plan::Plan;
 use metric_slot::Slot;
 use std::alloc::Global;

@@ -19,11 +19,11 @@ use Rattle.metric_history.specs.declared.event.Event.{Event}
 use Rattle.metric_history.specs.declared.event.Event.TheVariants.{Record, Collect, Close}
 use Rattle.metric_history.specs.declared.event.Reply.{Reply}
 use Rattle.metric_history.specs.declared.event.Reply.TheVariants.{Accepted, Collected, Done, Refused}
-use Rattle.metric_history.specs.declared.facts.Facts.{Facts}
-use Rattle.metric_history.specs.declared.facts.NumberedStream.{NumberedStream}
+use Rattle.metric_facts.specs.declared.facts.Facts.{Facts}
+use Rattle.metric_facts.specs.declared.facts.NumberedStream.{NumberedStream}
 use Rattle.metric_history.specs.declared.entry.Entry.{Entry}
 use Rattle.metric_history.specs.Answers.{batch, collected, covered}
-use Rattle.metric_history.specs.Facts.{EncodesFullSets, RunFacts, is_delta}
+use Rattle.metric_facts.specs.Facts.{EncodesFullSets, RunFacts, is_delta}
 use Rattle.metric_history.specs.History.{History, accepted, mark_of, told_of}
 use Rattle.metric_history.specs.Legal.{IsLegal, Legal, LegalRecord, LegalCollect, LegalClose, recording, collection, close}
 use Rattle.metric_history.specs.Points.{stream_points, points}

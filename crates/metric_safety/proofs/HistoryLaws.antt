@@ -22,10 +22,10 @@ use Rattle.metric_history.specs.declared.event.Event.{Event}
 use Rattle.metric_history.specs.declared.event.Event.TheVariants.{Record, Collect, Close}
 use Rattle.metric_history.specs.declared.event.Reply.{Reply}
 use Rattle.metric_history.specs.declared.event.Reply.TheVariants.{Accepted, Collected, Done, Refused}
-use Rattle.metric_history.specs.declared.facts.Facts.{Facts}
+use Rattle.metric_facts.specs.declared.facts.Facts.{Facts}
 use Rattle.metric_history.specs.Answers.{recorded, spent}
 use Rattle.metric_history.specs.Encoded.{encoded}
-use Rattle.metric_history.specs.Facts.{EncodesFullSets, RunFacts, in_bounds, is_full_set, key_facts}
+use Rattle.metric_facts.specs.Facts.{EncodesFullSets, RunFacts, in_bounds, is_full_set, key_facts}
 use Rattle.metric_history.specs.History.{History, accepted, added_by, is_closed, told_of}
 use Rattle.metric_history.specs.Legal.{IsLegal, Legal, LegalRecord, recording}
 use Rattle.metric_safety.specs.SafeFacts.{is_admitted, are_admitted}

@@ -17,8 +17,8 @@ use Rattle.metric_catalogue.specs.declared.contents.Kind.{Kind}
 use Rattle.metric_views.specs.declared.stream.Stream.{Stream}
 use Rattle.metric_views.specs.declared.stream.StreamAggregation.{StreamAggregation}
 use Rattle.metric_views.specs.declared.stream.StreamAggregation.TheVariants as aggregations
-use Rattle.metric_history.specs.declared.facts.Facts.{Facts}
-use Rattle.metric_history.specs.Facts.{aggregation_of, stream_aggregation}
+use Rattle.metric_facts.specs.declared.facts.Facts.{Facts}
+use Rattle.metric_history.specs.Aggregations.{aggregation_of, stream_aggregation}
 use Rattle.metric_safety.specs.SafeFacts.{IsSafeFacts, IsSafeStream, total}
 use Rattle.metric_safety.specs.WindowBounds.{IsSumWithin, IsValueWithin}
 

@@ -29,9 +29,9 @@ use Rattle.metric_bounds.specs.Amounts.{total_of, amount_with, low_with, high_wi
 use Rattle.metric_bounds.specs.Safe.{AreSafe, IsSafe, SetsFit}
 use Rattle.metric_bounds.specs.Sets.{sets_of, sets_within, sets_over, factor_of}
 use Rattle.metric_bounds.specs.Sums.{is_summed, keeps_sum, sums_instrument}
-use Rattle.metric_history.specs.declared.facts.Facts.{Facts}
-use Rattle.metric_history.specs.declared.facts.NumberedStream.{NumberedStream}
-use Rattle.metric_history.specs.Facts.{RunFacts, facts_from, facts_of, key_facts, numbered, numbered_from}
+use Rattle.metric_facts.specs.declared.facts.Facts.{Facts}
+use Rattle.metric_facts.specs.declared.facts.NumberedStream.{NumberedStream}
+use Rattle.metric_facts.specs.Facts.{RunFacts, facts_from, facts_of, key_facts, numbered, numbered_from}
 use Rattle.metric_plan.specs.PlanFacts.{FactsAt, facts_at}
 use Rattle.metric_plan.specs.Plans.{PlanValue, RangesFit, plan_of, run_facts}
 use Rattle.metric_safety.specs.SafeFacts.{product_of, key_factor, IsSafeStream, IsSafeFacts}

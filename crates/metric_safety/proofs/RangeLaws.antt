@@ -19,8 +19,8 @@ use Rattle.metric_views.specs.declared.stream.StreamAggregation.{StreamAggregati
 use Rattle.metric_views.specs.declared.stream.StreamAggregation.TheVariants as aggregations
 use Rattle.metric_history.specs.declared.batch.Point.{Point}
 use Rattle.metric_history.specs.declared.entry.Entry.{Entry}
-use Rattle.metric_history.specs.declared.facts.Facts.{Facts}
-use Rattle.metric_history.specs.Facts.{aggregation_of, stream_aggregation}
+use Rattle.metric_facts.specs.declared.facts.Facts.{Facts}
+use Rattle.metric_history.specs.Aggregations.{aggregation_of, stream_aggregation}
 use Rattle.metric_history.specs.Points.{points, values}
 use Rattle.metric_history.specs.Series.{belongs, rows}
 use Rattle.metric_safety.specs.SafeFacts.{IsSafeStream, are_admitted, total}

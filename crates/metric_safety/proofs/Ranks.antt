@@ -7,8 +7,8 @@ use Rattle.std.proofs.lemmas.Bool.{and_parts, true≢false, eqb-true}
 use Rattle.std.proofs.lemmas.Bool.Decides.{nat_tests}
 use Rattle.std.proofs.lemmas.Nat.{mul-add-lt, same_from_place}
 use Rattle.std.proofs.Math.Nat.{mul_comm}
-use Rattle.metric_history.specs.declared.facts.KeyFacts.{KeyFacts}
-use Rattle.metric_history.specs.Facts.{is_entry, is_full_set}
+use Rattle.metric_facts.specs.declared.facts.KeyFacts.{KeyFacts}
+use Rattle.metric_facts.specs.Facts.{is_entry, is_full_set}
 use Rattle.metric_history.specs.Series.{restricted}
 use Rattle.metric_safety.specs.SafeFacts.{key_factor, product_of}
 

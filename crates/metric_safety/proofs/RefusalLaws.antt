@@ -19,10 +19,10 @@ use Rattle.metric_history.specs.declared.event.Event.{Event}
 use Rattle.metric_history.specs.declared.event.Event.TheVariants.{Record, Collect, Close}
 use Rattle.metric_history.specs.declared.event.Reply.{Reply}
 use Rattle.metric_history.specs.declared.event.Reply.TheVariants.{Accepted, Collected, Done, Refused}
-use Rattle.metric_history.specs.declared.facts.Facts.{Facts}
+use Rattle.metric_facts.specs.declared.facts.Facts.{Facts}
 use Rattle.metric_history.specs.Answers.{batch, collected, closing, recorded, spent}
 use Rattle.metric_history.specs.Encoded.{encoded}
-use Rattle.metric_history.specs.Facts.{EncodesFullSets, RunFacts, in_bounds}
+use Rattle.metric_facts.specs.Facts.{EncodesFullSets, RunFacts, in_bounds}
 use Rattle.metric_history.specs.History.{Answered, History, accepted, is_closed, mark_of, told_of}
 use Rattle.metric_history.specs.Legal.{IsLegal, Legal, LegalRecord, LegalCollect, LegalClose, recording, collection, close}
 use Rattle.metric_history.specs.Windows.{fits_all}

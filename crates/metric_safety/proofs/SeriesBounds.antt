@@ -9,8 +9,8 @@ use Rattle.std.proofs.lemmas.List.Elements.{All-nil, All-cons, All-head, All-tai
 use Rattle.std.proofs.lemmas.List.Kept.{AllPairs-cons, AllPairs-filter}
 use Rattle.std.proofs.lemmas.List.Sums.{length-filter, count_by-le-length}
 use Rattle.std.proofs.lemmas.Map.Steps.{length-le_from_distinct_below}
-use Rattle.metric_history.specs.declared.facts.KeyFacts.{KeyFacts}
-use Rattle.metric_history.specs.Facts.{is_full_set}
+use Rattle.metric_facts.specs.declared.facts.KeyFacts.{KeyFacts}
+use Rattle.metric_facts.specs.Facts.{is_full_set}
 use Rattle.metric_history.specs.Series.{restricted, distinct, others}
 use Rattle.metric_history.specs.SeriesLaws.{key_is_same, distinct-cons}
 use Rattle.metric_safety.specs.SafeFacts.{product_of}

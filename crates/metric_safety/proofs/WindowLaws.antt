@@ -22,9 +22,10 @@ use Rattle.metric_views.specs.declared.stream.StreamAggregation.TheVariants as a
 use Rattle.metric_history.specs.declared.batch.Point.{Point}
 use Rattle.metric_history.specs.declared.batch.StreamPoints.{StreamPoints}
 use Rattle.metric_history.specs.declared.entry.Entry.{Entry}
-use Rattle.metric_history.specs.declared.facts.Facts.{Facts}
-use Rattle.metric_history.specs.declared.facts.NumberedStream.{NumberedStream}
-use Rattle.metric_history.specs.Facts.{in_bounds, is_delta, is_full_set, is_of_reader, aggregation_of, stream_aggregation}
+use Rattle.metric_facts.specs.declared.facts.Facts.{Facts}
+use Rattle.metric_facts.specs.declared.facts.NumberedStream.{NumberedStream}
+use Rattle.metric_facts.specs.Facts.{in_bounds, is_delta, is_full_set, is_of_reader}
+use Rattle.metric_history.specs.Aggregations.{aggregation_of, stream_aggregation}
 use Rattle.metric_history.specs.PointLaws.{ascending-IsPermutation}
 use Rattle.metric_history.specs.Points.{ascending, overflow, point, points, reported, stream_points, values}
 use Rattle.metric_history.specs.Series.{all_series, belongs, distinct, has, held, place_of, rows, series}

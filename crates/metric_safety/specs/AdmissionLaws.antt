@@ -3,8 +3,8 @@ use Rattle.std.proofs.Common.{◌≡◌, ℕ, Bool, true, ◌&&◌, List, [], �
 use Rattle.std.specs.Prelude.{◌==◌}
 use Rattle.std.proofs.lemmas.List.Folds.{list_all-append}
 use Rattle.metric_history.specs.declared.entry.Entry.{Entry}
-use Rattle.metric_history.specs.declared.facts.Facts.{Facts}
-use Rattle.metric_history.specs.Facts.{in_bounds, is_full_set}
+use Rattle.metric_facts.specs.declared.facts.Facts.{Facts}
+use Rattle.metric_facts.specs.Facts.{in_bounds, is_full_set}
 use Rattle.metric_safety.specs.SafeFacts.{are_admitted, is_admitted}
 
 pub admitted : (facts : Facts) (entry : Entry) → length entry.set ≡ 8 → is_full_set facts.keys entry.set ≡ true → in_bounds facts entry.value ≡ true

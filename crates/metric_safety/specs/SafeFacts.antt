@@ -6,10 +6,10 @@ use Rattle.metric_views.specs.declared.stream.Stream.{Stream}
 use Rattle.metric_bounds.specs.Amounts.{amount_with, low_with, high_with}
 use Rattle.metric_bounds.specs.Sums.{keeps_sum}
 use Rattle.metric_history.specs.declared.entry.Entry.{Entry}
-use Rattle.metric_history.specs.declared.facts.Facts.{Facts}
-use Rattle.metric_history.specs.declared.facts.KeyFacts.{KeyFacts}
-use Rattle.metric_history.specs.declared.facts.NumberedStream.{NumberedStream}
-use Rattle.metric_history.specs.Facts.{in_bounds, is_full_set}
+use Rattle.metric_facts.specs.declared.facts.Facts.{Facts}
+use Rattle.metric_facts.specs.declared.facts.KeyFacts.{KeyFacts}
+use Rattle.metric_facts.specs.declared.facts.NumberedStream.{NumberedStream}
+use Rattle.metric_facts.specs.Facts.{in_bounds, is_full_set}
 
 -- what a recording may say of a key: one of its values, or nothing where it may be left out
 abbrev pub key_choices : KeyFacts → ℕ

@@ -17,11 +17,11 @@ use Rattle.metric_history.specs.declared.entry.Entry.{Entry}
 use Rattle.metric_history.specs.declared.event.Event.TheVariants.{Record}
 use Rattle.metric_history.specs.declared.event.Reply.{Reply}
 use Rattle.metric_history.specs.declared.event.Reply.TheVariants.{Accepted, Collected, Refused}
-use Rattle.metric_history.specs.declared.facts.Facts.{Facts}
-use Rattle.metric_history.specs.declared.facts.NumberedStream.{NumberedStream}
+use Rattle.metric_facts.specs.declared.facts.Facts.{Facts}
+use Rattle.metric_facts.specs.declared.facts.NumberedStream.{NumberedStream}
 use Rattle.metric_history.specs.Answers.{batch, covered, spent}
 use Rattle.metric_history.specs.Encoded.{encoded}
-use Rattle.metric_history.specs.Facts.{RunFacts, in_bounds, key_facts}
+use Rattle.metric_facts.specs.Facts.{RunFacts, in_bounds, key_facts}
 use Rattle.metric_history.specs.History.{Answered, History, accepted, is_closed, told_of}
 use Rattle.metric_history.specs.Legal.{IsLegal, Legal, recording}
 use Rattle.metric_history.specs.Series.{rows}

@@ -14,9 +14,9 @@ use Rattle.metric_views.specs.declared.stream.StreamAggregation.TheVariants as a
 use Rattle.metric_history.specs.declared.batch.Point.{Point}
 use Rattle.metric_history.specs.declared.batch.StreamPoints.{StreamPoints}
 use Rattle.metric_history.specs.declared.entry.Entry.{Entry}
-use Rattle.metric_history.specs.declared.facts.Facts.{Facts}
-use Rattle.metric_history.specs.declared.facts.NumberedStream.{NumberedStream}
-use Rattle.metric_history.specs.Facts.{is_delta}
+use Rattle.metric_facts.specs.declared.facts.Facts.{Facts}
+use Rattle.metric_facts.specs.declared.facts.NumberedStream.{NumberedStream}
+use Rattle.metric_facts.specs.Facts.{is_delta}
 use Rattle.metric_history.specs.Points.{points, reported, values}
 use Rattle.metric_history.specs.Series.{all_series, distinct, rows}
 use Rattle.metric_history.specs.Windows.{fits_all, window}

@@ -8,7 +8,7 @@ ghost use Rattle.metric_plan.specs.Plans.{PlanValue};
 ghost use Rattle.metric_safety.specs.SafeRuns.{AreIdentified, AreWindowsBounded, AllKeepBudgets, GivesSafePlan, IsSafeHistory, IsSafePlan, IsSafeRun, NoSumRefuses, NothingOverflows, NumbersFit, OfSafeRuns};
 ghost use Rattle.metric_safety.specs.WindowBounds.{BoundsJournals, BoundsReports, FitsJournals};
 
-use metric_history::laws::attributes_name_full_sets;
+use metric_facts::laws::attributes_name_full_sets;
 use metric_resolve::streams_are_what_views_give;
 
 /// A sound catalogue and a config that are safe give a safe plan, whoever vouched for them.

@@ -15,7 +15,7 @@ use Rattle.metric_aggregate.specs.declared.aggregate.Aggregate as aggregate
 use Rattle.metric_aggregate.specs.Aggregation.{Aggregation}
 use Rattle.metric_aggregate.specs.Bounds.{in_range-within}
 use Rattle.metric_aggregate.specs.Range.{in_range}
-use Rattle.metric_history.specs.Facts.{stream_aggregation}
+use Rattle.metric_history.specs.Aggregations.{stream_aggregation}
 use Rattle.metric_history.specs.declared.entry.Entry.{Entry}
 use Rattle.metric_history.specs.Points.{values}
 use Rattle.metric_views.specs.declared.stream.Stream.{Stream}

@@ -9,7 +9,7 @@ use Rattle.std.proofs.lemmas.Bool.Decides.{nat_tests}
 use Rattle.std.proofs.lemmas.List.{append-nil, get_or_push, length_push, length-take, map_push, take_all}
 use Rattle.std.proofs.lemmas.List.Elements.{filter-append}
 use Rattle.metric_aggregate.specs.Range.{in_range}
-use Rattle.metric_history.specs.Facts.{stream_aggregation}
+use Rattle.metric_history.specs.Aggregations.{stream_aggregation}
 use Rattle.metric_history.specs.declared.entry.Entry.{Entry}
 use Rattle.metric_history.specs.Points.{values}
 use Rattle.metric_history.specs.PointLaws.{held_more}

@@ -3,7 +3,7 @@ use Rattle.std.specs.Prelude.{◌≡◌, ℕ, Bool, List, Option, Some, None}
 use Rattle.std.specs.Map.{keys_of, lookup}
 use Rattle.std.specs.Str.{bytes_eq}
 use Rattle.metric_aggregate.specs.declared.aggregate.Aggregate as aggregate
-use Rattle.metric_history.specs.Facts.{stream_aggregation}
+use Rattle.metric_history.specs.Aggregations.{stream_aggregation}
 use Rattle.metric_history.specs.declared.entry.Entry.{Entry}
 use Rattle.metric_history.specs.Points.{values}
 use Rattle.metric_views.specs.declared.stream.Stream.{Stream}

@@ -3,7 +3,7 @@ ghost use Rattle.std.specs.Prelude.{◌≡◌, ℕ, ℤ, true, List, [], ◌++�
 ghost use Rattle.std.specs.Option.{option_to_list};
 ghost use Rattle.std.specs.Map.{keys_of, lookup};
 ghost use Rattle.std.specs.Str.{bytes_eq};
-ghost use Rattle.metric_history.specs.Facts.{stream_aggregation};
+ghost use Rattle.metric_history.specs.Aggregations.{stream_aggregation};
 ghost use Rattle.metric_history.specs.Points.{ascending as in_order};
 ghost use Rattle.metric_views.specs.declared.stream.Stream.{Stream};
 ghost use Rattle.metric_history.specs.Series.{has, restricted};

@@ -6,8 +6,8 @@ use Rattle.std.proofs.lemmas.Int.{ints}
 use Rattle.std.proofs.lemmas.List.Sums.{sum_by-cons}
 use Rattle.std.proofs.lemmas.Nat.{mul-le}
 use Rattle.metric_bounds.specs.Amounts.{amount_with}
-use Rattle.metric_history.specs.declared.facts.Facts.{Facts}
-use Rattle.metric_history.specs.Facts.{in_bounds}
+use Rattle.metric_facts.specs.declared.facts.Facts.{Facts}
+use Rattle.metric_facts.specs.Facts.{in_bounds}
 use Rattle.metric_safety.specs.SafeFacts.{IsSafeFacts, total}
 
 sum-cons : (x : ℕ) (xs : List ℕ) → sum (x ∷ xs) ≡ x + sum xs

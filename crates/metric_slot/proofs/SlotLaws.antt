@@ -10,8 +10,8 @@ use Rattle.metric_core.specs.Cells.{CellKept, CellValue}
 use Rattle.metric_core.specs.CellAnswers.{AnswersRecording, IsJudged, ReportsBatch}
 use Rattle.metric_history.specs.declared.batch.Batch.{Batch}
 use Rattle.metric_history.specs.declared.entry.Entry.{Entry}
-use Rattle.metric_history.specs.declared.facts.Facts.{Facts}
-use Rattle.metric_history.specs.Facts.{in_bounds, is_full_set}
+use Rattle.metric_facts.specs.declared.facts.Facts.{Facts}
+use Rattle.metric_facts.specs.Facts.{in_bounds, is_full_set}
 use Rattle.metric_history.specs.Windows.{fits_all}
 use Rattle.metric_safety.specs.AdmissionLaws.{admitted, admitted_more}
 use Rattle.metric_safety.specs.SafeFacts.{IsJournal, IsSafeFacts, total}

@@ -6,8 +6,8 @@ use Rattle.std.proofs.lemmas.Option.{slice_get_within, get_or_from_slice_get}
 use Rattle.metric_aggregate.specs.Value.{sum_of}
 use Rattle.metric_core.specs.Cells.{CellKept, CellValue}
 use Rattle.metric_history.specs.declared.entry.Entry.{Entry}
-use Rattle.metric_history.specs.declared.facts.NumberedStream.{NumberedStream}
-use Rattle.metric_history.specs.Facts.{is_delta}
+use Rattle.metric_facts.specs.declared.facts.NumberedStream.{NumberedStream}
+use Rattle.metric_facts.specs.Facts.{is_delta}
 use Rattle.metric_history.specs.Points.{values}
 use Rattle.metric_history.specs.Windows.{window}
 use Rattle.metric_marked.specs.declared.stream_table.StreamTable.{StreamTable}

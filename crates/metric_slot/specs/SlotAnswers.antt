@@ -7,8 +7,8 @@ use Rattle.metric_core.specs.Cells.{CellValue}
 use Rattle.metric_core.specs.CellAnswers.{AnswersRecording}
 use Rattle.metric_history.specs.declared.batch.Batch.{Batch}
 use Rattle.metric_history.specs.declared.entry.Entry.{Entry}
-use Rattle.metric_history.specs.declared.facts.Facts.{Facts}
-use Rattle.metric_history.specs.Facts.{is_delta}
+use Rattle.metric_facts.specs.declared.facts.Facts.{Facts}
+use Rattle.metric_facts.specs.Facts.{is_delta}
 use Rattle.metric_slot.specs.declared.told.Told.{Told}
 use Rattle.metric_slot.specs.Slots.{IsOwnReader, IsOwnRecorder}
 

@@ -2,7 +2,7 @@
 use Rattle.std.specs.Prelude.{◌≡◌, ℕ, List, Some, pos, ◌≤ℤ◌, true, slice_get, slice_index}
 use Rattle.metric_bounds.specs.Amounts.{amount_with}
 use Rattle.metric_core.specs.Cells.{CellValue}
-use Rattle.metric_history.specs.declared.facts.Facts.{Facts}
+use Rattle.metric_facts.specs.declared.facts.Facts.{Facts}
 use Rattle.metric_safety.specs.SafeFacts.{IsSafeFacts}
 use Rattle.metric_slot.specs.declared.told.Told.{Told}
 

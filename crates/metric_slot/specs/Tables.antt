@@ -5,8 +5,8 @@ use Rattle.metric_bounds.specs.Sums.{keeps_sum}
 use Rattle.metric_core.specs.Cells.{CellValue}
 use Rattle.metric_history.specs.declared.batch.Point.{Point}
 use Rattle.metric_history.specs.declared.entry.Entry.{Entry}
-use Rattle.metric_history.specs.declared.facts.NumberedStream.{NumberedStream}
-use Rattle.metric_history.specs.Facts.{is_delta}
+use Rattle.metric_facts.specs.declared.facts.NumberedStream.{NumberedStream}
+use Rattle.metric_facts.specs.Facts.{is_delta}
 use Rattle.metric_history.specs.Points.{points}
 use Rattle.metric_marked.specs.declared.stream_table.StreamTable.{StreamTable}
 use Rattle.metric_marked.specs.Marks.{MarkedValue, StandsFor}

@@ -2,7 +2,7 @@
 ghost use Rattle.std.specs.Prelude.{◌≡◌, ◌↔◌, ◌<◌, ◌≤◌, ◌≤ℤ◌, Some, IsTrue, [], true, length, slice_get, slice_index, IfOk, IfErr, OnOk, OnErr};
 ghost use Rattle.metric_core.specs.Cells.{CellKept, CellStands, new_cell};
 ghost use Rattle.metric_core.specs.CellAnswers.{AnswersClose, GainsEntry, KeepsJournal, ReportsBatch, entry_of, with_batch, with_entry};
-ghost use Rattle.metric_history.specs.Facts.{in_bounds, is_full_set};
+ghost use Rattle.metric_facts.specs.Facts.{in_bounds, is_full_set};
 ghost use Rattle.metric_safety.specs.SafeFacts.{IsSafeFacts};
 ghost use Rattle.metric_safety.specs.WindowBounds.{IsReportWithin};
 ghost use Rattle.metric_slot.specs.Slots.{IsCertified, IsOwnReader, IsOwnRecorder};
@@ -14,7 +14,8 @@ use crate::told::Told;
 use metric_book::Book;
 use metric_catalogue::{Refusal, SetKey};
 use metric_core::Cell;
-use metric_history::{Batch, Facts, same_facts};
+use metric_facts::{Facts, same_facts};
+use metric_history::Batch;
 use metric_plan::Plan;
 use metric_safety::laws::journals_are_bounded;
 use std::alloc::{AllocError, Global};

@@ -4,7 +4,7 @@ ghost use Rattle.metric_bounds.specs.Amounts.{amount_with};
 ghost use Rattle.metric_slot.specs.Tellings.{HasRoom, told_more};
 
 use metric_bounds::amount;
-use metric_history::Facts;
+use metric_facts::Facts;
 
 /// What a recorder was told of its accepted recordings on one instrument.
 #[derive(Clone, Copy, Debug, PartialEq, Eq, Drop)]

@@ -9,9 +9,10 @@ use Rattle.metric_aggregate.specs.Aggregation.{Aggregation}
 use Rattle.metric_aggregate.specs.Bounds.{in_range-within}
 use Rattle.metric_aggregate.specs.Range.{in_range}
 use Rattle.metric_history.specs.declared.entry.Entry.{Entry}
-use Rattle.metric_history.specs.declared.facts.Facts.{Facts}
-use Rattle.metric_history.specs.declared.facts.NumberedStream.{NumberedStream}
-use Rattle.metric_history.specs.Facts.{is_delta, stream_aggregation}
+use Rattle.metric_facts.specs.declared.facts.Facts.{Facts}
+use Rattle.metric_facts.specs.declared.facts.NumberedStream.{NumberedStream}
+use Rattle.metric_facts.specs.Facts.{is_delta}
+use Rattle.metric_history.specs.Aggregations.{stream_aggregation}
 use Rattle.metric_history.specs.Points.{values}
 use Rattle.metric_history.specs.Series.{belongs, place_of}
 use Rattle.metric_history.specs.Windows.{fits_all, fits_stream, window}

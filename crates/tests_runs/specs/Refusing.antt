@@ -1,7 +1,7 @@
 -- What a book that refuses memory once keeps, and for which journals it stands.
 use Rattle.std.specs.Prelude.{◌≡◌, ℕ, Bool, true, List, []}
 use Rattle.metric_history.specs.declared.entry.Entry.{Entry}
-use Rattle.metric_history.specs.declared.facts.Facts.{Facts}
+use Rattle.metric_facts.specs.declared.facts.Facts.{Facts}
 use Rattle.metric_marked.specs.Marks.{MarkedValue, StandsMarked}
 
 -- the tables, and whether nothing was recorded yet

@@ -1,7 +1,7 @@
 //! What the run of each instrument depends on.
 use crate::equal::assert_equal;
 use crate::plans::plan_of;
-use metric_history::Facts;
+use metric_facts::Facts;
 use std::alloc::Global;
 use std::test::Fail;
 

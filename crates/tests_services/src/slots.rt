@@ -5,7 +5,7 @@ ghost use Rattle.metric_provider.specs.Totals.{AreAllSeats};
 use crate::equal::assert_equal;
 use crate::samples::{HITS, MAIN};
 use crate::texts::{write_batch, write_numbers};
-use metric_history::Facts;
+use metric_facts::Facts;
 use metric_marked::Marked;
 use metric_plan::Plan;
 use metric_provider::{NoGate, Recorder, Slot, Told, settle, start};

@@ -5,7 +5,7 @@ use Rattle.std.proofs.lemmas.Int.{to_z-of_z}
 use Rattle.std.proofs.Common.{rules, ap, sym, ◌∙◌, ◌^◌, ◌<◌, ◌+◌, length, ℤ, ◌+ℤ◌, List, ℕ, Option}
 use Rattle.metric_aggregate.specs.Range.{sum_in_range}
 use Rattle.metric_aggregate.specs.Value.{sum_of}
-use Rattle.metric_history.specs.Facts.{stream_aggregation}
+use Rattle.metric_history.specs.Aggregations.{stream_aggregation}
 use Rattle.metric_history.specs.Series.{rows}
 use Rattle.metric_history.specs.Points.{values}
 use Rattle.metric_history.specs.SumLaws.{sum_fits}

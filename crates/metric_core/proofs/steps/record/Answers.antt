@@ -1,7 +1,7 @@
 -- an accepted recording
 use Rattle.std.proofs.Common.{◌≡◌, ◌<◌, length, true, to_z, of_z, w64, rules}
 use Rattle.std.proofs.lemmas.Int.{to_z-of_z}
-use Rattle.metric_history.specs.Facts.{in_bounds}
+use Rattle.metric_facts.specs.Facts.{in_bounds}
 use Rattle.metric_core.proofs.StepLaws.{accepted_step}
 use Rattle.metric_core.proofs.steps.record.Goals as goal
 

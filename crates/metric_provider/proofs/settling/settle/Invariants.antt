@@ -2,7 +2,7 @@
 use Rattle.std.proofs.Common.{◌≡◌, ◌≤◌, ◌<◌, ◌++◌, ℕ, Some, drop, length, vec_capacity, vec_len}
 use Rattle.std.specs.Prelude.{slice_get}
 use Rattle.metric_core.specs.Cells.{CellValue}
-use Rattle.metric_history.specs.declared.facts.Facts.{Facts}
+use Rattle.metric_facts.specs.declared.facts.Facts.{Facts}
 use Rattle.metric_provider.specs.Totals.{IsAsTold, told_totals}
 use Rattle.metric_provider.proofs.settling.settle.Given as goal
 

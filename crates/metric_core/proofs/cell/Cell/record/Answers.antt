@@ -3,9 +3,9 @@ use Rattle.std.proofs.Common.{◌≡◌, ◌<◌, ◌^◌, ◌≤ℤ◌, ℤ, po
 use Rattle.std.proofs.lemmas.Int.{ints, to_z-of_z}
 use Rattle.metric_book.specs.Journals.{MayTake}
 use Rattle.metric_history.specs.declared.entry.Entry.{Entry}
-use Rattle.metric_history.specs.declared.facts.Facts.{Facts}
+use Rattle.metric_facts.specs.declared.facts.Facts.{Facts}
 use Rattle.metric_history.specs.Windows.{fits_all}
-use Rattle.metric_history.specs.Facts.{in_bounds, is_full_set}
+use Rattle.metric_facts.specs.Facts.{in_bounds, is_full_set}
 use Rattle.metric_core.specs.BudgetLaws.{has_room}
 use Rattle.metric_core.specs.Cells.{CellStands, CellValue}
 use Rattle.metric_core.specs.CellAnswers.{IsJudged, entry_of}

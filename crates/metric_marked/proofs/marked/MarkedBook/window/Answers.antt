@@ -1,7 +1,7 @@
 -- the reader's window is closed, and its mark moved
 use Rattle.std.proofs.Common.{◌≡◌, ◌<◌, Bool, List, false, length, sym, ap, subst, ◌∙◌, arith}
 use Rattle.std.specs.Prelude.{slice_index_or}
-use Rattle.metric_history.specs.Facts.{is_delta}
+use Rattle.metric_facts.specs.Facts.{is_delta}
 use Rattle.metric_marked.specs.Marks.{ClosesWindow, StandsMarked}
 use Rattle.metric_marked.proofs.MarkLaws.{marked_moves}
 use Rattle.metric_marked.proofs.marked.MarkedBook.window.Goals as goal

@@ -1,0 +1,355 @@
+-- What the bytes of facts begin with determines each field, and so the bytes determine the facts.
+use Rattle.std.proofs.Common.{◌≡◌, ℕ, zero, suc, ◌+◌, ◌*◌, ◌/◌, ◌%◌, ◌<◌, ◌≤◌, ℤ, pos, negsuc, Bool, true, false, cond, List, [], ◌∷◌, ◌++◌, length, Option, Some, None, nat_lt, refl, sym, ap, subst, ◌∙◌, append_assoc, int_lt, unsigned_abs, true≢false, pred, arith}
+use Rattle.std.specs.Bool.{Decides}
+use Rattle.std.specs.Str.{bytes_eq}
+use Rattle.std.proofs.lemmas.Bool.{ltb-true, ltb-false, lt-ltb, le-ltb}
+use Rattle.std.proofs.lemmas.Nat.{div-add-mod'}
+use Rattle.std.proofs.lemmas.Slice.Eq.{bytes_eq-Decides}
+use Rattle.metric_catalogue.specs.declared.contents.Kind.{Kind}
+use Rattle.metric_catalogue.specs.declared.contents.Kind.TheVariants.{Counter, UpDownCounter, Histogram, Gauge}
+use Rattle.metric_views.specs.declared.choices.Temporality.{Temporality}
+use Rattle.metric_views.specs.declared.choices.Temporality.TheVariants.{Delta, Cumulative}
+use Rattle.metric_views.specs.declared.stream.Stream.{Stream}
+use Rattle.metric_views.specs.declared.stream.StreamAggregation.{StreamAggregation}
+use Rattle.metric_views.specs.declared.stream.StreamAggregation.TheVariants as aggregations
+use Rattle.metric_facts.specs.declared.facts.FactsFields.{FactsFields}
+use Rattle.metric_facts.specs.declared.facts.KeyFacts.{KeyFacts}
+use Rattle.metric_facts.specs.declared.facts.NumberedStream.{NumberedStream}
+use Rattle.metric_facts.specs.Facts.{is_delta_temporality}
+use Rattle.metric_facts.specs.Flat.{groups, flat_number, flag_number, flat_flag, flat_signed, flat_each, flat_list, flat_text, flat_text_after, flat_key, flat_view, kind_number, flat_aggregation, Texts, texts_of, no_texts, flat_texts_after, flat_stream, flat_streams, flat_facts, facts_eq}
+
+-- the front of a list determines the value
+abbrev Reads : {X : Type 0} → (X → List ℕ) → Type 0
+Reads {X} flat = (x y : X) (r s : List ℕ) → flat x ++ r ≡ flat y ++ s → (x ≡ y) × (r ≡ s)
+
+-- one value after the other
+pair : {X Y : Type 0} → (X → List ℕ) → (Y → List ℕ) → X × Y → List ℕ
+pair f g p = f p.0 ++ g p.1
+
+both : {X Y : Type 0} (f : X → List ℕ) (g : Y → List ℕ) → Reads f → Reads g → Reads (pair f g)
+unfolding pair
+both f g first second p q r s e =
+    let a : (p.0 ≡ q.0) × (g p.1 ++ r ≡ g q.1 ++ s) = first p.0 q.0 (g p.1 ++ r) (g q.1 ++ s) (sym (append_assoc (f p.0) (g p.1) r) ∙ e ∙ append_assoc (f q.0) (g q.1) s) in
+    let b : (p.1 ≡ q.1) × (r ≡ s) = second p.1 q.1 r s a.1 in
+    (λ i. (a.0 i, b.0 i), b.1)
+
+-- a value by parts that determine it
+by_parts : {X P : Type 0} (flat : P → List ℕ) (parts : X → P) → Reads flat → ((x y : X) → parts x ≡ parts y → x ≡ y) → Reads (λ (x : X). flat (parts x))
+by_parts flat parts reads same x y r s e =
+    let found : (parts x ≡ parts y) × (r ≡ s) = reads (parts x) (parts y) r s e in
+    (same x y found.0, found.1)
+
+heads : (m n : ℕ) (r s : List ℕ) → (m ∷ r) ≡ (n ∷ s) → (m ≡ n) × (r ≡ s)
+heads m n r s e = (cc, cc)
+
+one : Reads (λ (n : ℕ). n ∷ [])
+one m n r s e = heads m n r s e
+
+groups_read : (more m n : ℕ) (r s : List ℕ) → groups more m ++ r ≡ groups more n ++ s → (m ≡ n) × (r ≡ s)
+groups_read zero m n r s e = heads m n r s e
+groups_read (suc more) m n r s e = at (groups_read more (m / 128) (n / 128) r s) (nat_lt m 128) (nat_lt n 128) refl refl e
+  where
+    joined : (m n : ℕ) → m % 128 ≡ n % 128 → m / 128 ≡ n / 128 → m ≡ n
+    joined m n rest quotient =
+        sym (div-add-mod' m 128) ∙ ap (λ (q : ℕ). q * 128 + m % 128) quotient ∙ ap (λ (k : ℕ). n / 128 * 128 + k) rest ∙ div-add-mod' n 128
+
+    at : (groups more (m / 128) ++ r ≡ groups more (n / 128) ++ s → (m / 128 ≡ n / 128) × (r ≡ s)) → (p q : Bool) → nat_lt m 128 ≡ p → nat_lt n 128 ≡ q
+        → cond p (m ∷ []) ((m % 128 + 128) ∷ groups more (m / 128)) ++ r ≡ cond q (n ∷ []) ((n % 128 + 128) ∷ groups more (n / 128)) ++ s
+        → (m ≡ n) × (r ≡ s)
+    at ih true true is_m is_n e = heads m n r s e
+    at ih true false is_m is_n e =
+        let same : m ≡ n % 128 + 128 = (heads m (n % 128 + 128) r (groups more (n / 128) ++ s) e).0 in
+        absurd (omega (arith, same, ltb-true m 128 is_m))
+    at ih false true is_m is_n e =
+        let same : m % 128 + 128 ≡ n = (heads (m % 128 + 128) n (groups more (m / 128) ++ r) s e).0 in
+        absurd (omega (arith, same, ltb-true n 128 is_n))
+    at ih false false is_m is_n e =
+        let first : (m % 128 + 128 ≡ n % 128 + 128) × (groups more (m / 128) ++ r ≡ groups more (n / 128) ++ s) = heads (m % 128 + 128) (n % 128 + 128) (groups more (m / 128) ++ r) (groups more (n / 128) ++ s) e in
+        let rest : (m / 128 ≡ n / 128) × (r ≡ s) = ih first.1 in
+        (joined m n (omega (arith, first.0)) rest.0, rest.1)
+
+-- more room changes nothing
+stable : (j k n : ℕ) → n ≤ j → n ≤ k → groups j n ≡ groups k n
+stable zero zero n low_j low_k = refl
+stable zero (suc k) n low_j low_k = let none : n ≡ 0 = omega arith in subst (λ (m : ℕ). groups zero m ≡ groups (suc k) m) (sym none) refl
+stable (suc j) zero n low_j low_k = let none : n ≡ 0 = omega arith in subst (λ (m : ℕ). groups (suc j) m ≡ groups zero m) (sym none) refl
+stable (suc j) (suc k) n low_j low_k = at (stable j k (n / 128)) (nat_lt n 128) refl
+  where
+    at : (n / 128 ≤ j → n / 128 ≤ k → groups j (n / 128) ≡ groups k (n / 128)) → (b : Bool) → nat_lt n 128 ≡ b → cond b (n ∷ []) ((n % 128 + 128) ∷ groups j (n / 128)) ≡ cond b (n ∷ []) ((n % 128 + 128) ∷ groups k (n / 128))
+    at ih true is = refl
+    at ih false is =
+        let large : 128 ≤ n = ltb-false n 128 is in
+        let less : n / 128 * 128 + n % 128 ≡ n = div-add-mod' n 128 in
+        ap (λ (rest : List ℕ). (n % 128 + 128) ∷ rest) (ih (omega (arith, less, large, low_j)) (omega (arith, less, large, low_k)))
+
+pub number_small : (n : ℕ) → n < 128 → flat_number n ≡ n ∷ []
+number_small zero small = refl
+number_small (suc n) small = ap (λ (b : Bool). cond b (suc n ∷ []) ((suc n % 128 + 128) ∷ groups n (suc n / 128))) (lt-ltb (suc n) 128 small)
+
+pub number_more : (n : ℕ) → 128 ≤ n → flat_number n ≡ (n % 128 + 128) ∷ flat_number (n / 128)
+number_more zero large = absurd (omega (arith, large))
+number_more (suc n) large =
+    let less : suc n / 128 * 128 + suc n % 128 ≡ suc n = div-add-mod' (suc n) 128 in
+    ap (λ (b : Bool). cond b (suc n ∷ []) ((suc n % 128 + 128) ∷ groups n (suc n / 128))) (le-ltb (suc n) 128 large)
+    ∙ ap (λ (rest : List ℕ). (suc n % 128 + 128) ∷ rest) (stable n (suc n / 128) (suc n / 128) (omega (arith, less, large)) (omega (arith, less, large)))
+
+number : Reads flat_number
+number m n r s e =
+    groups_read (m + n) m n r s
+    (ap (λ (bytes : List ℕ). bytes ++ r) (stable (m + n) m m (omega arith) (omega arith)) ∙ e
+    ∙ ap (λ (bytes : List ℕ). bytes ++ s) (stable n (m + n) n (omega arith) (omega arith)))
+
+flag_same : (a b : Bool) → flag_number a ≡ flag_number b → a ≡ b
+flag_same true true e = refl
+flag_same true false e = absurd (omega (arith, e))
+flag_same false true e = absurd (omega (arith, e))
+flag_same false false e = refl
+
+flag : Reads flat_flag
+flag = by_parts (λ (n : ℕ). n ∷ []) flag_number one flag_same
+
+-- whether a number is negative, and how far it is from 0
+abbrev sign_and_size : ℤ → Bool × ℕ
+sign_and_size n = (int_lt n (pos 0), unsigned_abs n)
+
+signed_same : (a b : ℤ) → sign_and_size a ≡ sign_and_size b → a ≡ b
+signed_same (pos m) (pos n) e = ap (λ (p : Bool × ℕ). pos p.1) e
+signed_same (pos m) (negsuc n) e = absurd (omega (arith, ltb-true m 0 (ap (λ (p : Bool × ℕ). p.0) e)))
+signed_same (negsuc m) (pos n) e = absurd (omega (arith, ltb-true n 0 (sym (ap (λ (p : Bool × ℕ). p.0) e))))
+signed_same (negsuc m) (negsuc n) e = ap (λ (p : Bool × ℕ). negsuc (pred p.1)) e
+
+signed : Reads flat_signed
+unfolding pair
+signed = by_parts (pair flat_flag flat_number) sign_and_size (both flat_flag flat_number flag number) signed_same
+
+-- lists of one length
+each : {X : Type 0} (flat : X → List ℕ) → Reads flat → (xs ys : List X) (r s : List ℕ) → length xs ≡ length ys → flat_each flat xs ++ r ≡ flat_each flat ys ++ s → (xs ≡ ys) × (r ≡ s)
+each flat reads [] [] r s long e = (refl, e)
+each flat reads [] (y ∷ ys) r s long e = absurd (omega (arith, long))
+each flat reads (x ∷ xs) [] r s long e = absurd (omega (arith, long))
+each flat reads (x ∷ xs) (y ∷ ys) r s long e =
+    let a : (x ≡ y) × (flat_each flat xs ++ r ≡ flat_each flat ys ++ s) =
+    reads x y (flat_each flat xs ++ r) (flat_each flat ys ++ s) (sym (append_assoc (flat x) (flat_each flat xs) r) ∙ e ∙ append_assoc (flat y) (flat_each flat ys) s) in
+    let b : (xs ≡ ys) × (r ≡ s) = each flat reads xs ys r s (omega (arith, long)) a.1 in
+    (λ i. a.0 i ∷ b.0 i, b.1)
+
+-- a list after its length
+after_length : {X : Type 0} (flat : List X → List ℕ) → ((xs ys : List X) (r s : List ℕ) → length xs ≡ length ys → flat xs ++ r ≡ flat ys ++ s → (xs ≡ ys) × (r ≡ s))
+    → Reads (λ (xs : List X). flat_number (length xs) ++ flat xs)
+after_length flat reads xs ys r s e =
+    let a : (length xs ≡ length ys) × (flat xs ++ r ≡ flat ys ++ s) =
+    number (length xs) (length ys) (flat xs ++ r) (flat ys ++ s) (sym (append_assoc (flat_number (length xs)) (flat xs) r) ∙ e ∙ append_assoc (flat_number (length ys)) (flat ys) s) in
+    reads xs ys r s a.0 a.1
+
+listed : {X : Type 0} (flat : X → List ℕ) → Reads flat → Reads (flat_list flat)
+listed flat reads = after_length (flat_each flat) (each flat reads)
+
+same_length : (xs ys r s : List ℕ) → length xs ≡ length ys → xs ++ r ≡ ys ++ s → (xs ≡ ys) × (r ≡ s)
+same_length [] [] r s long e = (refl, e)
+same_length [] (y ∷ ys) r s long e = absurd (omega (arith, long))
+same_length (x ∷ xs) [] r s long e = absurd (omega (arith, long))
+same_length (x ∷ xs) (y ∷ ys) r s long e =
+    let a : (x ≡ y) × (xs ++ r ≡ ys ++ s) = heads x y (xs ++ r) (ys ++ s) e in
+    let b : (xs ≡ ys) × (r ≡ s) = same_length xs ys r s (omega (arith, long)) a.1 in
+    (λ i. a.0 i ∷ b.0 i, b.1)
+
+text : Reads flat_text
+text = after_length (λ (xs : List ℕ). xs) same_length
+
+text_after : (before : List ℕ) → Reads (flat_text_after before)
+text_after before x y r s e = at (bytes_eq before x) (bytes_eq before y) refl refl e
+  where
+    at : (p q : Bool) → bytes_eq before x ≡ p → bytes_eq before y ≡ q → cond p (0 ∷ []) (1 ∷ flat_text x) ++ r ≡ cond q (0 ∷ []) (1 ∷ flat_text y) ++ s → (x ≡ y) × (r ≡ s)
+    at true true is_x is_y e = (sym ((bytes_eq-Decides before x).0 is_x) ∙ (bytes_eq-Decides before y).0 is_y, (heads 0 0 r s e).1)
+    at true false is_x is_y e = absurd (omega (arith, (heads 0 1 r (flat_text y ++ s) e).0))
+    at false true is_x is_y e = absurd (omega (arith, (heads 1 0 (flat_text x ++ r) s e).0))
+    at false false is_x is_y e = text x y r s (heads 1 1 (flat_text x ++ r) (flat_text y ++ s) e).1
+
+key : Reads flat_key
+unfolding pair
+key = by_parts (pair flat_number flat_flag) (λ (k : KeyFacts). (k.values, k.optional)) (both flat_number flat_flag number flag)
+    (λ x y e. ap (λ (p : ℕ × Bool). record { values = p.0; optional = p.1 }) e)
+
+view : Reads flat_view
+view None None r s e = (refl, (heads 0 0 r s e).1)
+view None (Some n) r s e = absurd (omega (arith, (heads 0 1 r (flat_number n ++ s) e).0))
+view (Some m) None r s e = absurd (omega (arith, (heads 1 0 (flat_number m ++ r) s e).0))
+view (Some m) (Some n) r s e =
+    let a : (m ≡ n) × (r ≡ s) = number m n r s (heads 1 1 (flat_number m ++ r) (flat_number n ++ s) e).1 in
+    (ap (λ (n : ℕ). Some n) a.0, a.1)
+
+kind_of : ℕ → Kind
+kind_of zero = Counter
+kind_of (suc zero) = UpDownCounter
+kind_of (suc (suc zero)) = Histogram
+kind_of (suc (suc (suc n))) = Gauge
+
+kind_back : (k : Kind) → kind_of (kind_number k) ≡ k
+unfolding kind_of
+kind_back Counter = refl
+kind_back UpDownCounter = refl
+kind_back Histogram = refl
+kind_back Gauge = refl
+
+kind : Reads (λ (k : Kind). kind_number k ∷ [])
+kind = by_parts (λ (n : ℕ). n ∷ []) kind_number one (λ x y e. sym (kind_back x) ∙ ap kind_of e ∙ kind_back y)
+
+temporality_same : (a b : Temporality) → is_delta_temporality a ≡ is_delta_temporality b → a ≡ b
+temporality_same Delta Delta e = refl
+temporality_same Delta Cumulative e = absurd (true≢false e)
+temporality_same Cumulative Delta e = absurd (true≢false (sym e))
+temporality_same Cumulative Cumulative e = refl
+
+temporality : Reads (λ (t : Temporality). flat_flag (is_delta_temporality t))
+temporality = by_parts flat_flag is_delta_temporality flag temporality_same
+
+-- what is read after the tag of an aggregation
+aggregation : Reads flat_aggregation
+aggregation aggregations.Sum aggregations.Sum r s e = (refl, (heads 0 0 r s e).1)
+aggregation aggregations.Sum aggregations.LastValue r s e = absurd (omega (arith, (heads 0 1 r s e).0))
+aggregation aggregations.Sum (aggregations.Histogram b) r s e = absurd (omega (arith, (heads 0 2 r (flat_list flat_signed b ++ s) e).0))
+aggregation aggregations.LastValue aggregations.Sum r s e = absurd (omega (arith, (heads 1 0 r s e).0))
+aggregation aggregations.LastValue aggregations.LastValue r s e = (refl, (heads 1 1 r s e).1)
+aggregation aggregations.LastValue (aggregations.Histogram b) r s e = absurd (omega (arith, (heads 1 2 r (flat_list flat_signed b ++ s) e).0))
+aggregation (aggregations.Histogram a) aggregations.Sum r s e = absurd (omega (arith, (heads 2 0 (flat_list flat_signed a ++ r) s e).0))
+aggregation (aggregations.Histogram a) aggregations.LastValue r s e = absurd (omega (arith, (heads 2 1 (flat_list flat_signed a ++ r) s e).0))
+aggregation (aggregations.Histogram a) (aggregations.Histogram b) r s e =
+    let found : (a ≡ b) × (r ≡ s) = listed flat_signed signed a b r s (heads 2 2 (flat_list flat_signed a ++ r) (flat_list flat_signed b ++ s) e).1 in
+    (ap (λ (b : List ℤ). aggregations.Histogram b) found.0, found.1)
+
+texts_flat : Texts → (List ℕ × List ℕ) × List ℕ → List ℕ
+texts_flat before = pair (pair (flat_text_after before.name) (flat_text_after before.description)) (flat_text_after before.unit)
+
+texts_read : (before : Texts) → Reads (texts_flat before)
+unfolding texts_flat
+texts_read before = both _ _ (both _ _ (text_after before.name) (text_after before.description)) (text_after before.unit)
+
+texts_after : (before : Texts) → Reads (flat_texts_after before)
+unfolding pair texts_flat
+texts_after before =
+    by_parts (texts_flat before) (λ (t : Texts). ((t.name, t.description), t.unit)) (texts_read before)
+    (λ x y e. ap (λ (p : (List ℕ × List ℕ) × List ℕ). record { name = p.0.0; description = p.0.1; unit = p.1 }) e)
+
+-- what a stream has beside its texts, as pairs
+abbrev Settings : Type 0
+Settings = (((ℕ × ℕ) × Option ℕ) × Kind) × (((StreamAggregation × List Bool) × ℕ) × Temporality)
+
+flat_kind : Kind → List ℕ
+flat_kind k = kind_number k ∷ []
+
+flat_temporality : Temporality → List ℕ
+flat_temporality t = flat_flag (is_delta_temporality t)
+
+settings_flat : Settings → List ℕ
+settings_flat =
+    pair (pair (pair (pair flat_number flat_number) flat_view) flat_kind)
+    (pair (pair (pair flat_aggregation (flat_list flat_flag)) flat_number) flat_temporality)
+
+kept : Reads (flat_list flat_flag)
+kept = listed flat_flag flag
+
+settings_read : Reads settings_flat
+unfolding settings_flat flat_kind flat_temporality
+settings_read =
+    both _ _ (both _ _ (both _ _ (both _ _ number number) view) kind) (both _ _ (both _ _ (both _ _ aggregation kept) number) temporality)
+
+settings_of : Stream → Settings
+settings_of s = ((((s.reader, s.instrument), s.view), s.kind), (((s.aggregation, s.kept), s.limit), s.temporality))
+
+-- a stream after one with these texts
+abbrev Parts : Type 0
+Parts = (ℕ × Settings) × Texts
+
+parts_of : NumberedStream → Parts
+parts_of n = ((n.number, settings_of n.stream), texts_of n.stream)
+
+stream_of : Parts → NumberedStream
+stream_of p = record {
+  number = p.0.0;
+  stream = record {
+    reader = p.0.1.0.0.0.0;
+    instrument = p.0.1.0.0.0.1;
+    view = p.0.1.0.0.1;
+    name = p.1.name;
+    description = p.1.description;
+    unit = p.1.unit;
+    kind = p.0.1.0.1;
+    aggregation = p.0.1.1.0.0.0;
+    kept = p.0.1.1.0.0.1;
+    limit = p.0.1.1.0.1;
+    temporality = p.0.1.1.1;
+  };
+}
+
+parts_flat : Texts → Parts → List ℕ
+parts_flat before = pair (pair flat_number settings_flat) (flat_texts_after before)
+
+parts_read : (before : Texts) → Reads (parts_flat before)
+unfolding parts_flat
+parts_read before = both _ _ (both _ _ number settings_read) (texts_after before)
+
+stream : (before : Texts) → Reads (flat_stream before)
+unfolding pair settings_of parts_of stream_of settings_flat flat_kind flat_temporality parts_flat
+stream before = by_parts (parts_flat before) parts_of (parts_read before) (λ x y e. ap stream_of e)
+
+streams : (before : Texts) (xs ys : List NumberedStream) (r s : List ℕ) → length xs ≡ length ys → flat_streams before xs ++ r ≡ flat_streams before ys ++ s → (xs ≡ ys) × (r ≡ s)
+streams before [] [] r s long e = (refl, e)
+streams before [] (y ∷ ys) r s long e = absurd (omega (arith, long))
+streams before (x ∷ xs) [] r s long e = absurd (omega (arith, long))
+streams before (x ∷ xs) (y ∷ ys) r s long e =
+    let others : NumberedStream → List NumberedStream → List ℕ = λ z zs. flat_streams (texts_of z.stream) zs in
+    let a : (x ≡ y) × (others x xs ++ r ≡ others y ys ++ s) =
+    stream before x y (others x xs ++ r) (others y ys ++ s) (sym (append_assoc (flat_stream before x) (others x xs) r) ∙ e ∙ append_assoc (flat_stream before y) (others y ys) s) in
+    let b : (xs ≡ ys) × (r ≡ s) =
+    streams (texts_of x.stream) xs ys r s (omega (arith, long)) (a.1 ∙ ap (λ (z : NumberedStream). others z ys ++ s) (sym a.0)) in
+    (λ i. a.0 i ∷ b.0 i, b.1)
+
+-- the fields of facts, as pairs
+abbrev Fields : Type 0
+Fields = ((((((Bool × ℕ) × List KeyFacts) × ℤ) × ℤ) × List ℕ) × List Bool) × List NumberedStream
+
+flat_counted_streams : List NumberedStream → List ℕ
+flat_counted_streams numbered = flat_number (length numbered) ++ flat_streams no_texts numbered
+
+counted_streams : Reads flat_counted_streams
+unfolding flat_counted_streams
+counted_streams = after_length (flat_streams no_texts) (streams no_texts)
+
+fields_flat : Fields → List ℕ
+fields_flat =
+    pair (pair (pair (pair (pair (pair (pair flat_flag flat_number) (flat_list flat_key)) flat_signed) flat_signed) (flat_list flat_number)) (flat_list flat_flag))
+    flat_counted_streams
+
+fields_read : Reads fields_flat
+unfolding fields_flat
+fields_read = both _ _ (both _ _ (both _ _ (both _ _ (both _ _ (both _ _ (both _ _ flag number) (listed flat_key key)) signed) signed) (listed flat_number number)) kept) counted_streams
+
+fields_of : FactsFields → Fields
+fields_of f = (((((((f.certified, f.instrument), f.keys), f.lo), f.hi), f.budgets), f.delta), f.streams)
+
+of_fields : Fields → FactsFields
+of_fields p = record {
+  certified = p.0.0.0.0.0.0.0;
+  instrument = p.0.0.0.0.0.0.1;
+  keys = p.0.0.0.0.0.1;
+  lo = p.0.0.0.0.1;
+  hi = p.0.0.0.1;
+  budgets = p.0.0.1;
+  delta = p.0.1;
+  streams = p.1;
+}
+
+facts : Reads flat_facts
+unfolding pair flat_counted_streams fields_flat fields_of of_fields
+facts = by_parts fields_flat fields_of fields_read (λ x y e. ap of_fields e)
+
+-- equal bytes are of equal facts
+pub facts_eq_decides : (a b : FactsFields) → Decides (facts_eq a b) (a ≡ b)
+facts_eq_decides a b =
+    let decides : Decides (facts_eq a b) (flat_facts a ≡ flat_facts b) = bytes_eq-Decides (flat_facts a) (flat_facts b) in
+    (λ same. (facts a b [] [] (ap (λ (bytes : List ℕ). bytes ++ []) (decides.0 same))).0, λ e. decides.1 (ap flat_facts e))
+
+-- a number of several groups, as it is written
+pub number_written : (old new : List ℕ) (n : ℕ) → 128 ≤ n → new ≡ (old ++ (n % 128 + 128) ∷ []) ++ flat_number (n / 128) → new ≡ old ++ flat_number n
+number_written old new n large e =
+    e ∙ append_assoc old ((n % 128 + 128) ∷ []) (flat_number (n / 128)) ∙ ap (λ (bytes : List ℕ). old ++ bytes) (sym (number_more n large))

@@ -1,0 +1,3 @@
+pub mod FactsLaws
+pub mod FlatLaws
+pub mod FullSets

@@ -1,0 +1,95 @@
+-- What the run of an instrument depends on.
+use Rattle.std.specs.Prelude.{◌≡◌, ℕ, ℤ, Ok, ◌+◌, Bool, true, false, ◌&&◌, List, [], ◌∷◌, ◌++◌, length, map, slice_index_or, nat_le, int_le, ◌==◌, if◌then◌else◌}
+use Rattle.std.specs.List.{list_all}
+use Rattle.metric_catalogue.specs.Budgets.{amount_of}
+use Rattle.metric_catalogue.specs.Encoding.{Given, set_of}
+use Rattle.metric_catalogue.specs.declared.contents.Contents.{Contents}
+use Rattle.metric_catalogue.specs.declared.contents.Instrument.{Instrument}
+use Rattle.metric_catalogue.specs.declared.contents.Key.{Key}
+use Rattle.metric_catalogue.specs.declared.contents.Kind.{Kind}
+use Rattle.metric_catalogue.specs.declared.contents.Recorder.{Recorder}
+use Rattle.metric_views.specs.Choices.{choice_for}
+use Rattle.metric_views.specs.declared.choices.Temporality.{Temporality}
+use Rattle.metric_views.specs.declared.choices.Temporality.TheVariants.{Delta, Cumulative}
+use Rattle.metric_views.specs.declared.config.Reader.{Reader}
+use Rattle.metric_views.specs.declared.stream.Stream.{Stream}
+use Rattle.metric_facts.specs.declared.facts.FactsFields.{FactsFields as Facts}
+use Rattle.metric_facts.specs.declared.facts.KeyFacts.{KeyFacts}
+use Rattle.metric_facts.specs.declared.facts.NumberedStream.{NumberedStream}
+
+-- the facts of all instruments, with the catalogue that declares their attributes
+pub record RunFacts : Type 0 where
+  pub contents : Contents
+  pub instruments : List Facts
+
+-- whether a reader is delta for the instrument
+abbrev pub is_delta : Facts → ℕ → Bool
+is_delta facts reader = slice_index_or facts.delta reader false
+
+-- whether a value is in the instrument's range
+abbrev pub in_bounds : Facts → ℤ → Bool
+in_bounds facts value = int_le facts.lo value && int_le value facts.hi
+
+abbrev pub is_of_reader : ℕ → NumberedStream → Bool
+is_of_reader reader s = s.stream.reader == reader
+
+-- whether an entry of a set key names a value of the key, or is 0 where the key may be absent
+abbrev pub is_entry : KeyFacts → ℕ → Bool
+is_entry key entry = if entry == 0 then key.optional else nat_le entry key.values
+
+-- whether a set key is a full set: for each declared key an entry, and 0 after them
+abbrev pub is_full_set : List KeyFacts → List ℕ → Bool
+is_full_set [] set = list_all (λ entry. entry == 0) set
+is_full_set (key ∷ keys) [] = false
+is_full_set (key ∷ keys) (entry ∷ set) = is_entry key entry && is_full_set keys set
+
+abbrev pub key_facts : Key → KeyFacts
+key_facts key = record { values = length key.values; optional = key.optional }
+
+abbrev pub is_delta_temporality : Temporality → Bool
+is_delta_temporality Delta = true
+is_delta_temporality Cumulative = false
+
+-- whether a reader is delta for a kind
+abbrev pub is_delta_reader : Kind → Reader → Bool
+is_delta_reader kind reader = is_delta_temporality (choice_for reader.temporality kind)
+
+-- a stream with its number, where it is of the instrument
+abbrev pub numbered : ℕ → ℕ → Stream → List NumberedStream
+numbered instrument number s = if s.instrument == instrument then record { number = number; stream = s } ∷ [] else []
+
+-- those of the instrument's streams, the first of which has this number
+abbrev pub numbered_from : ℕ → ℕ → List Stream → List NumberedStream
+numbered_from instrument number [] = []
+numbered_from instrument number (s ∷ streams) = numbered instrument number s ++ numbered_from instrument (number + 1) streams
+
+-- the facts of the instrument of a number. A stream's number is its place among all.
+abbrev pub facts_of : Bool → List Recorder → List Reader → List Stream → ℕ → Instrument → Facts
+facts_of certified recorders readers streams number instrument = record {
+  certified = certified;
+  instrument = number;
+  keys = map key_facts instrument.keys;
+  lo = instrument.lo;
+  hi = instrument.hi;
+  budgets = map (λ (recorder : Recorder). amount_of recorder number) recorders;
+  delta = map (is_delta_reader instrument.kind) readers;
+  streams = numbered_from number 0 streams;
+}
+
+-- those of each instrument, the first of which has this number
+abbrev pub facts_from : Bool → List Recorder → List Reader → List Stream → ℕ → List Instrument → List Facts
+facts_from certified recorders readers streams number [] = []
+facts_from certified recorders readers streams number (instrument ∷ instruments) =
+    facts_of certified recorders readers streams number instrument
+    ∷ facts_from certified recorders readers streams (number + 1) instruments
+
+-- facts, the first of which are of the instrument of a number, with one stream more
+abbrev pub with_stream : ℕ → ℕ → Stream → List Facts → List Facts
+with_stream first number s [] = []
+with_stream first number s (own ∷ all) =
+    record own { streams = own.streams ++ numbered first number s } ∷ with_stream (first + 1) number s all
+
+-- what attributes are encoded to is a full set
+abbrev pub EncodesFullSets : Type 0
+EncodesFullSets =
+    (keys : List Key) (attrs : List Given) (set : List ℕ) → set_of keys attrs ≡ Ok set → is_full_set (map key_facts keys) set ≡ true

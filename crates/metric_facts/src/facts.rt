@@ -1,0 +1,186 @@
+//! What the run of an instrument depends on.
+ghost use Rattle.std.specs.Prelude.{◌≡◌, ◌↔◌, IfOk, IsTrue};
+
+use crate::flat::flat_facts;
+use metric_base::{Copied, Items};
+use metric_views::Stream;
+use std::alloc::{AllocError, Global};
+use std::marker::Model;
+use std::ops::Deref;
+
+/// A declared key, as far as set keys depend on it.
+#[derive(Clone, Copy, Debug, PartialEq, Eq, Drop)]
+pub struct KeyFacts {
+    /// How many values it declares.
+    pub values: u16,
+    /// Whether a recording may leave it out.
+    pub optional: bool,
+}
+
+/// A stream with its number.
+#[derive(Drop)]
+pub struct NumberedStream {
+    /// The number.
+    pub number: u32,
+    /// The stream.
+    pub stream: Stream,
+}
+
+/// What facts say: of the catalogue, the config and the streams that they give.
+pub struct FactsFields {
+    /// Whether a certificate vouches for the instrument's limits and numbers.
+    pub certified: bool,
+    /// The number of the instrument.
+    pub instrument: u32,
+    /// The declared keys, in declared order.
+    pub keys: Items<KeyFacts>,
+    /// The least value that may be recorded.
+    pub lo: i64,
+    /// The greatest value that may be recorded.
+    pub hi: i64,
+    /// How many recordings each recorder may make, in the order of the recorders.
+    pub budgets: Items<u64>,
+    /// Whether each reader is delta for the instrument's kind (Metrics SDK, temporality), in the order of the readers.
+    pub delta: Items<bool>,
+    /// The streams of the instrument with their numbers, in order.
+    pub streams: Items<NumberedStream>,
+}
+
+impl Drop for FactsFields {
+    // A call of its own, so that what owns facts does not carry the steps of dropping each part.
+    fn drop(self) {
+        let FactsFields {
+            certified: _,
+            instrument: _,
+            keys: _keys,
+            lo: _,
+            hi: _,
+            budgets: _budgets,
+            delta: _delta,
+            streams: _streams,
+        } = self;
+    }
+}
+
+/// What the run of one instrument depends on. Beside the fields stand their bytes, made once, so that facts are
+/// compared without a walk through lists and texts. A clause sees the fields.
+#[derive(Drop)]
+pub struct Facts {
+    fields: FactsFields,
+    bytes: Vec<u8>,
+}
+
+impl Model for Facts {
+    ghost use Rattle.std.specs.Prelude.{◌≡◌};
+    ghost use Rattle.metric_facts.specs.declared.facts.FactsFields.{FactsFields};
+    ghost use Rattle.metric_facts.specs.Flat.{flat_facts};
+
+    ghost Value = { FactsFields };
+
+    ghost view = { λ f. f.fields };
+
+    ghost invariant = { λ f. f.bytes.items ≡ flat_facts f.fields };
+}
+
+impl Facts {
+    /// The facts that fields say. Fails only where memory is refused.
+    pub fn new(alloc: Global, fields: FactsFields) -> Result<Facts, AllocError>
+        ensures { IfOk result (λ facts. facts ≡ fields) }
+    {
+        let bytes = flat_facts(alloc, &fields)?;
+        Ok(Facts { fields, bytes })
+    }
+}
+
+impl Deref for Facts {
+    type Target = FactsFields;
+
+    ghost use Rattle.std.specs.Prelude.{◌≡◌};
+
+    ghost deref_gives = { λ facts fields. fields ≡ facts };
+
+    fn deref(&self) -> &FactsFields {
+        &self.fields
+    }
+}
+
+impl PartialEq for Facts {
+    ghost use Rattle.std.specs.Cmp.{partial_equiv_from_equiv};
+    ghost use Rattle.std.specs.Cmp.Lexicographic.{on_texts_equal};
+    ghost use Rattle.metric_facts.specs.Flat.{facts_eq, flat_facts};
+
+    ghost eq = { facts_eq };
+
+    ghost laws = { partial_equiv_from_equiv (on_texts_equal flat_facts) };
+
+    fn eq(&self, other: &Facts) -> bool {
+        self.bytes.as_slice() == other.bytes.as_slice()
+    }
+}
+
+/// Whether two facts are the same. It compares their bytes alone.
+#[tactic(auto, using(crate::proofs::FlatLaws::facts_eq_decides))]
+pub fn same_facts(a: &Facts, b: &Facts) -> bool
+    ensures { IsTrue result ↔ (a.now ≡ b.now) }
+{
+    *a == *b
+}
+
+impl FactsFields {
+    ghost use Rattle.metric_facts.specs.Facts.{in_bounds, is_delta};
+
+    /// Whether a value is in the instrument's range.
+    pub fn admits(&self, value: &i64) -> bool
+        ensures { result ≡ in_bounds self.now value.now }
+    {
+        self.lo <= *value && *value <= self.hi
+    }
+
+    /// Whether a reader is delta for the instrument; a reader of another number is not.
+    pub fn is_delta(&self, reader: u32) -> bool
+        ensures { result ≡ is_delta self.now reader }
+    {
+        self.delta
+            .as_slice()
+            .get(reader as usize)
+            .copied()
+            .unwrap_or(false)
+    }
+}
+
+impl Copied for NumberedStream {
+    fn copy(&self, alloc: Global) -> Result<NumberedStream, AllocError> {
+        let stream = self.stream.copy(alloc)?;
+        Ok(NumberedStream {
+            number: self.number,
+            stream,
+        })
+    }
+}
+
+impl Copied for FactsFields {
+    fn copy(&self, alloc: Global) -> Result<FactsFields, AllocError> {
+        let keys = Items::from_vec(self.keys.as_slice().to_vec(alloc)?);
+        let budgets = self.budgets.copy(alloc)?;
+        let delta = Items::from_vec(self.delta.as_slice().to_vec(alloc)?);
+        let streams = self.streams.copy(alloc)?;
+        Ok(FactsFields {
+            certified: self.certified,
+            instrument: self.instrument,
+            keys,
+            lo: self.lo,
+            hi: self.hi,
+            budgets,
+            delta,
+            streams,
+        })
+    }
+}
+
+impl Copied for Facts {
+    fn copy(&self, alloc: Global) -> Result<Facts, AllocError> {
+        let fields = self.fields.copy(alloc)?;
+        let bytes = self.bytes.as_slice().to_vec(alloc)?;
+        Ok(Facts { fields, bytes })
+    }
+}

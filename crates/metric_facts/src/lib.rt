@@ -1,0 +1,12 @@
+//! Facts: what the run of an instrument depends on, of the catalogue, the config and the streams that they give.
+//!
+//! They are made once, for all instruments, with their bytes beside them, and compared as one list.
+#![tactic(auto)]
+
+mod facts;
+mod flat;
+mod instruments;
+pub mod laws;
+
+pub use facts::{Facts, FactsFields, KeyFacts, NumberedStream, same_facts};
+pub use instruments::all_facts;
