@@ -1,3 +1,1 @@
-pub mod JournalStands
 pub mod Journals
-pub mod Ranges

@@ -2,7 +2,8 @@
 use crate::dice::Dice;
 use crate::equal::assert_equal;
 use crate::runs::told;
-use metric_book::{Book, JournalBook};
+use metric_book::Book;
+use metric_journal::JournalBook;
 use metric_marked::Marked;
 use std::alloc::Global;
 use std::test::Fail;

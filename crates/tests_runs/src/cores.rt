@@ -2,7 +2,7 @@
 use crate::equal::assert_equal;
 use crate::inputs::RUNS;
 use crate::runs::told;
-use metric_book::JournalBook;
+use metric_journal::JournalBook;
 use metric_marked::Marked;
 use std::test::Fail;
 

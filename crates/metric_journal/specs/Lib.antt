@@ -1,0 +1,2 @@
+pub mod JournalStands
+pub mod Ranges
