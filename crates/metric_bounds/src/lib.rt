@@ -10,4 +10,4 @@ mod sums;
 
 pub use amounts::{amount, high, low, total, totals};
 pub use products::sets;
-pub use sums::{keeps_sum, summed};
+pub use sums::summed;

@@ -8,9 +8,9 @@ use metric_base::Items;
 use metric_views::{Stream, StreamAggregation};
 use std::alloc::{AllocError, Global};
 
-/// Whether a stream keeps a sum: one that exports sums does, and a histogram of a kind whose values are
-/// never negative (Metrics SDK, explicit bucket histogram aggregation).
-pub fn keeps_sum(stream: &Stream) -> bool
+// Whether a stream keeps a sum: one that exports sums does, and a histogram of a kind whose values are
+// never negative (Metrics SDK, explicit bucket histogram aggregation).
+fn keeps_sum(stream: &Stream) -> bool
     ensures { result ≡ keeps_sum stream.now }
 {
     match stream.aggregation {

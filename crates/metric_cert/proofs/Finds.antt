@@ -22,11 +22,6 @@ range_failed Finds n len within fault here =
     let more : len - n ≡ suc (len - (n + 1)) = omega arith in
     subst (λ (k : ℕ). Each Finds (range_with_len n k) (Some fault)) (sym more) (inl here)
 
-pub range_ended : {F : Type 0} (Finds : ℕ → Option F → Type 0) (n len : ℕ) → len ≤ n → Each Finds (range_with_len n (len - n)) None
-range_ended Finds n len past =
-    let none : len - n ≡ 0 = omega arith in
-    subst (λ (k : ℕ). Each Finds (range_with_len n k) None) (sym none) refl
-
 -- of the elements from a place on
 pub drop_passed : {X F : Type 0} (Finds : X → Option F → Type 0) (n : ℕ) (xs : List X) (x : X) → n < length xs → x ≡ get_or xs n x → Finds x None
     → (found : Option F) → Each Finds (drop (n + 1) xs) found → Each Finds (drop n xs) found

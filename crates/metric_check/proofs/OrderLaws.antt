@@ -284,11 +284,6 @@ pub orders_right : (contents : Contents) (config : Config) (streams : List Strea
     → AllZip (IsOrderOf contents streams) (all_readers config) orders
 orders_right contents config streams orders tested = orders_all contents streams (length config.readers) orders tested.0 tested.1 tested.2
 
--- orders that name as many streams as are left
-pub named_drop : (orders : List ReaderOrder) (n : ℕ) (order : ReaderOrder) → slice_get orders n ≡ Some order
-    → named_by (drop n orders) ≡ length order.streams + named_by (drop (n + 1) orders)
-named_drop orders n order at = ap named_by (drop_at orders n order at)
-
 -- The identities of neighbours up to a place rise.
 abbrev pub RiseUpTo : Contents → List Stream → List ℕ → ℕ → Type 0
 RiseUpTo contents streams numbers n = (k : ℕ) → k + 1 < n → RisesTo contents streams (get_or numbers k 0) (get_or numbers (k + 1) 0)

@@ -6,5 +6,5 @@ mod line;
 mod reading;
 
 pub use laws::{lines_are_taken, others_are_refused};
-pub use line::{Line, LineFault, MOST_EACH};
+pub use line::{Line, LineFault};
 pub use reading::command_of;

@@ -8,8 +8,8 @@ use clap::error::ErrorKind;
 use std::alloc::AllocError;
 use thiserror::Error;
 
-/// How often `threads` records at most, by each recorder on each instrument.
-pub const MOST_EACH: u64 = 1_000_000;
+// How often `threads` records at most, by each recorder on each instrument.
+pub(crate) const MOST_EACH: u64 = 1_000_000;
 
 /// A command of the program, with its flags.
 #[derive(Clone, Copy, Debug, PartialEq, Eq)]

@@ -12,7 +12,7 @@ use clap::{Arg, ArgAction, ArgMatches, Command};
 use std::alloc::{AllocError, Global};
 
 /// The command that the words of a command line ask for: `make`, `check`, `show`, `replay`,
-/// `replay --trial` or `threads --each N`, with `N` from 0 to [`MOST_EACH`]. The first word is the program's
+/// `replay --trial` or `threads --each N`, with `N` from 0 to 1,000,000. The first word is the program's
 /// name, whatever it is. No further word asks for a trial, and so does the word `--` alone, which clap
 /// takes as the end of the flags.
 ///

@@ -82,10 +82,6 @@ stable (suc j) (suc k) n low_j low_k = at (stable j k (n / 128)) (nat_lt n 128) 
         let less : n / 128 * 128 + n % 128 ≡ n = div-add-mod' n 128 in
         ap (λ (rest : List ℕ). (n % 128 + 128) ∷ rest) (ih (omega (arith, less, large, low_j)) (omega (arith, less, large, low_k)))
 
-pub number_small : (n : ℕ) → n < 128 → flat_number n ≡ n ∷ []
-number_small zero small = refl
-number_small (suc n) small = ap (λ (b : Bool). cond b (suc n ∷ []) ((suc n % 128 + 128) ∷ groups n (suc n / 128))) (lt-ltb (suc n) 128 small)
-
 pub number_more : (n : ℕ) → 128 ≤ n → flat_number n ≡ (n % 128 + 128) ∷ flat_number (n / 128)
 number_more zero large = absurd (omega (arith, large))
 number_more (suc n) large =

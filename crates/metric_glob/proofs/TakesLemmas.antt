@@ -32,10 +32,6 @@ stand_spelled pattern text place at others stands h passes =
     rw (drop_more pattern place 0 stands.within, drop_more text at 0 h)
     (one_spelled (get_or pattern place 0) (get_or text at 0) (drop (place + 1) pattern) others (drop (at + 1) text) stands.one stands.stands ∙ passes)
 
--- The walk begins with no takes.
-pub AreTakesSoFar-start : (pattern text : List ℕ) → AreTakesSoFar pattern text (record { place = 0; at = 0; star = None }) []
-AreTakesSoFar-start pattern text = record { now = λ others passes. passes; later = tt }
-
 takes_opened : (pattern text : List ℕ) (walk : Walk) (takes : List ℕ) → walk.at < length text → IsStarAt pattern walk.place → AreTakesSoFar pattern text walk takes
     → AreTakesSoFar pattern text (record { place = walk.place + 1; at = walk.at; star = Some (record { after = walk.place + 1; start = walk.at; end = walk.at }) }) (takes ++ settled walk.star)
 takes_opened pattern text walk takes h star sofar =
@@ -77,13 +73,6 @@ AreTakesSoFar-moves pattern text old new Again takes kept h moves sofar =
     let is : old.star ≡ Some star = moves.1.1 in
     let after : new ≡ record { place = star.after; at = star.end + 1; star = Some (record { after = star.after; start = star.start; end = star.end + 1 }) } = moves.1.2 in
     rw (after, append-nil takes) (takes_again pattern text old star takes h kept is sofar)
-
--- the piece of the last `*` lies in the text
-pub IsShortStar-since : (pattern : List ℕ) (place at : ℕ) (star : Option Star) → at < 2 ^ 16 → IsSinceStar pattern place at star → IsShortStar star
-IsShortStar-since pattern place at None short since = tt
-IsShortStar-since pattern place at (Some star) short since =
-    let ends : star.end ≤ at = since.ends in
-    (since.begins, omega arith)
 
 -- At the end of the text each `*` that is left takes nothing.
 pub takes_ended : (pattern text : List ℕ) (walk : Walk) (takes settled_takes all : List ℕ) → IsWalk pattern text walk → length text ≤ walk.at → AreTakesSoFar pattern text walk takes

@@ -73,11 +73,6 @@ later_not_needed pattern text place at star here h since passes =
     let tail = any_suffix-twice test (drop (at + 1) text) inner in
     rest_any pattern text place at here ∙ (any_suffix-more test at text h ∙ or_right (test (drop at text)) (any_suffix test (drop (at + 1) text)) tail)
 
--- The walk begins.
-pub IsWalk-start : (pattern text : List ℕ) → IsWalk pattern text (record { place = 0; at = 0; star = None })
-IsWalk-start pattern text =
-    record { in_pattern = omega arith; in_text = omega arith; since = tt; whole = or_nothing (is_match pattern text) }
-
 -- A `*` is met, and begins with an empty piece.
 pub IsWalk-opened : (pattern text : List ℕ) (walk : Walk) → IsWalk pattern text walk → walk.at < length text → IsStarAt pattern walk.place
     → IsWalk pattern text (record { place = walk.place + 1; at = walk.at; star = Some (record { after = walk.place + 1; start = walk.at; end = walk.at }) })
@@ -153,11 +148,6 @@ IsWalk-again pattern text walk star kept h is dead =
       since = record { begins = omega arith; ends = omega arith; passed = omega arith; together = omega arith; ones = λ i low high. absurd (omega arith) };
       whole = whole ∙ later_split (is_match (drop star.after pattern)) star.end text (omega arith);
     }
-
--- The walk is stuck: there is no match.
-pub no_match-stuck : (pattern text : List ℕ) (walk : Walk) → IsWalk pattern text walk → walk.star ≡ None
-    → rest_matches pattern text walk.place walk.at ≡ false → is_match pattern text ≡ false
-no_match-stuck pattern text walk kept none dead = rw (dead, none) at kept.whole
 
 -- At the end of the text what is left of the pattern decides.
 pub IsWalk-ended : (pattern text : List ℕ) (walk : Walk) → IsWalk pattern text walk → length text ≤ walk.at

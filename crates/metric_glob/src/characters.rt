@@ -5,8 +5,8 @@ ghost use Rattle.metric_glob.specs.Matching.{stands_for, star_at, stands_at, IsS
 /// Stands for any number of characters, none included.
 pub const ANY_TEXT: u8 = b'*';
 
-/// Stands for exactly one character, whichever it is.
-pub const ANY_ONE: u8 = b'?';
+// Stands for exactly one character, whichever it is.
+pub(crate) const ANY_ONE: u8 = b'?';
 
 // Whether a pattern character that takes one stands for this one.
 pub(crate) fn stands_for(character: u8, found: u8) -> bool

@@ -12,6 +12,6 @@ mod reason;
 mod walk;
 mod why;
 
-pub use characters::{ANY_ONE, ANY_TEXT};
+pub use characters::ANY_TEXT;
 pub use pattern::{Pattern, PatternFault};
 pub use reason::Reason;

@@ -57,15 +57,6 @@ Contains-range n k within =
     let is : get_or (range_with_len 0 n) k 0 ≡ k = get_or-range_with_len 0 n k 0 within ∙ omega arith in
     subst (Contains (range_with_len 0 n)) is (Contains-get_or (range_with_len 0 n) k 0 (omega arith))
 
-pub below_range : (n k : ℕ) → Contains (range_with_len 0 n) k → k < n
-below_range n k in' =
-    let at = at_from_Contains (range_with_len 0 n) k in' in
-    let len = length-range_with_len 0 n in
-    let within : at.0 < n = omega (arith, at.1) in
-    let is : get_or (range_with_len 0 n) at.0 0 ≡ at.0 = get_or-range_with_len 0 n at.0 0 within ∙ omega arith in
-    let same : get_or (range_with_len 0 n) at.0 0 ≡ k = at.2 0 in
-    omega arith
-
 -- an element of the first so many
 pub slice_get-take : {X : Type 0} (n : ℕ) (xs : List X) (k : ℕ) → k < n → slice_get (take n xs) k ≡ slice_get xs k
 slice_get-take zero xs k less = absurd (omega arith)

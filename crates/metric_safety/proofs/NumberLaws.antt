@@ -132,20 +132,3 @@ values_in_range facts s values safe counts all few = at s.aggregation s.kind (λ
     at aggregations.Sum kind sums = sums_in_range SumAggregation values (sums refl) short
     at aggregations.LastValue kind sums = refl
     at (aggregations.Histogram boundaries) kind sums = histogram boundaries (is_monotonic kind) sums
-
--- how far apart so many values of a range are
-amount_grows : (few most : ℕ) (width : ℤ) → few ≤ most → pos 0 ≤ℤ width → (pos few *ℤ width) ≤ℤ (pos most *ℤ width)
-amount_grows few most (pos w) less wide = omega (arith, ints, mul-le few w most w less (same_number w))
-amount_grows few most (negsuc w) less wide = absurd (omega (arith, ints, wide))
-
--- Two sums of no more recordings than the budgets allow are less than 2^64 apart.
-pub amount_fits : (facts : Facts) (count : ℕ) → IsSafeFacts facts → count ≤ total facts → amount_with count facts.lo facts.hi <ℤ pos (2 ^ 64)
-amount_fits facts count safe few =
-    below_most (amount_with count facts.lo facts.hi) (amount_with (total facts) facts.lo facts.hi)
-    (amount_grows count (total facts) (facts.hi -ℤ facts.lo) few (wide facts.lo facts.hi safe.ordered)) safe.amounts
-  where
-    wide : (lo hi : ℤ) → lo ≤ℤ hi → pos 0 ≤ℤ (hi -ℤ lo)
-    wide lo hi ordered = omega (arith, ints, ordered)
-
-    below_most : (a b : ℤ) → a ≤ℤ b → b <ℤ pos (2 ^ 64) → a <ℤ pos (2 ^ 64)
-    below_most a b p q = omega (arith, ints, p, q)

@@ -102,10 +102,6 @@ attributes_in-limit (suc m) (suc n) (b ∷ bytes) p q =
 abbrev pub after_attributes : List OwnedAttr → Option (List OwnedAttr) → Option (List OwnedAttr)
 after_attributes before read = option_map (λ others. before ++ others) read
 
-pub attributes_start : (before : List OwnedAttr) (read : Option (List OwnedAttr)) → before ≡ [] → after_attributes before read ≡ read
-attributes_start before None none = refl
-attributes_start before (Some others) none = rw none refl
-
 pushed : (before after : List OwnedAttr) (attr : OwnedAttr) (read : Option (List OwnedAttr)) → after ≡ before ++ attr ∷ []
     → after_attributes after read ≡ after_attributes before (option_map (λ others. attr ∷ others) read)
 pushed before after attr None more = refl

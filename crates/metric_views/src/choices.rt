@@ -56,8 +56,8 @@ impl<T: Copy> ByKind<T> {
     }
 }
 
-/// Whether an aggregation does not fit a kind: a sum of a gauge.
-pub fn is_unfit(kind: Kind, aggregation: Aggregation) -> bool
+// Whether an aggregation does not fit a kind: a sum of a gauge.
+pub(crate) fn is_unfit(kind: Kind, aggregation: Aggregation) -> bool
     ensures { result ≡ is_unfit kind aggregation }
 {
     matches!(kind, Kind::Gauge) && matches!(aggregation, Aggregation::Sum)

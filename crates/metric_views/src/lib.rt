@@ -15,7 +15,7 @@ mod template;
 mod texts;
 mod views;
 
-pub use choices::{Aggregation, ByKind, Temporality, is_unfit};
+pub use choices::{Aggregation, ByKind, Temporality};
 pub use config::{Config, Criteria, Reader, Settings, Setup, View};
 pub use fault::{ConfigPlace, ViewDefect, ViewFault};
 pub use filling::fill;
