@@ -6,7 +6,7 @@ ghost use Rattle.metric_aggregate.specs.Value.{kept_sum};
 use crate::aggregate::Aggregate;
 use crate::point_value::PointValue;
 use crate::search::count_less;
-use metric_base::{Boundaries, Copied, Items};
+use metric_base::{Boundaries, Copied, Items, Shared};
 use std::alloc::{AllocError, Global};
 use std::marker::Model;
 
@@ -14,7 +14,8 @@ use std::marker::Model;
 /// where it is kept (Metrics SDK, explicit bucket histogram aggregation).
 #[derive(Debug, Drop)]
 pub struct BucketAgg {
-    boundaries: Boundaries,
+    // Those of the stream, which all its series share.
+    boundaries: Shared<Boundaries>,
     counts: Vec<u64>,
     count: u64,
     total: Option<i64>,
@@ -55,7 +56,7 @@ impl BucketAgg {
     /// made here. Fails only where memory is refused.
     pub fn new(
         alloc: Global,
-        boundaries: &Boundaries,
+        boundaries: &Shared<Boundaries>,
         keeps_sum: bool,
     ) -> Result<BucketAgg, AllocError>
         ensures aggregation { IfOk result (λ a.
@@ -64,7 +65,7 @@ impl BucketAgg {
     {
         Ok(BucketAgg {
             boundaries: boundaries.copy(alloc)?,
-            counts: vec![in alloc; 0; boundaries.as_slice().len() + 1]?,
+            counts: vec![in alloc; 0; boundaries.get().as_slice().len() + 1]?,
             count: 0,
             total: zero_total(keeps_sum),
             least: i64::MAX,
@@ -90,7 +91,7 @@ impl Aggregate for BucketAgg {
     }
 
     fn add(&mut self, value: i64) {
-        let bucket = count_less(self.boundaries.as_slice(), value);
+        let bucket = count_less(self.boundaries.get().as_slice(), value);
         count_one(&mut self.counts, bucket);
         self.count += 1;
         self.total = with_value(self.total, value);

@@ -4,7 +4,7 @@ use crate::floors::look_up;
 use crate::inputs::{kinds, plan_of, value_of};
 use crate::works::Work;
 use metric_aggregate::{Aggregate, BucketAgg};
-use metric_base::Boundaries;
+use metric_base::{Boundaries, Shared};
 use metric_sdk::Plan;
 use metric_views::StreamAggregation;
 use std::alloc::Global;
@@ -31,8 +31,7 @@ fn measure_plan<R: Wait + Clock>(
 ) -> anyhow::Result<()> {
     for stream in plan.streams() {
         if let StreamAggregation::Histogram(boundaries) = &stream.aggregation {
-            let boundaries = boundaries.get();
-            let row = row_of(boundaries, events);
+            let row = row_of(boundaries.get(), events);
             bench.measure(rt, &row, &Work::Values(boundaries, events))?;
         }
     }
@@ -51,7 +50,7 @@ fn row_of(boundaries: &Boundaries, events: u32) -> Row {
 /// Adds so many values to a histogram. How many fitted.
 pub(crate) fn add_values(
     alloc: Global,
-    boundaries: &Boundaries,
+    boundaries: &Shared<Boundaries>,
     events: u32,
 ) -> anyhow::Result<u64> {
     let mut histogram = BucketAgg::new(alloc, boundaries, true)?;

@@ -6,7 +6,7 @@ use crate::recording::{Case, Lists, case_done, lists_done};
 use crate::replaying::replayed;
 use crate::watch::{Measured, Watch};
 use anyhow::Context;
-use metric_base::Boundaries;
+use metric_base::{Boundaries, Shared};
 use std::alloc::Global;
 use std::sync::Wait;
 use std::time::Clock;
@@ -25,7 +25,7 @@ pub(crate) enum Work<'a> {
     /// Recordings or a collection of an instrument.
     Case(Case<'a>),
     /// So many values added to a histogram.
-    Values(&'a Boundaries, u32),
+    Values(&'a Shared<Boundaries>, u32),
     /// A step with a catalogue, a config and their certificate.
     Step(Step, &'a Texts),
     /// A replay of an input.

@@ -1,7 +1,7 @@
 //! Worked values, each aggregator through its trait.
 use crate::equal::assert_equal;
 use metric_aggregate::{Aggregate, BucketAgg, LastAgg, PointValue, SumAgg};
-use metric_base::{Boundaries, Copied, Few, copy_all, is_rising, is_same};
+use metric_base::{Boundaries, Copied, Few, Shared, copy_all, is_rising, is_same};
 use std::alloc::Global;
 use std::test::Fail;
 
@@ -112,7 +112,7 @@ fn told_between(
     keeps_sum: bool,
     values: &[i64],
 ) -> Result<String, Fail> {
-    let boundaries = boundaries(alloc, numbers)?;
+    let boundaries = Shared::new(alloc, boundaries(alloc, numbers)?)?;
     let histogram = BucketAgg::new(alloc, &boundaries, keeps_sum)?;
     told(alloc, &histogram, values)
 }

@@ -11,7 +11,7 @@ pub returns-clause-stands : goal.returns-clause-stands
 returns-clause-stands c added s =
     let within = subst (λ (h : Histogram). StandsBuckets h added) (sym c.self.view_is) s in
     let counts = c.deref_mut.ensures.value in
-    let bucket = c.count_less-bucket.ensures ∙ (λ i. bucket_of (c.as_slice.ensures.numbers i) (to_z-of_z w64 c.args.value c.ranges.value i)) in
+    let bucket = c.count_less-bucket.ensures ∙ (λ i. bucket_of ((c.as_slice.ensures.numbers ∙ c.get.ensures) i) (to_z-of_z w64 c.args.value c.ranges.value i)) in
     stands_added _ _ c.args.value c.ranges.value (record {
       boundaries = refl;
       counts = with_items_is c.self.inside.counts c.count_one.new.counts (c.count_one.auto.counts ∙ c.deref_mut.ensures.len) ∙ c.count_one.ensures
