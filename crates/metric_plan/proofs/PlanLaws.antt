@@ -1,10 +1,10 @@
 -- There are facts for each instrument, safe streams are of instruments whose recordings can be counted, and ranges fit one after the
 -- other.
-use Rattle.std.proofs.Common.{◌≡◌, ◌<◌, ℕ, zero, suc, ◌+◌, ◌^◌, Bool, true, List, [], ◌∷◌, length, Some, slice_get, nat_lt, refl, ap, subst, arith}
+use Rattle.std.proofs.Common.{◌≡◌, ◌<◌, ◌≤◌, ℕ, zero, suc, ◌+◌, ◌^◌, Bool, true, List, [], ◌∷◌, length, Some, slice_get, get_or, nat_lt, refl, ap, subst, ◌∙◌, arith, below_more}
 use Rattle.std.specs.Prelude.{FitsSigned}
 use Rattle.std.specs.Int.{w64}
 use Rattle.std.proofs.lemmas.Bool.{and_from, lt-ltb}
-use Rattle.std.proofs.lemmas.Option.{same_Some}
+use Rattle.std.proofs.lemmas.Option.{get_or_from_slice_get, slice_get_within}
 use Rattle.metric_catalogue.specs.declared.contents.Contents.{Contents}
 use Rattle.metric_catalogue.specs.declared.contents.Instrument.{Instrument}
 use Rattle.metric_catalogue.specs.declared.contents.Recorder.{Recorder}
@@ -41,7 +41,19 @@ safe_is_counted contents streams safe =
     let here : k ≡ 0 + k = omega arith in
     subst (λ (n : ℕ). total_of contents n < 2 ^ 64) here ((safe.instruments k instrument at).counts))
 
-pub ranges_cons : (first : Facts) (rest : List Facts) → FitsSigned w64 first.lo → FitsSigned w64 first.hi → RangesFit rest → RangesFit (first ∷ rest)
-ranges_cons first rest low high fit zero own at =
-    subst (λ (facts : Facts). FitsSigned w64 facts.lo × FitsSigned w64 facts.hi) (same_Some first own at) (low, high)
-ranges_cons first rest low high fit (suc number) own at = fit number own at
+-- the range of an instrument is one of 64-bit numbers
+abbrev pub RangeFits : Facts → Type 0
+RangeFits own = FitsSigned w64 own.lo × FitsSigned w64 own.hi
+
+-- those of the first instruments are
+abbrev pub RangesFitBelow : ℕ → List Facts → Type 0
+RangesFitBelow n all = (number : ℕ) → number < n → (own : Facts) → slice_get all number ≡ Some own → RangeFits own
+
+pub ranges_more : (all : List Facts) (n : ℕ) (item : Facts) → RangesFitBelow n all → item ≡ get_or all n item → RangeFits item → RangesFitBelow (n + 1) all
+ranges_more all n item before is fits =
+    below_more _ _ before (λ own at. subst RangeFits (is ∙ get_or_from_slice_get all n own item at) fits)
+
+pub all_ranges : (all : List Facts) (n : ℕ) → length all ≤ n → RangesFitBelow n all → RangesFit all
+all_ranges all n whole below number own at =
+    let within : number < length all = slice_get_within all number own at in
+    below number (omega arith) own at

@@ -8,10 +8,10 @@ ghost use Rattle.metric_plan.specs.Plans.{IsPlan, RangesFit, plan_of, run_facts}
 
 use crate::counting::is_counted;
 use crate::fault::CheckFault;
-use metric_base::{Few, Items, copy_all};
+use metric_base::{Few, Items};
 use metric_catalogue::Catalogue;
 use metric_facts::{Facts, all_facts};
-use metric_resolve::resolve;
+use metric_resolve::resolve_streams;
 use metric_views::{Config, Stream};
 use std::alloc::{AllocError, Global};
 use std::marker::Model;
@@ -82,7 +82,7 @@ impl Plan {
         if !is_counted(&catalogue) {
             return Err((catalogue, config, CheckFault::CountRange));
         }
-        match resolved(alloc, &catalogue, &config) {
+        match resolve_streams(alloc, &catalogue, &config) {
             Ok(streams) => Plan::new(alloc, false, catalogue, config, streams),
             Err(_) => Err((catalogue, config, CheckFault::Memory)),
         }
@@ -188,19 +188,6 @@ impl Plan {
     }
 }
 
-// The streams that a config gives for a catalogue.
-fn resolved(
-    alloc: Global,
-    catalogue: &Catalogue,
-    config: &Config,
-) -> Result<Few<Stream, 2_097_152>, AllocError>
-    ensures { IfOk result (λ streams. streams ≡ streams_of catalogue.now config.now) }
-{
-    let streams = resolve(alloc, catalogue, config)?;
-    let copies = copy_all(alloc, streams.list())?;
-    Ok(Few::from_items(copies))
-}
-
 // The facts of each instrument.
 fn facts_of(
     alloc: Global,
@@ -222,13 +209,11 @@ fn facts_of(
 }
 
 // The range of each instrument is one of 64-bit numbers, as who reads it learns.
-#[tactic(auto, using(crate::proofs::PlanLaws::ranges_cons))]
 fn ranges_fit(all: &[Facts])
     ensures { RangesFit all.now }
 {
-    if let Some((first, rest)) = all.split_first() {
-        range_fits(first);
-        ranges_fit(rest);
+    for own in all {
+        range_fits(own);
     }
 }
 

@@ -1,6 +1,6 @@
 //! What a catalogue and a config give.
-ghost use Rattle.std.specs.Prelude.{◌≡◌, ◌≤◌, IfOk, length};
-ghost use Rattle.metric_resolve.specs.Resolved.{streams_of};
+ghost use Rattle.std.specs.Prelude.{◌≡◌, ◌≤◌, All, IfOk, length};
+ghost use Rattle.metric_resolve.specs.Resolved.{IsKnown, streams_of};
 ghost use Rattle.metric_resolve.specs.Warnings.{warnings_of};
 
 use crate::collisions::add_collisions;
@@ -68,9 +68,22 @@ pub fn resolve(alloc: Global, catalogue: &Catalogue, config: &Config) -> Result<
     ensures list { IfOk result (λ s. s.list ≡ streams_of catalogue.now config.now) }
     ensures warnings { IfOk result (λ s. s.warnings ≡ warnings_of catalogue.now config.now) }
 {
-    let list = streams_by(alloc, &ByCriteria { catalogue, config })?;
+    let list = resolve_streams(alloc, catalogue, config)?;
     let mut warnings = Items::new(alloc);
     add_unfit(catalogue, config, &mut warnings)?;
     add_collisions(alloc, catalogue, list.as_slice(), &mut warnings)?;
     Ok(Streams { list, warnings })
+}
+
+/// The streams alone, for who asks for no warnings. Fails only where memory is refused.
+pub fn resolve_streams(
+    alloc: Global,
+    catalogue: &Catalogue,
+    config: &Config,
+) -> Result<Few<Stream, 2_097_152>, AllocError>
+    ensures list { IfOk result (λ s. s ≡ streams_of catalogue.now config.now) }
+    ensures few { IfOk result (λ s. length s ≤ 2097152) }
+    ensures known { IfOk result (All (IsKnown catalogue.now)) }
+{
+    streams_by(alloc, &ByCriteria { catalogue, config })
 }
