@@ -1,22 +1,25 @@
 -- What the bytes of facts begin with determines each field, and so the bytes determine the facts.
-use Rattle.std.proofs.Common.{◌≡◌, ℕ, zero, suc, ◌+◌, ◌*◌, ◌/◌, ◌%◌, ◌<◌, ◌≤◌, ℤ, pos, negsuc, Bool, true, false, cond, List, [], ◌∷◌, ◌++◌, length, Option, Some, None, nat_lt, refl, sym, ap, subst, ◌∙◌, append_assoc, int_lt, unsigned_abs, true≢false, pred, arith}
+use Rattle.std.proofs.Common.{◌≡◌, ℕ, zero, suc, ◌+◌, ◌*◌, ◌/◌, ◌%◌, ◌≤◌, ℤ, pos, negsuc, Bool, true, false, cond, List, [], ◌∷◌, ◌++◌, length, Option, Some, None, nat_lt, refl, sym, ap, subst, ◌∙◌, append_assoc, int_lt, unsigned_abs, true≢false, pred, ◌&&◌, add-one, arith}
 use Rattle.std.specs.Bool.{Decides}
+use Rattle.std.specs.Cmp.{signed_Decides}
+use Rattle.std.specs.Cmp.Lexicographic.{pointwise}
+use Rattle.std.specs.Ordering.{int_eq}
+use Rattle.std.specs.Prelude.{find}
 use Rattle.std.specs.Str.{bytes_eq}
-use Rattle.std.proofs.lemmas.Bool.{ltb-true, ltb-false, lt-ltb, le-ltb}
+use Rattle.std.proofs.lemmas.Bool.{and_parts, ltb-true, ltb-false, le-ltb}
 use Rattle.std.proofs.lemmas.Nat.{div-add-mod'}
-use Rattle.std.proofs.lemmas.Slice.Eq.{bytes_eq-Decides}
+use Rattle.std.proofs.lemmas.Slice.Eq.{bytes_eq-Decides, slice_eq-Decides}
 use Rattle.metric_catalogue.specs.declared.contents.Kind.{Kind}
 use Rattle.metric_catalogue.specs.declared.contents.Kind.TheVariants.{Counter, UpDownCounter, Histogram, Gauge}
 use Rattle.metric_views.specs.declared.choices.Temporality.{Temporality}
 use Rattle.metric_views.specs.declared.choices.Temporality.TheVariants.{Delta, Cumulative}
-use Rattle.metric_views.specs.declared.stream.Stream.{Stream}
 use Rattle.metric_views.specs.declared.stream.StreamAggregation.{StreamAggregation}
 use Rattle.metric_views.specs.declared.stream.StreamAggregation.TheVariants as aggregations
 use Rattle.metric_facts.specs.declared.facts.FactsFields.{FactsFields}
 use Rattle.metric_facts.specs.declared.facts.KeyFacts.{KeyFacts}
 use Rattle.metric_facts.specs.declared.facts.NumberedStream.{NumberedStream}
 use Rattle.metric_facts.specs.Facts.{is_delta_temporality}
-use Rattle.metric_facts.specs.Flat.{groups, flat_number, flag_number, flat_flag, flat_signed, flat_each, flat_list, flat_text, flat_text_after, flat_key, flat_view, kind_number, flat_aggregation, Texts, texts_of, no_texts, flat_texts_after, flat_stream, flat_streams, flat_facts, facts_eq}
+use Rattle.metric_facts.specs.Flat.{groups, flat_number, flag_number, flat_flag, flat_signed, flat_each, flat_list, flat_text, flat_key, view_number, kind_number, aggregation_number, boundaries_of, Details, details_of, is_same_details, flat_details, repeats, flat_details_after, is_of_view, last_of_view, flat_stream, flat_streams, flat_facts, facts_eq}
 
 -- the front of a list determines the value
 abbrev Reads : {X : Type 0} → (X → List ℕ) → Type 0
@@ -152,27 +155,26 @@ same_length (x ∷ xs) (y ∷ ys) r s long e =
 text : Reads flat_text
 text = after_length (λ (xs : List ℕ). xs) same_length
 
-text_after : (before : List ℕ) → Reads (flat_text_after before)
-text_after before x y r s e = at (bytes_eq before x) (bytes_eq before y) refl refl e
-  where
-    at : (p q : Bool) → bytes_eq before x ≡ p → bytes_eq before y ≡ q → cond p (0 ∷ []) (1 ∷ flat_text x) ++ r ≡ cond q (0 ∷ []) (1 ∷ flat_text y) ++ s → (x ≡ y) × (r ≡ s)
-    at true true is_x is_y e = (sym ((bytes_eq-Decides before x).0 is_x) ∙ (bytes_eq-Decides before y).0 is_y, (heads 0 0 r s e).1)
-    at true false is_x is_y e = absurd (omega (arith, (heads 0 1 r (flat_text y ++ s) e).0))
-    at false true is_x is_y e = absurd (omega (arith, (heads 1 0 (flat_text x ++ r) s e).0))
-    at false false is_x is_y e = text x y r s (heads 1 1 (flat_text x ++ r) (flat_text y ++ s) e).1
-
 key : Reads flat_key
 unfolding pair
 key = by_parts (pair flat_number flat_flag) (λ (k : KeyFacts). (k.values, k.optional)) (both flat_number flat_flag number flag)
     (λ x y e. ap (λ (p : ℕ × Bool). record { values = p.0; optional = p.1 }) e)
 
+view_of : ℕ → Option ℕ
+view_of zero = None
+view_of (suc view) = Some view
+
+view_back : (v : Option ℕ) → view_of (view_number v) ≡ v
+unfolding view_of
+view_back None = refl
+view_back (Some view) = ap view_of (add-one view)
+
+flat_view : Option ℕ → List ℕ
+flat_view v = flat_number (view_number v)
+
 view : Reads flat_view
-view None None r s e = (refl, (heads 0 0 r s e).1)
-view None (Some n) r s e = absurd (omega (arith, (heads 0 1 r (flat_number n ++ s) e).0))
-view (Some m) None r s e = absurd (omega (arith, (heads 1 0 (flat_number m ++ r) s e).0))
-view (Some m) (Some n) r s e =
-    let a : (m ≡ n) × (r ≡ s) = number m n r s (heads 1 1 (flat_number m ++ r) (flat_number n ++ s) e).1 in
-    (ap (λ (n : ℕ). Some n) a.0, a.1)
+unfolding flat_view
+view = by_parts flat_number view_number number (λ x y e. sym (view_back x) ∙ ap view_of e ∙ view_back y)
 
 kind_of : ℕ → Kind
 kind_of zero = Counter
@@ -199,39 +201,26 @@ temporality_same Cumulative Cumulative e = refl
 temporality : Reads (λ (t : Temporality). flat_flag (is_delta_temporality t))
 temporality = by_parts flat_flag is_delta_temporality flag temporality_same
 
--- what is read after the tag of an aggregation
-aggregation : Reads flat_aggregation
-aggregation aggregations.Sum aggregations.Sum r s e = (refl, (heads 0 0 r s e).1)
-aggregation aggregations.Sum aggregations.LastValue r s e = absurd (omega (arith, (heads 0 1 r s e).0))
-aggregation aggregations.Sum (aggregations.Histogram b) r s e = absurd (omega (arith, (heads 0 2 r (flat_list flat_signed b ++ s) e).0))
-aggregation aggregations.LastValue aggregations.Sum r s e = absurd (omega (arith, (heads 1 0 r s e).0))
-aggregation aggregations.LastValue aggregations.LastValue r s e = (refl, (heads 1 1 r s e).1)
-aggregation aggregations.LastValue (aggregations.Histogram b) r s e = absurd (omega (arith, (heads 1 2 r (flat_list flat_signed b ++ s) e).0))
-aggregation (aggregations.Histogram a) aggregations.Sum r s e = absurd (omega (arith, (heads 2 0 (flat_list flat_signed a ++ r) s e).0))
-aggregation (aggregations.Histogram a) aggregations.LastValue r s e = absurd (omega (arith, (heads 2 1 (flat_list flat_signed a ++ r) s e).0))
-aggregation (aggregations.Histogram a) (aggregations.Histogram b) r s e =
-    let found : (a ≡ b) × (r ≡ s) = listed flat_signed signed a b r s (heads 2 2 (flat_list flat_signed a ++ r) (flat_list flat_signed b ++ s) e).1 in
-    (ap (λ (b : List ℤ). aggregations.Histogram b) found.0, found.1)
+aggregation_from : ℕ → List ℤ → StreamAggregation
+aggregation_from zero boundaries = aggregations.Sum
+aggregation_from (suc zero) boundaries = aggregations.LastValue
+aggregation_from (suc (suc n)) boundaries = aggregations.Histogram boundaries
 
-texts_flat : Texts → (List ℕ × List ℕ) × List ℕ → List ℕ
-texts_flat before = pair (pair (flat_text_after before.name) (flat_text_after before.description)) (flat_text_after before.unit)
+aggregation_back : (a : StreamAggregation) → aggregation_from (aggregation_number a) (boundaries_of a) ≡ a
+unfolding aggregation_from
+aggregation_back aggregations.Sum = refl
+aggregation_back aggregations.LastValue = refl
+aggregation_back (aggregations.Histogram boundaries) = refl
 
-texts_read : (before : Texts) → Reads (texts_flat before)
-unfolding texts_flat
-texts_read before = both _ _ (both _ _ (text_after before.name) (text_after before.description)) (text_after before.unit)
-
-texts_after : (before : Texts) → Reads (flat_texts_after before)
-unfolding pair texts_flat
-texts_after before =
-    by_parts (texts_flat before) (λ (t : Texts). ((t.name, t.description), t.unit)) (texts_read before)
-    (λ x y e. ap (λ (p : (List ℕ × List ℕ) × List ℕ). record { name = p.0.0; description = p.0.1; unit = p.1 }) e)
-
--- what a stream has beside its texts, as pairs
+-- what a stream has beside its details, as pairs
 abbrev Settings : Type 0
-Settings = (((ℕ × ℕ) × Option ℕ) × Kind) × (((StreamAggregation × List Bool) × ℕ) × Temporality)
+Settings = (((ℕ × ℕ) × Option ℕ) × Kind) × (((ℕ × List Bool) × ℕ) × Temporality)
 
 flat_kind : Kind → List ℕ
 flat_kind k = kind_number k ∷ []
+
+flat_tag : ℕ → List ℕ
+flat_tag n = n ∷ []
 
 flat_temporality : Temporality → List ℕ
 flat_temporality t = flat_flag (is_delta_temporality t)
@@ -239,65 +228,125 @@ flat_temporality t = flat_flag (is_delta_temporality t)
 settings_flat : Settings → List ℕ
 settings_flat =
     pair (pair (pair (pair flat_number flat_number) flat_view) flat_kind)
-    (pair (pair (pair flat_aggregation (flat_list flat_flag)) flat_number) flat_temporality)
+    (pair (pair (pair flat_tag (flat_list flat_flag)) flat_number) flat_temporality)
 
 kept : Reads (flat_list flat_flag)
 kept = listed flat_flag flag
 
 settings_read : Reads settings_flat
-unfolding settings_flat flat_kind flat_temporality
+unfolding settings_flat flat_kind flat_tag flat_temporality
 settings_read =
-    both _ _ (both _ _ (both _ _ (both _ _ number number) view) kind) (both _ _ (both _ _ (both _ _ aggregation kept) number) temporality)
+    both _ _ (both _ _ (both _ _ (both _ _ number number) view) kind) (both _ _ (both _ _ (both _ _ one kept) number) temporality)
 
-settings_of : Stream → Settings
-settings_of s = ((((s.reader, s.instrument), s.view), s.kind), (((s.aggregation, s.kept), s.limit), s.temporality))
+-- a stream's number and settings
+abbrev Front : Type 0
+Front = ℕ × Settings
 
--- a stream after one with these texts
-abbrev Parts : Type 0
-Parts = (ℕ × Settings) × Texts
+front_flat : Front → List ℕ
+front_flat = pair flat_number settings_flat
 
-parts_of : NumberedStream → Parts
-parts_of n = ((n.number, settings_of n.stream), texts_of n.stream)
+front_read : Reads front_flat
+unfolding front_flat
+front_read = both _ _ number settings_read
 
-stream_of : Parts → NumberedStream
-stream_of p = record {
-  number = p.0.0;
+front_of : NumberedStream → Front
+front_of n =
+    let s = n.stream in
+    (n.number, ((((s.reader, s.instrument), s.view), s.kind), (((aggregation_number s.aggregation, s.kept), s.limit), s.temporality)))
+
+-- the last stream of the same view, as the front tells
+last_for : List NumberedStream → Front → Option NumberedStream
+last_for earlier f = find (is_of_view (view_number f.1.0.0.1)) earlier
+
+abbrev DetailParts : Type 0
+DetailParts = ((List ℕ × List ℕ) × List ℕ) × List ℤ
+
+details_flat : DetailParts → List ℕ
+details_flat = pair (pair (pair flat_text flat_text) flat_text) (flat_list flat_signed)
+
+details_read : Reads details_flat
+unfolding details_flat
+details_read = both _ _ (both _ _ (both _ _ text text) text) (listed flat_signed signed)
+
+details : Reads flat_details
+unfolding pair details_flat
+details =
+    by_parts details_flat (λ (d : Details). (((d.name, d.description), d.unit), d.boundaries)) details_read
+    (λ x y e. ap (λ (p : DetailParts). record { name = p.0.0.0; description = p.0.0.1; unit = p.0.1; boundaries = p.1 }) e)
+
+same_details : (a b : Details) → is_same_details a b ≡ true → a ≡ b
+same_details a b e =
+    let texts = bytes_eq a.name b.name && bytes_eq a.description b.description && bytes_eq a.unit b.unit in
+    let names = bytes_eq a.name b.name && bytes_eq a.description b.description in
+    let all : (texts ≡ true) × (pointwise int_eq a.boundaries b.boundaries ≡ true) = and_parts texts (pointwise int_eq a.boundaries b.boundaries) e in
+    let three : (names ≡ true) × (bytes_eq a.unit b.unit ≡ true) = and_parts names (bytes_eq a.unit b.unit) all.0 in
+    let two : (bytes_eq a.name b.name ≡ true) × (bytes_eq a.description b.description ≡ true) = and_parts (bytes_eq a.name b.name) (bytes_eq a.description b.description) three.0 in
+    let name : a.name ≡ b.name = (bytes_eq-Decides a.name b.name).0 two.0 in
+    let description : a.description ≡ b.description = (bytes_eq-Decides a.description b.description).0 two.1 in
+    let unit : a.unit ≡ b.unit = (bytes_eq-Decides a.unit b.unit).0 three.1 in
+    let boundaries : a.boundaries ≡ b.boundaries = (slice_eq-Decides signed_Decides a.boundaries b.boundaries (pointwise int_eq a.boundaries b.boundaries) refl).0 all.1 in
+    λ i. record { name = name i; description = description i; unit = unit i; boundaries = boundaries i }
+
+repeated : (earlier : Option NumberedStream) (x y : Details) → repeats earlier x ≡ true → repeats earlier y ≡ true → x ≡ y
+repeated None x y is_x is_y = absurd (true≢false (sym is_x))
+repeated (Some n) x y is_x is_y = sym (same_details (details_of n.stream) x is_x) ∙ same_details (details_of n.stream) y is_y
+
+details_after : (earlier : Option NumberedStream) → Reads (flat_details_after earlier)
+details_after earlier x y r s e = at (repeats earlier x) (repeats earlier y) refl refl e
+  where
+    at : (p q : Bool) → repeats earlier x ≡ p → repeats earlier y ≡ q → cond p (0 ∷ []) (1 ∷ flat_details x) ++ r ≡ cond q (0 ∷ []) (1 ∷ flat_details y) ++ s → (x ≡ y) × (r ≡ s)
+    at true true is_x is_y e = (repeated earlier x y is_x is_y, (heads 0 0 r s e).1)
+    at true false is_x is_y e = absurd (omega (arith, (heads 0 1 r (flat_details y ++ s) e).0))
+    at false true is_x is_y e = absurd (omega (arith, (heads 1 0 (flat_details x ++ r) s e).0))
+    at false false is_x is_y e = details x y r s (heads 1 1 (flat_details x ++ r) (flat_details y ++ s) e).1
+
+stream_of : Front → Details → NumberedStream
+stream_of f d = record {
+  number = f.0;
   stream = record {
-    reader = p.0.1.0.0.0.0;
-    instrument = p.0.1.0.0.0.1;
-    view = p.0.1.0.0.1;
-    name = p.1.name;
-    description = p.1.description;
-    unit = p.1.unit;
-    kind = p.0.1.0.1;
-    aggregation = p.0.1.1.0.0.0;
-    kept = p.0.1.1.0.0.1;
-    limit = p.0.1.1.0.1;
-    temporality = p.0.1.1.1;
+    reader = f.1.0.0.0.0;
+    instrument = f.1.0.0.0.1;
+    view = f.1.0.0.1;
+    name = d.name;
+    description = d.description;
+    unit = d.unit;
+    kind = f.1.0.1;
+    aggregation = aggregation_from f.1.1.0.0.0 d.boundaries;
+    kept = f.1.1.0.0.1;
+    limit = f.1.1.0.1;
+    temporality = f.1.1.1;
   };
 }
 
-parts_flat : Texts → Parts → List ℕ
-parts_flat before = pair (pair flat_number settings_flat) (flat_texts_after before)
+stream_back : (n : NumberedStream) → stream_of (front_of n) (details_of n.stream) ≡ n
+unfolding stream_of front_of
+stream_back n =
+    ap (λ (a : StreamAggregation). record { number = n.number; stream = record n.stream { aggregation = a } }) (aggregation_back n.stream.aggregation)
 
-parts_read : (before : Texts) → Reads (parts_flat before)
-unfolding parts_flat
-parts_read before = both _ _ (both _ _ number settings_read) (texts_after before)
+-- The front tells the view, and so which earlier stream the details are compared with.
+stream : (earlier : List NumberedStream) → Reads (λ (n : NumberedStream). flat_stream (last_of_view earlier n) n)
+unfolding pair front_flat settings_flat flat_view flat_kind flat_tag flat_temporality front_of last_for
+stream earlier x y r s e =
+    let rest : NumberedStream → List ℕ = λ n. flat_details_after (last_of_view earlier n) (details_of n.stream) in
+    let a : (front_of x ≡ front_of y) × (rest x ++ r ≡ rest y ++ s) =
+    front_read (front_of x) (front_of y) (rest x ++ r) (rest y ++ s) (sym (append_assoc (front_flat (front_of x)) (rest x) r) ∙ e ∙ append_assoc (front_flat (front_of y)) (rest y) s) in
+    let last : last_of_view earlier x ≡ last_of_view earlier y = ap (last_for earlier) a.0 in
+    let b : (details_of x.stream ≡ details_of y.stream) × (r ≡ s) =
+    details_after (last_of_view earlier y) (details_of x.stream) (details_of y.stream) r s
+    (ap (λ (o : Option NumberedStream). flat_details_after o (details_of x.stream) ++ r) (sym last) ∙ a.1) in
+    (sym (stream_back x) ∙ (λ i. stream_of (a.0 i) (b.0 i)) ∙ stream_back y, b.1)
 
-stream : (before : Texts) → Reads (flat_stream before)
-unfolding pair settings_of parts_of stream_of settings_flat flat_kind flat_temporality parts_flat
-stream before = by_parts (parts_flat before) parts_of (parts_read before) (λ x y e. ap stream_of e)
-
-streams : (before : Texts) (xs ys : List NumberedStream) (r s : List ℕ) → length xs ≡ length ys → flat_streams before xs ++ r ≡ flat_streams before ys ++ s → (xs ≡ ys) × (r ≡ s)
-streams before [] [] r s long e = (refl, e)
-streams before [] (y ∷ ys) r s long e = absurd (omega (arith, long))
-streams before (x ∷ xs) [] r s long e = absurd (omega (arith, long))
-streams before (x ∷ xs) (y ∷ ys) r s long e =
-    let others : NumberedStream → List NumberedStream → List ℕ = λ z zs. flat_streams (texts_of z.stream) zs in
+streams : (earlier xs ys : List NumberedStream) (r s : List ℕ) → length xs ≡ length ys → flat_streams earlier xs ++ r ≡ flat_streams earlier ys ++ s → (xs ≡ ys) × (r ≡ s)
+streams earlier [] [] r s long e = (refl, e)
+streams earlier [] (y ∷ ys) r s long e = absurd (omega (arith, long))
+streams earlier (x ∷ xs) [] r s long e = absurd (omega (arith, long))
+streams earlier (x ∷ xs) (y ∷ ys) r s long e =
+    let first : NumberedStream → List ℕ = λ z. flat_stream (last_of_view earlier z) z in
+    let others : NumberedStream → List NumberedStream → List ℕ = λ z zs. flat_streams (z ∷ earlier) zs in
     let a : (x ≡ y) × (others x xs ++ r ≡ others y ys ++ s) =
-    stream before x y (others x xs ++ r) (others y ys ++ s) (sym (append_assoc (flat_stream before x) (others x xs) r) ∙ e ∙ append_assoc (flat_stream before y) (others y ys) s) in
+    stream earlier x y (others x xs ++ r) (others y ys ++ s) (sym (append_assoc (first x) (others x xs) r) ∙ e ∙ append_assoc (first y) (others y ys) s) in
     let b : (xs ≡ ys) × (r ≡ s) =
-    streams (texts_of x.stream) xs ys r s (omega (arith, long)) (a.1 ∙ ap (λ (z : NumberedStream). others z ys ++ s) (sym a.0)) in
+    streams (x ∷ earlier) xs ys r s (omega (arith, long)) (a.1 ∙ ap (λ (z : NumberedStream). others z ys ++ s) (sym a.0)) in
     (λ i. a.0 i ∷ b.0 i, b.1)
 
 -- the fields of facts, as pairs
@@ -305,11 +354,11 @@ abbrev Fields : Type 0
 Fields = ((((((Bool × ℕ) × List KeyFacts) × ℤ) × ℤ) × List ℕ) × List Bool) × List NumberedStream
 
 flat_counted_streams : List NumberedStream → List ℕ
-flat_counted_streams numbered = flat_number (length numbered) ++ flat_streams no_texts numbered
+flat_counted_streams numbered = flat_number (length numbered) ++ flat_streams [] numbered
 
 counted_streams : Reads flat_counted_streams
 unfolding flat_counted_streams
-counted_streams = after_length (flat_streams no_texts) (streams no_texts)
+counted_streams = after_length (flat_streams []) (streams [])
 
 fields_flat : Fields → List ℕ
 fields_flat =

@@ -1,3 +1,4 @@
 pub mod FactsLaws
 pub mod FlatLaws
 pub mod FullSets
+pub mod WriteLaws

@@ -1,6 +1,8 @@
 -- Facts as one list of bytes. What the list says of each field is found by reading it from the front, so that
 -- equal lists are of equal facts.
-use Rattle.std.specs.Prelude.{ℕ, zero, suc, ◌+◌, ◌/◌, ◌%◌, ℤ, pos, Bool, true, false, if◌then◌else◌, nat_lt, int_lt, unsigned_abs, List, [], ◌∷◌, ◌++◌, length, Option, Some, None}
+use Rattle.std.specs.Prelude.{ℕ, zero, suc, ◌+◌, ◌/◌, ◌%◌, ℤ, pos, Bool, true, false, if◌then◌else◌, nat_lt, int_lt, unsigned_abs, List, [], ◌∷◌, ◌++◌, length, Option, Some, None, ◌&&◌, ◌==◌, find}
+use Rattle.std.specs.Cmp.Lexicographic.{pointwise}
+use Rattle.std.specs.Ordering.{int_eq}
 use Rattle.std.specs.Str.{bytes_eq}
 use Rattle.metric_catalogue.specs.declared.contents.Kind.{Kind}
 use Rattle.metric_catalogue.specs.declared.contents.Kind.TheVariants.{Counter, UpDownCounter, Histogram, Gauge}
@@ -10,7 +12,7 @@ use Rattle.metric_views.specs.declared.stream.StreamAggregation.TheVariants as a
 use Rattle.metric_facts.specs.declared.facts.FactsFields.{FactsFields}
 use Rattle.metric_facts.specs.declared.facts.KeyFacts.{KeyFacts}
 use Rattle.metric_facts.specs.declared.facts.NumberedStream.{NumberedStream}
-use Rattle.metric_facts.specs.declared.flat.StreamTexts.{StreamTexts}
+use Rattle.metric_facts.specs.declared.flat.StreamDetails.{StreamDetails}
 use Rattle.metric_facts.specs.Facts.{is_delta_temporality}
 
 -- a number in groups of seven bits, the lowest first; 128 more says that another follows. The first argument is as
@@ -45,16 +47,13 @@ flat_list flat xs = flat_number (length xs) ++ flat_each flat xs
 abbrev pub flat_text : List ℕ → List ℕ
 flat_text text = flat_number (length text) ++ text
 
--- a text, or that it is the same as the one before
-abbrev pub flat_text_after : List ℕ → List ℕ → List ℕ
-flat_text_after before text = if bytes_eq before text then 0 ∷ [] else 1 ∷ flat_text text
-
 abbrev pub flat_key : KeyFacts → List ℕ
 flat_key key = flat_number key.values ++ flat_flag key.optional
 
-abbrev pub flat_view : Option ℕ → List ℕ
-flat_view None = 0 ∷ []
-flat_view (Some view) = 1 ∷ flat_number view
+-- the number of a view after 1, or 0 for the default
+abbrev pub view_number : Option ℕ → ℕ
+view_number None = 0
+view_number (Some view) = view + 1
 
 abbrev pub kind_number : Kind → ℕ
 kind_number Counter = 0
@@ -62,51 +61,77 @@ kind_number UpDownCounter = 1
 kind_number Histogram = 2
 kind_number Gauge = 3
 
-abbrev pub flat_aggregation : StreamAggregation → List ℕ
-flat_aggregation aggregations.Sum = 0 ∷ []
-flat_aggregation aggregations.LastValue = 1 ∷ []
-flat_aggregation (aggregations.Histogram boundaries) = 2 ∷ flat_list flat_signed boundaries
+abbrev pub aggregation_number : StreamAggregation → ℕ
+aggregation_number aggregations.Sum = 0
+aggregation_number aggregations.LastValue = 1
+aggregation_number (aggregations.Histogram boundaries) = 2
 
--- the name, description and unit of a stream
-pub record Texts : Type 0 where
+-- the boundaries of a histogram
+abbrev pub boundaries_of : StreamAggregation → List ℤ
+boundaries_of aggregations.Sum = []
+boundaries_of aggregations.LastValue = []
+boundaries_of (aggregations.Histogram boundaries) = boundaries
+
+-- the texts and boundaries of a stream, which streams of one view mostly share
+pub record Details : Type 0 where
   pub name : List ℕ
   pub description : List ℕ
   pub unit : List ℕ
+  pub boundaries : List ℤ
 
-abbrev pub texts_of : Stream → Texts
-texts_of s = record { name = s.name; description = s.description; unit = s.unit }
+abbrev pub details_of : Stream → Details
+details_of s = record { name = s.name; description = s.description; unit = s.unit; boundaries = boundaries_of s.aggregation }
 
-abbrev pub texts_seen : StreamTexts → Texts
-texts_seen t = record { name = t.name.now; description = t.description.now; unit = t.unit.now }
+abbrev pub details_seen : StreamDetails → Details
+details_seen d = record { name = d.name.now; description = d.description.now; unit = d.unit.now; boundaries = d.boundaries.now }
 
-abbrev pub no_texts : Texts
-no_texts = record { name = []; description = []; unit = [] }
+abbrev pub is_same_details : Details → Details → Bool
+is_same_details a b =
+    bytes_eq a.name b.name && bytes_eq a.description b.description && bytes_eq a.unit b.unit && pointwise int_eq a.boundaries b.boundaries
 
-abbrev pub flat_texts_after : Texts → Texts → List ℕ
-flat_texts_after before texts =
-    flat_text_after before.name texts.name ++ flat_text_after before.description texts.description ++ flat_text_after before.unit texts.unit
+abbrev pub flat_details : Details → List ℕ
+flat_details d = flat_text d.name ++ flat_text d.description ++ flat_text d.unit ++ flat_list flat_signed d.boundaries
+
+-- whether details are those of an earlier stream
+abbrev pub repeats : Option NumberedStream → Details → Bool
+repeats None d = false
+repeats (Some earlier) d = is_same_details (details_of earlier.stream) d
+
+-- details, or that they are those of an earlier stream
+abbrev pub flat_details_after : Option NumberedStream → Details → List ℕ
+flat_details_after earlier d = if repeats earlier d then 0 ∷ [] else 1 ∷ flat_details d
 
 -- of which reader and instrument a stream is, of which view, and of which kind
 abbrev pub flat_source : Stream → List ℕ
-flat_source s = flat_number s.reader ++ flat_number s.instrument ++ flat_view s.view ++ kind_number s.kind ∷ []
+flat_source s = flat_number s.reader ++ flat_number s.instrument ++ flat_number (view_number s.view) ++ kind_number s.kind ∷ []
 
--- what the points of a stream are, and of which series
+-- how the points of a stream are made, and of which series
 abbrev pub flat_points : Stream → List ℕ
 flat_points s =
-    flat_aggregation s.aggregation ++ flat_list flat_flag s.kept ++ flat_number s.limit ++ flat_flag (is_delta_temporality s.temporality)
+    aggregation_number s.aggregation ∷ [] ++ flat_list flat_flag s.kept ++ flat_number s.limit ++ flat_flag (is_delta_temporality s.temporality)
 
--- what a stream has beside its texts
+-- what a stream has beside its details
 abbrev pub flat_settings : Stream → List ℕ
 flat_settings s = flat_source s ++ flat_points s
 
--- a stream after one with these texts
-abbrev pub flat_stream : Texts → NumberedStream → List ℕ
-flat_stream before numbered = flat_number numbered.number ++ flat_settings numbered.stream ++ flat_texts_after before (texts_of numbered.stream)
+-- whether a stream is of the view of this number, as `view_number` counts
+abbrev pub is_of_view : ℕ → NumberedStream → Bool
+is_of_view view numbered = view_number numbered.stream.view == view
 
--- streams after one with these texts
-abbrev pub flat_streams : Texts → List NumberedStream → List ℕ
-flat_streams before [] = []
-flat_streams before (numbered ∷ streams) = flat_stream before numbered ++ flat_streams (texts_of numbered.stream) streams
+-- a stream after an earlier one
+abbrev pub flat_stream : Option NumberedStream → NumberedStream → List ℕ
+flat_stream earlier numbered =
+    flat_number numbered.number ++ flat_settings numbered.stream ++ flat_details_after earlier (details_of numbered.stream)
+
+-- the last stream of the same view, where the last of all stands first
+abbrev pub last_of_view : List NumberedStream → NumberedStream → Option NumberedStream
+last_of_view earlier numbered = find (is_of_view (view_number numbered.stream.view)) earlier
+
+-- streams, each after the last earlier one of its view; the last of all the earlier ones stands first
+abbrev pub flat_streams : List NumberedStream → List NumberedStream → List ℕ
+flat_streams earlier [] = []
+flat_streams earlier (numbered ∷ streams) =
+    flat_stream (last_of_view earlier numbered) numbered ++ flat_streams (numbered ∷ earlier) streams
 
 -- what an instrument has beside its streams
 abbrev pub flat_instrument : FactsFields → List ℕ
@@ -115,7 +140,7 @@ flat_instrument facts =
     ++ flat_list flat_number facts.budgets ++ flat_list flat_flag facts.delta
 
 abbrev pub flat_facts : FactsFields → List ℕ
-flat_facts facts = flat_instrument facts ++ (flat_number (length facts.streams) ++ flat_streams no_texts facts.streams)
+flat_facts facts = flat_instrument facts ++ (flat_number (length facts.streams) ++ flat_streams [] facts.streams)
 
 -- whether two facts are the same, as their bytes tell
 abbrev pub facts_eq : FactsFields → FactsFields → Bool

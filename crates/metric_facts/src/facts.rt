@@ -1,8 +1,9 @@
 //! What the run of an instrument depends on.
 ghost use Rattle.std.specs.Prelude.{◌≡◌, ◌↔◌, IfOk, IsTrue};
+ghost use Rattle.metric_facts.specs.Flat.{flat_facts};
 
 use crate::flat::flat_facts;
-use metric_base::{Copied, Items};
+use metric_base::{Copied, Items, Shared};
 use metric_views::Stream;
 use std::alloc::{AllocError, Global};
 use std::marker::Model;
@@ -62,15 +63,14 @@ impl Drop for FactsFields {
     }
 }
 
-/// What the run of one instrument depends on. Beside the fields stand their bytes, made once, so that facts are
-/// compared without a walk through lists and texts. A clause sees the fields.
+// Fields with their bytes beside them.
 #[derive(Drop)]
-pub struct Facts {
+struct FlatFields {
     fields: FactsFields,
     bytes: Vec<u8>,
 }
 
-impl Model for Facts {
+impl Model for FlatFields {
     ghost use Rattle.std.specs.Prelude.{◌≡◌};
     ghost use Rattle.metric_facts.specs.declared.facts.FactsFields.{FactsFields};
     ghost use Rattle.metric_facts.specs.Flat.{flat_facts};
@@ -82,13 +82,38 @@ impl Model for Facts {
     ghost invariant = { λ f. f.bytes.items ≡ flat_facts f.fields };
 }
 
+impl FlatFields {
+    fn as_bytes(&self) -> &[u8]
+        ensures { result.now ≡ flat_facts self.now }
+    {
+        self.bytes.as_slice()
+    }
+}
+
+/// What the run of one instrument depends on. Beside the fields stand their bytes, made once, so that facts are
+/// compared without a walk through lists and texts. Both are stored once, however many copies there are. A clause
+/// sees the fields.
+#[derive(Drop)]
+pub struct Facts {
+    shared: Shared<FlatFields>,
+}
+
+impl Model for Facts {
+    ghost use Rattle.metric_facts.specs.declared.facts.FactsFields.{FactsFields};
+
+    ghost Value = { FactsFields };
+
+    ghost view = { λ f. f.shared };
+}
+
 impl Facts {
     /// The facts that fields say. Fails only where memory is refused.
     pub fn new(alloc: Global, fields: FactsFields) -> Result<Facts, AllocError>
         ensures { IfOk result (λ facts. facts ≡ fields) }
     {
         let bytes = flat_facts(alloc, &fields)?;
-        Ok(Facts { fields, bytes })
+        let shared = Shared::new(alloc, FlatFields { fields, bytes })?;
+        Ok(Facts { shared })
     }
 }
 
@@ -100,7 +125,8 @@ impl Deref for Facts {
     ghost deref_gives = { λ facts fields. fields ≡ facts };
 
     fn deref(&self) -> &FactsFields {
-        &self.fields
+        let flat = self.shared.get();
+        &flat.fields
     }
 }
 
@@ -114,7 +140,7 @@ impl PartialEq for Facts {
     ghost laws = { partial_equiv_from_equiv (on_texts_equal flat_facts) };
 
     fn eq(&self, other: &Facts) -> bool {
-        self.bytes.as_slice() == other.bytes.as_slice()
+        self.shared.get().as_bytes() == other.shared.get().as_bytes()
     }
 }
 
@@ -148,39 +174,10 @@ impl FactsFields {
     }
 }
 
-impl Copied for NumberedStream {
-    fn copy(&self, alloc: Global) -> Result<NumberedStream, AllocError> {
-        let stream = self.stream.copy(alloc)?;
-        Ok(NumberedStream {
-            number: self.number,
-            stream,
-        })
-    }
-}
-
-impl Copied for FactsFields {
-    fn copy(&self, alloc: Global) -> Result<FactsFields, AllocError> {
-        let keys = Items::from_vec(self.keys.as_slice().to_vec(alloc)?);
-        let budgets = self.budgets.copy(alloc)?;
-        let delta = Items::from_vec(self.delta.as_slice().to_vec(alloc)?);
-        let streams = self.streams.copy(alloc)?;
-        Ok(FactsFields {
-            certified: self.certified,
-            instrument: self.instrument,
-            keys,
-            lo: self.lo,
-            hi: self.hi,
-            budgets,
-            delta,
-            streams,
-        })
-    }
-}
-
+// One more owner of the same fields, which takes no room.
 impl Copied for Facts {
     fn copy(&self, alloc: Global) -> Result<Facts, AllocError> {
-        let fields = self.fields.copy(alloc)?;
-        let bytes = self.bytes.as_slice().to_vec(alloc)?;
-        Ok(Facts { fields, bytes })
+        let shared = self.shared.copy(alloc)?;
+        Ok(Facts { shared })
     }
 }

@@ -1,8 +1,15 @@
 //! Facts as one list of bytes.
-ghost use Rattle.std.specs.Prelude.{◌≡◌, ◌++◌, ◌∷◌, [], IfOk, OnOk};
+ghost use Rattle.std.specs.Prelude.{◌≡◌, ◌++◌, ◌∷◌, [], IfOk, OnOk, slice_get};
+ghost use Rattle.std.specs.BTreeMap as tree;
+ghost use Rattle.std.specs.Ordering.{nat_cmp};
+ghost use Rattle.std.specs.Option.{option_and_then, option_copied};
 ghost use Rattle.metric_facts.specs.Flat.{
-  Texts,
-  flat_aggregation,
+  aggregation_number,
+  boundaries_of,
+  details_of,
+  details_seen,
+  flat_details,
+  flat_details_after,
   flat_each,
   flat_facts,
   flat_flag,
@@ -14,13 +21,13 @@ ghost use Rattle.metric_facts.specs.Flat.{
   flat_settings,
   flat_signed,
   flat_source,
+  flat_stream,
   flat_streams,
-  flat_text_after,
-  flat_texts_after,
-  flat_view,
+  flat_text,
+  is_same_details,
   kind_number,
-  texts_of,
-  texts_seen,
+  repeats,
+  view_number,
 };
 
 use crate::facts::{FactsFields, KeyFacts, NumberedStream};
@@ -28,6 +35,7 @@ use crate::instruments::is_delta;
 use metric_catalogue::Kind;
 use metric_views::{Stream, StreamAggregation};
 use std::alloc::{AllocError, Global};
+use std::collections::BTreeMap;
 
 // A value that is written as bytes, from which it is read again without a mark of its end.
 trait Flat {
@@ -115,13 +123,10 @@ impl Flat for KeyFacts {
 fn write_each<T: Flat>(bytes: &mut Vec<u8>, values: &[T]) -> Result<(), AllocError>
     ensures { OnOk result (bytes.new.items ≡ bytes.old.items ++ flat_each T.flat values.now) }
 {
-    match values {
-        [] => Ok(()),
-        [first, others @ ..] => {
-            first.write(bytes)?;
-            write_each(bytes, others)
-        }
+    for value in values {
+        value.write(bytes)?;
     }
+    Ok(())
 }
 
 fn write_list<T: Flat>(bytes: &mut Vec<u8>, values: &[T]) -> Result<(), AllocError>
@@ -131,27 +136,20 @@ fn write_list<T: Flat>(bytes: &mut Vec<u8>, values: &[T]) -> Result<(), AllocErr
     write_each(bytes, values)
 }
 
-fn write_text_after(bytes: &mut Vec<u8>, before: &str, text: &str) -> Result<(), AllocError>
-    ensures { OnOk result (bytes.new.items
-        ≡ bytes.old.items ++ flat_text_after before.now text.now) }
+fn write_text(bytes: &mut Vec<u8>, text: &str) -> Result<(), AllocError>
+    ensures { OnOk result (bytes.new.items ≡ bytes.old.items ++ flat_text text.now) }
 {
-    if before == text {
-        return write_byte(bytes, 0);
-    }
-    write_byte(bytes, 1)?;
     write_number(bytes, text.len() as u64)?;
     bytes.extend_from_slice(text.as_bytes())
 }
 
-fn write_view(bytes: &mut Vec<u8>, view: Option<u32>) -> Result<(), AllocError>
-    ensures { OnOk result (bytes.new.items ≡ bytes.old.items ++ flat_view view) }
+// The number of a view after 1, or 0 for the default.
+fn number_of_view(view: Option<u32>) -> u64
+    ensures { result ≡ view_number view }
 {
     match view {
-        None => write_byte(bytes, 0),
-        Some(view) => {
-            write_byte(bytes, 1)?;
-            write_number(bytes, u64::from(view))
-        }
+        None => 0,
+        Some(view) => u64::from(view) + 1,
     }
 }
 
@@ -166,16 +164,23 @@ fn number_of_kind(kind: Kind) -> u8
     }
 }
 
-fn write_aggregation(bytes: &mut Vec<u8>, aggregation: &StreamAggregation) -> Result<(), AllocError>
-    ensures { OnOk result (bytes.new.items ≡ bytes.old.items ++ flat_aggregation aggregation.now) }
+fn number_of_aggregation(aggregation: &StreamAggregation) -> u8
+    ensures { result ≡ aggregation_number aggregation.now }
 {
     match aggregation {
-        StreamAggregation::Sum => write_byte(bytes, 0),
-        StreamAggregation::LastValue => write_byte(bytes, 1),
-        StreamAggregation::Histogram(boundaries) => {
-            write_byte(bytes, 2)?;
-            write_list(bytes, boundaries.get().as_slice())
-        }
+        StreamAggregation::Sum => 0,
+        StreamAggregation::LastValue => 1,
+        StreamAggregation::Histogram(_) => 2,
+    }
+}
+
+// The boundaries of a histogram.
+fn boundaries_of(aggregation: &StreamAggregation) -> &[i64]
+    ensures { result.now ≡ boundaries_of aggregation.now }
+{
+    match aggregation {
+        StreamAggregation::Sum | StreamAggregation::LastValue => &[],
+        StreamAggregation::Histogram(boundaries) => boundaries.get().as_slice(),
     }
 }
 
@@ -185,21 +190,21 @@ fn write_source(bytes: &mut Vec<u8>, stream: &Stream) -> Result<(), AllocError>
 {
     write_number(bytes, u64::from(stream.reader))?;
     write_number(bytes, u64::from(stream.instrument))?;
-    write_view(bytes, stream.view)?;
+    write_number(bytes, number_of_view(stream.view))?;
     write_byte(bytes, number_of_kind(stream.kind))
 }
 
-// Writes what the points of a stream are, and of which series.
+// Writes how the points of a stream are made, and of which series.
 fn write_points(bytes: &mut Vec<u8>, stream: &Stream) -> Result<(), AllocError>
     ensures { OnOk result (bytes.new.items ≡ bytes.old.items ++ flat_points stream.now) }
 {
-    write_aggregation(bytes, &stream.aggregation)?;
+    write_byte(bytes, number_of_aggregation(&stream.aggregation))?;
     write_list(bytes, stream.kept.get().as_slice())?;
     write_number(bytes, u64::from(stream.limit))?;
     write_flag(bytes, is_delta(stream.temporality))
 }
 
-// Writes what a stream has beside its texts.
+// Writes what a stream has beside its details.
 fn write_settings(bytes: &mut Vec<u8>, stream: &Stream) -> Result<(), AllocError>
     ensures { OnOk result (bytes.new.items ≡ bytes.old.items ++ flat_settings stream.now) }
 {
@@ -207,55 +212,114 @@ fn write_settings(bytes: &mut Vec<u8>, stream: &Stream) -> Result<(), AllocError
     write_points(bytes, stream)
 }
 
-// The name, description and unit of a stream.
+// The texts and boundaries of a stream, which streams of one view mostly share.
 #[derive(Clone, Copy)]
-struct StreamTexts<'a> {
+struct StreamDetails<'a> {
     name: &'a str,
     description: &'a str,
     unit: &'a str,
+    boundaries: &'a [i64],
 }
 
-fn texts_of(stream: &Stream) -> StreamTexts<'_>
-    ensures { texts_seen result ≡ texts_of stream.now }
+fn details_of(stream: &Stream) -> StreamDetails<'_>
+    ensures { details_seen result ≡ details_of stream.now }
 {
-    StreamTexts {
+    StreamDetails {
         name: stream.name.get().as_str(),
         description: stream.description.get().as_str(),
         unit: stream.unit.get().as_str(),
+        boundaries: boundaries_of(&stream.aggregation),
     }
 }
 
-fn write_texts_after(
+fn is_same_details(a: &StreamDetails<'_>, b: &StreamDetails<'_>) -> bool
+    ensures { result ≡ is_same_details (details_seen a.now) (details_seen b.now) }
+{
+    a.name == b.name
+        && a.description == b.description
+        && a.unit == b.unit
+        && a.boundaries == b.boundaries
+}
+
+fn write_details(bytes: &mut Vec<u8>, details: &StreamDetails<'_>) -> Result<(), AllocError>
+    ensures { OnOk result (
+        bytes.new.items ≡ bytes.old.items ++ flat_details (details_seen details.now)) }
+{
+    write_text(bytes, details.name)?;
+    write_text(bytes, details.description)?;
+    write_text(bytes, details.unit)?;
+    write_list(bytes, details.boundaries)
+}
+
+// Whether the details of a stream are those of an earlier one.
+fn repeats(earlier: Option<&NumberedStream>, details: &StreamDetails<'_>) -> bool
+    ensures { result ≡ repeats (option_copied earlier.entry) (details_seen details.now) }
+{
+    match earlier {
+        None => false,
+        Some(earlier) => is_same_details(&details_of(&earlier.stream), details),
+    }
+}
+
+// Writes the details of a stream, or that they are those of an earlier one.
+fn write_details_after(
     bytes: &mut Vec<u8>,
-    before: &StreamTexts<'_>,
-    texts: &StreamTexts<'_>,
+    earlier: Option<&NumberedStream>,
+    stream: &Stream,
 ) -> Result<(), AllocError>
     ensures { OnOk result (bytes.new.items
-        ≡ bytes.old.items ++ flat_texts_after (texts_seen before.now) (texts_seen texts.now)) }
+        ≡ bytes.old.items ++ flat_details_after (option_copied earlier.entry) (details_of stream.now)) }
 {
-    write_text_after(bytes, before.name, texts.name)?;
-    write_text_after(bytes, before.description, texts.description)?;
-    write_text_after(bytes, before.unit, texts.unit)
+    let details = details_of(stream);
+    if repeats(earlier, &details) {
+        return write_byte(bytes, 0);
+    }
+    write_byte(bytes, 1)?;
+    write_details(bytes, &details)
 }
 
-fn write_streams(
+// Writes a stream after an earlier one of its view, if there is one.
+fn write_stream(
     bytes: &mut Vec<u8>,
-    before: &StreamTexts<'_>,
+    earlier: Option<&NumberedStream>,
+    numbered: &NumberedStream,
+) -> Result<(), AllocError>
+    ensures { OnOk result (bytes.new.items
+        ≡ bytes.old.items ++ flat_stream (option_copied earlier.entry) numbered.now) }
+{
+    write_number(bytes, u64::from(numbered.number))?;
+    write_settings(bytes, &numbered.stream)?;
+    write_details_after(bytes, earlier, &numbered.stream)
+}
+
+// The stream at the place that a map has for a view.
+fn last_of<'a>(
+    streams: &'a [NumberedStream],
+    places: &BTreeMap<u64, usize>,
+    view: u64,
+) -> Option<&'a NumberedStream>
+    ensures { option_copied result
+        ≡ option_and_then (slice_get streams.now) (tree.get nat_cmp places.now view) }
+{
+    let place = places.get(&view)?;
+    streams.get(*place)
+}
+
+// Writes streams, each after the last of its view, whose place the map has.
+fn write_streams(
+    alloc: Global,
+    bytes: &mut Vec<u8>,
     streams: &[NumberedStream],
 ) -> Result<(), AllocError>
-    ensures { OnOk result (
-        bytes.new.items ≡ bytes.old.items ++ flat_streams (texts_seen before.now) streams.now) }
+    ensures { OnOk result (bytes.new.items ≡ bytes.old.items ++ flat_streams [] streams.now) }
 {
-    match streams {
-        [] => Ok(()),
-        [first, others @ ..] => {
-            let texts = texts_of(&first.stream);
-            write_number(bytes, u64::from(first.number))?;
-            write_settings(bytes, &first.stream)?;
-            write_texts_after(bytes, before, &texts)?;
-            write_streams(bytes, &texts, others)
-        }
+    let mut places = BTreeMap::new(alloc);
+    for (place, numbered) in streams.iter().enumerate() {
+        let view = number_of_view(numbered.stream.view);
+        write_stream(bytes, last_of(streams, &places, view), numbered)?;
+        places.insert(view, place)?;
     }
+    Ok(())
 }
 
 // Writes what an instrument has beside its streams.
@@ -279,11 +343,6 @@ pub fn flat_facts(alloc: Global, facts: &FactsFields) -> Result<Vec<u8>, AllocEr
     write_instrument(&mut bytes, facts)?;
     let streams = facts.streams.as_slice();
     write_number(&mut bytes, streams.len() as u64)?;
-    let none = StreamTexts {
-        name: "",
-        description: "",
-        unit: "",
-    };
-    write_streams(&mut bytes, &none, streams)?;
+    write_streams(alloc, &mut bytes, streams)?;
     Ok(bytes)
 }
