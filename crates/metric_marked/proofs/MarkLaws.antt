@@ -37,18 +37,6 @@ marked_begins tables facts all = record {
   low = λ reader. omega (arith, no_mark (length facts.delta) reader);
 }
 
--- a recording that each table took
-pub marked_takes : (b : MarkedValue) (tables : List StreamTable) (entry : Entry) (facts : Facts) (journal : List Entry) (marks : List ℕ) → StandsMarked b facts journal marks
-    → TakesAll b.tables tables entry → StandsMarked (record b { tables = tables; count = b.count + 1 }) facts (journal ++ entry ∷ []) marks
-marked_takes b tables entry facts journal marks s takes = record {
-  tables = stands-same tables facts.streams (λ reader. windows_of facts journal marks reader ++ entry ∷ []) (windows_of facts (journal ++ entry ∷ []) marks)
-      (λ reader. sym (window-push (is_delta facts reader) (slice_index marks reader) journal entry (s.low reader)))
-      (takes facts.streams (windows_of facts journal marks) s.tables);
-  delta = s.delta;
-  mark = s.mark;
-  count = omega (arith, s.count, length_push journal entry);
-  one_each = s.one_each;
-  low = λ reader. omega (arith, s.low reader, length_push journal entry);
 }
 
 mark_own : (marks : List ℕ) (reader x : ℕ) → reader < length marks → slice_index (slice_set marks reader x) reader ≡ x

@@ -8,7 +8,8 @@ use Rattle.metric_facts.specs.declared.facts.NumberedStream.{NumberedStream}
 use Rattle.metric_facts.specs.Facts.{is_delta, is_of_reader}
 use Rattle.metric_history.specs.Points.{stream_points, with_points}
 use Rattle.metric_history.specs.Windows.{fits_stream, window}
-use Rattle.metric_series.specs.SeriesTables.{Stands}
+use Rattle.metric_series.specs.Calls.{Standing}
+use Rattle.metric_series.specs.SeriesTables.{series_tables}
 use Rattle.metric_series.specs.declared.fault.SeriesFault.{SeriesFault}
 use Rattle.metric_series.specs.declared.fault.SeriesFault.TheVariants.{SumRange}
 use Rattle.metric_marked.specs.declared.stream_table.StreamTable.{StreamTable}
@@ -20,11 +21,15 @@ pub record MarkedValue : Type 0 where
   pub marks : List ℕ
   pub count : ℕ
 
+-- for which streams and windows a table stands
+abbrev pub TableStands : StreamTable → Standing
+TableStands t = series_tables.stands t.table
+
 -- the table is that of a stream, and stands for a window
 pub record StandsFor (t : StreamTable) (s : NumberedStream) (window : List Entry) : Type 0 where
   pub number : t.number ≡ s.number
   pub reader : t.reader ≡ s.stream.reader
-  pub stands : Stands t.table s.stream window
+  pub stands : TableStands t s.stream window
 
 -- each table stands for the window of its reader
 abbrev pub StandAll : List StreamTable → List NumberedStream → (ℕ → List Entry) → Type 0

@@ -7,7 +7,7 @@ use crate::stream_table::StreamTable;
 use metric_base::Items;
 use metric_facts::NumberedStream;
 use metric_history::{Entry, StreamPoints};
-use metric_series::{SeriesFault, SeriesTable};
+use metric_series::{SeriesFault, SeriesTable, Table};
 use std::alloc::{AllocError, Global};
 
 /// The tables of streams without recordings, whose set keys are hashed with the seed.
@@ -35,7 +35,7 @@ fn all_fit(tables: &[StreamTable], entry: &Entry) -> bool
 {
     match tables.split_first() {
         None => true,
-        Some((first, rest)) => first.table.fits(entry.set, entry.value) && all_fit(rest, entry),
+        Some((first, rest)) => first.table.fits(&entry.set, entry.value) && all_fit(rest, entry),
     }
 }
 
@@ -60,7 +60,7 @@ pub(crate) fn push_all(tables: &mut [StreamTable], entry: &Entry) -> Result<(), 
     let Some((first, rest)) = tables.split_first_mut() else {
         return Ok(());
     };
-    let place = match first.table.ready(entry.set, entry.value) {
+    let place = match first.table.ready(&entry.set, entry.value) {
         Ok(place) => place,
         Err(fault) => return Err(weightier(fault, all_fit(rest, entry))),
     };

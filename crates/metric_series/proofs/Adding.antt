@@ -23,16 +23,13 @@ use Rattle.metric_history.specs.Series.{has, held, rows, series, place_found}
 use Rattle.metric_history.specs.SeriesLaws.{same_key, key_is_same}
 use Rattle.metric_history.specs.Windows.{fits_stream}
 use Rattle.metric_series.specs.Ready.{Adds}
-use Rattle.metric_series.specs.Tables.{Table, HasRows, StandsTable}
+use Rattle.metric_series.specs.Tables.{HasRows, StandsTable, TableValue}
 use Rattle.metric_series.proofs.LongerWindow.{held-known, held-full, held-new, place_found_is, fits_where_found, values_where_found, rows-other, rows-new, rest-known, rest-room, rest-new}
 
 has_flipped : (key : List ℕ) (keys : List (List ℕ)) → list_any (bytes_eq key) keys ≡ has keys key
 has_flipped key [] = refl
 has_flipped key (k ∷ keys) =
     ap (λ (b : Bool). b || list_any (bytes_eq key) keys) (nat_list_eq_equiv.symm key k) ∙ ap (λ (b : Bool). bytes_eq k key || b) (has_flipped key keys)
-
-is_some_of : {X : Type 0} (o : Option X) (x : X) → o ≡ Some x → is_some o ≡ true
-is_some_of o x e = ap is_some e
 
 -- one value alone is in range
 pub one_in_range : (kind : Aggregation) (value : ℤ) → SFits w64 value → in_range kind (value ∷ []) ≡ true
@@ -83,7 +80,7 @@ module _ {A : Type 0} (by : aggregate.Ghosts A) where
       ∙ sym (law (values (rows s window place)) entry.value had.stands)
 
   -- a table of no series stands for no recordings
-  pub stands_for_none : (t : Table A) (s : Stream) → t.series ≡ [] → t.kept ≡ s.kept → t.limit ≡ s.limit → by.aggregation t.overflow ≡ stream_aggregation s → by.stands t.overflow []
+  pub stands_for_none : (t : TableValue A) (s : Stream) → t.series ≡ [] → t.kept ≡ s.kept → t.limit ≡ s.limit → by.aggregation t.overflow ≡ stream_aggregation s → by.stands t.overflow []
       → StandsTable by t s []
   stands_for_none t s empty kept limit aggregation stands = record {
     kept = kept;
@@ -97,7 +94,7 @@ module _ {A : Type 0} (by : aggregate.Ghosts A) where
       none_taken zero = refl
       none_taken (suc n) = refl
 
-  module _ (t : Table A) (s : Stream) (window : List Entry) (entry : Entry) (key : List ℕ) (own : key ≡ series s.kept entry) (known : StandsTable by t s window) where
+  module _ (t : TableValue A) (s : Stream) (window : List Entry) (entry : Entry) (key : List ℕ) (own : key ≡ series s.kept entry) (known : StandsTable by t s window) where
     held_at : (b : Bool) → is_some (lookup (bytes_eq key) t.series) ≡ b → has (held s window) (series s.kept entry) ≡ b
     held_at b e = ap (has (held s window)) (sym own) ∙ ap (λ (keys : List (List ℕ)). has keys key) (sym known.held) ∙ sym (lookup-held key t.series) ∙ e
 

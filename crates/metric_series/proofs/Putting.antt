@@ -9,16 +9,16 @@ use Rattle.metric_aggregate.specs.Range.{in_range}
 use Rattle.metric_history.specs.Series.{restricted, series}
 use Rattle.metric_series.specs.Calls.{TakesRecording, entry_of}
 use Rattle.metric_series.specs.Ready.{Adds, AddsAt, FitsAt, IsReadyTable}
-use Rattle.metric_series.specs.Tables.{Table, StandsTable}
+use Rattle.metric_series.specs.Tables.{StandsTable, TableValue}
 use Rattle.metric_series.specs.declared.place.Place.TheVariants.{Held, New, Overflow}
 use Rattle.metric_series.proofs.Adding.{held_stands, new_stands, one_in_range, rest_stands}
 use Rattle.metric_series.proofs.Placing.{found_at, found_last, written_at, written_last}
 
-module _ {A : Type 0} (by : aggregate.Ghosts A) (old now : Table A) (set : List ℕ) (value : ℤ) where
+module _ {A : Type 0} (by : aggregate.Ghosts A) (old now : TableValue A) (set : List ℕ) (value : ℤ) where
   module _ (index : ℕ) (r : IsReadyTable by old now set value (Held index)) where
     held_found : slice_get (values_of now.series) index ≡ Some r.falls.aggregate
     held_found =
-        ap (λ (t : Table A). slice_get (values_of t.series) index) r.prepared
+        ap (λ (t : TableValue A). slice_get (values_of t.series) index) r.prepared
         ∙ found_at (bytes_eq (restricted old.kept set)) old.series index r.falls.place
         ∙ r.falls.found
 
@@ -32,8 +32,8 @@ module _ {A : Type 0} (by : aggregate.Ghosts A) (old now : Table A) (set : List 
         let own : key ≡ series s.kept (entry_of recorder set value) = ap (λ (kept : List Bool). restricted kept set) known.kept in
         let at : lookup (bytes_eq key) old.series ≡ Some adds.before = r.falls.found ∙ sym held_found ∙ adds.found in
         let is : entries ≡ set_value (bytes_eq key) old.series adds.after =
-        adds.written ∙ ap (λ (t : Table A). set_value_at t.series index adds.after) r.prepared ∙ written_at (bytes_eq key) old.series index adds.after r.falls.place in
-        subst (λ (t : Table A). StandsTable by (record t { series = entries }) s (window ++ entry_of recorder set value ∷ [])) (sym r.prepared)
+        adds.written ∙ ap (λ (t : TableValue A). set_value_at t.series index adds.after) r.prepared ∙ written_at (bytes_eq key) old.series index adds.after r.falls.place in
+        subst (λ (t : TableValue A). StandsTable by (record t { series = entries }) s (window ++ entry_of recorder set value ∷ [])) (sym r.prepared)
         (held_stands by old s window (entry_of recorder set value) key own known adds.before at adds.after entries adds.adds is)
 
   module _ (index : ℕ) (r : IsReadyTable by old now set value (New index)) where
@@ -60,7 +60,7 @@ module _ {A : Type 0} (by : aggregate.Ghosts A) (old now : Table A) (set : List 
         ∙ ap (λ (es : List (List ℕ × A)). set_value_at es index adds.after) r.prepared.0.last
         ∙ ap (λ (i : ℕ). set_value_at (old.series ++ (key, empty) ∷ []) i adds.after) r.falls.place
         ∙ written_last old.series key empty adds.after in
-        subst (λ (t : Table A). StandsTable by (record t { series = entries }) s (window ++ entry_of recorder set value ∷ [])) (sym r.prepared.1)
+        subst (λ (t : TableValue A). StandsTable by (record t { series = entries }) s (window ++ entry_of recorder set value ∷ [])) (sym r.prepared.1)
         (new_stands by old s window (entry_of recorder set value) key own known r.falls.absent r.falls.room empty adds.after entries r.prepared.0.aggregation r.prepared.0.stands begun is)
       where
         at_some : Option A → Type 0
@@ -72,6 +72,6 @@ module _ {A : Type 0} (by : aggregate.Ghosts A) (old now : Table A) (set : List 
   rest_put r after adds = λ s window recorder known.
       let key : List ℕ = restricted old.kept set in
       let own : key ≡ series s.kept (entry_of recorder set value) = ap (λ (kept : List Bool). restricted kept set) known.kept in
-      let its : Adds by old.overflow after value = subst (λ (t : Table A). Adds by t.overflow after value) r.prepared adds in
-      subst (λ (t : Table A). StandsTable by (record t { overflow = after }) s (window ++ entry_of recorder set value ∷ [])) (sym r.prepared)
+      let its : Adds by old.overflow after value = subst (λ (t : TableValue A). Adds by t.overflow after value) r.prepared adds in
+      subst (λ (t : TableValue A). StandsTable by (record t { overflow = after }) s (window ++ entry_of recorder set value ∷ [])) (sym r.prepared)
       (rest_stands by old s window (entry_of recorder set value) key own known r.falls.absent r.falls.full after old.series its refl)

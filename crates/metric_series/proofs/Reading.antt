@@ -18,7 +18,7 @@ use Rattle.metric_history.specs.Series.{all_series, belongs, distinct, has, held
 use Rattle.metric_history.specs.SeriesLaws.{has-distinct, has_all_series}
 use Rattle.metric_views.specs.declared.stream.Stream.{Stream}
 use Rattle.metric_series.specs.Calls.{point_of}
-use Rattle.metric_series.specs.Tables.{Table, StandsTable}
+use Rattle.metric_series.specs.Tables.{StandsTable, TableValue}
 
 none_passes : (p : Entry → Bool) (entries : List Entry) → (length (filter p entries) == 0) ≡ not (list_any p entries)
 none_passes p [] = refl
@@ -58,7 +58,7 @@ perhaps_point kind place [] false e = refl
 perhaps_point kind place (x ∷ xs) true e = refl
 perhaps_point kind place (x ∷ xs) false e = absurd (true≢false (sym e ∙ ne_eqb (length (x ∷ xs)) 0 (λ h. omega (arith, h))))
 
-module _ {A : Type 0} (by : aggregate.Ghosts A) (t : Table A) (s : Stream) (window : List Entry) (known : StandsTable by t s window) where
+module _ {A : Type 0} (by : aggregate.Ghosts A) (t : TableValue A) (s : Stream) (window : List Entry) (known : StandsTable by t s window) where
   -- what the aggregate of a held series gives is its point
   pub point_is : (key : List ℕ) (a : A) (found : Option Point) → has (keys_of t.series) key ≡ true → lookup (bytes_eq key) t.series ≡ Some a
       → ((added : List ℤ) → by.stands a added → found ≡ point_of (by.aggregation a) (Some key) added) → found ≡ Some (point s window (Some key))

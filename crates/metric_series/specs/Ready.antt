@@ -5,32 +5,32 @@ use Rattle.std.specs.Map.{keys_of, values_of, lookup}
 use Rattle.std.specs.Str.{bytes_eq}
 use Rattle.metric_aggregate.specs.declared.aggregate.Aggregate as aggregate
 use Rattle.metric_history.specs.Series.{restricted}
-use Rattle.metric_series.specs.Tables.{Table}
+use Rattle.metric_series.specs.Tables.{TableValue}
 use Rattle.metric_series.specs.declared.place.Place.{Place}
 use Rattle.metric_series.specs.declared.place.Place.TheVariants.{Held, New, Overflow}
 
 module _ {A : Type 0} (by : aggregate.Ghosts A) where
   -- the series of a key is held at an index, and a value fits there
-  pub record IsHeld (t : Table A) (key : List ℕ) (value : ℤ) (index : ℕ) : Type 0 where
+  pub record IsHeld (t : TableValue A) (key : List ℕ) (value : ℤ) (index : ℕ) : Type 0 where
     pub aggregate : A
     pub found : lookup (bytes_eq key) t.series ≡ Some aggregate
     pub place : position (bytes_eq key) (keys_of t.series) ≡ Some index
     pub fits : by.fits aggregate value ≡ true
 
   -- it is not held, and will be the next
-  pub record IsNext (t : Table A) (key : List ℕ) (index : ℕ) : Type 0 where
+  pub record IsNext (t : TableValue A) (key : List ℕ) (index : ℕ) : Type 0 where
     pub absent : lookup (bytes_eq key) t.series ≡ None
     pub room : length t.series < t.limit
     pub place : index ≡ length t.series
 
   -- it is not held, and no place is left; the value fits in the overflow series
-  pub record IsRest (t : Table A) (key : List ℕ) (value : ℤ) : Type 0 where
+  pub record IsRest (t : TableValue A) (key : List ℕ) (value : ℤ) : Type 0 where
     pub absent : lookup (bytes_eq key) t.series ≡ None
     pub full : t.limit ≤ length t.series
     pub fits : by.fits t.overflow value ≡ true
 
   -- where a value of the series of a key falls
-  abbrev pub IsPlace : Table A → List ℕ → ℤ → Place → Type 0
+  abbrev pub IsPlace : TableValue A → List ℕ → ℤ → Place → Type 0
   IsPlace t key value (Held index) = IsHeld t key value index
   IsPlace t key value (New index) = IsNext t key index
   IsPlace t key value Overflow = IsRest t key value
@@ -43,13 +43,13 @@ module _ {A : Type 0} (by : aggregate.Ghosts A) where
     pub last : new ≡ old ++ (key, empty) ∷ []
 
   -- what was put in for a value at a place
-  abbrev pub Prepares : Table A → Table A → List ℕ → Place → Type 0
+  abbrev pub Prepares : TableValue A → TableValue A → List ℕ → Place → Type 0
   Prepares old new key (Held index) = new ≡ old
   Prepares old new key (New index) = PutsEmpty old.series new.series key old.overflow × (new ≡ record old { series = new.series })
   Prepares old new key Overflow = new ≡ old
 
   -- the new table is the old one, made ready for a value of a set
-  pub record IsReadyTable (old new : Table A) (set : List ℕ) (value : ℤ) (place : Place) : Type 0 where
+  pub record IsReadyTable (old new : TableValue A) (set : List ℕ) (value : ℤ) (place : Place) : Type 0 where
     pub falls : IsPlace old (restricted old.kept set) value place
     pub prepared : Prepares old new (restricted old.kept set) place
 

@@ -1,30 +1,45 @@
--- For which recordings a table of a stream stands, and when it is ready for a value.
+-- For which recordings a table stands that is of one of three kinds, and when it is ready for a value.
 use Rattle.std.specs.Prelude.{ℕ, ℤ, List}
-use Rattle.metric_aggregate.specs.contracts.sum.SumAggAggregate.TheImpl as sums
-use Rattle.metric_aggregate.specs.contracts.last.LastAggAggregate.TheImpl as last_values
-use Rattle.metric_aggregate.specs.contracts.buckets.BucketAggAggregate.TheImpl as histograms
+use Rattle.metric_aggregate.specs.BucketAgg.{Histogram as Buckets}
+use Rattle.metric_aggregate.specs.contracts.buckets.BucketAggAggregate.TheImpl as of_buckets
+use Rattle.metric_aggregate.specs.contracts.last.LastAggAggregate.TheImpl as of_last
+use Rattle.metric_aggregate.specs.contracts.sum.SumAggAggregate.TheImpl as of_sum
+use Rattle.metric_aggregate.specs.declared.aggregate.Aggregate as aggregate
+use Rattle.metric_aggregate.specs.declared.last.LastAgg.{LastAgg}
+use Rattle.metric_aggregate.specs.declared.sum.SumAgg.{SumAgg}
 use Rattle.metric_history.specs.declared.entry.Entry.{Entry}
 use Rattle.metric_series.specs.declared.place.Place.{Place}
-use Rattle.metric_series.specs.declared.series_table.SeriesTable.{SeriesTable}
-use Rattle.metric_series.specs.declared.series_table.SeriesTable.TheVariants.{Sum, LastValue, Histogram}
+use Rattle.metric_series.specs.declared.series_table.ByAggregation.{ByAggregation}
+use Rattle.metric_series.specs.declared.series_table.ByAggregation.TheVariants.{Sum, LastValue, Histogram}
+use Rattle.metric_series.specs.declared.table.Table as table
 use Rattle.metric_series.specs.Ready.{IsReadyTable}
-use Rattle.metric_series.specs.Tables.{StandsTable}
+use Rattle.metric_series.specs.Tables.{StandsTable, TableValue}
 use Rattle.metric_views.specs.declared.stream.Stream.{Stream}
 
--- the table keeps the numbers of the recordings of the window in a stream
-abbrev pub Stands : SeriesTable → Stream → List Entry → Type 0
-Stands (Sum table) s window = StandsTable sums.ghosts table s window
-Stands (LastValue table) s window = StandsTable last_values.ghosts table s window
-Stands (Histogram table) s window = StandsTable histograms.ghosts table s window
+module _ {S L H : Type 0} (sums : table.Ghosts S) (last_values : table.Ghosts L) (histograms : table.Ghosts H) where
+  -- the table keeps the numbers of the recordings of the window in a stream
+  abbrev pub Stands : ByAggregation S L H → Stream → List Entry → Type 0
+  Stands (Sum t) s window = sums.stands t s window
+  Stands (LastValue t) s window = last_values.stands t s window
+  Stands (Histogram t) s window = histograms.stands t s window
 
--- the new table is the old one, made ready for a value of a set
-abbrev pub IsReady : SeriesTable → SeriesTable → List ℕ → ℤ → Place → Type 0
-IsReady (Sum old) (Sum new) set value place = IsReadyTable sums.ghosts old new set value place
-IsReady (Sum old) (LastValue new) set value place = ⊥
-IsReady (Sum old) (Histogram new) set value place = ⊥
-IsReady (LastValue old) (Sum new) set value place = ⊥
-IsReady (LastValue old) (LastValue new) set value place = IsReadyTable last_values.ghosts old new set value place
-IsReady (LastValue old) (Histogram new) set value place = ⊥
-IsReady (Histogram old) (Sum new) set value place = ⊥
-IsReady (Histogram old) (LastValue new) set value place = ⊥
-IsReady (Histogram old) (Histogram new) set value place = IsReadyTable histograms.ghosts old new set value place
+  -- the new table is the old one, made ready for a value of a set; so it is of the kind that it was
+  abbrev pub IsReady : ByAggregation S L H → ByAggregation S L H → List ℕ → ℤ → Place → Type 0
+  IsReady (Sum old) (Sum new) set value place = sums.is_ready old new set value place
+  IsReady (LastValue old) (LastValue new) set value place = last_values.is_ready old new set value place
+  IsReady (Histogram old) (Histogram new) set value place = histograms.is_ready old new set value place
+  IsReady old new set value place = ⊥
+
+  abbrev pub by_aggregation : table.Ghosts (ByAggregation S L H)
+  by_aggregation = record { stands = Stands; is_ready = IsReady }
+
+-- the tables whose series are found by hash
+abbrev pub hashed : {A : Type 0} → aggregate.Ghosts A → table.Ghosts (TableValue A)
+hashed by = record { stands = StandsTable by; is_ready = IsReadyTable by }
+
+-- a `SeriesTable`, and what is known of it
+abbrev pub SeriesValue : Type 0
+SeriesValue = ByAggregation (TableValue SumAgg) (TableValue LastAgg) (TableValue Buckets)
+
+abbrev pub series_tables : table.Ghosts SeriesValue
+series_tables = by_aggregation (hashed of_sum.ghosts) (hashed of_last.ghosts) (hashed of_buckets.ghosts)

@@ -10,7 +10,7 @@ use Rattle.metric_views.specs.declared.stream.Stream.{Stream}
 use Rattle.metric_history.specs.Series.{held, rows}
 
 -- a table whose values are aggregated by `A`
-pub record Table (A : Type 0) : Type 0 where
+pub record TableValue (A : Type 0) : Type 0 where
   -- whether each declared key is kept
   pub kept : List Bool
   -- the cardinality limit
@@ -27,7 +27,7 @@ module _ {A : Type 0} (by : aggregate.Ghosts A) where
     pub stands : by.stands a (values (rows s window place))
 
   -- a table keeps the numbers of the recordings of the window in a stream
-  pub record StandsTable (t : Table A) (s : Stream) (window : List Entry) : Type 0 where
+  pub record StandsTable (t : TableValue A) (s : Stream) (window : List Entry) : Type 0 where
     pub kept : t.kept ≡ s.kept
     pub limit : t.limit ≡ s.limit
     pub held : keys_of t.series ≡ held s window

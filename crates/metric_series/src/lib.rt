@@ -2,10 +2,12 @@
 //!
 //! A table stands for every list of recordings from which its numbers come. What it reports is what
 //! `metric_history` defines of such a list: the first distinct series up to the cardinality limit, and one
-//! overflow point for all other recordings.
+//! overflow point for all other recordings. Code that serves each kind of table alike is generic over [`Table`],
+//! whose contract says all of this.
 #![tactic(auto)]
 
 mod fault;
+mod hashed;
 mod key;
 mod place;
 mod seeded;
@@ -13,6 +15,7 @@ mod series_table;
 mod table;
 
 pub use fault::SeriesFault;
+pub use hashed::TableOf;
 pub use place::Place;
-pub use series_table::SeriesTable;
-pub use table::TableOf;
+pub use series_table::{ByAggregation, SeriesTable};
+pub use table::Table;

@@ -1,160 +1,58 @@
-//! A table of series whose values are aggregated alike.
-ghost use Rattle.std.specs.Prelude.{◌≡◌, ℕ, ℤ, true, List, [], ◌++◌, None, Some, OnOk, OnErr, IfOk, IfSome, is_some};
-ghost use Rattle.std.specs.Option.{option_to_list};
-ghost use Rattle.std.specs.Map.{keys_of, lookup};
-ghost use Rattle.std.specs.Str.{bytes_eq};
-ghost use Rattle.metric_history.specs.Aggregations.{stream_aggregation};
-ghost use Rattle.metric_history.specs.Points.{ascending as in_order};
+//! What each table of series does.
+ghost use Rattle.std.specs.Prelude.{◌≡◌, ℕ, ℤ, List, OnOk, OnErr, IfOk};
+ghost use Rattle.metric_history.specs.declared.entry.Entry.{Entry};
+ghost use Rattle.metric_series.specs.Calls.{ForgetsAll, JudgesRange, JudgesValue, ReportsPoints, TakesRecording};
+ghost use Rattle.metric_series.specs.declared.place.Place.{Place as places};
 ghost use Rattle.metric_views.specs.declared.stream.Stream.{Stream};
-ghost use Rattle.metric_history.specs.Series.{has, restricted};
-ghost use Rattle.metric_series.specs.Calls.{ForgetsAll, JudgesRange, JudgesSeries, JudgesValue, ReportsPoint, ReportsPoints, TakesRecording, point_of as point_by};
-ghost use Rattle.metric_series.specs.Ready.{AddsAt, FitsAt, IsPlace, IsReadyTable, PutsEmpty};
-ghost use Rattle.metric_series.specs.Tables.{StandsTable, Table};
 
 use crate::fault::SeriesFault;
-use crate::key::SeriesKey;
 use crate::place::Place;
-use crate::seeded::Seeded;
-use indexmap::IndexMap;
-use metric_aggregate::Aggregate;
-use metric_base::{Few, Shared};
 use metric_catalogue::SetKey;
-use metric_history::{Point, restrict};
+use metric_history::Point;
 use std::alloc::{AllocError, Global};
-use std::marker::Model;
 
-/// The series of a stream whose values are aggregated by `A`. A clause sees the flags of the kept keys, the
-/// cardinality limit, the aggregates of the held series in the order in which they came first, and the
-/// aggregate of the overflow series.
-pub struct TableOf<A: Aggregate> {
-    alloc: Global,
-    kept: Shared<Few<bool, 8>>,
-    limit: u32,
-    series: IndexMap<SeriesKey, A, Seeded>,
-    overflow: A,
-}
+/// The series of a stream, each with its running value (Metrics SDK, aggregation and cardinality limits).
+///
+/// A table may stand for several lists of recordings, since it keeps their numbers only; each of its calls does
+/// what it says for all of them.
+pub trait Table: Drop {
+    // The table keeps the numbers of these recordings in this stream.
+    ghost stands: { Self → Stream → List Entry → Type 0 };
 
-impl<A: Aggregate> Drop for TableOf<A> {
-    // A call of its own, so that what owns a table does not carry the steps of dropping each part.
-    fn drop(self) {
-        let TableOf {
-            alloc: _,
-            kept: _kept,
-            limit: _,
-            series: _series,
-            overflow: _overflow,
-        } = self;
-    }
-}
-
-impl<A: Aggregate> Model for TableOf<A> {
-    ghost use Rattle.metric_series.specs.Tables.{Table};
-
-    ghost Value = { Table A };
-
-    ghost view = { λ t. record { kept = t.kept; limit = t.limit; series = t.series.entries; overflow = t.overflow } };
-}
-
-impl<A: Aggregate> TableOf<A> {
-    /// A table of no series, where the keys with these flags are kept and so many series are held. The
-    /// empty aggregator is that of the overflow series, and makes those of all others. Keys are hashed with the
-    /// seed.
-    pub(crate) fn new(
-        alloc: Global,
-        seed: u64,
-        kept: Shared<Few<bool, 8>>,
-        limit: u32,
-        overflow: A,
-    ) -> TableOf<A>
-        ensures { (s : Stream) → kept ≡ s.kept → limit ≡ s.limit
-            → A.aggregation overflow ≡ stream_aggregation s → A.stands overflow []
-            → StandsTable A.Aggregate result s [] }
-    {
-        TableOf {
-            alloc,
-            kept,
-            limit,
-            series: IndexMap::with_hasher(alloc, Seeded::new(seed)),
-            overflow,
-        }
-    }
-
-    // The key of the series of a set.
-    fn key(&self, set: &SetKey) -> SeriesKey
-        ensures { result ≡ restricted self.now.kept set.now }
-    {
-        SeriesKey::new(restrict(self.kept.get().as_slice(), set))
-    }
-
-    // Where a value of a series falls; none where the series there would leave its range with it.
-    fn find(&self, key: &SeriesKey, value: i64) -> Option<Place>
-        ensures in_range { JudgesSeries (StandsTable A.Aggregate self.now) key.now value
-            (is_some result) }
-        ensures place { IfSome result (IsPlace A.Aggregate self.now key.now value) }
-    {
-        if let Some((index, _, aggregate)) = self.series.get_full(key) {
-            return fitting(aggregate, value, Place::Held(index));
-        }
-        let count = self.series.len();
-        if count < self.limit as usize {
-            return Some(Place::New(count));
-        }
-        fitting(&self.overflow, value, Place::Overflow)
-    }
+    // The second table is the first one, made ready for a value of a set that falls to a place.
+    ghost is_ready: { Self → Self → List ℕ → ℤ → places → Type 0 };
 
     /// Whether the series into which a value falls stays in range with it.
-    pub fn fits(&self, set: &SetKey, value: i64) -> bool
-        ensures { JudgesValue (StandsTable A.Aggregate self.now) set.now value result }
-    {
-        self.find(&self.key(set), value).is_some()
-    }
+    fn fits(&self, set: &SetKey, value: i64) -> bool
+        ensures { JudgesValue (stands self.now) set.now value result };
 
-    /// Finds the place of a value, and puts an empty aggregate there where it is new, so that `put` can not fail.
-    pub fn ready(&mut self, set: &SetKey, value: i64) -> Result<Place, SeriesFault>
-        ensures in_range { JudgesRange (StandsTable A.Aggregate self.old) set.now value result }
-        ensures ok { IfOk result (IsReadyTable A.Aggregate self.old self.new set.now value) }
-        ensures err { OnErr result (self.new ≡ self.old) }
-    {
-        let key = self.key(set);
-        let place = self.find(&key, value).ok_or(SeriesFault::SumRange)?;
-        if let Place::New(_) = place {
-            put_empty(&mut self.series, key, self.alloc, &self.overflow)?;
-        }
-        Ok(place)
-    }
+    /// Takes all memory that a value of a set will need, and answers where the value falls: an empty aggregate is
+    /// put in for a series that is new and will be held. The table then stands for no recordings, until
+    /// [`put`](Table::put), which can not fail, or [`unready`](Table::unready). `SumRange` comes exactly where the
+    /// series into which the value falls would leave its range. Refused, the table is as it was.
+    fn ready(&mut self, set: &SetKey, value: i64) -> Result<Place, SeriesFault>
+        ensures in_range { JudgesRange (stands self.old) set.now value result }
+        ensures ok { IfOk result (is_ready self.old self.new set.now value) }
+        ensures err { OnErr result (self.new ≡ self.old) };
 
-    /// Adds the value for which the table is ready.
-    pub fn put(&mut self, place: Place, value: i64)
-        requires { (old : Table A) × (set : List ℕ) ×
-            IsReadyTable A.Aggregate old self.old set value place }
-        ensures { (old : Table A) (set : List ℕ)
-            → IsReadyTable A.Aggregate old self.old set value place
-            → TakesRecording (StandsTable A.Aggregate old) (StandsTable A.Aggregate self.new)
-            set value }
-    {
-        match place {
-            Place::Held(index) => add_at(&mut self.series, index, value),
-            Place::New(index) => add_at(&mut self.series, index, value),
-            Place::Overflow => self.overflow.add(value),
-        }
-    }
+    /// Adds the value for which the table was made ready, at its place. Takes no memory.
+    fn put(&mut self, place: Place, value: i64)
+        requires { (old : Self) × (set : List ℕ) × is_ready old self.old set value place }
+        ensures { (old : Self) (set : List ℕ) → is_ready old self.old set value place
+            → TakesRecording (stands old) (stands self.new) set value };
 
-    /// Takes the empty aggregate out again, where one was put in.
-    pub fn unready(&mut self, place: Place)
-        ensures { (old : Table A) (set : List ℕ) (value : ℤ)
-            → IsReadyTable A.Aggregate old self.old set value place → self.new ≡ old }
-    {
-        if let Place::New(_) = place {
-            self.series.pop();
-        }
-    }
+    /// Takes the empty aggregate out again that was put in for a value, so that the table is what it was before.
+    fn unready(&mut self, place: Place)
+        ensures { (old : Self) (set : List ℕ) (value : ℤ)
+            → is_ready old self.old set value place → self.new ≡ old };
 
-    /// Adds a value to the series of a set.
-    pub fn add(&mut self, set: &SetKey, value: i64) -> Result<(), SeriesFault>
-        ensures in_range { JudgesRange (StandsTable A.Aggregate self.old) set.now value result }
+    /// Adds a value to the series of a set: to the series of the kept keys' values where it is held or a place
+    /// is left, else to the overflow series. `SumRange` comes exactly where that series would leave its
+    /// range. A refused value changes nothing, and a value of a held series takes no memory.
+    final fn add(&mut self, set: &SetKey, value: i64) -> Result<(), SeriesFault>
+        ensures in_range { JudgesRange (stands self.old) set.now value result }
         ensures stands { OnOk result
-            (TakesRecording (StandsTable A.Aggregate self.old) (StandsTable A.Aggregate self.new)
-            set.now value) }
+            (TakesRecording (stands self.old) (stands self.new) set.now value) }
         ensures err { OnErr result (self.new ≡ self.old) }
     {
         let place = self.ready(set, value)?;
@@ -162,111 +60,12 @@ impl<A: Aggregate> TableOf<A> {
         Ok(())
     }
 
-    /// Forgets all values. Takes no memory.
-    pub fn reset(&mut self)
-        ensures { ForgetsAll (StandsTable A.Aggregate self.old) (StandsTable A.Aggregate self.new) }
-    {
-        self.series.clear();
-        self.overflow.reset();
-    }
-
-    // The point of a held series; none where its aggregate is empty.
-    fn point(&self, alloc: Global, key: &SeriesKey) -> Result<Option<Point>, AllocError>
-        requires { has (keys_of self.now.series) key.now ≡ true }
-        ensures { IfOk result (ReportsPoint (StandsTable A.Aggregate self.now) key.now) }
-    {
-        let aggregate = self.series.get(key).unwrap();
-        point_of(alloc, Some(key.set()), aggregate)
-    }
+    /// Forgets all recordings. Takes no memory.
+    fn reset(&mut self)
+        ensures { ForgetsAll (stands self.old) (stands self.new) };
 
     /// The points of the held series in ascending order of their set keys, then the overflow point where some
-    /// value fell into the overflow series (Metrics SDK, cardinality limits). Fails only where memory is refused.
-    pub fn points(&self, alloc: Global) -> Result<Vec<Point>, AllocError>
-        ensures { IfOk result (λ points.
-            ReportsPoints (StandsTable A.Aggregate self.now) points.items) }
-    {
-        let keys = ascending(alloc, &self.series)?;
-        let mut points = Vec::with_capacity(alloc, keys.len() + 1)?;
-        for key in &keys {
-            push_point(&mut points, self.point(alloc, key)?)?;
-        }
-        push_point(&mut points, point_of(alloc, None, &self.overflow)?)?;
-        Ok(points)
-    }
-}
-
-// The keys of series in ascending order.
-fn ascending<A: Aggregate>(
-    alloc: Global,
-    series: &IndexMap<SeriesKey, A, Seeded>,
-) -> Result<Vec<SeriesKey>, AllocError>
-    ensures { IfOk result (λ keys. keys.items ≡ in_order (keys_of series.now.entries)) }
-{
-    let mut keys: Vec<SeriesKey> = series.keys().copied().collect(alloc)?;
-    keys.sort()?;
-    Ok(keys)
-}
-
-// The point that an aggregate gives; none where it is empty.
-fn point_of<A: Aggregate>(
-    alloc: Global,
-    set: Option<SetKey>,
-    aggregate: &A,
-) -> Result<Option<Point>, AllocError>
-    ensures { IfOk result (λ point. (added : List ℤ) → A.stands aggregate.now added
-        → point ≡ point_by (A.aggregation aggregate.now) set added) }
-{
-    if aggregate.is_empty() {
-        return Ok(None);
-    }
-    let value = aggregate.read(alloc)?;
-    Ok(Some(Point { set, value }))
-}
-
-// Puts a point last, where there is one.
-fn push_point(points: &mut Vec<Point>, point: Option<Point>) -> Result<(), AllocError>
-    ensures { OnOk result (points.new.items ≡ points.old.items ++ option_to_list point) }
-{
-    if let Some(point) = point {
-        points.push(point)?;
-    }
-    Ok(())
-}
-
-// The place, where the aggregate there stays in range with the value.
-fn fitting<A: Aggregate>(aggregate: &A, value: i64, place: Place) -> Option<Place>
-    ensures in_range { A.fits aggregate.now value ≡ is_some result }
-    ensures place { IfSome result (λ found. found ≡ place) }
-{
-    if aggregate.fits(value) {
-        Some(place)
-    } else {
-        None
-    }
-}
-
-// Puts an empty aggregate last, of a series that is not there. The one that is given makes it.
-fn put_empty<A: Aggregate>(
-    series: &mut IndexMap<SeriesKey, A, Seeded>,
-    key: SeriesKey,
-    alloc: Global,
-    like: &A,
-) -> Result<(), AllocError>
-    requires { lookup (bytes_eq key) series.old.entries ≡ None }
-    ensures ok { OnOk result
-        (PutsEmpty A.Aggregate series.old.entries series.new.entries key like.now) }
-    ensures err { OnErr result (series.new.entries ≡ series.old.entries) }
-{
-    let empty = like.another(alloc)?;
-    series.insert(key, empty)?;
-    Ok(())
-}
-
-// Adds a value to the series at an index, where it fits.
-fn add_at<A: Aggregate>(series: &mut IndexMap<SeriesKey, A, Seeded>, index: usize, value: i64)
-    requires { FitsAt A.Aggregate series.old.entries index value }
-    ensures { AddsAt A.Aggregate series.old.entries series.new.entries index value }
-{
-    let aggregate = series.get_index_mut(index).unwrap();
-    aggregate.add(value);
+    /// value fell into the overflow series. Fails only where memory is refused.
+    fn points(&self, alloc: Global) -> Result<Vec<Point>, AllocError>
+        ensures { IfOk result (λ points. ReportsPoints (stands self.now) points.items) };
 }

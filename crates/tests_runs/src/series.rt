@@ -1,7 +1,7 @@
 //! Tables of series: which are held, the order of their points, the overflow point, and what is put back or emptied.
 use crate::equal::assert_equal;
 use crate::plans::plan_of;
-use metric_series::SeriesTable;
+use metric_series::{SeriesTable, Table};
 use metric_views::Stream;
 use std::alloc::Global;
 use std::test::Fail;
@@ -75,14 +75,14 @@ fn write_added(
     value: i64,
 ) -> Result<(), Fail> {
     let set = [entry, 0, 0, 0, 0, 0, 0, 0];
-    match table.ready(set, value) {
+    match table.ready(&set, value) {
         Ok(place) if value % 2 == 0 => {
             table.put(place, value);
             Ok(write!(out, "{place:?};")?)
         }
         Ok(place) => {
             table.unready(place);
-            table.add(set, value)?;
+            table.add(&set, value)?;
             Ok(write!(out, "{place:?};")?)
         }
         Err(fault) => Ok(write!(out, "{fault:?};")?),

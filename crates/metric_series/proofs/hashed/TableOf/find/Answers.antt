@@ -7,7 +7,7 @@ use Rattle.metric_series.specs.Ready.{IsPlace}
 use Rattle.metric_series.specs.Tables.{StandsTable}
 use Rattle.metric_series.proofs.Adding.{held_fits, new_fits, rest_fits}
 use Rattle.metric_series.proofs.Placing.{placed}
-use Rattle.metric_series.proofs.table.TableOf.find.Goals as goal
+use Rattle.metric_series.proofs.hashed.TableOf.find.Goals as goal
 
 pub returns-in-Some-clause-in_range : goal.returns-in-Some-clause-in_range
 returns-in-Some-clause-in_range g c = λ s window entry stands own same.

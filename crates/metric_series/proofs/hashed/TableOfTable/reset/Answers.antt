@@ -1,5 +1,5 @@
 use Rattle.std.proofs.Common.{rules}
-use Rattle.metric_series.proofs.table.TableOf.reset.Goals as goal
+use Rattle.metric_series.proofs.hashed.TableOfTable.reset.Goals as goal
 
 pub returns : goal.returns
 returns g c = search rules

@@ -1,6 +1,6 @@
 -- no series yet
 use Rattle.metric_series.proofs.Adding.{stands_for_none}
-use Rattle.metric_series.proofs.table.TableOf.new.Goals as goal
+use Rattle.metric_series.proofs.hashed.TableOf.new.Goals as goal
 
 pub returns : goal.returns
 returns g c = λ s kept limit aggregation stands. stands_for_none g.A.Aggregate _ s c.with_hasher.ensures.empty kept limit aggregation stands

@@ -5,7 +5,7 @@ use Rattle.std.specs.Map.{keys_of}
 use Rattle.std.specs.Str.{bytes_eq}
 use Rattle.metric_history.specs.Points.{ascending}
 use Rattle.metric_series.proofs.Sorting.{sorted_once}
-use Rattle.metric_series.proofs.table.ascending.Goals as goal
+use Rattle.metric_series.proofs.hashed.ascending.Goals as goal
 
 pub returns : goal.returns
 returns g c =

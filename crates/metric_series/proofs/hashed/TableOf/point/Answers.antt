@@ -8,7 +8,7 @@ use Rattle.metric_history.specs.Series.{has}
 use Rattle.metric_series.specs.Calls.{point_of as point_by}
 use Rattle.metric_series.proofs.Adding.{lookup-held}
 use Rattle.metric_series.proofs.Reading.{point_is}
-use Rattle.metric_series.proofs.table.TableOf.point.Goals as goal
+use Rattle.metric_series.proofs.hashed.TableOf.point.Goals as goal
 
 is_some-option_copied : {X : Type 0} (o : Option (Bor X)) → is_some (option_copied o) ≡ is_some o
 is_some-option_copied None = refl

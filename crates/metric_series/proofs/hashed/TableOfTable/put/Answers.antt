@@ -4,7 +4,7 @@ use Rattle.std.proofs.lemmas.Int.{to_z-of_z}
 use Rattle.metric_series.specs.Ready.{Adds, AddsAt, FitsAt, IsReadyTable}
 use Rattle.metric_series.specs.declared.place.Place.TheVariants.{Held, New, Overflow}
 use Rattle.metric_series.proofs.Putting.{held_fits_at, held_put, new_fits_at, new_put, rest_put}
-use Rattle.metric_series.proofs.table.TableOf.put.Goals as goal
+use Rattle.metric_series.proofs.hashed.TableOfTable.put.Goals as goal
 
 pub add_at-requires : goal.add_at-requires
 add_at-requires g c =

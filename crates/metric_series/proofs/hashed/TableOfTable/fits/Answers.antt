@@ -3,7 +3,7 @@ use Rattle.std.proofs.Common.{sym, ap, ◌∙◌, rules, w64, SFits}
 use Rattle.std.proofs.lemmas.Int.{to_z-of_z}
 use Rattle.metric_history.specs.Series.{restricted}
 use Rattle.metric_series.specs.Calls.{entry_of}
-use Rattle.metric_series.proofs.table.TableOf.fits.Goals as goal
+use Rattle.metric_series.proofs.hashed.TableOfTable.fits.Goals as goal
 
 pub returns : goal.returns
 returns g c = λ s window recorder stands.

@@ -7,7 +7,7 @@ use Rattle.metric_history.specs.Points.{ascending, point}
 use Rattle.metric_history.specs.Series.{has}
 use Rattle.metric_series.specs.Calls.{point_of as point_by}
 use Rattle.metric_series.proofs.Reading.{points_are}
-use Rattle.metric_series.proofs.table.TableOf.points.Goals as goal
+use Rattle.metric_series.proofs.hashed.TableOfTable.points.Goals as goal
 
 pub point-requires : goal.point-requires
 point-requires g c =
