@@ -186,14 +186,13 @@ new_kept stands facts start book begins budgeted = record {
   high = omega (arith, ints);
 }
 
--- The same by equations.
-pub has_left : (made budgets : List ℕ) (recorder : ℕ) (b : Bool) (given allowed : List ℕ) → given ≡ made → allowed ≡ budgets
-    → b ≡ nat_lt (slice_index given recorder) (slice_index allowed recorder) → b ≡ true → slice_index made recorder < slice_index budgets recorder
-has_left made budgets recorder b given allowed is_made is_budget is holds =
-    let before : nat_lt (slice_index given recorder) (slice_index allowed recorder) ≡ true = sym is ∙ holds in
+-- the test of what is left, where the budgets are given
+pub has_left : (made budgets : List ℕ) (recorder : ℕ) (b : Bool) (given : List ℕ) → given ≡ budgets
+    → b ≡ nat_lt (slice_index made recorder) (slice_index given recorder) → b ≡ true → slice_index made recorder < slice_index budgets recorder
+has_left made budgets recorder b given is_budget is holds =
+    let before : nat_lt (slice_index made recorder) (slice_index given recorder) ≡ true = sym is ∙ holds in
     ltb-true (slice_index made recorder) (slice_index budgets recorder)
-    (subst (λ (xs : List ℕ). nat_lt (slice_index xs recorder) (slice_index budgets recorder) ≡ true) is_made
-    (subst (λ (ys : List ℕ). nat_lt (slice_index given recorder) (slice_index ys recorder) ≡ true) is_budget before))
+    (subst (λ (xs : List ℕ). nat_lt (slice_index made recorder) (slice_index xs recorder) ≡ true) is_budget before)
 
 -- what was taken keeps each series in range
 pub fits_taken : (fits : Bool) → MayAnswer fits (Ok tt) → fits ≡ true

@@ -4,7 +4,7 @@ use Rattle.std.specs.Prelude.{slice_index, sum}
 use Rattle.std.proofs.lemmas.List.Sums.{sum_by-cons}
 use Rattle.metric_book.specs.Journals.{Standing}
 use Rattle.metric_core.specs.Cells.{CellKept, CellValue}
-use Rattle.metric_safety.specs.SafeFacts.{total}
+use Rattle.metric_safety.specs.SafeFacts.{IsJournal, total}
 
 sum-cons : (x : ℕ) (xs : List ℕ) → sum (x ∷ xs) ≡ x + sum xs
 sum-cons x xs = sum_by-cons (λ n. n) x xs
@@ -29,6 +29,13 @@ sum_less (x ∷ xs) (y ∷ ys) (suc i) long within less =
 -- how many recordings there are, at most
 pub kept_within : {B : Type 0} (stands : B → Standing) (c : CellValue B) → CellKept stands c → c.count ≤ total c.facts
 kept_within stands c k = omega (arith, k.counted, sum_le c.spent c.facts.budgets k.one_budget_each k.within)
+
+-- its recordings are within its budgets
+pub kept_journal : {B : Type 0} (stands : B → Standing) (c : CellValue B) (k : CellKept stands c) → IsJournal c.facts k.journal
+kept_journal stands c k = record {
+  admitted = k.admitted;
+  budgeted = omega (arith, k.known.counted, kept_within stands c k);
+}
 
 -- a recorder with recordings left leaves room for one more
 pub has_room : {B : Type 0} (stands : B → Standing) (c : CellValue B) (recorder : ℕ) → CellKept stands c

@@ -1,10 +1,10 @@
 //! The state of one instrument.
-ghost use Rattle.std.specs.Prelude.{◌≡◌, ◌≤◌, ◌<◌, ◌+◌, ◌-◌, ◌^◌, pos, neg_ℤ, ◌+ℤ◌, ◌≤ℤ◌, Some, [], true, length, nat_lt, replicate, slice_get, slice_index, slice_set, sum, vec_len, IfOk, IfErr, OnOk, OnErr};
+ghost use Rattle.std.specs.Prelude.{◌≡◌, ◌≤◌, ◌<◌, ◌-◌, ◌^◌, pos, neg_ℤ, ◌+ℤ◌, ◌≤ℤ◌, Some, [], true, length, slice_get, slice_index, sum, IfOk, IfErr, OnOk, OnErr};
 ghost use Rattle.metric_core.specs.Cells.{CellKept, CellStands, new_cell};
 ghost use Rattle.metric_core.specs.CellAnswers.{AnswersClose, AnswersRecording, GainsEntry, KeepsJournal, ReportsBatch, entry_of, with_batch, with_entry};
-ghost use Rattle.metric_book.specs.Journals.{no_marks};
 ghost use Rattle.metric_facts.specs.Facts.{in_bounds, is_full_set};
 
+use crate::budgets::Budgets;
 use metric_base::Copied;
 use metric_book::Book;
 use metric_catalogue::{Refusal, SetKey};
@@ -24,7 +24,7 @@ pub struct Cell<B: Book> {
     start: u64,
     marks: Vec<u64>,
     times: Vec<u64>,
-    spent: Vec<u64>,
+    budgets: Budgets,
     count: u64,
     total: i128,
     is_closed: bool,
@@ -39,7 +39,7 @@ impl<B: Book> Drop for Cell<B> {
             start: _,
             marks: _marks,
             times: _times,
-            spent: _spent,
+            budgets: _budgets,
             count: _,
             total: _,
             is_closed: _,
@@ -58,7 +58,7 @@ impl<B: Book> Model for Cell<B> {
       start = c.start;
       marks = c.marks.items;
       times = c.times.items;
-      spent = c.spent.items;
+      spent = c.budgets.spent.items;
       count = c.count;
       total = c.total;
       is_closed = c.is_closed;
@@ -70,7 +70,7 @@ impl<B: Book> Model for Cell<B> {
       start = c.start;
       marks = c.marks.items;
       times = c.times.items;
-      spent = c.spent.items;
+      spent = c.budgets.spent.items;
       count = c.count;
       total = c.total;
       is_closed = c.is_closed;
@@ -112,14 +112,16 @@ impl<B: Book> Cell<B> {
     {
         let facts = plan.facts(instrument).copy(alloc)?;
         let book = B::new(alloc, plan, instrument, seed)?;
-        let counters = Counters::new(alloc, &facts, start)?;
+        let marks = vec![in alloc; 0; facts.delta.len()]?;
+        let times = vec![in alloc; start; facts.delta.len()]?;
+        let budgets = Budgets::new(alloc, facts.budgets.len())?;
         Ok(Cell {
             facts,
             book,
             start,
-            marks: counters.marks,
-            times: counters.times,
-            spent: counters.spent,
+            marks,
+            times,
+            budgets,
             count: 0,
             total: 0,
             is_closed: false,
@@ -143,7 +145,8 @@ impl<B: Book> Cell<B> {
         if self.is_closed {
             return Err(Refusal::Closed);
         }
-        if !has_budget(&self.spent, self.facts.budgets.as_slice(), recorder) {
+        let declared = self.facts.budgets.as_slice();
+        if !self.budgets.has_left(declared, recorder) {
             return Err(Refusal::Budget);
         }
         self.book.push(Entry {
@@ -151,7 +154,7 @@ impl<B: Book> Cell<B> {
             set,
             value,
         })?;
-        charge(&mut self.spent, recorder);
+        self.budgets.charge(recorder);
         self.count += 1;
         self.total = total_with(&self.total, &value);
         Ok(())
@@ -232,7 +235,7 @@ impl<B: Book> Cell<B> {
         ensures spent { result ≡ slice_index self.now.spent recorder }
         ensures within { result ≤ slice_index self.now.facts.budgets recorder }
     {
-        self.spent.get(recorder as usize).copied().unwrap_or(0)
+        self.budgets.spent(recorder)
     }
 
     /// How many recordings the reader's last batch counted, 0 before one.
@@ -258,52 +261,6 @@ impl<B: Book> Cell<B> {
     {
         self.total
     }
-}
-
-// What a cell counts beside its book: of each reader the mark and the time of its last batch, of each recorder its
-// recordings.
-#[derive(Drop)]
-struct Counters {
-    marks: Vec<u64>,
-    times: Vec<u64>,
-    spent: Vec<u64>,
-}
-
-impl Counters {
-    // Those of an instrument without recordings, since a start.
-    fn new(alloc: Global, facts: &Facts, start: u64) -> Result<Counters, AllocError>
-        ensures marks { IfOk result (λ new. new.marks.items ≡ no_marks facts.now) }
-        ensures times { IfOk result (λ new.
-            new.times.items ≡ replicate (length facts.now.delta) start) }
-        ensures spent { IfOk result (λ new.
-            new.spent.items ≡ replicate (length facts.now.budgets) 0) }
-    {
-        Ok(Counters {
-            marks: vec![in alloc; 0; facts.delta.len()]?,
-            times: vec![in alloc; start; facts.delta.len()]?,
-            spent: vec![in alloc; 0; facts.budgets.len()]?,
-        })
-    }
-}
-
-// Whether the recorder has made fewer recordings than its budget.
-fn has_budget(spent: &[u64], budgets: &[u64], recorder: u32) -> bool
-    requires spent { recorder < length spent.now }
-    requires budgets { recorder < length budgets.now }
-    ensures { result ≡ nat_lt (slice_index spent.now recorder) (slice_index budgets.now recorder) }
-{
-    let at = recorder as usize;
-    spent[at] < budgets[at]
-}
-
-// Counts one recording more of the recorder.
-fn charge(spent: &mut Vec<u64>, recorder: u32)
-    requires known { recorder < vec_len spent.old }
-    requires room { slice_index spent.old.items recorder + 1 < 2 ^ 64 }
-    ensures { let before = slice_index spent.old.items recorder in
-        spent.new.items ≡ slice_set spent.old.items recorder (before + 1) }
-{
-    spent[recorder as usize] += 1;
 }
 
 // The sum with one value more.

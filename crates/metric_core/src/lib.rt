@@ -2,6 +2,7 @@
 //! other.
 #![tactic(auto)]
 
+mod budgets;
 mod cell;
 mod run;
 mod steps;
