@@ -1,4 +1,5 @@
 pub mod Setups
+pub mod Tables
 pub use Rattle.metric_bounds.specs.Safe
 pub use Rattle.metric_catalogue.specs.Catalogues
 pub use Rattle.metric_plan.specs.Plans

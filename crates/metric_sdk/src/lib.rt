@@ -12,7 +12,7 @@
 //! 3. **Start.** [`start`] makes a [`Provider`] of a certified plan, with a seat for each recorder and each reader that
 //!    the files declare. A provider is generic over the book that keeps the recordings of an instrument, and over a
 //!    [`Gate`], by which a test holds threads inside a lock. Services take [`Marked`] and [`NoGate`]: a
-//!    [`MeterProvider`].
+//!    [`MeterProvider`], of whose tables [`tables_are_bounded`] speaks.
 //! 4. **Recording.** A thread records with a [`Recorder`], by the number of the instrument, its [`Attr`]s, each a key
 //!    with a [`ValueRef`], and the value. What is not counted is answered by a [`Refusal`]. `Recorder::admits` answers
 //!    the [`SetKey`] that the attributes come to, `Recorder::accepted` what the seat was [`Told`] of.
@@ -32,6 +32,7 @@
 mod fault;
 mod provider;
 mod setup;
+mod tables;
 
 pub use fault::SetupFault;
 pub use metric_aggregate::PointValue;
@@ -61,3 +62,4 @@ pub use metric_provider::{
 pub use metric_views::{Config, ConfigPlace, Stream, ViewDefect, ViewFault};
 pub use provider::MeterProvider;
 pub use setup::certified_plan;
+pub use tables::tables_are_bounded;

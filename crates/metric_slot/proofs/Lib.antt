@@ -1,4 +1,3 @@
 pub mod PlanLaws
 pub mod BudgetLaws
 pub mod SlotLaws
-pub mod TableLaws

@@ -5,7 +5,7 @@ use Rattle.std.proofs.lemmas.List.{length_push}
 use Rattle.metric_book.specs.Journals.{Standing}
 use Rattle.metric_catalogue.specs.declared.refusal.Refusal.{Refusal}
 use Rattle.metric_catalogue.specs.declared.refusal.Refusal.TheVariants as refusals
-use Rattle.metric_core.specs.BudgetLaws.{has_room, kept_within}
+use Rattle.metric_core.specs.BudgetLaws.{has_room, kept_journal}
 use Rattle.metric_core.specs.Cells.{CellKept, CellValue}
 use Rattle.metric_core.specs.CellAnswers.{AnswersRecording, IsJudged, ReportsBatch}
 use Rattle.metric_history.specs.declared.batch.Batch.{Batch}
@@ -21,13 +21,6 @@ use Rattle.metric_slot.specs.declared.told.Told.{Told}
 use Rattle.metric_slot.specs.SlotAnswers.{AnswersRecorder}
 use Rattle.metric_slot.specs.Slots.{IsOwnRecorder}
 use Rattle.metric_slot.specs.Tellings.{HasRoom}
-
--- the recordings of a cell are within its budgets
-pub kept_journal : {B : Type 0} (stands : B → Standing) (c : CellValue B) (k : CellKept stands c) → IsJournal c.facts k.journal
-kept_journal stands c k = record {
-  admitted = k.admitted;
-  budgeted = omega (arith, k.known.counted, kept_within stands c k);
-}
 
 -- what the next recording is to the facts of an instrument
 pub record IsNext (facts : Facts) (entry : Entry) : Type 0 where

@@ -1,4 +1,3 @@
 pub mod Tellings
 pub mod Slots
 pub mod SlotAnswers
-pub mod Tables

@@ -7,9 +7,7 @@
 
 mod safety;
 mod slot;
-mod tables;
 mod told;
 
 pub use slot::Slot;
-pub use tables::tables_are_bounded;
 pub use told::Told;

@@ -1,9 +1,9 @@
 //! What a slot with running tables keeps of them.
-ghost use Rattle.metric_slot.specs.Tables.{AreTablesBounded};
+ghost use Rattle.metric_sdk.specs.Tables.{AreTablesBounded};
 
-use crate::slot::Slot;
 use metric_marked::Marked;
 use metric_safety::laws::journals_are_bounded;
+use metric_slot::Slot;
 
 /// Whatever threads have done to a slot, its tables stay bounded: each has the numbers of the recordings since its
 /// reader's last batch (delta) or since the start (cumulative), no more series than the keys allow and than there are

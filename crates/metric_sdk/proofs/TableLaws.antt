@@ -4,6 +4,7 @@ use Rattle.std.specs.Prelude.{slice_get, slice_index, if◌then◌else◌}
 use Rattle.std.proofs.lemmas.List.{length-drop}
 use Rattle.std.proofs.lemmas.Option.{slice_get_within, get_or_from_slice_get}
 use Rattle.metric_aggregate.specs.Value.{sum_of}
+use Rattle.metric_core.specs.BudgetLaws.{kept_journal}
 use Rattle.metric_core.specs.Cells.{CellKept, CellValue}
 use Rattle.metric_history.specs.declared.entry.Entry.{Entry}
 use Rattle.metric_facts.specs.declared.facts.NumberedStream.{NumberedStream}
@@ -13,9 +14,8 @@ use Rattle.metric_history.specs.Windows.{window}
 use Rattle.metric_marked.specs.declared.stream_table.StreamTable.{StreamTable}
 use Rattle.metric_marked.specs.Marks.{MarkedValue, StandAll, StandsFor, StandsMarked, windows_of}
 use Rattle.metric_safety.specs.WindowBounds.{BoundsJournals, IsBounded}
-use Rattle.metric_slot.proofs.SlotLaws.{kept_journal}
 use Rattle.metric_slot.specs.Slots.{IsCertified}
-use Rattle.metric_slot.specs.Tables.{AreTablesBounded}
+use Rattle.metric_sdk.specs.Tables.{AreTablesBounded}
 
 one_each : (tables : List StreamTable) (streams : List NumberedStream) (windows : ℕ → List Entry) → StandAll tables streams windows → length tables ≡ length streams
 one_each [] [] windows all = refl
