@@ -87,16 +87,9 @@ impl Collector {
         if at >= self.seen.len() {
             return Err(Refusal::UnknownInstrument);
         }
-        let batch = provider.collect_inside(
-            rt,
-            alloc,
-            instrument,
-            self.seen[at],
-            self.number,
-            now,
-        )?;
-        self.seen[at] = batch.mark;
-        Ok(batch)
+        let number = self.number;
+        let seen = &mut self.seen[at];
+        provider.collect_inside(rt, alloc, instrument, seen, number, now)
     }
 
     /// A batch of each instrument, in order. What was collected before a refusal is handed over with it.

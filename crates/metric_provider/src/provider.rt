@@ -1,5 +1,5 @@
 //! The instruments of a plan behind their locks.
-ghost use Rattle.std.specs.Prelude.{◌≡◌, ◌<◌, Some, length, slice_get, vec_len, IfOk, IfErr, IfSome};
+ghost use Rattle.std.specs.Prelude.{◌≡◌, ◌<◌, Some, length, slice_get, vec_len, IfOk, IfErr, IfSome, OnOk, OnErr};
 ghost use Rattle.metric_provider.specs.Closing.{AnswersClosing};
 ghost use Rattle.metric_provider.specs.Collections.{IsNextBatch, RefusesCollection};
 ghost use Rattle.metric_provider.specs.Providers.{IsProvider, KnowsReader, KnowsRecording};
@@ -117,55 +117,55 @@ impl<B: Book, G: Gate> Provider<B, G> {
         answer
     }
 
-    // Makes a recording under the instrument's lock. What its recorder is told then.
+    // Makes a recording under the instrument's lock, and tells its recorder of it.
     pub(crate) fn record_inside<R: Wait>(
         &self,
         rt: &R,
         instrument: u32,
-        told: Told,
+        told: &mut Told,
         recorder: u32,
         set: SetKey,
         value: &i64,
-    ) -> Result<Told, Refusal>
+    ) -> Result<(), Refusal>
         requires { KnowsRecording self.now.plan instrument recorder set value.now }
-        ensures told { IfOk result (λ new.
+        ensures told { OnOk result (
             IfSome (slice_get self.now.plan.facts.instruments instrument) (λ own.
-            new ≡ told_more told own.lo value.now)) }
+            told.new ≡ told_more told.old own.lo value.now)) }
         ensures refused { IfErr result (λ refusal.
             IfSome (slice_get self.now.plan.facts.instruments instrument) (λ own.
-            RefusesRecording own recorder told refusal)) }
+            RefusesRecording own recorder told.old refusal)) }
+        ensures told_err { OnErr result (told.new ≡ told.old) }
     {
         let facts = self.plan.facts(instrument);
         let slot: &Mutex<Slot<B>> = &self.slots[instrument as usize];
-        let mut told = told;
         let mut guard = slot.lock(rt);
-        let answer = guard.record(facts, &mut told, recorder, set, *value);
+        let answer = guard.record(facts, told, recorder, set, *value);
         self.gate.inside(rt, instrument);
-        answer?;
-        Ok(told)
+        answer
     }
 
-    // Makes a collection under the instrument's lock.
+    // Makes a collection under the instrument's lock, which its reader has then seen.
     pub(crate) fn collect_inside<R: Wait>(
         &self,
         rt: &R,
         alloc: Global,
         instrument: u32,
-        seen: u64,
+        seen: &mut u64,
         reader: u32,
         now: u64,
     ) -> Result<Batch, Refusal>
         requires { KnowsReader self.now.plan instrument reader }
         ensures batch { IfOk result (λ batch.
             IfSome (slice_get self.now.plan.facts.instruments instrument) (λ own.
-            IsNextBatch own reader seen batch)) }
+            IsNextBatch own reader seen.old batch)) }
+        ensures seen { IfOk result (λ batch. seen.new ≡ batch.mark) }
         ensures refused { IfErr result (λ refusal. RefusesCollection refusal) }
+        ensures seen_err { OnErr result (seen.new ≡ seen.old) }
     {
         let facts = self.plan.facts(instrument);
         let slot: &Mutex<Slot<B>> = &self.slots[instrument as usize];
-        let mut seen = seen;
         let mut guard = slot.lock(rt);
-        let answer = guard.collect(alloc, facts, &mut seen, reader, now);
+        let answer = guard.collect(alloc, facts, seen, reader, now);
         self.gate.inside(rt, instrument);
         answer
     }

@@ -97,14 +97,9 @@ impl Recorder {
         ensures err { OnErr result (self.new ≡ self.old) }
     {
         let set = self.admit(provider.plan(), provider.run(), instrument, attrs, &value)?;
-        let told = self.told_at(instrument);
-        match provider.record_inside(rt, instrument, told, self.number, set, &value) {
-            Ok(told) => {
-                self.told[instrument as usize] = told;
-                Ok(())
-            }
-            Err(refusal) => Err(refusal),
-        }
+        let number = self.number;
+        let told = &mut self.told[instrument as usize];
+        provider.record_inside(rt, instrument, told, number, set, &value)
     }
 
     /// What the recorder was told of its accepted recordings on an instrument; nothing for an unknown one.
