@@ -1,7 +1,8 @@
 -- one stream more has a table
-use Rattle.std.proofs.Common.{◌≡◌, ◌+◌, [], ◌∷◌, ◌++◌, take, refl, sym, ap, subst, ◌∙◌}
+use Rattle.std.proofs.Common.{◌≡◌, ◌+◌, List, [], ◌∷◌, ◌++◌, take, refl, sym, ap, subst, ◌∙◌}
 use Rattle.std.proofs.lemmas.List.{take_more}
 use Rattle.metric_marked.specs.Marks.{StandAll}
+use Rattle.metric_marked.specs.declared.stream_table.StreamTable.{StreamTable}
 use Rattle.metric_marked.proofs.TableLaws.{stands-push}
 use Rattle.metric_marked.proofs.tables.empty_tables.Goals as goal
 
@@ -12,5 +13,5 @@ loop-numbered-preserved c =
     let next : take (c.loop-numbered.numbered-index + 1) c.args.streams.now ≡ take c.loop-numbered.numbered-index c.args.streams.now ++ c.numbered-item.result ∷ [] =
     take_more c.args.streams.now i s c.loop-numbered-test.true ∙ ap (λ x. take i c.args.streams.now ++ x ∷ []) (sym c.numbered-item.is) in
     subst (λ streams. StandAll c.push.new.self.items streams (λ _. [])) (sym next)
-    (subst (λ tables. StandAll tables (take i c.args.streams.now ++ s ∷ []) (λ _. [])) (sym c.in_ok-push.ensures.items)
+    (subst (λ tables. StandAll tables (take i c.args.streams.now ++ s ∷ []) (λ _. [])) (sym {A = List StreamTable} c.in_ok-push.ensures.items)
     (stands-push c.loop-numbered.tables.items (take i c.args.streams.now) (λ _. []) _ s c.loop-numbered.invariant (record { number = refl; reader = refl; stands = c.in_ok-with_seed.ensures })))
