@@ -1,14 +1,14 @@
 -- A book that stands for a journal, and what each call makes of it.
-use Rattle.std.proofs.Common.{◌≡◌, ℕ, zero, suc, ◌+◌, ◌<◌, ◌≤◌, Bool, true, false, List, [], ◌∷◌, ◌++◌, length, drop, refl, sym, ap, subst, ◌∙◌, arith, ⊎_elim}
+use Rattle.std.proofs.Common.{◌≡◌, ℕ, zero, suc, ◌<◌, ◌≤◌, Bool, true, false, List, [], ◌∷◌, ◌++◌, length, drop, refl, sym, ap, subst, ◌∙◌, arith, ⊎_elim}
 use Rattle.std.specs.Prelude.{replicate, slice_index, slice_set}
 use Rattle.std.proofs.lemmas.Bool.{cases_eq}
-use Rattle.std.proofs.lemmas.List.{drop-append-le, drop_all, get_or-set_same, get_or-set_other, length-set, length-replicate, length_push}
+use Rattle.std.proofs.lemmas.List.{drop-append-le, drop_all, get_or-set_same, get_or-set_other, length-set, length-replicate}
 use Rattle.metric_book.specs.Journals.{no_marks}
 use Rattle.metric_facts.specs.Facts.{is_delta}
 use Rattle.metric_history.specs.Windows.{window}
 use Rattle.metric_history.specs.declared.entry.Entry.{Entry}
 use Rattle.metric_facts.specs.declared.facts.Facts.{Facts}
-use Rattle.metric_marked.specs.Marks.{ClosesWindow, EmptyFor, MarkedValue, StandAll, StandsMarked, TakesAll, windows_of}
+use Rattle.metric_marked.specs.Marks.{ClosesWindow, EmptyFor, MarkedValue, StandAll, StandsMarked, windows_of}
 use Rattle.metric_marked.specs.declared.stream_table.StreamTable.{StreamTable}
 use Rattle.metric_marked.proofs.TableLaws.{stands-same}
 
@@ -35,8 +35,6 @@ marked_begins tables facts all = record {
   count = refl;
   one_each = length-replicate (length facts.delta) 0;
   low = λ reader. omega (arith, no_mark (length facts.delta) reader);
-}
-
 }
 
 mark_own : (marks : List ℕ) (reader x : ℕ) → reader < length marks → slice_index (slice_set marks reader x) reader ≡ x

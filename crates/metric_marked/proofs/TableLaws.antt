@@ -1,21 +1,14 @@
 -- What is done to all tables, by what is done to the first and to the rest.
-use Rattle.std.proofs.Common.{◌≡◌, ℕ, Bool, true, false, ◌&&◌, cond, List, [], ◌∷◌, ◌++◌, map, refl, sym, ap, subst, ◌∙◌, append_assoc, arith, Err}
-use Rattle.std.specs.Prelude.{filter, ◌==◌}
+use Rattle.std.proofs.Common.{◌≡◌, ℕ, Bool, true, false, ◌&&◌, List, [], ◌∷◌, ◌++◌, refl, ap, subst, ◌∙◌, Err}
 use Rattle.std.specs.List.{list_all}
-use Rattle.std.proofs.lemmas.Bool.Decides.{nat_tests}
-use Rattle.std.proofs.lemmas.List.{append-nil}
-use Rattle.metric_history.specs.declared.batch.StreamPoints.{StreamPoints}
 use Rattle.metric_history.specs.declared.entry.Entry.{Entry}
 use Rattle.metric_facts.specs.declared.facts.NumberedStream.{NumberedStream}
-use Rattle.metric_facts.specs.Facts.{is_of_reader}
-use Rattle.metric_history.specs.Points.{stream_points}
 use Rattle.metric_history.specs.Windows.{fits_stream}
-use Rattle.metric_series.specs.Calls.{ForgetsAll, JudgesValue, TakesRecording, is_in_range}
+use Rattle.metric_series.specs.Calls.{JudgesValue, is_in_range}
 use Rattle.metric_series.specs.declared.fault.SeriesFault.{SeriesFault}
 use Rattle.metric_series.specs.declared.fault.SeriesFault.TheVariants.{SumRange, Memory}
 use Rattle.metric_series.specs.declared.place.Place.{Place}
-use Rattle.metric_series.specs.SeriesTables.{SeriesValue}
-use Rattle.metric_marked.specs.Marks.{AddsAllPoints, AddsPoints, EmptiesOne, EmptiesReader, JudgesAll, StandAll, StandsFor, TableStands, TakesAll, weightier}
+use Rattle.metric_marked.specs.Marks.{JudgesAll, StandAll, StandsFor, TableStands, weightier}
 use Rattle.metric_marked.specs.declared.stream_table.StreamTable.{StreamTable}
 
 pub stands-same : (tables : List StreamTable) (streams : List NumberedStream) (windows others : ℕ → List Entry) → ((reader : ℕ) → windows reader ≡ others reader)
@@ -53,7 +46,3 @@ weightier-range SumRange true = refl
 weightier-range SumRange false = refl
 weightier-range Memory true = refl
 weightier-range Memory false = refl
-
-)
-
-}
