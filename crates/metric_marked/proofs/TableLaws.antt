@@ -1,14 +1,11 @@
 -- What is done to all tables, by what is done to the first and to the rest.
-use Rattle.std.proofs.Common.{◌≡◌, ℕ, Bool, true, false, ◌&&◌, List, [], ◌∷◌, ◌++◌, refl, ap, subst, ◌∙◌, Err}
+use Rattle.std.proofs.Common.{◌≡◌, ℕ, Bool, ◌&&◌, List, [], ◌∷◌, ◌++◌, ap, subst, ◌∙◌}
 use Rattle.std.specs.List.{list_all}
 use Rattle.metric_history.specs.declared.entry.Entry.{Entry}
 use Rattle.metric_facts.specs.declared.facts.NumberedStream.{NumberedStream}
 use Rattle.metric_history.specs.Windows.{fits_stream}
-use Rattle.metric_series.specs.Calls.{JudgesValue, is_in_range}
-use Rattle.metric_series.specs.declared.fault.SeriesFault.{SeriesFault}
-use Rattle.metric_series.specs.declared.fault.SeriesFault.TheVariants.{SumRange, Memory}
-use Rattle.metric_series.specs.declared.place.Place.{Place}
-use Rattle.metric_marked.specs.Marks.{JudgesAll, StandAll, StandsFor, TableStands, weightier}
+use Rattle.metric_series.specs.Calls.{JudgesValue}
+use Rattle.metric_marked.specs.Marks.{JudgesAll, StandAll, StandsFor, TableStands}
 use Rattle.metric_marked.specs.declared.stream_table.StreamTable.{StreamTable}
 
 pub stands-same : (tables : List StreamTable) (streams : List NumberedStream) (windows others : ℕ → List Entry) → ((reader : ℕ) → windows reader ≡ others reader)
@@ -33,16 +30,3 @@ judges-cons t tables entry a b own rest (s ∷ streams) windows all =
     ap (λ (v : Bool). v && list_all (λ (s : NumberedStream). fits_stream s.stream (windows s.stream.reader) entry) streams)
     (own s.stream (windows s.stream.reader) entry.recorder all.0.stands)
     ∙ ap (λ (v : Bool). a && v) (rest streams windows all.1)
-
-pub judges-unfit : (t : StreamTable) (tables : List StreamTable) (entry : Entry) → JudgesValue (TableStands t) entry.set entry.value false → JudgesAll (t ∷ tables) entry false
-judges-unfit t tables entry own [] windows all = absurd all
-judges-unfit t tables entry own (s ∷ streams) windows all =
-    ap (λ (v : Bool). v && list_all (λ (s : NumberedStream). fits_stream s.stream (windows s.stream.reader) entry) streams)
-    (own s.stream (windows s.stream.reader) entry.recorder all.0.stands)
-
--- the verdict on all tables, where the first one refuses
-pub weightier-range : (fault : SeriesFault) (b : Bool) → (is_in_range {X = Place} (Err fault) && b) ≡ is_in_range {X = Unit {0}} (Err (weightier fault b))
-weightier-range SumRange true = refl
-weightier-range SumRange false = refl
-weightier-range Memory true = refl
-weightier-range Memory false = refl

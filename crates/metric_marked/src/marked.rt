@@ -1,5 +1,5 @@
 //! A book of running tables with a mark for each reader.
-ghost use Rattle.std.specs.Prelude.{◌≡◌, [], slice_index_or, false, IfOk, if◌then◌else◌};
+ghost use Rattle.std.specs.Prelude.{◌≡◌, [], length, slice_index_or, false, IfOk, if◌then◌else◌};
 ghost use Rattle.metric_book.specs.Journals.{no_marks};
 ghost use Rattle.metric_marked.specs.Marks.{ClosesWindow, StandsMarked};
 
@@ -11,6 +11,7 @@ use metric_catalogue::Refusal;
 use metric_facts::Facts;
 use metric_history::Entry;
 use metric_plan::Plan;
+use metric_series::Place;
 use std::alloc::{AllocError, Global};
 use std::marker::Model;
 
@@ -19,6 +20,8 @@ use std::marker::Model;
 /// collections that is answered.
 pub struct Marked {
     tables: Vec<StreamTable>,
+    // Where a recording falls in each table. Room for one place each is made before any recording.
+    places: Vec<Place>,
     delta: Items<bool>,
     marks: Vec<u64>,
     count: u64,
@@ -29,6 +32,7 @@ impl Drop for Marked {
     fn drop(self) {
         let Marked {
             tables: _tables,
+            places: _places,
             delta: _delta,
             marks: _marks,
             count: _,
@@ -37,11 +41,14 @@ impl Drop for Marked {
 }
 
 impl Model for Marked {
+    ghost use Rattle.std.specs.Prelude.{◌≤◌, length, vec_capacity};
     ghost use Rattle.metric_marked.specs.Marks.{MarkedValue};
 
     ghost Value = { MarkedValue };
 
     ghost view = { λ b. record { tables = b.tables.items; delta = b.delta; marks = b.marks.items; count = b.count } };
+
+    ghost invariant = { λ b. length b.tables.items ≤ vec_capacity b.places };
 }
 
 impl Marked {
@@ -51,6 +58,7 @@ impl Marked {
     {
         Ok(Marked {
             tables: empty_tables(alloc, facts.streams.as_slice(), seed)?,
+            places: Vec::with_capacity(alloc, facts.streams.len())?,
             delta: Items::from_vec(facts.delta.as_slice().to_vec(alloc)?),
             marks: vec![in alloc; 0; facts.delta.len()]?,
             count: 0,
@@ -68,7 +76,7 @@ impl Book for Marked {
     }
 
     fn push(&mut self, entry: Entry) -> Result<(), Refusal> {
-        push_all(&mut self.tables, &entry)?;
+        push_all(&mut self.tables, &mut self.places, &entry)?;
         self.count += 1;
         Ok(())
     }
@@ -103,7 +111,8 @@ fn window_start(is_delta: bool, mark: u64) -> u64
 
 // Empties the tables of a reader whose next window begins after its collection.
 fn close_window(tables: &mut Vec<StreamTable>, is_delta: bool, reader: u32)
-    ensures { ClosesWindow tables.old.items tables.new.items is_delta reader }
+    ensures closes { ClosesWindow tables.old.items tables.new.items is_delta reader }
+    ensures count { length tables.new.items ≡ length tables.old.items }
 {
     if is_delta {
         empty(tables, reader);

@@ -1,13 +1,14 @@
 //! What is done to all tables of an instrument.
-ghost use Rattle.std.specs.Prelude.{◌≡◌, [], IfOk, OnOk, OnErr};
+ghost use Rattle.std.specs.Prelude.{◌≡◌, ◌≤◌, true, false, [], length, vec_capacity, IfOk, IsErrOf, OnOk, OnErr};
 ghost use Rattle.metric_series.specs.Calls.{is_in_range};
 ghost use Rattle.metric_marked.specs.Marks.{AddsAllPoints, AddsPoints, EmptiesOne, EmptiesReader, JudgesAll, StandAll, TakesAll, weightier as more_serious};
+ghost use Rattle.metric_marked.specs.Stepwise.{AreReady, EachAt, IsReadyFor, Puts, Restores};
 
 use crate::stream_table::StreamTable;
 use metric_base::Items;
 use metric_facts::NumberedStream;
 use metric_history::{Entry, StreamPoints};
-use metric_series::{SeriesFault, SeriesTable, Table};
+use metric_series::{Place, SeriesFault, SeriesTable, Table};
 use std::alloc::{AllocError, Global};
 
 /// The tables of streams without recordings, whose set keys are hashed with the seed.
@@ -16,7 +17,8 @@ pub(crate) fn empty_tables(
     streams: &[NumberedStream],
     seed: u64,
 ) -> Result<Vec<StreamTable>, AllocError>
-    ensures { IfOk result (λ tables. StandAll tables.items streams.now (λ _. [])) }
+    ensures stand { IfOk result (λ tables. StandAll tables.items streams.now (λ _. [])) }
+    ensures count { IfOk result (λ tables. length tables.items ≡ length streams.now) }
 {
     let mut tables = Vec::with_capacity(alloc, streams.len())?;
     for numbered in streams {
@@ -33,10 +35,12 @@ pub(crate) fn empty_tables(
 fn all_fit(tables: &[StreamTable], entry: &Entry) -> bool
     ensures { JudgesAll tables.now entry.now result }
 {
-    match tables.split_first() {
-        None => true,
-        Some((first, rest)) => first.table.fits(&entry.set, entry.value) && all_fit(rest, entry),
+    for stream in tables {
+        if !stream.table.fits(&entry.set, entry.value) {
+            return false;
+        }
     }
+    true
 }
 
 // The fault of one table beside others: `SumRange` of any table goes before `Memory`.
@@ -50,25 +54,72 @@ fn weightier(fault: SeriesFault, others_fit: bool) -> SeriesFault
     }
 }
 
+// Makes each table ready for a recording, up to the first that refuses it. The places are those of the tables that
+// are ready.
+fn ready_all(
+    tables: &mut [StreamTable],
+    places: &mut Vec<Place>,
+    entry: &Entry,
+) -> Result<(), SeriesFault>
+    requires none { places.old.items ≡ [] }
+    requires room { length tables.old ≤ vec_capacity places.old }
+    ensures ready { EachAt (IsReadyFor entry.now) tables.old tables.new places.new.items }
+    ensures within { length places.new.items ≤ length tables.old }
+    ensures all { OnOk result (length places.new.items ≡ length tables.old) }
+    ensures in_range { OnOk result (JudgesAll tables.old entry.now true) }
+    ensures out_of_range { IsErrOf result SeriesFault.SumRange
+        → JudgesAll tables.old entry.now false }
+    ensures room { vec_capacity places.new ≡ vec_capacity places.old }
+{
+    for stream in tables.iter_mut() {
+        match stream.table.ready(&entry.set, entry.value) {
+            Ok(place) => places.push_reserved(place),
+            Err(fault) => return Err(fault),
+        }
+    }
+    Ok(())
+}
+
+// Takes back what was made ready in the first tables, one for each place.
+fn unready_all(tables: &mut [StreamTable], places: &[Place])
+    requires { length places.now ≤ length tables.old }
+    ensures { EachAt Restores tables.old tables.new places.now }
+{
+    for (index, place) in places.iter().enumerate() {
+        tables[index].table.unready(*place);
+    }
+}
+
+// Adds the value of a recording to each table, at its place.
+fn put_all(tables: &mut [StreamTable], places: &[Place], entry: &Entry)
+    requires one_each { length places.now ≤ length tables.old }
+    requires ready { AreReady entry.now tables.old places.now }
+    ensures { EachAt (Puts entry.now) tables.old tables.new places.now }
+{
+    for (index, place) in places.iter().enumerate() {
+        tables[index].table.put(*place, entry.value);
+    }
+}
+
 /// Adds a recording to each table, or to none where one of them refuses it. All memory is taken before the first
-/// value is added.
-pub(crate) fn push_all(tables: &mut [StreamTable], entry: &Entry) -> Result<(), SeriesFault>
+/// value is added. There is room for a place of each table; what the list of places has held is lost.
+pub(crate) fn push_all(
+    tables: &mut [StreamTable],
+    places: &mut Vec<Place>,
+    entry: &Entry,
+) -> Result<(), SeriesFault>
+    requires { length tables.old ≤ vec_capacity places.old }
+    ensures room { vec_capacity places.new ≡ vec_capacity places.old }
     ensures in_range { JudgesAll tables.old entry.now (is_in_range result) }
     ensures stands { OnOk result (TakesAll tables.old tables.new entry.now) }
     ensures err { OnErr result (tables.new ≡ tables.old) }
 {
-    let Some((first, rest)) = tables.split_first_mut() else {
-        return Ok(());
-    };
-    let place = match first.table.ready(&entry.set, entry.value) {
-        Ok(place) => place,
-        Err(fault) => return Err(weightier(fault, all_fit(rest, entry))),
-    };
-    if let Err(fault) = push_all(rest, entry) {
-        first.table.unready(place);
-        return Err(fault);
+    places.clear();
+    if let Err(fault) = ready_all(tables, places, entry) {
+        unready_all(tables, places);
+        return Err(weightier(fault, all_fit(tables, entry)));
     }
-    first.table.put(place, entry.value);
+    put_all(tables, places, entry);
     Ok(())
 }
 
@@ -91,22 +142,6 @@ fn add_points(
     Ok(())
 }
 
-// Puts the points of each table of a reader last.
-fn add_all_points(
-    all: &mut Vec<StreamPoints>,
-    alloc: Global,
-    tables: &[StreamTable],
-    reader: u32,
-) -> Result<(), AllocError>
-    ensures { OnOk result (AddsAllPoints all.old.items all.new.items tables.now reader) }
-{
-    if let Some((first, rest)) = tables.split_first() {
-        add_points(all, alloc, first, reader)?;
-        add_all_points(all, alloc, rest, reader)?;
-    }
-    Ok(())
-}
-
 /// The points of each table of a reader, in stream order.
 pub(crate) fn points_of(
     alloc: Global,
@@ -116,7 +151,9 @@ pub(crate) fn points_of(
     ensures { IfOk result (λ all. AddsAllPoints [] all.items tables.now reader) }
 {
     let mut all = Vec::new(alloc);
-    add_all_points(&mut all, alloc, tables, reader)?;
+    for stream in tables {
+        add_points(&mut all, alloc, stream, reader)?;
+    }
     Ok(all)
 }
 
@@ -133,8 +170,7 @@ fn empty_one(stream: &mut StreamTable, reader: u32)
 pub(crate) fn empty(tables: &mut [StreamTable], reader: u32)
     ensures { EmptiesReader tables.old tables.new reader }
 {
-    if let Some((first, rest)) = tables.split_first_mut() {
-        empty_one(first, reader);
-        empty(rest, reader);
+    for stream in tables.iter_mut() {
+        empty_one(stream, reader);
     }
 }

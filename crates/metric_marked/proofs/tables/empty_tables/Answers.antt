@@ -1,8 +1,9 @@
 -- one stream more has a table
 use Rattle.std.proofs.Common.{◌≡◌, ◌+◌, List, [], ◌∷◌, ◌++◌, take, refl, sym, ap, subst, ◌∙◌}
-use Rattle.std.proofs.lemmas.List.{take_more}
+use Rattle.std.proofs.lemmas.List.{take_all, take_more}
 use Rattle.metric_marked.specs.Marks.{StandAll}
 use Rattle.metric_marked.specs.declared.stream_table.StreamTable.{StreamTable}
+use Rattle.metric_marked.proofs.StepLaws.{length-stand}
 use Rattle.metric_marked.proofs.TableLaws.{stands-push}
 use Rattle.metric_marked.proofs.tables.empty_tables.Goals as goal
 
@@ -15,3 +16,8 @@ loop-numbered-preserved c =
     subst (λ streams. StandAll c.push.new.self.items streams (λ _. [])) (sym next)
     (subst (λ tables. StandAll tables (take i c.args.streams.now ++ s ∷ []) (λ _. [])) (sym {A = List StreamTable} c.in_ok-push.ensures.items)
     (stands-push c.loop-numbered.tables.items (take i c.args.streams.now) (λ _. []) _ s c.loop-numbered.invariant (record { number = refl; reader = refl; stands = c.in_ok-with_seed.ensures })))
+
+pub returns-clause-count : goal.returns-clause-count
+returns-clause-count c =
+    length-stand c.loop-numbered.tables.items c.args.streams.now (λ _. [])
+    (subst (λ streams. StandAll c.loop-numbered.tables.items streams (λ _. [])) (take_all c.loop-numbered.numbered-index c.args.streams.now c.loop-numbered-test.false) c.loop-numbered.invariant)

@@ -8,7 +8,7 @@ use Rattle.metric_marked.proofs.marked.Marked.with_facts.Goals as goal
 
 pub returns : goal.returns
 returns c =
-    let all = subst (λ streams. StandAll c.in_ok-empty_tables.field-0.items streams (λ _. [])) (c.as_slice.ensures ∙ ap (λ (f : Facts). f.streams) c.deref.ensures) c.in_ok-empty_tables.ensures in
+    let all = subst (λ streams. StandAll c.in_ok-empty_tables.field-0.items streams (λ _. [])) (c.as_slice.ensures ∙ ap (λ (f : Facts). f.streams) c.deref.ensures) c.in_ok-empty_tables.ensures.stand in
     let delta : c.from_vec.result ≡ c.args.facts.now.delta = search rules in
     let marks : c.in_ok-vec.field-0.items ≡ no_marks c.args.facts.now = search rules in
     subst (λ (d : List Bool). StandsMarked (record { tables = c.in_ok-empty_tables.field-0.items; delta = d; marks = c.in_ok-vec.field-0.items; count = 0 }) c.args.facts.now [] (no_marks c.args.facts.now)) (sym delta)

@@ -13,5 +13,5 @@ returns-clause-stands c = λ facts journal marks stands.
     let delta : c.is_delta-is_delta.result ≡ is_delta facts c.args.reader =
     c.is_delta-is_delta.ensures ∙ ap (λ (flags : List Bool). slice_index_or flags c.args.reader false) (c.as_slice.ensures ∙ known.delta) in
     let closes : ClosesWindow c.self.inside.tables.items c.close_window.new.tables.items (is_delta facts c.args.reader) c.args.reader =
-    subst (λ d. ClosesWindow c.self.inside.tables.items c.close_window.new.tables.items d c.args.reader) delta c.close_window.ensures in
+    subst (λ d. ClosesWindow c.self.inside.tables.items c.close_window.new.tables.items d c.args.reader) delta c.close_window.ensures.closes in
     marked_moves _ c.close_window.new.tables.items c.args.reader facts journal marks known below closes
