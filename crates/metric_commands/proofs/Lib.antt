@@ -2,8 +2,9 @@ mod AnswerLaws
 mod AnsweredInputs
 mod OutputLaws
 mod PartLaws
+mod PieceLaws
 mod PlanLaws
-mod Replayed
+mod ScriptFaults
 mod RunLaws
 mod TextLaws
 mod ThreadLaws

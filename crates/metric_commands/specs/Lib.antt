@@ -7,6 +7,8 @@ pub mod Written
 pub mod Replies
 pub mod Planned
 pub mod Runs
+pub mod WrittenRuns
+pub mod DueRuns
 pub mod Declarations
 pub mod Replaying
 pub mod Showing

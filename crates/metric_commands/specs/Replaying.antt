@@ -39,6 +39,13 @@ pub record IsTrialPlan (read : Parts) (plan : PlanValue) : Type 0 where
 abbrev pub IsPlanned : ReplayOptions → Parts → PlanValue → Type 0
 IsPlanned options read plan = ((options.trial ≡ true) × IsTrialPlan read plan) ⊎ ((options.trial ≡ false) × IsCertifiedPlan read plan)
 
+-- What the parts declare, and the events of their script since a start.
+pub record IsPrepared (options : ReplayOptions) (read : Parts) (plan : PlanValue) (start : ℕ) (events : List Event) : Type 0 where
+  pub script : ScriptLines
+  pub is_planned : IsPlanned options read plan
+  pub has_script : read.script ≡ Some script
+  pub is_script : IsScript script.lines start events
+
 -- The replies to the script of the parts: a legal one for each event, and none of them want of memory.
 pub record IsAnswered (options : ReplayOptions) (read : Parts) (plan : PlanValue)
     (replies : List Reply) : Type 0 where

@@ -63,7 +63,7 @@ impl Command for Check {
         certified_plan(alloc, parts)
     }
 
-    fn write<W: Sink>(&self, _alloc: Global, sink: &mut W, _plan: &Plan) -> Result<(), KitFault> {
+    fn write<W: Sink>(&self, _alloc: Global, sink: &mut W, _plan: Plan) -> Result<(), KitFault> {
         write_text(sink, b"accepted\n")
     }
 

@@ -5,6 +5,7 @@ ghost use Rattle.metric_io.specs.Prefix.{AppendsPrefix};
 ghost use Rattle.metric_commands.specs.Commands.{IsAnswerTo, RunsCommand, sink_run, source_run};
 ghost use Rattle.metric_commands.specs.Faults.{IsOfInput};
 ghost use Rattle.metric_commands.specs.Written.{IsSinkFault};
+ghost use Rattle.metric_parts.specs.declared.parts.Parts.{Parts as read_parts};
 
 use crate::fault::KitFault;
 use metric_io::{Sink, Source, read_all};
@@ -50,17 +51,18 @@ pub(crate) trait Command {
         ensures first { IfErr result (λ fault. is_fault self.now fault parts.now) }
         ensures own { IfErr result IsOfInput };
 
-    /// Writes the text of an answer.
+    /// Writes the text of an answer to the parts of some input.
     fn write<W: Sink>(
         &self,
         alloc: Global,
         sink: &mut W,
-        answer: &Self::Answer,
+        answer: Self::Answer,
     ) -> Result<(), KitFault>
+        requires { (read : Read) × is_answer self.now read answer }
         ensures ok { OnOk result
-            (Appends (W.contents sink.old) (W.contents sink.new) (text answer.now)) }
+            (Appends (W.contents sink.old) (W.contents sink.new) (text answer)) }
         ensures prefix { AppendsPrefix (W.contents sink.old) (W.contents sink.new)
-            (text answer.now) }
+            (text answer) }
         ensures broken { IfErr result (IsSinkFault (W.failures sink.old) (W.failures sink.new)) }
         ensures counted { OnOk result (W.failures sink.new ≡ W.failures sink.old) };
 
@@ -97,7 +99,7 @@ pub(crate) fn run<C: Command, R: Source, W: Sink>(
 {
     let input = read_all(alloc, source)?;
     let answer = answer_to(alloc, command, &input)?;
-    write_answer(alloc, command, sink, &answer)
+    write_answer(alloc, command, sink, answer)
 }
 
 /// The answer of a command to an input.
@@ -122,12 +124,13 @@ fn write_answer<C: Command, W: Sink>(
     alloc: Global,
     command: &C,
     sink: &mut W,
-    answer: &C::Answer,
+    answer: C::Answer,
 ) -> Result<(), KitFault>
+    requires { (read : read_parts) × C.is_answer command.now read answer }
     ensures ok { OnOk result (Appends (W.contents sink.old) (W.contents sink.new)
-        (C.text answer.now)) }
+        (C.text answer)) }
     ensures prefix { AppendsPrefix (W.contents sink.old) (W.contents sink.new)
-        (C.text answer.now) }
+        (C.text answer) }
     ensures broken { IfErr result (IsSinkFault (W.failures sink.old) (W.failures sink.new)) }
 {
     command.write(alloc, sink, answer)?;

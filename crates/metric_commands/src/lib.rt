@@ -5,7 +5,6 @@
 //! fault that the input has.
 #![tactic(auto)]
 
-mod answers;
 mod checks;
 mod command;
 mod fault;
@@ -13,7 +12,9 @@ mod laws;
 mod makes;
 mod options;
 mod parts;
+mod pieces;
 mod planning;
+mod prepared;
 mod replays;
 mod replies;
 mod show;

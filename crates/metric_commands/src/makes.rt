@@ -67,7 +67,7 @@ impl Command for Make {
         certified(alloc, parts)
     }
 
-    fn write<W: Sink>(&self, _alloc: Global, sink: &mut W, text: &String) -> Result<(), KitFault> {
+    fn write<W: Sink>(&self, _alloc: Global, sink: &mut W, text: String) -> Result<(), KitFault> {
         write_text(sink, text.as_bytes())
     }
 

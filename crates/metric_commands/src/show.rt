@@ -75,9 +75,9 @@ impl Command for Show {
         &self,
         alloc: Global,
         sink: &mut W,
-        listing: &Listing,
+        listing: Listing,
     ) -> Result<(), KitFault> {
-        write_lines(alloc, sink, listing)
+        write_lines(alloc, sink, &listing)
     }
 
     ghost answered = { λ _ _ read _ is_read listed. record { read = read; is_read = is_read; listed = listed } };

@@ -1,35 +1,17 @@
--- A run of the script of an input's parts answers the parts.
-use Rattle.std.proofs.Common.{◌≡◌, ℕ, List, Some, Result, Ok, Err, IfErr, IsErrAnd, sym, subst}
+-- The first faulty line of the script is the first fault of the parts.
+use Rattle.std.proofs.Common.{◌≡◌, Some, Result, Ok, Err, IfErr, IsErrAnd, sym, subst}
 use Rattle.metric_parts.specs.Texts.{ScriptLines}
 use Rattle.metric_parts.specs.declared.parts.Parts.{Parts}
 use Rattle.metric_parts.specs.Faults.{OnInput}
 use Rattle.metric_parts.specs.declared.fault.InputFault.{InputFault}
 use Rattle.metric_parts.specs.declared.fault.InputFault.TheVariants as input
-use Rattle.metric_script.specs.Scripts.{IsScript, IsFirstFaultAt}
+use Rattle.metric_script.specs.Scripts.{IsFirstFaultAt}
 use Rattle.metric_plan.specs.Plans.{PlanValue}
-use Rattle.metric_history.specs.declared.event.Event.{Event}
-use Rattle.metric_history.specs.declared.event.Reply.{Reply}
 use Rattle.metric_commands.specs.declared.options.ReplayOptions.{ReplayOptions}
 use Rattle.metric_commands.specs.declared.fault.KitFault.{KitFault}
 use Rattle.metric_commands.specs.Faults.{from_input}
-use Rattle.metric_commands.specs.Replaying.{IsAnswered, IsPlanned, IsReplayFault}
-use Rattle.metric_commands.specs.Runs.{IsRun}
+use Rattle.metric_commands.specs.Replaying.{IsPlanned, IsReplayFault}
 
-pub answered : (options : ReplayOptions) (read : Parts) (script : ScriptLines)
-    (plan ran : PlanValue) (start : ℕ) (events : List Event) (replies : List Reply)
-    → IsPlanned options read plan → read.script ≡ Some script → IsScript script.lines start events
-    → ran ≡ plan → IsRun plan start events replies → IsAnswered options read ran replies
-answered options read script plan ran start events replies planned has spelled same run = record {
-  script = script;
-  start = start;
-  events = events;
-  is_planned = subst (λ (p : PlanValue). IsPlanned options read p) (sym same) planned;
-  has_script = has;
-  is_script = spelled;
-  run = subst (λ (p : PlanValue). IsRun p start events replies) (sym same) run;
-}
-
--- The first faulty line of the script is the first fault of the parts.
 pub script_refused : {X : Type 0} (options : ReplayOptions) (read : Parts) (script : ScriptLines)
     (plan : PlanValue) (fault : InputFault) (r : Result X KitFault)
     → IsPlanned options read plan → read.script ≡ Some script → OnInput fault (IsFirstFaultAt script)

@@ -1,0 +1,105 @@
+//! Events run in pieces, of which each is written before the next is run.
+ghost use Rattle.std.specs.Prelude.{◌≡◌, ◌<◌, ◌≤◌, [], length, IfErr, OnOk};
+ghost use Rattle.std.specs.List.{list_any};
+ghost use Rattle.std.specs.Io.KnownBytes.{Appends};
+ghost use Rattle.metric_io.specs.Prefix.{AppendsPrefix};
+ghost use Rattle.metric_core.specs.CoreStands.{CoreStands};
+ghost use Rattle.metric_history.specs.History.{History};
+ghost use Rattle.metric_commands.specs.Replies.{is_want_of_memory};
+ghost use Rattle.metric_commands.specs.Runs.{due_history};
+ghost use Rattle.metric_commands.specs.Written.{IsSinkFault};
+ghost use Rattle.metric_commands.specs.WrittenRuns.{due_text};
+
+use crate::fault::KitFault;
+use crate::replies::write_replies;
+use metric_book::Book;
+use metric_catalogue::Refusal;
+use metric_core::Core;
+use metric_history::{Event, Reply};
+use metric_io::Sink;
+use std::alloc::Global;
+
+// So many replies are held at once, and one batch at most: a batch may be as large as the rest of the memory.
+const MOST_AT_ONCE: usize = 1024;
+
+// How many of the events make the next piece: those up to the first collection.
+fn piece_len(events: &[Event]) -> usize
+    requires { 0 < length events.now }
+    ensures some { 0 < result }
+    ensures within { result ≤ length events.now }
+{
+    for (index, event) in events.iter().enumerate() {
+        if index + 1 == MOST_AT_ONCE || matches!(event, Event::Collect { .. }) {
+            return index + 1;
+        }
+    }
+    events.len()
+}
+
+// Whether some reply is want of memory.
+fn has_want_of_memory(replies: &[Reply]) -> bool
+    ensures { result ≡ list_any is_want_of_memory replies.now }
+{
+    replies.iter().any(|reply| is_want_of_memory(reply))
+}
+
+// Whether a reply is want of memory.
+fn is_want_of_memory(reply: &Reply) -> bool
+    ensures { result ≡ is_want_of_memory reply.now }
+{
+    matches!(reply, Reply::Refused(Refusal::Memory))
+}
+
+// Runs events, and writes the replies. Want of memory for one of them is that of the whole run.
+#[tactic(auto, using(metric_io::specs::Prefix::prefixes))]
+fn write_piece<B: Book, W: Sink>(
+    alloc: Global,
+    sink: &mut W,
+    core: &mut Core<B>,
+    events: &[Event],
+) -> Result<(), KitFault>
+    ensures ok { OnOk result ((h : History) → CoreStands B.stands core.old h
+        → Appends (W.contents sink.old) (W.contents sink.new)
+        (due_text core.old.plan core.old.start h events.now)) }
+    ensures prefix { (h : History) → CoreStands B.stands core.old h
+        → AppendsPrefix (W.contents sink.old) (W.contents sink.new)
+        (due_text core.old.plan core.old.start h events.now) }
+    ensures stands { OnOk result ((h : History) → CoreStands B.stands core.old h
+        → CoreStands B.stands core.new
+        (due_history core.old.plan.facts core.old.start h events.now)) }
+    ensures plan { core.new.plan ≡ core.old.plan }
+    ensures start { core.new.start ≡ core.old.start }
+    ensures broken { IfErr result (IsSinkFault (W.failures sink.old) (W.failures sink.new)) }
+    ensures counted { OnOk result (W.failures sink.new ≡ W.failures sink.old) }
+{
+    let replies = core.run(alloc, events)?;
+    if has_want_of_memory(&replies) {
+        return Err(KitFault::Memory);
+    }
+    write_replies(alloc, sink, core.plan(), &replies)
+}
+
+/// Runs events on a core that has run nothing, and writes the text of each reply in order. The replies to the first
+/// events are written before later ones are run, so that memory holds one batch at a time.
+pub(crate) fn write_run<B: Book, W: Sink>(
+    alloc: Global,
+    sink: &mut W,
+    core: &mut Core<B>,
+    events: &[Event],
+) -> Result<(), KitFault>
+    requires { CoreStands B.stands core.old [] }
+    ensures ok { OnOk result (Appends (W.contents sink.old) (W.contents sink.new)
+        (due_text core.old.plan core.old.start [] events.now)) }
+    ensures prefix { AppendsPrefix (W.contents sink.old) (W.contents sink.new)
+        (due_text core.old.plan core.old.start [] events.now) }
+    ensures broken { IfErr result (IsSinkFault (W.failures sink.old) (W.failures sink.new)) }
+    ensures counted { OnOk result (W.failures sink.new ≡ W.failures sink.old) }
+{
+    let mut rest = events;
+    while !rest.is_empty() {
+        let (piece, later) = rest.split_at(piece_len(rest));
+        write_piece(alloc, sink, core, piece)?;
+        rest = later;
+    }
+    Ok(())
+}
