@@ -1,5 +1,5 @@
 -- One collection after the other.
-use Rattle.std.proofs.Common.{◌≡◌, ◌<◌, ◌≤◌, ℕ, zero, suc, ◌+◌, ◌-◌, Bool, true, false, ◌&&◌, List, [], ◌∷◌, ◌++◌, Option, Some, None, Result, Ok, Err, length, map, drop, get_or, refl, sym, ap, subst, ◌∙◌, length-append, length-drop, arith}
+use Rattle.std.proofs.Common.{◌≡◌, ◌<◌, ℕ, zero, suc, ◌+◌, ◌-◌, Bool, true, false, ◌&&◌, List, [], ◌∷◌, ◌++◌, Option, Some, None, Result, Ok, Err, length, map, drop, refl, sym, ap, subst, ◌∙◌, length-append, length-drop, arith}
 use Rattle.std.specs.Prelude.{slice_get, slice_index, slice_set, ◌==◌, nat_lt}
 use Rattle.std.proofs.lemmas.Bool.{and_parts, eqb-true}
 use Rattle.std.proofs.lemmas.List.{length-map}
@@ -9,7 +9,7 @@ use Rattle.metric_catalogue.specs.declared.refusal.Refusal.TheVariants.{Stranger
 use Rattle.metric_catalogue.specs.declared.refusal.Refusal.{Refusal}
 use Rattle.metric_history.specs.declared.batch.Batch.{Batch}
 use Rattle.metric_facts.specs.declared.facts.Facts.{Facts}
-use Rattle.metric_provider.specs.Collections.{AnswersCollector, AreNextBatches, IsNextAt, IsNextBatch, RefusesCollection, collectable, with_all_seen, with_seen}
+use Rattle.metric_provider.specs.Collections.{AnswersCollector, AnswersEach, IsNextBatch, IsRefusedAt, collectable, with_all_seen, with_seen}
 use Rattle.metric_provider.specs.Seats.{CollectorValue, ProviderValue, is_collector_of}
 
 -- what an answered collection tells of its seat and its instrument
@@ -38,26 +38,6 @@ collected p seat instrument batch answer = of (is_collector_of p seat) refl answ
         → AnswersCollector (require b Stranger >>= λ _. require_some (slice_get p.plan.facts.instruments instrument) UnknownInstrument) seat instrument (Ok batch) → IsCollected p seat instrument batch
     of true own answer = found (slice_get p.plan.facts.instruments instrument) refl own answer
     of false own answer = absurd answer
-
-known_is_some : {X : Type 0} (xs : List X) (i : ℕ) → i < length xs → slice_get xs i ≡ None → ⊥
-known_is_some [] i below none = omega arith
-known_is_some (x ∷ xs) zero below none = cc
-known_is_some (x ∷ xs) (suc i) below none = known_is_some xs i (omega arith) none
-
--- a known instrument refuses nothing but what the lock's call refuses, or a stranger
-pub refused : (p : ProviderValue) (seat : CollectorValue) (instrument : ℕ) (refusal : Refusal) → instrument < length p.plan.facts.instruments
-    → AnswersCollector (collectable p seat instrument) seat instrument (Err refusal) → RefusesCollection refusal
-refused p seat instrument refusal known answer = of (is_collector_of p seat) answer
-  where
-    found : (o : Option Facts) → slice_get p.plan.facts.instruments instrument ≡ o
-        → AnswersCollector (require_some o UnknownInstrument) seat instrument (Err refusal) → RefusesCollection refusal
-    found None at answer = absurd (known_is_some p.plan.facts.instruments instrument known at)
-    found (Some facts) at answer = answer
-
-    of : (b : Bool) → AnswersCollector (require b Stranger >>= λ _. require_some (slice_get p.plan.facts.instruments instrument) UnknownInstrument) seat instrument (Err refusal)
-        → RefusesCollection refusal
-    of true answer = found (slice_get p.plan.facts.instruments instrument) refl answer
-    of false answer = subst RefusesCollection (sym answer) tt
 
 past : {X : Type 0} (f : X → ℕ) (xs : List X) → slice_index (map f xs ++ []) (length xs) ≡ 0
 past f [] = refl
@@ -88,39 +68,74 @@ at_each_push P [] x each last (suc i) y found = absurd cc
 at_each_push P (w ∷ xs) x each last zero y found = each 0 y found
 at_each_push P (w ∷ xs) x each last (suc i) y found = at_each_push (λ n. P (suc n)) xs x (λ j z f. each (suc j) z f) last i y found
 
--- one batch more
-pub next_more : (instruments : List Facts) (seat : CollectorValue) (done : List Batch) (own : Facts) (batch : Batch) → AreNextBatches instruments seat done
-    → slice_get instruments (length done) ≡ Some own → IsNextBatch own seat.number (slice_index (with_all_seen seat done).seen (length done)) batch
-    → AreNextBatches instruments seat (done ++ batch ∷ [])
-next_more instruments seat done own batch before found next =
-    at_each_push (λ i b. IsNextAt instruments seat i b) done batch before (λ facts is.
-    let same : own ≡ facts = same_Some own facts (sym found ∙ is) in
-    let seen : IsNextBatch own seat.number (slice_index seat.seen (length done)) batch =
-    subst (λ (n : ℕ). IsNextBatch own seat.number n batch) (seen_at done seat.seen) next in
-    subst (λ (f : Facts). IsNextBatch f seat.number (slice_index seat.seen (length done)) batch) same seen)
+-- ---- a seat that has seen batches of the first instruments is answered as the first one
+
+first_length : (p : ProviderValue) (seat : CollectorValue) (done : List Batch) → length done < length p.plan.facts.instruments → AnswersEach p seat done
+    → length (with_all_seen seat done).seen ≡ length seat.seen
+first_length p seat [] below each = refl
+first_length p seat (d ∷ done) below each =
+    let from = collected p seat 0 d (each 0 d refl) in
+    let parts : length (with_all_seen seat (d ∷ done)).seen ≡ length (d ∷ done) + (length seat.seen - length (d ∷ done)) =
+    length-append (map (λ (b : Batch). b.mark) (d ∷ done)) (drop (length (d ∷ done)) seat.seen)
+    ∙ ap (λ (n : ℕ). n + length (drop (length (d ∷ done)) seat.seen)) (length-map (d ∷ done) (λ (b : Batch). b.mark))
+    ∙ ap (λ (n : ℕ). length (d ∷ done) + n) (length-drop (length (d ∷ done)) seat.seen) in
+    omega (arith, parts, from.long, below)
+
+moved : (allowed : Result Facts Refusal) (now seat : CollectorValue) (i : ℕ) (result : Result Batch Refusal) → now.number ≡ seat.number
+    → slice_index now.seen i ≡ slice_index seat.seen i → AnswersCollector allowed now i result → AnswersCollector allowed seat i result
+moved (Err first) now seat i (Err refusal) number seen answer = answer
+moved (Err first) now seat i (Ok batch) number seen answer = absurd answer
+moved (Ok own) now seat i (Ok batch) number seen answer =
+    subst (λ (n : ℕ). IsNextBatch own seat.number n batch) seen (subst (λ (n : ℕ). IsNextBatch own n (slice_index now.seen i) batch) number answer)
+moved (Ok own) now seat i (Err refusal) number seen answer = answer
+
+own_as_first : (p : ProviderValue) (seat : CollectorValue) (done : List Batch) → length done < length p.plan.facts.instruments → AnswersEach p seat done
+    → is_collector_of p (with_all_seen seat done) ≡ is_collector_of p seat
+own_as_first p seat done below each =
+    ap (λ (n : ℕ). (seat.run == p.run) && (nat_lt seat.number (length p.plan.config.readers) && (n == length p.plan.facts.instruments)))
+    (first_length p seat done below each)
+
+pub as_first : (p : ProviderValue) (first seat : CollectorValue) (done : List Batch) (i : ℕ) (result : Result Batch Refusal) → length done ≡ i
+    → seat ≡ with_all_seen first done → i < length p.plan.facts.instruments → AnswersEach p first done
+    → AnswersCollector (collectable p seat i) seat i result → AnswersCollector (collectable p first i) first i result
+as_first p first seat done i result count seen known each answer =
+    let below : length done < length p.plan.facts.instruments = omega (arith, count, known) in
+    let later : CollectorValue = with_all_seen first done in
+    let here : AnswersCollector (collectable p later i) later i result =
+    subst (λ (s : CollectorValue). AnswersCollector (collectable p s i) s i result) seen answer in
+    let mark : slice_index later.seen i ≡ slice_index first.seen i =
+    subst (λ (n : ℕ). slice_index later.seen n ≡ slice_index first.seen n) count (seen_at done first.seen) in
+    moved (collectable p first i) later first i result refl mark
+    (subst (λ (b : Bool). AnswersCollector (require b Stranger >>= λ _. require_some (slice_get p.plan.facts.instruments i) UnknownInstrument) later i result)
+    (own_as_first p first done below each) here)
+
+-- a stranger is refused at the first instrument, also where there is none
+pub stranger : (p : ProviderValue) (seat : CollectorValue) → is_collector_of p seat ≡ false → IsRefusedAt p seat 0 Stranger
+stranger p seat other = record {
+  known = λ own. absurd cc;
+  answer =
+      subst (λ (b : Bool). AnswersCollector (require b Stranger >>= λ _. require_some (slice_get p.plan.facts.instruments 0) UnknownInstrument) seat 0 (Err Stranger))
+      (sym other) refl;
+}
 
 -- one collection more
 pub record IsOneMore (p : ProviderValue) (first after : CollectorValue) (done : List Batch) : Type 0 where
-  pub each : AreNextBatches p.plan.facts.instruments first done
+  pub each : AnswersEach p first done
   pub seen : after ≡ with_all_seen first done
 
 pub one_more : (p : ProviderValue) (first seat after : CollectorValue) (done new : List Batch) (batch : Batch) (instrument : ℕ) → length done ≡ instrument
-    → seat ≡ with_all_seen first done → AreNextBatches p.plan.facts.instruments first done → new ≡ done ++ batch ∷ [] → instrument < length p.plan.facts.instruments
+    → seat ≡ with_all_seen first done → AnswersEach p first done → new ≡ done ++ batch ∷ [] → instrument < length p.plan.facts.instruments
     → AnswersCollector (collectable p seat instrument) seat instrument (Ok batch) → after ≡ with_seen seat instrument batch.mark → IsOneMore p first after new
 one_more p first seat after done new batch instrument count seen before is known answer then =
-    let from = collected p seat instrument batch answer in
-    let reader : seat.number ≡ first.number = ap (λ (s : CollectorValue). s.number) seen in
-    let length_is : length seat.seen ≡ length done + (length first.seen - length done) =
-    ap (λ (s : CollectorValue). length s.seen) seen ∙ length-append (map (λ (b : Batch). b.mark) done) (drop (length done) first.seen)
-    ∙ ap (λ (n : ℕ). n + length (drop (length done) first.seen)) (length-map done (λ (b : Batch). b.mark))
-    ∙ ap (λ (n : ℕ). length done + n) (length-drop (length done) first.seen) in
-    let below : length done < length first.seen = omega (arith, length_is, from.long, known, count) in
-    let here : IsNextBatch from.own first.number (slice_index (with_all_seen first done).seen (length done)) batch =
-    subst (λ (n : ℕ). IsNextBatch from.own first.number (slice_index (with_all_seen first done).seen n) batch) (sym count)
-    (subst (λ (s : CollectorValue). IsNextBatch from.own s.number (slice_index s.seen instrument) batch) seen from.next) in
-    let found : slice_get p.plan.facts.instruments (length done) ≡ Some from.own = subst (λ (n : ℕ). slice_get p.plan.facts.instruments n ≡ Some from.own) (sym count) from.found in
+    let here : AnswersCollector (collectable p first instrument) first instrument (Ok batch) =
+    as_first p first seat done instrument (Ok batch) count seen known before answer in
+    let from = collected p first instrument batch here in
+    let below : length done < length first.seen = omega (arith, from.long, known, count) in
+    let last : AnswersCollector (collectable p first (length done)) first (length done) (Ok batch) =
+    subst (λ (n : ℕ). AnswersCollector (collectable p first n) first n (Ok batch)) (sym count) here in
     record {
-      each = subst (λ (all : List Batch). AreNextBatches p.plan.facts.instruments first all) (sym is) (next_more p.plan.facts.instruments first done from.own batch before found here);
+      each = subst (λ (all : List Batch). AnswersEach p first all) (sym is)
+          (at_each_push (λ (i : ℕ) (b : Batch). AnswersCollector (collectable p first i) first i (Ok b)) done batch before last);
       seen = then
           ∙ ap (λ (s : CollectorValue). with_seen s instrument batch.mark) seen
           ∙ ap (λ (n : ℕ). with_seen (with_all_seen first done) n batch.mark) (sym count)

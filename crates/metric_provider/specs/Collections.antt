@@ -1,12 +1,12 @@
 -- What a reader's calls answer.
-use Rattle.std.specs.Prelude.{◌≡◌, ℕ, ◌++◌, List, Result, Ok, Err, Some, drop, length, map, slice_get, slice_index, slice_set}
+use Rattle.std.specs.Prelude.{◌≡◌, ◌⊎◌, ◌<◌, ℕ, ◌++◌, List, Result, Ok, Err, Some, true, drop, length, map, slice_get, slice_index, slice_set}
 use Rattle.metric_base.specs.Steps.{◌>>=◌, require, require_some}
 use Rattle.metric_catalogue.specs.declared.refusal.Refusal.{Refusal}
 use Rattle.metric_catalogue.specs.declared.refusal.Refusal.TheVariants.{Stranger, UnknownInstrument, Memory}
 use Rattle.metric_history.specs.declared.batch.Batch.{Batch}
 use Rattle.metric_facts.specs.declared.facts.Facts.{Facts}
 use Rattle.metric_safety.specs.WindowBounds.{IsReportWithin}
-use Rattle.metric_slot.specs.SlotAnswers.{Continues}
+use Rattle.metric_slot.specs.SlotAnswers.{Continues, ReportsJournal}
 use Rattle.metric_provider.specs.Seats.{CollectorValue, ProviderValue, is_collector_of}
 
 -- the facts of an instrument that a seat may collect of a provider, or the first refusal
@@ -15,10 +15,12 @@ collectable p seat instrument =
     require (is_collector_of p seat) Stranger >>= λ _.
     require_some (slice_get p.plan.facts.instruments instrument) UnknownInstrument
 
--- A batch goes on where the reader's last one ended, and is within the bounds of the instrument: no overflow point, and each number by
--- its range and the number of recordings that the batch covers, which are at most the budgets together.
+-- A batch goes on where the reader's last one ended, and reports recordings that the instrument may have accepted. So it is within the
+-- bounds of the instrument: no overflow point, and each number by its range and the number of recordings that the batch covers, which
+-- are at most the budgets together.
 pub record IsNextBatch (own : Facts) (reader seen : ℕ) (batch : Batch) : Type 0 where
   pub continues : Continues own reader seen batch
+  pub journal : ReportsJournal own reader seen batch
   pub within : IsReportWithin own batch.from batch.mark batch.streams
 
 -- what refuses a collection under the lock
@@ -38,14 +40,10 @@ AnswersCollector (Ok own) seat instrument (Err refusal) = RefusesCollection refu
 abbrev pub with_seen : CollectorValue → ℕ → ℕ → CollectorValue
 with_seen seat instrument mark = record seat { seen = slice_set seat.seen instrument mark }
 
--- the batch is the next one of the instrument of this number
-abbrev pub IsNextAt : List Facts → CollectorValue → ℕ → Batch → Type 0
-IsNextAt instruments seat i batch =
-    (own : Facts) → slice_get instruments i ≡ Some own → IsNextBatch own seat.number (slice_index seat.seen i) batch
-
--- each batch is that of the instrument of its place
-abbrev pub AreNextBatches : List Facts → CollectorValue → List Batch → Type 0
-AreNextBatches instruments seat batches = (i : ℕ) (batch : Batch) → slice_get batches i ≡ Some batch → IsNextAt instruments seat i batch
+-- each batch is what a collection of the instrument of its place is answered
+abbrev pub AnswersEach : ProviderValue → CollectorValue → List Batch → Type 0
+AnswersEach p seat batches =
+    (i : ℕ) (batch : Batch) → slice_get batches i ≡ Some batch → AnswersCollector (collectable p seat i) seat i (Ok batch)
 
 -- the seat that has seen a batch of each of the first instruments
 abbrev pub with_all_seen : CollectorValue → List Batch → CollectorValue
@@ -53,9 +51,14 @@ with_all_seen seat batches = record seat {
   seen = map (λ (batch : Batch). batch.mark) batches ++ drop (length batches) seat.seen;
 }
 
--- What a collection of all instruments was refused for: there was no memory for the list, or the instrument after those that
--- have a batch refused.
-pub record AllRefused (instruments : List Facts) (seat : CollectorValue) (done : List Batch) (instrument : ℕ) (refusal : Refusal) : Type 0 where
+-- A collection of an instrument is answered this refusal. The plan has the instrument, unless the seat is a stranger.
+pub record IsRefusedAt (p : ProviderValue) (seat : CollectorValue) (instrument : ℕ) (refusal : Refusal) : Type 0 where
+  pub known : is_collector_of p seat ≡ true → instrument < length p.plan.facts.instruments
+  pub answer : AnswersCollector (collectable p seat instrument) seat instrument (Err refusal)
+
+-- What a collection of all instruments was refused for: the instrument after those that have a batch refused, or there was no memory
+-- for the list.
+pub record AllRefused (p : ProviderValue) (seat : CollectorValue) (done : List Batch) (instrument : ℕ) (refusal : Refusal) : Type 0 where
   pub before : length done ≡ instrument
-  pub each : AreNextBatches instruments seat done
-  pub why : RefusesCollection refusal
+  pub each : AnswersEach p seat done
+  pub why : IsRefusedAt p seat instrument refusal ⊎ ((instrument ≡ 0) × (refusal ≡ Memory))

@@ -1,6 +1,6 @@
 //! The seat of a reader.
-ghost use Rattle.std.specs.Prelude.{◌≡◌, [], length, slice_get, slice_index, IfOk, IfErr, OnErr};
-ghost use Rattle.metric_provider.specs.Collections.{AllRefused, AnswersCollector, AreNextBatches, collectable, with_all_seen, with_seen};
+ghost use Rattle.std.specs.Prelude.{◌≡◌, [], true, length, slice_get, slice_index, IfOk, IfErr, OnErr, OnOk};
+ghost use Rattle.metric_provider.specs.Collections.{AllRefused, AnswersCollector, AnswersEach, collectable, with_all_seen, with_seen};
 ghost use Rattle.metric_provider.specs.Seats.{is_collector_of, new_collector, provider_of};
 
 use crate::fault::AllFault;
@@ -96,8 +96,8 @@ impl Collector {
     ///
     /// # Errors
     ///
-    /// The first refusal of [`Collector::collect`], with its instrument. Where there is no memory for the list itself, it is
-    /// `Memory` at instrument 0, and nothing was collected.
+    /// The first refusal of [`Collector::collect`], with its instrument; instrument 0 where the seat is not of this provider.
+    /// Where there is no memory for the list itself, it is `Memory` at instrument 0, and nothing was collected.
     pub fn collect_all<R: Wait, B: Book, G: Gate>(
         &mut self,
         rt: &R,
@@ -106,16 +106,24 @@ impl Collector {
         now: u64,
     ) -> Result<Vec<Batch>, AllFault>
         ensures each { IfOk result (λ batches.
-            AreNextBatches provider.now.plan.facts.instruments self.old batches.items) }
+            AnswersEach provider.now self.old batches.items) }
         ensures all { IfOk result (λ batches.
             length batches.items ≡ length provider.now.plan.facts.instruments) }
+        ensures own { OnOk result (is_collector_of provider.now self.old ≡ true) }
         ensures seen { IfOk result (λ batches. self.new ≡ with_all_seen self.old batches.items) }
         ensures refused { IfErr result (λ fault.
-            let instruments = provider.now.plan.facts.instruments in
-            AllRefused instruments self.old fault.done.items fault.instrument fault.refusal) }
+            AllRefused provider.now self.old fault.done.items fault.instrument fault.refusal) }
         ensures seen_before { IfErr result (λ fault.
             self.new ≡ with_all_seen self.old fault.done.items) }
     {
+        let is_own = self.is_of(provider.plan(), provider.run());
+        if !is_own {
+            return Err(AllFault {
+                done: Vec::new(alloc),
+                instrument: 0,
+                refusal: Refusal::Stranger,
+            });
+        }
         let count = provider.plan().catalogue().instruments().len();
         let Ok(mut done) = Vec::with_capacity(alloc, count) else {
             return Err(AllFault {
@@ -153,12 +161,12 @@ impl Collector {
         now: u64,
     ) -> Result<Vec<Batch>, (Collector, AllFault)>
         ensures each { IfOk result (λ batches.
-            AreNextBatches provider.now.plan.facts.instruments self batches.items) }
+            AnswersEach provider.now self batches.items) }
         ensures all { IfOk result (λ batches.
             length batches.items ≡ length provider.now.plan.facts.instruments) }
+        ensures own { OnOk result (is_collector_of provider.now self ≡ true) }
         ensures refused { IfErr result (λ refused. let fault = refused.1 in
-            let instruments = provider.now.plan.facts.instruments in
-            AllRefused instruments self fault.done.items fault.instrument fault.refusal) }
+            AllRefused provider.now self fault.done.items fault.instrument fault.refusal) }
         ensures seen_before { IfErr result (λ refused.
             refused.0 ≡ with_all_seen self refused.1.done.items) }
     {

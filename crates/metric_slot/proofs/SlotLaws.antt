@@ -1,6 +1,6 @@
 -- What the calls of a slot answer.
-use Rattle.std.proofs.Common.{◌≡◌, ℕ, ◌+◌, ◌<◌, ◌≤◌, ℤ, true, false, [], ◌∷◌, ◌++◌, Result, Ok, Err, length, sym, subst, arith}
-use Rattle.std.specs.Prelude.{OnOk, slice_index}
+use Rattle.std.proofs.Common.{◌≡◌, ℕ, ◌+◌, ◌<◌, ◌≤◌, ℤ, true, false, List, [], ◌∷◌, ◌++◌, Result, Ok, Err, length, sym, ap, subst, ◌∙◌, arith}
+use Rattle.std.specs.Prelude.{OnOk, slice_index, if◌then◌else◌}
 use Rattle.std.proofs.lemmas.List.{length_push}
 use Rattle.metric_book.specs.Journals.{Standing}
 use Rattle.metric_catalogue.specs.declared.refusal.Refusal.{Refusal}
@@ -9,17 +9,19 @@ use Rattle.metric_core.specs.BudgetLaws.{has_room, kept_journal}
 use Rattle.metric_core.specs.Cells.{CellKept, CellValue}
 use Rattle.metric_core.specs.CellAnswers.{AnswersRecording, IsJudged, ReportsBatch}
 use Rattle.metric_history.specs.declared.batch.Batch.{Batch}
+use Rattle.metric_history.specs.declared.batch.StreamPoints.{StreamPoints}
 use Rattle.metric_history.specs.declared.entry.Entry.{Entry}
 use Rattle.metric_facts.specs.declared.facts.Facts.{Facts}
-use Rattle.metric_facts.specs.Facts.{in_bounds, is_full_set}
-use Rattle.metric_history.specs.Windows.{fits_all}
+use Rattle.metric_facts.specs.Facts.{in_bounds, is_delta, is_full_set}
+use Rattle.metric_history.specs.Windows.{fits_all, window}
+use Rattle.metric_history.specs.Points.{reported}
 use Rattle.metric_safety.specs.AdmissionLaws.{admitted, admitted_more}
 use Rattle.metric_safety.specs.SafeFacts.{IsJournal, IsSafeFacts, total}
 use Rattle.metric_safety.specs.WindowBounds.{BoundsReports, FitsJournals, IsReportWithin}
 use Rattle.metric_slot.proofs.BudgetLaws.{amount_room, element_le}
 use Rattle.metric_slot.specs.declared.told.Told.{Told}
-use Rattle.metric_slot.specs.SlotAnswers.{AnswersRecorder}
-use Rattle.metric_slot.specs.Slots.{IsOwnRecorder}
+use Rattle.metric_slot.specs.SlotAnswers.{AnswersRecorder, Continues, ReportsJournal}
+use Rattle.metric_slot.specs.Slots.{IsOwnReader, IsOwnRecorder}
 use Rattle.metric_slot.specs.Tellings.{HasRoom}
 
 -- what the next recording is to the facts of an instrument
@@ -89,3 +91,30 @@ batch_within stands c own reader now told law safe k same reports =
     subst (λ (f : Facts). IsReportWithin f told.from told.mark told.streams) same
     (subst (λ (b : Batch). IsReportWithin c.facts b.from b.mark b.streams) (sym (reports k.journal k.known))
     (law c.facts k.journal reader (slice_index c.marks reader) safe (kept_journal stands c k)))
+
+-- what a reader is told is of the recordings of the cell
+pub batch_journal : {B : Type 0} (stands : B → Standing) (c : CellValue B) (own : Facts) (reader seen now : ℕ) (told : Batch)
+    → CellKept stands c → IsOwnReader c own seen reader → ReportsBatch stands c reader now told
+    → ReportsJournal own reader seen told
+batch_journal stands c own reader seen now told k mine reports =
+    let is = reports k.journal k.known in
+    record {
+      journal = k.journal;
+      admitted = subst (λ (f : Facts). IsJournal f k.journal) mine.facts (kept_journal stands c k);
+      counted = ap (λ (b : Batch). b.mark) (sym is);
+      streams =
+          ap (λ (b : Batch). b.streams) is
+          ∙ ap (λ (n : ℕ). reported c.facts reader (window (is_delta c.facts reader) n k.journal)) mine.mark
+          ∙ ap (λ (f : Facts). reported f reader (window (is_delta f reader) seen k.journal)) mine.facts;
+    }
+
+-- such a batch is within the bounds
+pub journal_within : (own : Facts) (reader seen : ℕ) (told : Batch) → BoundsReports → IsSafeFacts own → Continues own reader seen told
+    → ReportsJournal own reader seen told → IsReportWithin own told.from told.mark told.streams
+journal_within own reader seen told law safe goes of =
+    let start : ℕ = if is_delta own reader then seen else 0 in
+    let shown : List StreamPoints = reported own reader (window (is_delta own reader) seen of.journal) in
+    subst (λ (n : ℕ). IsReportWithin own n told.mark told.streams) (sym goes.from)
+    (subst (λ (n : ℕ). IsReportWithin own start n told.streams) of.counted
+    (subst (λ (all : List StreamPoints). IsReportWithin own start (length of.journal) all) (sym of.streams)
+    (law own of.journal reader seen safe of.admitted)))

@@ -1,5 +1,5 @@
 -- What the calls of a slot answer.
-use Rattle.std.specs.Prelude.{◌≡◌, ◌≤◌, ℕ, Result, Err, if◌then◌else◌}
+use Rattle.std.specs.Prelude.{◌≡◌, ◌≤◌, ℕ, List, Result, Err, if◌then◌else◌, length}
 use Rattle.metric_book.specs.Journals.{Standing}
 use Rattle.metric_catalogue.specs.declared.refusal.Refusal.{Refusal}
 use Rattle.metric_catalogue.specs.declared.refusal.Refusal.TheVariants.{Stranger, SumRange, Memory}
@@ -9,6 +9,10 @@ use Rattle.metric_history.specs.declared.batch.Batch.{Batch}
 use Rattle.metric_history.specs.declared.entry.Entry.{Entry}
 use Rattle.metric_facts.specs.declared.facts.Facts.{Facts}
 use Rattle.metric_facts.specs.Facts.{is_delta}
+use Rattle.metric_history.specs.Points.{reported}
+use Rattle.metric_history.specs.Windows.{window}
+use Rattle.metric_safety.specs.SafeFacts.{IsJournal, IsSafeFacts}
+use Rattle.metric_safety.specs.WindowBounds.{IsReportWithin}
 use Rattle.metric_slot.specs.declared.told.Told.{Told}
 use Rattle.metric_slot.specs.Slots.{IsOwnReader, IsOwnRecorder}
 
@@ -25,6 +29,21 @@ pub record Continues (facts : Facts) (of seen : ℕ) (told : Batch) : Type 0 whe
   pub instrument : told.instrument ≡ facts.instrument
   pub from : told.from ≡ (if is_delta facts of then seen else 0)
   pub mark : seen ≤ told.mark
+
+-- A batch reports recordings that the instrument may have accepted, as many as it counts: its streams are those of the reader, and each
+-- has the points of their window, which is those after the ones seen (delta), or all (cumulative).
+pub record ReportsJournal (facts : Facts) (of seen : ℕ) (told : Batch) : Type 0 where
+  pub journal : List Entry
+  pub admitted : IsJournal facts journal
+  pub counted : length journal ≡ told.mark
+  pub streams : told.streams ≡ reported facts of (window (is_delta facts of) seen journal)
+
+-- Each such batch of safe facts that goes on where the last one ended is within their bounds: no overflow point, and each number by
+-- their range and the number of recordings that the batch covers, which are at most the budgets together.
+abbrev pub WithinReports : Type 0
+WithinReports =
+    (own : Facts) (reader seen : ℕ) (told : Batch) → IsSafeFacts own → Continues own reader seen told → ReportsJournal own reader seen told
+    → IsReportWithin own told.from told.mark told.streams
 
 -- what a collection is refused: `Stranger` exactly where the reader's numbers are not the cell's, else `Memory`
 abbrev pub RefusesReader : {B : Type 0} → CellValue B → Facts → ℕ → ℕ → Refusal → Type 0

@@ -9,5 +9,6 @@ mod safety;
 mod slot;
 mod told;
 
+pub use safety::journal_reports_are_within;
 pub use slot::Slot;
 pub use told::Told;

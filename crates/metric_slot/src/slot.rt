@@ -6,7 +6,7 @@ ghost use Rattle.metric_facts.specs.Facts.{in_bounds, is_full_set};
 ghost use Rattle.metric_safety.specs.SafeFacts.{IsSafeFacts};
 ghost use Rattle.metric_safety.specs.WindowBounds.{IsReportWithin};
 ghost use Rattle.metric_slot.specs.Slots.{IsCertified, IsOwnReader, IsOwnRecorder};
-ghost use Rattle.metric_slot.specs.SlotAnswers.{AnswersRecorder, Continues, RefusesReader};
+ghost use Rattle.metric_slot.specs.SlotAnswers.{AnswersRecorder, Continues, RefusesReader, ReportsJournal};
 ghost use Rattle.metric_slot.specs.Tellings.{HasRoom, told_more};
 
 use crate::safety::certified_facts_are_safe;
@@ -133,6 +133,7 @@ impl<B: Book> Slot<B> {
             self.new ≡ with_batch self.old reader batch.time self.new.book) }
         ensures stands { OnOk result (KeepsJournal B.stands self.old self.new) }
         ensures continues { IfOk result (λ batch. Continues facts.now reader seen.old batch) }
+        ensures journal { IfOk result (λ batch. ReportsJournal facts.now reader seen.old batch) }
         ensures within { IfOk result (λ batch.
             IsReportWithin facts.now batch.from batch.mark batch.streams) }
         ensures seen { IfOk result (λ batch. seen.new ≡ batch.mark) }

@@ -1,7 +1,10 @@
 -- one collection more, and the first that is refused
-use Rattle.std.proofs.Common.{◌<◌, length, rules, ap, arith}
+use Rattle.std.proofs.Common.{◌≡◌, ◌<◌, inl, false, List, Err, length, rules, sym, ap, subst, ◌∙◌, arith}
 use Rattle.std.proofs.lemmas.List.{length_push}
-use Rattle.metric_provider.proofs.CollectLaws.{one_more, refused}
+use Rattle.metric_history.specs.declared.batch.Batch.{Batch}
+use Rattle.metric_provider.specs.Collections.{AnswersEach}
+use Rattle.metric_provider.specs.Seats.{ProviderValue, is_collector_of, provider_of}
+use Rattle.metric_provider.proofs.CollectLaws.{as_first, one_more, stranger}
 use Rattle.metric_provider.proofs.collector.Collector.collect_all.Goals as goal
 
 pub returns-in-Err-clause-refused : goal.returns-in-Err-clause-refused
@@ -10,7 +13,11 @@ returns-in-Err-clause-refused g c =
     record {
       before = c.loop-instrument.invariant.count;
       each = c.loop-instrument.invariant.each;
-      why = refused c.args.provider.now c.loop-instrument.self c.loop-instrument.instrument c.in-Err.refusal known c.in-Err.ensures.answer;
+      why = inl (record {
+        known = λ own. known;
+        answer = as_first c.args.provider.now c.args.self.now c.loop-instrument.self c.loop-instrument.done.items c.loop-instrument.instrument (Err c.in-Err.refusal)
+            c.loop-instrument.invariant.count c.loop-instrument.invariant.seen known c.loop-instrument.invariant.each c.in-Err.ensures.answer;
+      });
     }
 
 pub loop-instrument-preserved : goal.loop-instrument-preserved
@@ -28,3 +35,15 @@ loop-instrument-preserved g c =
 
 pub loop-instrument-init : goal.loop-instrument-init
 loop-instrument-init g c = search rules
+
+pub returns-then-not-is_own-clause-refused : goal.returns-then-not-is_own-clause-refused
+returns-then-not-is_own-clause-refused g c =
+    let p : ProviderValue = c.args.provider.now in
+    let same : provider_of c.plan.result.now c.run.result ≡ p = λ i. record { plan = c.plan.ensures i; run = c.run.ensures i } in
+    let other : is_collector_of p c.args.self.now ≡ false =
+    sym (ap (λ (q : ProviderValue). is_collector_of q c.args.self.now) same) ∙ sym c.is_of-is_own.ensures ∙ c.if-not-is_own.true in
+    record {
+      before = ap length c.new.ensures.items;
+      each = subst (λ (all : List Batch). AnswersEach p c.args.self.now all) (sym c.new.ensures.items) (λ i batch found. absurd cc);
+      why = inl (stranger p c.args.self.now other);
+    }
