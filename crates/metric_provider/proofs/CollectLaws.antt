@@ -61,7 +61,8 @@ pub all_seen_more : (seat : CollectorValue) (done : List Batch) (batch : Batch) 
     → with_seen (with_all_seen seat done) (length done) batch.mark ≡ with_all_seen seat (done ++ batch ∷ [])
 all_seen_more seat done batch below = ap (λ (seen : List ℕ). record seat { seen = seen }) (seen_more done seat.seen batch below)
 
-at_each_push : {X : Type 0} (P : ℕ → X → Type 0) (xs : List X) (x : X) → ((i : ℕ) (y : X) → slice_get xs i ≡ Some y → P i y) → P (length xs) x
+-- what holds of each element, and of one more at its place
+pub at_each_push : {X : Type 0} (P : ℕ → X → Type 0) (xs : List X) (x : X) → ((i : ℕ) (y : X) → slice_get xs i ≡ Some y → P i y) → P (length xs) x
     → (i : ℕ) (y : X) → slice_get (xs ++ x ∷ []) i ≡ Some y → P i y
 at_each_push P [] x each last zero y found = subst (P 0) (same_Some x y found) last
 at_each_push P [] x each last (suc i) y found = absurd cc

@@ -1,5 +1,6 @@
 pub mod Seats
 pub mod Providers
+pub mod NewSlots
 pub mod Recordings
 pub mod Collections
 pub mod Closing

@@ -120,8 +120,8 @@ fn take_out<B: Book>(locked: &mut Vec<Locked<B>>, slots: &mut Vec<Slot<B>>)
     }
 }
 
-// Locks the slots again, the last one first.
-fn put_back<B: Book>(slots: &mut Vec<Slot<B>>, locked: &mut Vec<Locked<B>>)
+/// Puts the slots behind locks, the last one first.
+pub(crate) fn put_back<B: Book>(slots: &mut Vec<Slot<B>>, locked: &mut Vec<Locked<B>>)
     requires room { vec_len locked.old + vec_len slots.old ≤ vec_capacity locked.old }
     ensures { vec_len locked.new ≡ vec_len locked.old + vec_len slots.old }
 {

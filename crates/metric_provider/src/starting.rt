@@ -1,18 +1,19 @@
 //! A provider with its seats.
 ghost use Rattle.std.specs.Prelude.{◌≡◌, IsTrue, length, map, vec_len, IfOk, IfErr};
 ghost use Rattle.std.specs.List.{range_with_len};
+ghost use Rattle.metric_provider.specs.NewSlots.{AreNewSlots};
 ghost use Rattle.metric_provider.specs.Seats.{new_collector, new_recorder, provider_of};
 
 use crate::collector::Collector;
+use crate::finish::put_back;
 use crate::gate::Gate;
 use crate::provider::{Locked, Provider};
 use crate::recorder::Recorder;
-use crossbeam_utils::CachePadded;
 use metric_book::Book;
 use metric_plan::Plan;
 use metric_slot::Slot;
 use std::alloc::{AllocError, Global};
-use std::sync::{Mutex, Wait};
+use std::sync::Wait;
 
 /// A provider of a certified plan without recordings, since a start in nanoseconds, with a seat for each recorder and
 /// each reader, in order. Seats serve the run that they were made for, so no two providers at a time may have the same
@@ -62,6 +63,7 @@ fn new_parts<B: Book>(
         (range_with_len 0 (length plan.now.config.readers))) }
 {
     let slots = new_slots(alloc, plan, start, seed_of(start, run))?;
+    let slots = locked(alloc, slots)?;
     let recorders = new_recorders(alloc, plan, run)?;
     let collectors = new_collectors(alloc, plan, run)?;
     Ok((slots, recorders, collectors))
@@ -73,23 +75,36 @@ fn seed_of(start: u64, run: u64) -> u64 {
     start ^ run.wrapping_mul(0x9E37_79B9_7F4A_7C15)
 }
 
-// The slot of each instrument, without recordings.
+// The slot of each instrument, in order, without recordings since the start.
 fn new_slots<B: Book>(
     alloc: Global,
     plan: &Plan,
     start: u64,
     seed: u64,
-) -> Result<Vec<Locked<B>>, AllocError>
+) -> Result<Vec<Slot<B>>, AllocError>
     requires { IsTrue plan.now.is_certified }
-    ensures { IfOk result (λ slots. vec_len slots ≡ length plan.now.facts.instruments) }
+    ensures all { IfOk result (λ slots. vec_len slots ≡ length plan.now.facts.instruments) }
+    ensures each { IfOk result (λ slots.
+        AreNewSlots B.stands plan.now.facts.instruments start slots.items) }
 {
     let count = plan.catalogue().instruments().len() as u32;
     let mut slots = Vec::new(alloc);
     for instrument in 0..count {
         let slot = Slot::with_seed(alloc, plan, instrument, start, seed)?;
-        slots.push(CachePadded::new(Mutex::new(slot)))?;
+        slots.push(slot)?;
     }
     Ok(slots)
+}
+
+// The slots in order, each behind a lock of its own.
+fn locked<B: Book>(alloc: Global, slots: Vec<Slot<B>>) -> Result<Vec<Locked<B>>, AllocError>
+    ensures { IfOk result (λ locked. vec_len locked ≡ vec_len slots) }
+{
+    let mut unlocked = slots;
+    let mut locked = Vec::with_capacity(alloc, unlocked.len())?;
+    unlocked.as_mut_slice().reverse();
+    put_back(&mut unlocked, &mut locked);
+    Ok(locked)
 }
 
 // The seat of each recorder, told of nothing.
