@@ -3,7 +3,8 @@ ghost use Rattle.std.specs.Prelude.{◌≡◌, ◌⊎◌, IsErr, IsOk};
 ghost use Rattle.std.specs.Io.KnownBytes.{Keeps};
 ghost use Rattle.metric_io.specs.Counts.{next_count};
 ghost use Rattle.metric_export.specs.declared.state.ExporterState.{ExporterState};
-ghost use Rattle.metric_periodic.specs.Counts.{AreHandedOn, HandsOn, HandsOnOne, IsCounted, handed};
+ghost use Rattle.metric_periodic.specs.Counts.{AreHandedOn, HandsOnOne, IsCounted, handed};
+ghost use Rattle.metric_periodic.specs.Collections.{batches_of};
 
 use metric_export::{ExportFault, MetricExporter};
 use metric_history::Batch;
@@ -37,16 +38,16 @@ impl<E: MetricExporter> Exports<E> {
     }
 
     /// Hands on what a collection gave, also where it was refused before its end.
-    #[tactic(auto, using(crate::proofs::Handing::hands_on))]
     pub(crate) fn hand_on_collected(
         &mut self,
         alloc: Global,
         plan: &Plan,
         collected: &Result<Vec<Batch>, AllFault>,
     )
-        ensures handed { HandsOn (E.text plan.now)
+        ensures handed { AreHandedOn (E.text plan.now)
             (handed (E.contents self.old.exporter) self.old.exported self.old.failed)
-            (handed (E.contents self.new.exporter) self.new.exported self.new.failed) }
+            (handed (E.contents self.new.exporter) self.new.exported self.new.failed)
+            (batches_of collected.now) }
         ensures refused { IsErr collected.now →
             self.new.refused ≡ next_count self.old.refused }
         ensures accepted { IsOk collected.now → self.new.refused ≡ self.old.refused }

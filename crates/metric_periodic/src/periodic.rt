@@ -62,7 +62,7 @@ impl<E: MetricExporter> Periodic<E> {
     ///
     /// When the ticker stops, or was asked as often as it may be, a last collection is made, at the
     /// moment of the last tick, 0 where there was none; then the exporter is shut down.
-    #[tactic(auto, using(crate::proofs::Handing::hands_on_none, crate::proofs::Handing::hands_on_more))]
+    #[tactic(auto, using(crate::proofs::Handing::hands_on_none, crate::proofs::Handing::hands_on_more, crate::proofs::Handing::hands_on))]
     pub fn run<R: Wait, B: Book, G: Gate, T: Ticker<R>>(
         self,
         rt: &R,
@@ -98,7 +98,7 @@ impl<E: MetricExporter> Periodic<E> {
 }
 
 // Hands on the last collection, and shuts the exporter down.
-#[tactic(auto, using(crate::proofs::Handing::to_end, crate::proofs::Handing::some_counted))]
+#[tactic(auto, using(crate::proofs::Handing::to_end, crate::proofs::Handing::hands_on, crate::proofs::Handing::some_counted))]
 fn end_of<E: MetricExporter>(
     alloc: Global,
     plan: &Plan,

@@ -1,8 +1,8 @@
 //! Runs of a periodic reader: what is exported, and how the run is counted.
 use crate::equal::assert_equal;
 use crate::exporters::sink_of;
-use crate::samples::FIVE;
-use crate::seats::hit_once;
+use crate::samples::{BOTH, FIVE, PAIR};
+use crate::seats::{Seats, hit_once, seats_of};
 use crate::texts::write_numbers;
 use metric_export::{ListTicker, TextExporter, Tick};
 use metric_io::CutSink;
@@ -16,16 +16,35 @@ use std::test::Fail;
 /// When the periodic readers collect.
 pub(crate) const TICKS: &[Tick] = &[Tick::At(10), Tick::At(20), Tick::Stop(30)];
 
+// A stop before the first tick; what comes after it is never asked for.
+const STOP: &[Tick] = &[Tick::Stop(10), Tick::At(20)];
+
 // The text of the delta reader's batch at the start.
 const AT_START: &str = "collected 0 1
 stream reader=\"D\" meter=\"m\" version=\"\" schema=\"\" name=\"hits\" unit=\"\" description=\"\" kind=sum monotonic=yes temporality=delta
 point {} start=0 time=0 value=5
 ";
 
-// Whether the provider is that of another run, how many turns there are at most, how much room the sink has and whether
-// flushes work, the text that is held of the first batch and that of the rest, and what is told of the end.
+// The text of the delta reader's batch of the first of two counters.
+const FIRST: &str = "collected 10 1
+stream reader=\"D\" meter=\"m\" version=\"\" schema=\"\" name=\"A\" unit=\"\" description=\"\" kind=sum monotonic=yes temporality=delta
+point {} start=0 time=10 value=3
+";
+
+// Of which provider the delta reader collects: its own; one of another run, which refuses it at once; or one of two counters
+// that refuses it at the second one.
+#[derive(Clone, Copy)]
+enum Of {
+    Own,
+    Elsewhere,
+    Half,
+}
+
+// The provider, the ticks, how many turns there are at most, how much room the sink has and whether flushes work, the text
+// that is held of the first batch and that of the rest, and what is told of the end.
 struct Run {
-    is_elsewhere: bool,
+    of: Of,
+    ticks: &'static [Tick],
     turns: u32,
     room: Option<usize>,
     flushes: bool,
@@ -36,7 +55,8 @@ struct Run {
 
 const RUNS: &[Run] = &[
     Run {
-        is_elsewhere: false,
+        of: Of::Own,
+        ticks: TICKS,
         turns: 9,
         room: None,
         flushes: true,
@@ -45,7 +65,8 @@ const RUNS: &[Run] = &[
         rest: "collected 20 0\ncollected 30 0\n",
     },
     Run {
-        is_elsewhere: false,
+        of: Of::Own,
+        ticks: TICKS,
         turns: 2,
         room: None,
         flushes: true,
@@ -54,7 +75,8 @@ const RUNS: &[Run] = &[
         rest: "collected 20 0\ncollected 20 0\n",
     },
     Run {
-        is_elsewhere: false,
+        of: Of::Own,
+        ticks: TICKS,
         turns: 1,
         room: None,
         flushes: true,
@@ -63,7 +85,8 @@ const RUNS: &[Run] = &[
         rest: "collected 10 0\n",
     },
     Run {
-        is_elsewhere: false,
+        of: Of::Own,
+        ticks: TICKS,
         turns: 0,
         room: None,
         flushes: true,
@@ -72,7 +95,8 @@ const RUNS: &[Run] = &[
         rest: "",
     },
     Run {
-        is_elsewhere: false,
+        of: Of::Own,
+        ticks: TICKS,
         turns: 9,
         room: None,
         flushes: false,
@@ -81,7 +105,8 @@ const RUNS: &[Run] = &[
         rest: "collected 20 0\ncollected 30 0\n",
     },
     Run {
-        is_elsewhere: false,
+        of: Of::Own,
+        ticks: TICKS,
         turns: 9,
         room: Some(20),
         flushes: true,
@@ -90,12 +115,33 @@ const RUNS: &[Run] = &[
         rest: "",
     },
     Run {
-        is_elsewhere: true,
+        of: Of::Elsewhere,
+        ticks: TICKS,
         turns: 9,
         room: None,
         flushes: true,
         told: "exported 0 failed 0 refused 3 true true true",
         first: "",
+        rest: "",
+    },
+    Run {
+        of: Of::Half,
+        ticks: TICKS,
+        turns: 9,
+        room: None,
+        flushes: true,
+        told: "exported 3 failed 0 refused 3 true true true",
+        first: FIRST,
+        rest: "collected 20 0\ncollected 30 0\n",
+    },
+    Run {
+        of: Of::Own,
+        ticks: STOP,
+        turns: 9,
+        room: None,
+        flushes: true,
+        told: "exported 1 failed 0 refused 0 true false true",
+        first: FIVE,
         rest: "",
     },
 ];
@@ -110,7 +156,7 @@ fn end_of<R: Wait>(
     run: &Run,
 ) -> End {
     let exporter = TextExporter::new(sink_of(alloc, run.room, run.flushes));
-    let mut ticker = ListTicker::new(TICKS);
+    let mut ticker = ListTicker::new(run.ticks);
     Periodic::new(exporter, run.turns).run(rt, alloc, provider, reader, &mut ticker)
 }
 
@@ -125,13 +171,41 @@ fn end_elsewhere<R: Wait>(
     Ok(end_of(rt, alloc, &other.provider, reader, run))
 }
 
+// Two counters with their seats, after a recording of 3 on one of them.
+fn pair_after_hit<R: Wait>(rt: &R, alloc: Global, instrument: u32) -> Result<Seats, Fail> {
+    let mut seats: Seats = seats_of(rt, alloc, PAIR, BOTH, 0, 1)?;
+    if let Some(recorder) = seats.recorders.first_mut() {
+        recorder.record(rt, &seats.provider, instrument, &[], 3)?;
+    }
+    Ok(seats)
+}
+
+// The delta reader's seat of two counters that has seen a recording of the second one.
+fn second_seen<R: Wait>(rt: &R, alloc: Global) -> Result<Collector, Fail> {
+    let mut seats = pair_after_hit(rt, alloc, 1)?;
+    let Some(reader) = seats.collectors.pop() else {
+        return Err(Fail::from("no reader"));
+    };
+    let mut reader = reader;
+    reader.collect(rt, alloc, &seats.provider, 1, 0)?;
+    Ok(reader)
+}
+
+// The end of a run with a provider of the same number that has no recording of the second counter.
+fn end_of_half<R: Wait>(rt: &R, alloc: Global, run: &Run) -> Result<End, Fail> {
+    let reader = second_seen(rt, alloc)?;
+    let seats = pair_after_hit(rt, alloc, 0)?;
+    Ok(end_of(rt, alloc, &seats.provider, reader, run))
+}
+
 // The end of a run of the delta reader, after a recording of 5.
 fn end_after_hit<R: Wait>(rt: &R, alloc: Global, run: &Run) -> Result<End, Fail> {
     let mut seats = hit_once(rt, alloc, 1)?;
-    match seats.collectors.pop() {
-        Some(reader) if run.is_elsewhere => end_elsewhere(rt, alloc, reader, run),
-        Some(reader) => Ok(end_of(rt, alloc, &seats.provider, reader, run)),
-        None => Err(Fail::from("no reader")),
+    match (run.of, seats.collectors.pop()) {
+        (Of::Half, _) => end_of_half(rt, alloc, run),
+        (_, None) => Err(Fail::from("no reader")),
+        (Of::Elsewhere, Some(reader)) => end_elsewhere(rt, alloc, reader, run),
+        (Of::Own, Some(reader)) => Ok(end_of(rt, alloc, &seats.provider, reader, run)),
     }
 }
 
