@@ -1,4 +1,4 @@
-//! A recording that is held inside its lock, and one of another instrument.
+//! A recording that is held inside its lock, and a second one of another instrument or of the same.
 use crate::equal::assert_equal;
 use crate::samples::{MAIN, PAIR};
 use metric_catalogue::Refusal;
@@ -15,7 +15,7 @@ use std::thread::{Threads, join};
 // How often a thread looks at a flag at most.
 const TURNS: u32 = 1_000_000;
 
-// Whether the first instrument was entered, whether the second one has answered, and whether that was seen inside.
+// Whether the first instrument was entered, whether the second recording was answered, and whether that was seen inside.
 #[derive(Drop)]
 struct Flags {
     is_inside: AtomicBool,
@@ -33,7 +33,7 @@ fn is_set_in_time(flag: &AtomicBool) -> bool {
     false
 }
 
-// Holds a step on the first instrument until the second one has answered.
+// Holds a step on the first instrument until the second recording was answered, so many turns at most.
 #[derive(Clone, Copy, Drop)]
 struct Holding<'a> {
     flags: &'a Flags,
@@ -61,15 +61,16 @@ fn record<R: Wait>(
     seat.record(rt, provider, instrument, &[], 1)
 }
 
-// Records on the second instrument while the first one is held, and tells that it was answered.
+// Records on an instrument while the first one is held, and tells that it was answered.
 fn record_second<R: Wait>(
     rt: &R,
     provider: &Held<'_>,
     seat: Recorder,
+    instrument: u32,
     flags: &Flags,
 ) -> Result<(), Refusal> {
     is_set_in_time(&flags.is_inside);
-    let answer = record(rt, provider, seat, 1);
+    let answer = record(rt, provider, seat, instrument);
     flags.is_answered.store(true, Ordering::SeqCst);
     answer
 }
@@ -81,6 +82,7 @@ fn both_answers<R: Threads + Wait + Sync>(
     rt: &R,
     provider: &Held<'_>,
     mut seats: Vec<Recorder>,
+    instrument: u32,
     flags: &Flags,
 ) -> Result<Answers, Fail> {
     let (Some(second), Some(first)) = (seats.pop(), seats.pop()) else {
@@ -89,7 +91,7 @@ fn both_answers<R: Threads + Wait + Sync>(
     Ok(join(
         rt,
         move || record(rt, provider, first, 0),
-        move || record_second(rt, provider, second, flags),
+        move || record_second(rt, provider, second, instrument, flags),
     ))
 }
 
@@ -97,24 +99,30 @@ fn both_answers<R: Threads + Wait + Sync>(
 fn answers<R: Threads + Wait + Sync>(
     rt: &R,
     alloc: Global,
+    instrument: u32,
     flags: &Flags,
 ) -> Result<Answers, Fail> {
     let plan = certified_plan(alloc, PAIR, MAIN)?;
     match start(rt, alloc, plan, 0, 0, Holding { flags }) {
-        Ok((provider, recorders, _)) => both_answers(rt, &provider, recorders, flags),
+        Ok((provider, recorders, _)) => both_answers(rt, &provider, recorders, instrument, flags),
         Err((_, _, refused)) => Err(Fail::from(refused)),
     }
 }
 
+// The instrument of the second recording, and whether it is answered while the first one is held.
+const SECONDS: &[(u32, bool)] = &[(1, true), (0, false)];
+
 #[test]
-fn second_instrument_answers_first(rt: HostRuntime) -> Result<(), Fail> {
-    let flags = Flags {
-        is_inside: AtomicBool::new(false),
-        is_answered: AtomicBool::new(false),
-        is_seen: AtomicBool::new(false),
-    };
-    let answers = answers(&rt, rt.alloc(), &flags)?;
-    let is_seen = flags.is_seen.load(Ordering::SeqCst);
-    assert_equal(&rt, (answers, is_seen), ((Ok(()), Ok(())), true));
+fn a_held_instrument_keeps_its_own_recordings(rt: HostRuntime) -> Result<(), Fail> {
+    for (instrument, wanted) in SECONDS {
+        let flags = Flags {
+            is_inside: AtomicBool::new(false),
+            is_answered: AtomicBool::new(false),
+            is_seen: AtomicBool::new(false),
+        };
+        let answers = answers(&rt, rt.alloc(), *instrument, &flags)?;
+        let is_seen = flags.is_seen.load(Ordering::SeqCst);
+        assert_equal(&rt, (answers, is_seen), ((Ok(()), Ok(())), *wanted));
+    }
     Ok(())
 }

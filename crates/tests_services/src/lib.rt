@@ -10,6 +10,8 @@ mod agreement;
 #[cfg(test)]
 mod counter;
 #[cfg(test)]
+mod crossed;
+#[cfg(test)]
 mod equal;
 #[cfg(test)]
 mod exporters;
