@@ -4,7 +4,6 @@ use Rattle.std.specs.Io.KnownBytes.{Appends}
 use Rattle.std.specs.List.{enumerate_from, flat_map, list_any}
 use Rattle.std.proofs.KnownBytes.{Appends-nil, Appends-trans}
 use Rattle.std.proofs.lemmas.Grind.{flat_map-append}
-use Rattle.std.proofs.lemmas.List.{append-nil}
 use Rattle.metric_book.specs.Journals.{Standing}
 use Rattle.metric_core.specs.CoreStands.{CoreStands, CoreValue}
 use Rattle.metric_facts.specs.Facts.{RunFacts}
@@ -109,12 +108,6 @@ piece_prefix stands old now later plan start core events rest piece others so_fa
     so_far.whole ∙ ap (λ (l : List Event). so_far.done ++ l) parted ∙ sym (append_assoc so_far.done piece others) in
     subst (AppendsPrefix old later) (sym (ap (due_text plan start []) all ∙ both))
     (prefix_of_first old later _ _ (prefix_of_second old now later _ _ so_far.written (writes h so_far.stands)))
-
--- all pieces were run
-pub run_whole : {B : Type 0} (stands : B → Standing) (old now : Option (List ℕ)) (plan : PlanValue) (start : ℕ) (core : CoreValue B)
-    (events rest : List Event) (so_far : RunSoFar stands old now plan start core events rest) → rest ≡ [] → Appends old now (due_text plan start [] events)
-run_whole stands old now plan start core events rest so_far none =
-    subst (λ (l : List Event). Appends old now (due_text plan start [] l)) (sym (so_far.whole ∙ ap (λ (l : List Event). so_far.done ++ l) none ∙ append-nil so_far.done)) so_far.written
 
 -- what is written of legal replies without want of memory is due
 pub text_is_due : (plan told : PlanValue) (start : ℕ) (h : History) (events : List Event) (replies shown : List Reply) → told ≡ plan → shown ≡ replies
