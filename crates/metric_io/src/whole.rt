@@ -2,7 +2,7 @@
 ghost use Rattle.std.specs.Prelude.{◌≡◌, ◌+◌, ◌≤◌, IfOk, IfSome, IsErrOf, OnErr, OnOk, vec_len};
 ghost use Rattle.std.specs.Io.KnownBytes.{Appends, IsAtEnd};
 ghost use Rattle.metric_io.specs.Counts.{HasFailed};
-ghost use Rattle.metric_io.specs.Input.{IsReadFault};
+ghost use Rattle.metric_io.specs.Input.{IsReadFault, most_bytes, most_reads};
 ghost use Rattle.metric_io.specs.Prefix.{AppendsPrefix};
 ghost use Rattle.metric_io.specs.declared.whole.ReadFault.TheVariants.{Memory, Read};
 
@@ -49,7 +49,7 @@ impl From<AllocError> for ReadFault {
 pub fn read_all<R: Source>(alloc: Global, source: &mut R) -> Result<Vec<u8>, ReadFault>
     ensures bytes { IfOk result (λ all. IfSome (R.remaining source.old) (λ xs. all.items ≡ xs)) }
     ensures end { OnOk result (IsAtEnd (R.remaining source.new)) }
-    ensures small { IfOk result (λ all. vec_len all ≤ MAX_BYTES) }
+    ensures small { IfOk result (λ all. vec_len all ≤ most_bytes) }
 
     // The source failed only where the answer is Read, and then it failed or a limit was passed.
     ensures ok { OnOk result
@@ -59,7 +59,7 @@ pub fn read_all<R: Source>(alloc: Global, source: &mut R) -> Result<Vec<u8>, Rea
     ensures read { IsErrOf result ReadFault.Read →
         IsReadFault (R.counts source.old) (R.counts source.new) (R.remaining source.old) }
 
-    ensures reads { (R.counts source.new).reads ≤ (R.counts source.old).reads + MAX_READS }
+    ensures reads { (R.counts source.new).reads ≤ (R.counts source.old).reads + most_reads }
 {
     let mut buffer = zeros(alloc, BUFFER_BYTES)?;
     let mut all = Vec::new(alloc);
