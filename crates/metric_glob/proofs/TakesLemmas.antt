@@ -1,10 +1,10 @@
 -- The walk with what each `*` takes.
-use Rattle.std.proofs.Common.{◌≡◌, ℕ, ◌+◌, ◌-◌, ◌^◌, ◌<◌, ◌≤◌, Bool, true, false, List, [], ◌∷◌, ◌++◌, length, get_or, drop, eqb, refl, sym, ap, ◌∙◌, arith, Option, Some, None, append_assoc, length-drop}
+use Rattle.std.proofs.Common.{◌≡◌, ℕ, ◌+◌, ◌-◌, ◌<◌, ◌≤◌, Bool, true, false, List, [], ◌∷◌, ◌++◌, length, get_or, drop, eqb, refl, sym, ap, ◌∙◌, arith, Some, append_assoc, length-drop}
 use Rattle.std.proofs.lemmas.List.{drop_more, drop_all, drop-drop, append-nil}
 use Rattle.std.proofs.lemmas.Bool.{eqb-true}
 use Rattle.metric_glob.specs.Matching.{is_match, IsStarAt, StandsAt}
 use Rattle.metric_glob.specs.Reasons.{Spells, is_spelled}
-use Rattle.metric_glob.specs.Walk.{IsSince, IsWalk, IsSinceStar, IsShortStar, Moves, TakesNothing, TakesNothingSoFar, CompletesLater, AreTakesSoFar, settled, noted}
+use Rattle.metric_glob.specs.Walk.{IsSince, IsWalk, Moves, TakesNothing, TakesNothingSoFar, CompletesLater, AreTakesSoFar, settled, noted}
 use Rattle.metric_glob.specs.declared.walk.Star.{Star}
 use Rattle.metric_glob.specs.declared.walk.Walk.{Walk}
 use Rattle.metric_glob.specs.declared.walk.Step.{Step}

@@ -3,15 +3,22 @@ use Rattle.std.specs.Prelude.{◌≡◌, ◌==◌, ◌||◌, ◌&&◌, ℕ, Bool
 use Rattle.std.specs.Bool.{MatchBool}
 use Rattle.std.specs.Char.{to_ascii_lowercase}
 use Rattle.std.specs.List.{AllZip, concat}
-use Rattle.metric_glob.specs.declared.characters.TheConstants.{ANY_TEXT, ANY_ONE}
+
+-- the character that stands for any text, `*`
+abbrev pub any_text : ℕ
+any_text = 42
+
+-- the character that stands for any one character, `?`
+abbrev pub any_one : ℕ
+any_one = 63
 
 -- whether a pattern character stands for any text
 abbrev pub takes_any : ℕ → Bool
-takes_any c = c == ANY_TEXT
+takes_any c = c == any_text
 
 -- whether a pattern character stands for this one character
 abbrev pub stands_for : ℕ → ℕ → Bool
-stands_for c x = (c == ANY_ONE) || (to_ascii_lowercase c == to_ascii_lowercase x)
+stands_for c x = (c == any_one) || (to_ascii_lowercase c == to_ascii_lowercase x)
 
 -- the pattern has a `*` at this place
 pub record IsStarAt (pattern : List ℕ) (place : ℕ) : Type 0 where

@@ -2,8 +2,8 @@
 ghost use Rattle.std.specs.Prelude.{◌≡◌, ◌↔◌, IsTrue};
 ghost use Rattle.metric_glob.specs.Matching.{stands_for, star_at, stands_at, IsStarAt, StandsAt};
 
-/// Stands for any number of characters, none included.
-pub const ANY_TEXT: u8 = b'*';
+// Stands for any number of characters, none included.
+pub(crate) const ANY_TEXT: u8 = b'*';
 
 // Stands for exactly one character, whichever it is.
 pub(crate) const ANY_ONE: u8 = b'?';

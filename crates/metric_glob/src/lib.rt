@@ -12,6 +12,5 @@ mod reason;
 mod walk;
 mod why;
 
-pub use characters::ANY_TEXT;
 pub use pattern::{Pattern, PatternFault};
 pub use reason::Reason;

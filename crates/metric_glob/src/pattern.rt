@@ -1,8 +1,7 @@
 //! Patterns of instrument names.
 ghost use Rattle.std.specs.Prelude.{◌≡◌, ◌↔◌, ◌∷◌, [], IsTrue, IfOk, IsOkUnless};
 ghost use Rattle.metric_base.specs.Steps.{Gives};
-ghost use Rattle.metric_glob.specs.Matching.{Matches, is_match};
-ghost use Rattle.metric_glob.specs.declared.characters.TheConstants.{ANY_TEXT};
+ghost use Rattle.metric_glob.specs.Matching.{Matches, any_text, is_match};
 ghost use Rattle.metric_glob.specs.Patterns.{CheckedPattern, IsPattern, pattern_of};
 ghost use Rattle.metric_glob.specs.Reasons.{Confirms, Shows};
 
@@ -80,7 +79,7 @@ impl Pattern {
 
     /// The pattern that every name matches, `*`. Fails only where memory is refused.
     pub fn any(alloc: Global) -> Result<Pattern, AllocError>
-        ensures { IfOk result (λ pattern. pattern ≡ ANY_TEXT ∷ []) }
+        ensures { IfOk result (λ pattern. pattern ≡ any_text ∷ []) }
     {
         match Pattern::parse(alloc, "*") {
             Ok(pattern) => Ok(pattern),
