@@ -1,9 +1,12 @@
 -- The program's commands and flags, as clap is told of them.
-use Rattle.std.specs.Prelude.{true, Some, codes}
+use Rattle.std.specs.Prelude.{ℕ, true, Some, codes}
 use Rattle.clap.specs.Words.{App, Rule, new_app, new_rule, with_rule, with_subcommand}
 use Rattle.clap.specs.declared.builder.ArgAction.TheVariants.{Set, SetTrue}
 use Rattle.clap.specs.declared.builder.ValueParser.TheVariants.{Unsigned}
-use Rattle.metric_command.specs.declared.line.TheConstants.{MOST_EACH}
+
+-- how often `threads` records at most, by each recorder on each instrument
+abbrev pub most_each : ℕ
+most_each = 1000000
 
 -- the flag `--trial`, which takes no value and is given once at most
 abbrev pub trial_flag : Rule
@@ -11,7 +14,7 @@ trial_flag = record (new_rule (codes "trial")) { long = Some (codes "trial"); ac
 
 -- the option `--each`, which has to be given, once, with a number in its range
 abbrev pub each_option : Rule
-each_option = record (new_rule (codes "each")) { long = Some (codes "each"); action = Some Set; parser = Some (Unsigned 0 MOST_EACH); required = true }
+each_option = record (new_rule (codes "each")) { long = Some (codes "each"); action = Some Set; parser = Some (Unsigned 0 most_each); required = true }
 
 abbrev pub make_app : App
 make_app = new_app (codes "make")
