@@ -7,7 +7,7 @@ use Rattle.std.specs.Ordering.{nat_cmp, on, then_cmp}
 use Rattle.std.specs.declared.cmp.Ordering.{Ordering}
 use Rattle.std.specs.declared.cmp.Ordering.TheVariants.{Less}
 use Rattle.metric_glob.specs.Reasons.{Confirms}
-use Rattle.metric_glob.specs.declared.characters.TheConstants.{ANY_TEXT}
+use Rattle.metric_glob.specs.Matching.{any_text}
 use Rattle.metric_catalogue.specs.declared.contents.Contents.{Contents}
 use Rattle.metric_catalogue.specs.declared.contents.Instrument.{Instrument}
 use Rattle.metric_catalogue.specs.declared.contents.Meter.{Meter}
@@ -39,7 +39,7 @@ use Rattle.metric_cert.specs.declared.stream.StreamSets.{StreamSets}
 
 -- the pattern of names that a view gives, or `*` where it gives none
 abbrev pub pattern_for : Criteria → List ℕ
-pattern_for criteria = unwrap_or criteria.instrument_name (ANY_TEXT ∷ [])
+pattern_for criteria = unwrap_or criteria.instrument_name (any_text ∷ [])
 
 -- The criterion holds, or is not given.
 abbrev pub Holds : Criterion → Criteria → Meter → Instrument → Type 0

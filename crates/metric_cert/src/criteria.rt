@@ -1,6 +1,6 @@
 //! What the criteria of a view ask of an instrument.
 ghost use Rattle.std.specs.Prelude.{◌≡◌, ◌↔◌, ◌∷◌, [], IsTrue};
-ghost use Rattle.metric_glob.specs.declared.characters.TheConstants.{ANY_TEXT};
+ghost use Rattle.metric_glob.specs.Matching.{any_text};
 ghost use Rattle.metric_cert.specs.Making.{holds};
 ghost use Rattle.metric_cert.specs.Valid.{Holds, pattern_for};
 
@@ -38,7 +38,7 @@ fn holds(criterion: Criterion, criteria: &Criteria, meter: &Meter, instrument: &
 
 /// The pattern of names that a view gives, or else that of any name.
 pub fn pattern_for<'a>(criteria: &'a Criteria, any_name: &'a Pattern) -> &'a Pattern
-    requires { any_name.now ≡ ANY_TEXT ∷ [] }
+    requires { any_name.now ≡ any_text ∷ [] }
     ensures { result.now ≡ pattern_for criteria.now }
 {
     match &criteria.instrument_name {

@@ -1,7 +1,7 @@
 //! The reasons of all pairs of view and instrument.
 ghost use Rattle.std.specs.Prelude.{◌≡◌, ◌∷◌, [], ◌<◌, IfOk, OnOk, length};
 ghost use Rattle.std.specs.List.{AllZip};
-ghost use Rattle.metric_glob.specs.declared.characters.TheConstants.{ANY_TEXT};
+ghost use Rattle.metric_glob.specs.Matching.{any_text};
 ghost use Rattle.metric_cert.specs.Making.{AddsReasons, IsEvidenceAt, IsMadeEvidence, IsMadeReason, first_miss};
 ghost use Rattle.metric_cert.specs.Valid.{all_pairs};
 
@@ -40,7 +40,7 @@ fn add_view(
     any_name: &Pattern,
     reasons: &mut Items<SelectionReason>,
 ) -> Result<(), AllocError>
-    requires { any_name.now ≡ ANY_TEXT ∷ [] }
+    requires { any_name.now ≡ any_text ∷ [] }
     ensures { OnOk result (AddsReasons catalogue.now number view.now reasons.old reasons.new) }
 {
     for instrument in 0..catalogue.instruments().len() as u32 {
@@ -62,7 +62,7 @@ fn evidence_at(
     any_name: &Pattern,
     number: u32,
 ) -> Result<Evidence, AllocError>
-    requires any { any_name.now ≡ ANY_TEXT ∷ [] }
+    requires any { any_name.now ≡ any_text ∷ [] }
     requires known { number < length catalogue.now.instruments }
     ensures { IfOk result (IsEvidenceAt catalogue.now criteria.now number) }
 {
@@ -79,7 +79,7 @@ fn evidence_of(
     meter: &Meter,
     instrument: &Instrument,
 ) -> Result<Evidence, AllocError>
-    requires { any_name.now ≡ ANY_TEXT ∷ [] }
+    requires { any_name.now ≡ any_text ∷ [] }
     ensures { IfOk result (IsMadeEvidence criteria.now meter.now instrument.now) }
 {
     match first_miss(criteria, meter, instrument) {

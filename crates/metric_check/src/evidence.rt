@@ -4,7 +4,7 @@ ghost use Rattle.std.specs.Result.{result_err};
 ghost use Rattle.metric_cert.specs.declared.reason.Evidence.TheVariants.{Name as OfName};
 ghost use Rattle.metric_check.specs.Findings.{AllHold, EvidenceFinds};
 ghost use Rattle.metric_check.specs.Known.{EachHolds};
-ghost use Rattle.metric_glob.specs.declared.characters.TheConstants.{ANY_TEXT};
+ghost use Rattle.metric_glob.specs.Matching.{any_text};
 
 use metric_catalogue::{Instrument, Meter};
 use metric_cert::{Criterion, Evidence, pattern_for};
@@ -21,7 +21,7 @@ pub(crate) fn check_evidence(
     instrument: &Instrument,
     evidence: &Evidence,
 ) -> Result<(), CheckFault>
-    requires { any.now ≡ ANY_TEXT ∷ [] }
+    requires { any.now ≡ any_text ∷ [] }
     ensures { EvidenceFinds evidence.now criteria.now meter.now instrument.now
         (result_err result) }
 {
@@ -44,7 +44,7 @@ fn check_name(
     instrument: &Instrument,
     reason: &Reason,
 ) -> Result<(), CheckFault>
-    requires { any.now ≡ ANY_TEXT ∷ [] }
+    requires { any.now ≡ any_text ∷ [] }
     ensures { EvidenceFinds (OfName reason.now) criteria.now meter.now instrument.now
         (result_err result) }
 {

@@ -1,7 +1,7 @@
 //! Whether a certificate has a true reason for each pair of a view and an instrument.
 ghost use Rattle.std.specs.Prelude.{◌≡◌, ◌<◌, ◌∷◌, [], length};
 ghost use Rattle.std.specs.Result.{result_err};
-ghost use Rattle.metric_glob.specs.declared.characters.TheConstants.{ANY_TEXT};
+ghost use Rattle.metric_glob.specs.Matching.{any_text};
 ghost use Rattle.metric_check.specs.Findings.{ReasonFinds, ReasonsFind};
 
 use crate::evidence::check_evidence;
@@ -18,7 +18,7 @@ pub(crate) fn check_reasons(
     config: &Config,
     reasons: &[SelectionReason],
 ) -> Result<(), CheckFault>
-    requires { any.now ≡ ANY_TEXT ∷ [] }
+    requires { any.now ≡ any_text ∷ [] }
     ensures { ReasonsFind catalogue.now config.now reasons.now (result_err result) }
 {
     let instruments = catalogue.instruments().len();
@@ -45,7 +45,7 @@ fn check_reason(
     instrument: usize,
     reason: &SelectionReason,
 ) -> Result<(), CheckFault>
-    requires any { any.now ≡ ANY_TEXT ∷ [] }
+    requires any { any.now ≡ any_text ∷ [] }
     requires view { view < length config.now.views }
     requires instrument { instrument < length catalogue.now.instruments }
     ensures { ReasonFinds catalogue.now config.now (view, instrument) reason.now

@@ -3,7 +3,7 @@ use Rattle.std.proofs.Common.{◌≡◌, ℕ, List, Option, Some, None, Result, 
 use Rattle.std.specs.Io.KnownBytes.{Appends, Keeps}
 use Rattle.metric_io.specs.Input.{IsReadFault}
 use Rattle.metric_io.specs.Prefix.{AppendsPrefix}
-use Rattle.metric_io.specs.declared.whole.TheConstants.{MAX_READS}
+use Rattle.metric_io.specs.Input.{most_reads}
 use Rattle.metric_io.specs.declared.whole.ReadFault.{ReadFault}
 use Rattle.metric_io.specs.declared.whole.ReadFault.TheVariants as reading
 use Rattle.metric_commands.specs.declared.fault.KitFault.{KitFault}
@@ -29,7 +29,7 @@ pub unread : (IsText : List ℕ → List ℕ → Type 0) (IsFirstFault : List �
     (fault : ReadFault) (r : Result (Unit {0}) KitFault)
     → IsErrAnd r (λ kit. kit ≡ from_read fault)
     → (fault ≡ reading.Read → IsReadFault source.counts source.counts_after source.input)
-    → Keeps sink.contents sink.contents_after → source.counts_after.reads ≤ source.counts.reads + MAX_READS
+    → Keeps sink.contents sink.contents_after → source.counts_after.reads ≤ source.counts.reads + most_reads
     → RunsCommand IsText IsFirstFault source sink r
 unread IsText IsFirstFault source sink fault (Ok done) e blamed kept asked = absurd e
 unread IsText IsFirstFault source sink reading.Read (Err kit) e blamed kept asked = record {
@@ -58,7 +58,7 @@ one_fault r a b p q = cc
 pub refused : (IsText : List ℕ → List ℕ → Type 0) (IsFirstFault : List ℕ → KitFault → Type 0) (source : SourceRun) (sink : SinkRun)
     (fault : KitFault) (r : Result (Unit {0}) KitFault) (all given : List ℕ)
     → IsErrAnd r (λ kit. kit ≡ fault) → IfSome source.input (λ xs. all ≡ xs) → given ≡ all → IsFirstFault given fault → IsOfInput fault
-    → Keeps sink.contents sink.contents_after → source.counts_after.reads ≤ source.counts.reads + MAX_READS
+    → Keeps sink.contents sink.contents_after → source.counts_after.reads ≤ source.counts.reads + most_reads
     → RunsCommand IsText IsFirstFault source sink r
 refused IsText IsFirstFault source sink fault (Ok done) all given e told same first own kept asked = absurd e
 refused IsText IsFirstFault source sink fault (Err kit) all given e told same first own kept asked =
@@ -78,7 +78,7 @@ pub answered : (IsText : List ℕ → List ℕ → Type 0) (IsFirstFault : List 
     (r : Result (Unit {0}) KitFault) (all given text : List ℕ)
     → IfSome source.input (λ xs. all ≡ xs) → given ≡ all → IsText given text
     → OnOk r (Appends sink.contents sink.contents_after text) → AppendsPrefix sink.contents sink.contents_after text
-    → IfErr r (IsSinkFault sink.failures sink.failures_after) → source.counts_after.reads ≤ source.counts.reads + MAX_READS
+    → IfErr r (IsSinkFault sink.failures sink.failures_after) → source.counts_after.reads ≤ source.counts.reads + most_reads
     → RunsCommand IsText IsFirstFault source sink r
 answered IsText IsFirstFault source sink (Ok done) all given text told same due whole prefix broken asked = record {
   done = due_of source.input IsText all given text (λ text. Appends sink.contents sink.contents_after text) told same due whole;

@@ -5,7 +5,7 @@ use Rattle.metric_io.specs.Counts.{HasFailed}
 use Rattle.metric_io.specs.declared.counts.ReadCounts.{ReadCounts}
 use Rattle.metric_io.specs.Input.{IsReadFault}
 use Rattle.metric_io.specs.Prefix.{AppendsPrefix}
-use Rattle.metric_io.specs.declared.whole.TheConstants.{MAX_READS}
+use Rattle.metric_io.specs.Input.{most_reads}
 use Rattle.metric_text.specs.Lines.{lines_of}
 use Rattle.metric_parts.specs.Kept.{IsRead}
 use Rattle.metric_parts.specs.declared.needs.Needs.{Needs}
@@ -62,4 +62,4 @@ pub record RunsCommand {A : Type 0} (IsText : List ℕ → List ℕ → Type 0) 
   -- The devices are blamed only where they failed, or a limit on input was passed.
   pub read : IsErrOf result Read → IsReadFault source.counts source.counts_after source.input
   pub write : IsErrOf result Write → HasFailed sink.failures sink.failures_after
-  pub asked : source.counts_after.reads ≤ source.counts.reads + MAX_READS
+  pub asked : source.counts_after.reads ≤ source.counts.reads + most_reads
