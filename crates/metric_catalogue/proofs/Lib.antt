@@ -1,3 +1,4 @@
+pub mod FieldNames
 mod SameValues
 mod Numbered
 mod SoundLists

@@ -1,5 +1,5 @@
 -- What is read as a catalogue is sound.
-use Rattle.std.proofs.Common.{◌≡◌, ◌≢◌, ℕ, ℤ, pos, negsuc, ◌+◌, ◌-◌, ◌<◌, ◌≤◌, ◌^◌, Bool, true, false, not, cond, List, [], ◌∷◌, ◌++◌, length, map, get_or, Option, Some, None, Ok, refl, sym, ap, subst, ◌∙◌, arith, codes, nat_lt, eq-eqb, true≢false}
+use Rattle.std.proofs.Common.{◌≡◌, ◌≢◌, ℕ, ℤ, pos, negsuc, ◌+◌, ◌-◌, ◌<◌, ◌≤◌, ◌^◌, Bool, true, false, not, cond, List, [], ◌∷◌, ◌++◌, length, get_or, Option, Some, None, Ok, refl, sym, ap, subst, ◌∙◌, arith, codes, nat_lt, eq-eqb, true≢false}
 use Rattle.std.proofs.lemmas.Bool.Decides.{nat_tests}
 use Rattle.std.proofs.lemmas.List.{length-append}
 use Rattle.std.proofs.lemmas.Slice.Eq.{bytes_eq-Decides}
@@ -8,7 +8,6 @@ use Rattle.std.specs.Str.{bytes_eq}
 use Rattle.toml.specs.Data.{Members}
 use Rattle.metric_base.specs.Steps.{require_some, in_turn, each}
 use Rattle.metric_base.specs.StepLaws.{after_ok, require_ok, ok_is}
-use Rattle.metric_catalogue.specs.declared.recorders.TheConstants.{BUDGET_FIELDS, RECORDER_FIELDS}
 use Rattle.metric_table.specs.Fields.{only, tables_field}
 use Rattle.metric_catalogue.specs.declared.contents.Budget.{Budget}
 use Rattle.metric_catalogue.specs.declared.contents.Contents.{Contents}
@@ -24,7 +23,7 @@ use Rattle.metric_catalogue.specs.Catalogues.{contents_declared, contents_of, fo
 use Rattle.metric_catalogue.specs.Faults.{faults_at}
 use Rattle.metric_catalogue.specs.Instruments.{instrument_of}
 use Rattle.metric_catalogue.specs.Meters.{is_meter, meter_of, only_meter_fields, with_meter}
-use Rattle.metric_catalogue.specs.Recorders.{amount_field, amount_from, budget_of, budgeted, budgets_field, is_budget, is_recorder, number_below, number_field, recorder_name, recorder_of}
+use Rattle.metric_catalogue.specs.Recorders.{amount_field, amount_from, budget_fields, budget_of, budgeted, budgets_field, is_budget, is_recorder, number_below, number_field, recorder_fields, recorder_name, recorder_of}
 use Rattle.metric_catalogue.specs.Sound.{AreInstrumentsApart, IsLabel, IsSound, IsSoundBudget, IsSoundInstrument, IsSoundList, IsSoundMeter, IsSoundRecorder}
 use Rattle.metric_catalogue.specs.Texts.{free_text, needed_text}
 use Rattle.metric_catalogue.proofs.SoundInstruments.{instrument_made}
@@ -146,7 +145,7 @@ budget_made : (at : CataloguePlace) (count : ℕ) (before : List Budget) (table 
     → IsNext (IsSoundBudget count) (λ o b. o.instrument ≢ b.instrument) before budget
 unfolding budget_of budgeted amount_field
 budget_made at count before table budget e0 =
-    after_ok (only (faults_at at) (map (λ name. name.now) BUDGET_FIELDS) table) _ budget e0 (λ _ _ e1.
+    after_ok (only (faults_at at) budget_fields table) _ budget e0 (λ _ _ e1.
     after_ok (budgeted at count table) _ budget e1 (λ instrument numbered e2.
     after_ok (amount_field at table) _ budget e2 (λ amount counted e3.
     let (new, e4) = require_ok (not (list_any (is_budget instrument) before)) (At DuplicateBudget at) _ budget e3 in
@@ -176,7 +175,7 @@ budgets_made at count is_taken table budgets e0 =
 recorder_name_made : (at : CataloguePlace) (table : Members) (name : List ℕ) → recorder_name at table ≡ Ok name → IsLabel name
 unfolding recorder_name
 recorder_name_made at table name e0 =
-    after_ok (only (faults_at at) (map (λ field. field.now) RECORDER_FIELDS) table) _ name e0 (λ _ _ named. label_made at table name named)
+    after_ok (only (faults_at at) recorder_fields table) _ name e0 (λ _ _ named. label_made at table name named)
 
 recorder_made : (count : ℕ) (before : List Recorder) (table : Members) (recorder : Recorder) → recorder_of count before table ≡ Ok recorder
     → IsNext (IsSoundRecorder count) (λ o r. o.name ≢ r.name) before recorder

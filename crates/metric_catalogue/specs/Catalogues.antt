@@ -1,12 +1,11 @@
 -- The catalogue that a text is read as, or its first fault.
-use Rattle.std.specs.Prelude.{ℕ, List, [], length, map, Result, Ok, codes}
+use Rattle.std.specs.Prelude.{ℕ, List, [], ◌∷◌, length, Result, Ok, codes}
 use Rattle.toml.specs.Data.{Members}
 use Rattle.toml.specs.Parse.{parse_document}
 use Rattle.metric_base.specs.Steps.{◌>>=◌, require_some, in_turn, each}
 use Rattle.metric_table.specs.Fields.{only, format_field, tables_field}
 use Rattle.metric_catalogue.specs.declared.contents.Contents.{Contents}
 use Rattle.metric_catalogue.specs.declared.meters.Metered.{Metered}
-use Rattle.metric_catalogue.specs.declared.catalogue.TheConstants.{TOP_FIELDS}
 use Rattle.metric_catalogue.specs.declared.fault.CatalogueFault.{CatalogueFault}
 use Rattle.metric_catalogue.specs.declared.fault.CatalogueFault.TheVariants.{NotToml}
 use Rattle.metric_catalogue.specs.declared.fault.CataloguePlace.TheVariants.{Top}
@@ -14,13 +13,17 @@ use Rattle.metric_catalogue.specs.Faults.{faults_at}
 use Rattle.metric_catalogue.specs.Meters.{with_meter}
 use Rattle.metric_catalogue.specs.Recorders.{recorder_of}
 
+-- the fields of the top table
+unfoldable pub top_fields : List (List ℕ)
+top_fields = codes "format" ∷ codes "meter" ∷ codes "recorder" ∷ []
+
 abbrev pub nothing_metered : Metered
 nothing_metered = record { meters = []; instruments = [] }
 
 -- the top table has no other fields, and this format
 unfoldable pub format_of_top : Members → Result (Unit {0}) CatalogueFault
 format_of_top table = do
-  _ ← only (faults_at Top) (map (λ name. name.now) TOP_FIELDS) table
+  _ ← only (faults_at Top) top_fields table
   format_field (faults_at Top) table
 
 -- the contents that the tables of the meters and those of the recorders declare

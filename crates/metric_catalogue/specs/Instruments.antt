@@ -1,5 +1,5 @@
 -- The instruments of a meter.
-use Rattle.std.specs.Prelude.{ℕ, ℤ, pos, Bool, not, ◌&&◌, ◌||◌, ◌==◌, List, [], ◌∷◌, length, map, Option, Some, None, Result, Ok, Err, int_le, unwrap_or, codes}
+use Rattle.std.specs.Prelude.{ℕ, ℤ, pos, Bool, not, ◌&&◌, ◌||◌, ◌==◌, List, [], ◌∷◌, length, Option, Some, None, Result, Ok, Err, int_le, unwrap_or, codes}
 use Rattle.std.specs.List.{list_any}
 use Rattle.std.specs.Str.{bytes_eq}
 use Rattle.toml.specs.Data.{Data, Members, get_member}
@@ -11,7 +11,6 @@ use Rattle.metric_catalogue.specs.declared.contents.Instrument.{Instrument}
 use Rattle.metric_catalogue.specs.declared.contents.Key.{Key}
 use Rattle.metric_catalogue.specs.declared.contents.Kind.{Kind}
 use Rattle.metric_catalogue.specs.declared.instruments.Head.{Head}
-use Rattle.metric_catalogue.specs.declared.instruments.TheConstants.{INSTRUMENT_FIELDS}
 use Rattle.metric_catalogue.specs.declared.fault.CatalogueFault.{CatalogueFault}
 use Rattle.metric_catalogue.specs.declared.fault.CatalogueDefect.TheVariants.{WrongKind, BadName, BadUnit, BadRange, BadBoundaries, DuplicateInstrument}
 use Rattle.metric_catalogue.specs.declared.fault.CatalogueFault.TheVariants.{At}
@@ -23,9 +22,15 @@ use Rattle.metric_catalogue.specs.Kinds.{kind_named, is_monotonic}
 use Rattle.metric_catalogue.specs.Texts.{free_text}
 use Rattle.metric_catalogue.specs.Keys.{key_of}
 
+-- the fields of an instrument's table
+unfoldable pub instrument_fields : List (List ℕ)
+instrument_fields =
+    codes "name" ∷ codes "kind" ∷ codes "unit" ∷ codes "description" ∷
+    codes "range" ∷ codes "boundaries" ∷ codes "key" ∷ []
+
 -- an instrument has no other fields
 unfoldable pub only_instrument_fields : CataloguePlace → Members → Result (Unit {0}) CatalogueFault
-only_instrument_fields at table = only (faults_at at) (map (λ name. name.now) INSTRUMENT_FIELDS) table
+only_instrument_fields at table = only (faults_at at) instrument_fields table
 
 -- the name of an instrument, of a table with no other fields
 unfoldable pub instrument_name : CataloguePlace → Members → Result (List ℕ) CatalogueFault

@@ -1,5 +1,5 @@
 -- The keys of an instrument.
-use Rattle.std.specs.Prelude.{ℕ, Bool, false, not, List, length, map, Result, Ok, Err, ◌==◌, codes}
+use Rattle.std.specs.Prelude.{ℕ, Bool, false, not, List, [], ◌∷◌, length, Result, Ok, Err, ◌==◌, codes}
 use Rattle.std.specs.List.{list_any}
 use Rattle.std.specs.Str.{bytes_eq}
 use Rattle.toml.specs.Data.{Data, string, integer, boolean, Members}
@@ -8,7 +8,6 @@ use Rattle.metric_names.specs.declared.value.AttrValue.{AttrValue}
 use Rattle.metric_names.specs.declared.value.AttrValue.TheVariants.{Text, Whole, Flag}
 use Rattle.metric_table.specs.Fields.{only, field, list_of, short_text, flag_or, each_alone}
 use Rattle.metric_catalogue.specs.declared.contents.Key.{Key}
-use Rattle.metric_catalogue.specs.declared.keys.TheConstants.{KEY_FIELDS}
 use Rattle.metric_catalogue.specs.declared.fault.CatalogueFault.{CatalogueFault}
 use Rattle.metric_catalogue.specs.declared.fault.CatalogueDefect.TheVariants.{MissingField, WrongKind, ReservedKey, DuplicateValue, DuplicateKey}
 use Rattle.metric_catalogue.specs.declared.fault.CatalogueFault.TheVariants.{At}
@@ -17,9 +16,13 @@ use Rattle.metric_catalogue.specs.Faults.{faults_at}
 use Rattle.metric_catalogue.specs.Places.{has_repeat}
 use Rattle.metric_catalogue.specs.Texts.{label_field}
 
+-- the fields of a key's table
+unfoldable pub key_fields : List (List ℕ)
+key_fields = codes "name" ∷ codes "values" ∷ codes "optional" ∷ []
+
 -- a key has no other fields
 unfoldable pub only_key_fields : CataloguePlace → Members → Result (Unit {0}) CatalogueFault
-only_key_fields at table = only (faults_at at) (map (λ name. name.now) KEY_FIELDS) table
+only_key_fields at table = only (faults_at at) key_fields table
 
 -- the name of a key, of a table with no other fields, which is not that of the overflow attribute
 unfoldable pub key_name : CataloguePlace → Members → Result (List ℕ) CatalogueFault

@@ -1,5 +1,5 @@
 -- The meters of a catalogue, with the instruments of each.
-use Rattle.std.specs.Prelude.{◌-◌, Bool, not, ◌&&◌, [], ◌∷◌, ◌++◌, length, map, Result, Ok, codes}
+use Rattle.std.specs.Prelude.{ℕ, ◌-◌, Bool, not, ◌&&◌, List, [], ◌∷◌, ◌++◌, length, Result, Ok, codes}
 use Rattle.std.specs.List.{list_any}
 use Rattle.std.specs.Str.{bytes_eq}
 use Rattle.toml.specs.Data.{Members}
@@ -7,7 +7,6 @@ use Rattle.metric_base.specs.Steps.{◌>>=◌, require, each}
 use Rattle.metric_table.specs.Fields.{only, tables_field}
 use Rattle.metric_catalogue.specs.declared.contents.Meter.{Meter}
 use Rattle.metric_catalogue.specs.declared.meters.Metered.{Metered}
-use Rattle.metric_catalogue.specs.declared.meters.TheConstants.{METER_FIELDS}
 use Rattle.metric_catalogue.specs.declared.fault.CatalogueFault.{CatalogueFault}
 use Rattle.metric_catalogue.specs.declared.fault.CatalogueDefect.TheVariants.{DuplicateMeter}
 use Rattle.metric_catalogue.specs.declared.fault.CatalogueFault.TheVariants.{At}
@@ -17,9 +16,13 @@ use Rattle.metric_catalogue.specs.Faults.{faults_at}
 use Rattle.metric_catalogue.specs.Instruments.{instrument_of}
 use Rattle.metric_catalogue.specs.Texts.{needed_text, free_text}
 
+-- the fields of a meter's table
+unfoldable pub meter_fields : List (List ℕ)
+meter_fields = codes "name" ∷ codes "version" ∷ codes "schema_url" ∷ codes "instrument" ∷ []
+
 -- a meter has no other fields
 unfoldable pub only_meter_fields : CataloguePlace → Members → Result (Unit {0}) CatalogueFault
-only_meter_fields at table = only (faults_at at) (map (λ name. name.now) METER_FIELDS) table
+only_meter_fields at table = only (faults_at at) meter_fields table
 
 -- a meter without its instruments
 unfoldable pub meter_of : CataloguePlace → Members → Result Meter CatalogueFault

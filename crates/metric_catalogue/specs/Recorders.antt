@@ -1,5 +1,5 @@
 -- The recorders of a catalogue, with their budgets.
-use Rattle.std.specs.Prelude.{ℕ, ℤ, pos, negsuc, Bool, not, ◌==◌, ◌^◌, nat_lt, if◌then◌else◌, List, [], length, map, Option, Some, None, Result, Ok, codes}
+use Rattle.std.specs.Prelude.{ℕ, ℤ, pos, negsuc, Bool, not, ◌==◌, ◌^◌, nat_lt, if◌then◌else◌, List, [], ◌∷◌, length, Option, Some, None, Result, Ok, codes}
 use Rattle.std.specs.List.{list_any}
 use Rattle.std.specs.Str.{bytes_eq}
 use Rattle.toml.specs.Data.{Members}
@@ -7,7 +7,6 @@ use Rattle.metric_base.specs.Steps.{◌>>=◌, require, require_some, each}
 use Rattle.metric_table.specs.Fields.{only, field, integer_of, tables_field}
 use Rattle.metric_catalogue.specs.declared.contents.Budget.{Budget}
 use Rattle.metric_catalogue.specs.declared.contents.Recorder.{Recorder}
-use Rattle.metric_catalogue.specs.declared.recorders.TheConstants.{BUDGET_FIELDS, RECORDER_FIELDS}
 use Rattle.metric_catalogue.specs.declared.fault.CatalogueFault.{CatalogueFault}
 use Rattle.metric_catalogue.specs.declared.fault.CatalogueDefect.TheVariants.{BadRange, UnknownInstrument, DuplicateRecorder, DuplicateBudget}
 use Rattle.metric_catalogue.specs.declared.fault.CatalogueFault.TheVariants.{At}
@@ -15,6 +14,14 @@ use Rattle.metric_catalogue.specs.declared.fault.CataloguePlace.{CataloguePlace}
 use Rattle.metric_catalogue.specs.declared.fault.CataloguePlace.TheVariants as place
 use Rattle.metric_catalogue.specs.Faults.{faults_at}
 use Rattle.metric_catalogue.specs.Texts.{label_field}
+
+-- the fields of a recorder's table
+unfoldable pub recorder_fields : List (List ℕ)
+recorder_fields = codes "name" ∷ codes "budget" ∷ []
+
+-- the fields of a budget's table
+unfoldable pub budget_fields : List (List ℕ)
+budget_fields = codes "instrument" ∷ codes "amount" ∷ []
 
 -- a whole number that a budget needs
 unfoldable pub number_field : CataloguePlace → List ℕ → Members → Result ℤ CatalogueFault
@@ -51,7 +58,7 @@ is_budget instrument budget = budget.instrument == instrument
 -- one more budget of a recorder, after those before it
 unfoldable pub budget_of : CataloguePlace → ℕ → List Budget → Members → Result Budget CatalogueFault
 budget_of at count before table = do
-  _ ← only (faults_at at) (map (λ name. name.now) BUDGET_FIELDS) table
+  _ ← only (faults_at at) budget_fields table
   instrument ← budgeted at count table
   amount ← amount_field at table
   _ ← require (not (list_any (is_budget instrument) before)) (At DuplicateBudget at)
@@ -64,7 +71,7 @@ is_recorder name recorder = bytes_eq recorder.name name
 -- the name of a recorder, of a table with no other fields
 unfoldable pub recorder_name : CataloguePlace → Members → Result (List ℕ) CatalogueFault
 recorder_name at table = do
-  _ ← only (faults_at at) (map (λ name. name.now) RECORDER_FIELDS) table
+  _ ← only (faults_at at) recorder_fields table
   label_field at table
 
 -- the budgets of a recorder, unless its name is taken

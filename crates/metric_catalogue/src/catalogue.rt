@@ -217,7 +217,7 @@ fn metered_of(alloc: Global, tables: &[&Table]) -> Result<Metered, CatalogueFaul
     Ok(metered)
 }
 
-#[tactic(auto, unfolding(crate::specs::Catalogues::format_of_top))]
+#[tactic(auto, unfolding(crate::specs::Catalogues::format_of_top), using(crate::proofs::FieldNames::field_names))]
 fn format_of_top(table: &Table) -> Result<(), CatalogueFault>
     ensures { result ≡ format_of_top (table_view table.now) }
 {

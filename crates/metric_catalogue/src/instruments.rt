@@ -180,7 +180,7 @@ fn head_of(alloc: Global, table: &Table, at: CataloguePlace) -> Result<Head, Cat
     })
 }
 
-#[tactic(auto, unfolding(crate::specs::Instruments::only_instrument_fields))]
+#[tactic(auto, unfolding(crate::specs::Instruments::only_instrument_fields), using(crate::proofs::FieldNames::field_names))]
 fn only_instrument_fields(table: &Table, at: CataloguePlace) -> Result<(), CatalogueFault>
     ensures { result ≡ only_instrument_fields at (table_view table.now) }
 {

@@ -65,7 +65,7 @@ fn has_key(keys: &[Key], name: &Text) -> bool
     keys.iter().any(|key| key.name == *name)
 }
 
-#[tactic(auto, unfolding(crate::specs::Keys::only_key_fields))]
+#[tactic(auto, unfolding(crate::specs::Keys::only_key_fields), using(crate::proofs::FieldNames::field_names))]
 fn only_key_fields(table: &Table, at: CataloguePlace) -> Result<(), CatalogueFault>
     ensures { result ≡ only_key_fields at (table_view table.now) }
 {

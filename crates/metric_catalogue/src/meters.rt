@@ -93,7 +93,7 @@ fn is_meter(other: &Meter, meter: &Meter) -> bool
         && other.schema_url == meter.schema_url
 }
 
-#[tactic(auto, unfolding(crate::specs::Meters::only_meter_fields))]
+#[tactic(auto, unfolding(crate::specs::Meters::only_meter_fields), using(crate::proofs::FieldNames::field_names))]
 fn only_meter_fields(table: &Table, at: CataloguePlace) -> Result<(), CatalogueFault>
     ensures { result ≡ only_meter_fields at (table_view table.now) }
 {

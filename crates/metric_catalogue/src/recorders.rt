@@ -4,9 +4,8 @@ ghost use Rattle.std.specs.List.{list_any};
 ghost use Rattle.toml.specs.View.{table_view};
 ghost use Rattle.metric_base.specs.Steps.{Gives, each};
 ghost use Rattle.metric_table.specs.Fields.{only};
-ghost use Rattle.metric_catalogue.specs.declared.recorders.TheConstants.{RECORDER_FIELDS};
 ghost use Rattle.metric_catalogue.specs.Faults.{faults_at};
-ghost use Rattle.metric_catalogue.specs.Recorders.{amount_field, amount_from, budget_of, budgeted, budgets_field, is_budget, is_recorder, number_below, number_field, recorder_name, recorder_of};
+ghost use Rattle.metric_catalogue.specs.Recorders.{amount_field, amount_from, budget_of, budgeted, budgets_field, is_budget, is_recorder, number_below, number_field, recorder_fields, recorder_name, recorder_of};
 
 use crate::contents::{Budget, Recorder};
 use crate::fault::{CatalogueDefect, CatalogueFault, CataloguePlace};
@@ -87,9 +86,9 @@ fn budgets_field(
     Ok(Few::from_items(budgets))
 }
 
+#[tactic(auto, using(crate::proofs::FieldNames::field_names))]
 fn only_recorder_fields(table: &Table, at: CataloguePlace) -> Result<(), CatalogueFault>
-    ensures { result
-        ≡ only (faults_at at) (map (λ name. name.now) RECORDER_FIELDS) (table_view table.now) }
+    ensures { result ≡ only (faults_at at) recorder_fields (table_view table.now) }
 {
     only(table, &RECORDER_FIELDS, &faults_at(at))
 }
@@ -118,7 +117,7 @@ fn budgets_of(
     Ok(budgets)
 }
 
-#[tactic(auto, unfolding(crate::specs::Recorders::budget_of))]
+#[tactic(auto, unfolding(crate::specs::Recorders::budget_of), using(crate::proofs::FieldNames::field_names))]
 fn budget_of(
     table: &Table,
     count: u32,

@@ -1,0 +1,38 @@
+-- The names of fields in the code are those of the definitions.
+use Rattle.std.proofs.Common.{◌≡◌, map, refl}
+use Rattle.metric_catalogue.specs.declared.catalogue.TheConstants.{TOP_FIELDS}
+use Rattle.metric_catalogue.specs.declared.instruments.TheConstants.{INSTRUMENT_FIELDS}
+use Rattle.metric_catalogue.specs.declared.keys.TheConstants.{KEY_FIELDS}
+use Rattle.metric_catalogue.specs.declared.meters.TheConstants.{METER_FIELDS}
+use Rattle.metric_catalogue.specs.declared.recorders.TheConstants.{BUDGET_FIELDS, RECORDER_FIELDS}
+use Rattle.metric_catalogue.specs.Catalogues.{top_fields}
+use Rattle.metric_catalogue.specs.Instruments.{instrument_fields}
+use Rattle.metric_catalogue.specs.Keys.{key_fields}
+use Rattle.metric_catalogue.specs.Meters.{meter_fields}
+use Rattle.metric_catalogue.specs.Recorders.{budget_fields, recorder_fields}
+
+pub budget_fields-are : map (λ name. name.now) BUDGET_FIELDS ≡ budget_fields
+unfolding budget_fields
+budget_fields-are = refl
+
+pub instrument_fields-are : map (λ name. name.now) INSTRUMENT_FIELDS ≡ instrument_fields
+unfolding instrument_fields
+instrument_fields-are = refl
+
+pub key_fields-are : map (λ name. name.now) KEY_FIELDS ≡ key_fields
+unfolding key_fields
+key_fields-are = refl
+
+pub meter_fields-are : map (λ name. name.now) METER_FIELDS ≡ meter_fields
+unfolding meter_fields
+meter_fields-are = refl
+
+pub recorder_fields-are : map (λ name. name.now) RECORDER_FIELDS ≡ recorder_fields
+unfolding recorder_fields
+recorder_fields-are = refl
+
+pub top_fields-are : map (λ name. name.now) TOP_FIELDS ≡ top_fields
+unfolding top_fields
+top_fields-are = refl
+
+pub ruleset field_names = (budget_fields-are, instrument_fields-are, key_fields-are, meter_fields-are, recorder_fields-are, top_fields-are)
