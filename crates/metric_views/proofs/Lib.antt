@@ -1,4 +1,5 @@
 mod SoundReaders
 mod SoundSetups
+pub mod FieldNames
 mod EachLaws
 mod Selecting

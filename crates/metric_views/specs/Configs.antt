@@ -1,10 +1,9 @@
 -- What a text is read as: a config, or the first fault.
-use Rattle.std.specs.Prelude.{ℕ, codes, List, map, Result, Ok}
+use Rattle.std.specs.Prelude.{ℕ, codes, List, [], ◌∷◌, Result, Ok}
 use Rattle.toml.specs.Data.{Members}
 use Rattle.toml.specs.Parse.{parse_document}
 use Rattle.metric_base.specs.Steps.{◌>>=◌, require_some}
 use Rattle.metric_table.specs.Fields.{format_field, only, tables_field}
-use Rattle.metric_views.specs.declared.reading.TheConstants.{TOP_FIELDS}
 use Rattle.metric_views.specs.declared.config.Setup.{Setup}
 use Rattle.metric_views.specs.declared.fault.ConfigPlace.TheVariants.{Top}
 use Rattle.metric_views.specs.declared.fault.ViewFault.{ViewFault}
@@ -14,8 +13,8 @@ use Rattle.metric_views.specs.Readers.{readers_of}
 use Rattle.metric_views.specs.Views.{views_of}
 
 -- the fields of the top table
-abbrev pub top_fields : List (List ℕ)
-top_fields = map (λ name. name.now) TOP_FIELDS
+unfoldable pub top_fields : List (List ℕ)
+top_fields = codes "format" ∷ codes "reader" ∷ codes "view" ∷ []
 
 -- the lists of the top table
 unfoldable pub lists_of_top : Members → Result (List Members × List Members) ViewFault

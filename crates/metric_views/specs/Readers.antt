@@ -1,5 +1,5 @@
 -- What the tables of readers are read as, up to the first fault.
-use Rattle.std.specs.Prelude.{ℕ, ℤ, pos, codes, Bool, not, ◌&&◌, ◌==◌, List, [], length, map, Option, Some, None, Result, Ok, int_le, nat_abs}
+use Rattle.std.specs.Prelude.{ℕ, ℤ, pos, codes, Bool, not, ◌&&◌, ◌==◌, List, [], ◌∷◌, length, Option, Some, None, Result, Ok, int_le, nat_abs}
 use Rattle.std.specs.List.{list_any}
 use Rattle.std.specs.Str.{bytes_eq}
 use Rattle.toml.specs.Data.{Data, Members, get_member}
@@ -12,8 +12,6 @@ use Rattle.metric_views.specs.declared.choices.Temporality.{Temporality}
 use Rattle.metric_views.specs.declared.choices.Temporality.TheVariants.{Cumulative}
 use Rattle.metric_views.specs.declared.choices.Aggregation.{Aggregation}
 use Rattle.metric_views.specs.declared.choices.Aggregation.TheVariants as aggregations
-use Rattle.metric_views.specs.declared.by_kind.TheConstants.{KIND_FIELDS}
-use Rattle.metric_views.specs.declared.readers.TheConstants.{READER_FIELDS}
 use Rattle.metric_views.specs.declared.config.Reader.{Reader}
 use Rattle.metric_views.specs.declared.fault.ConfigPlace.{ConfigPlace}
 use Rattle.metric_views.specs.declared.fault.ConfigPlace.TheVariants as places
@@ -62,8 +60,8 @@ unfoldable pub choice_at : {T : Type 0} → T → (Data → Result T ViewFault) 
 choice_at usual chosen name table = choice_within usual chosen (get_member name table)
 
 -- the names of the kinds
-abbrev pub kind_names : List (List ℕ)
-kind_names = map (λ name. name.now) KIND_FIELDS
+unfoldable pub kind_names : List (List ℕ)
+kind_names = codes "counter" ∷ codes "up_down_counter" ∷ codes "histogram" ∷ codes "gauge" ∷ []
 
 -- the choices of a table, kind by kind
 unfoldable pub choices_by_kind : {T : Type 0} → T → (ConfigPlace → Kind → Data → Result T ViewFault) → ConfigPlace → Members → Result (ByKind T) ViewFault
@@ -108,8 +106,8 @@ reader_name before at table = do
   Ok name
 
 -- the fields of a reader
-abbrev pub reader_fields : List (List ℕ)
-reader_fields = map (λ name. name.now) READER_FIELDS
+unfoldable pub reader_fields : List (List ℕ)
+reader_fields = codes "name" ∷ codes "temporality" ∷ codes "aggregation" ∷ codes "limit" ∷ []
 
 -- what a reader chooses for the kinds
 unfoldable pub reader_choices : ConfigPlace → Members → Result (ByKind Temporality × ByKind Aggregation × ByKind ℕ) ViewFault

@@ -1,5 +1,5 @@
 -- What the tables of views are read as, up to the first fault.
-use Rattle.std.specs.Prelude.{ℕ, ℤ, codes, List, [], length, map, Option, Some, None, Result, Ok}
+use Rattle.std.specs.Prelude.{ℕ, ℤ, codes, List, [], ◌∷◌, length, Option, Some, None, Result, Ok}
 use Rattle.toml.specs.Data.{Data, Members, get_member}
 use Rattle.metric_base.specs.Steps.{◌>>=◌, require, require_some, each, with_fault}
 use Rattle.metric_names.specs.Names.{name_of}
@@ -9,7 +9,6 @@ use Rattle.metric_catalogue.specs.declared.contents.Kind.{Kind}
 use Rattle.metric_base.specs.Boundaries.{is_rising}
 use Rattle.metric_catalogue.specs.Kinds.{kind_named}
 use Rattle.metric_views.specs.declared.choices.Aggregation.{Aggregation}
-use Rattle.metric_views.specs.declared.views.TheConstants.{VIEW_FIELDS}
 use Rattle.metric_views.specs.declared.config.Criteria.{Criteria}
 use Rattle.metric_views.specs.declared.config.Settings.{Settings}
 use Rattle.metric_views.specs.declared.config.View.{View}
@@ -128,8 +127,12 @@ settings_of at table = do
   })
 
 -- the fields of a view
-abbrev pub view_fields : List (List ℕ)
-view_fields = map (λ name. name.now) VIEW_FIELDS
+unfoldable pub view_fields : List (List ℕ)
+view_fields =
+    codes "instrument_name" ∷ codes "instrument_type" ∷ codes "instrument_unit" ∷ codes "meter_name" ∷
+    codes "meter_version" ∷ codes "meter_schema_url" ∷ codes "stream_name" ∷ codes "description" ∷
+    codes "aggregation" ∷ codes "boundaries" ∷ codes "keep" ∷ codes "exclude" ∷
+    codes "limit" ∷ []
 
 -- the view of this number
 unfoldable pub view_of : ℕ → Members → Result View ViewFault

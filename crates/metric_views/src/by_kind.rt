@@ -76,7 +76,7 @@ fn for_all<T: Copy>(choice: T) -> ByKind<T>
     }
 }
 
-#[tactic(auto, unfolding(crate::specs::Readers::choices_of))]
+#[tactic(auto, unfolding(crate::specs::Readers::choices_of), using(crate::proofs::FieldNames::field_names))]
 fn choices_of<C: Choice>(table: &Table, at: ConfigPlace) -> Result<ByKind<C::Chosen>, ViewFault>
     ensures { result ≡ choices_of C.usual C.chosen at (table_view table.now) }
 {

@@ -33,7 +33,7 @@ pub(crate) fn readers_of(alloc: Global, tables: &[&Table]) -> Result<Items<Reade
 }
 
 // One more reader, after all those before it.
-#[tactic(auto, unfolding(crate::specs::Readers::reader_of))]
+#[tactic(auto, unfolding(crate::specs::Readers::reader_of), using(crate::proofs::FieldNames::field_names))]
 fn reader_of(alloc: Global, before: &[Reader], table: &Table) -> Result<Reader, ViewFault>
     requires { length before.now < 16 }
     ensures { Gives ViewFault.Memory result (reader_of before.now (table_view table.now)) }

@@ -53,7 +53,7 @@ fn setup_of_tables(alloc: Global, readers: &[&Table], views: &[&Table]) -> Resul
 
 type Tables<'a> = (Items<&'a Table>, Items<&'a Table>);
 
-#[tactic(auto, unfolding(crate::specs::Configs::tables_of_top))]
+#[tactic(auto, unfolding(crate::specs::Configs::tables_of_top), using(crate::proofs::FieldNames::field_names))]
 fn tables_of_top(alloc: Global, table: &Table) -> Result<Tables<'_>, ViewFault>
     ensures exact { GivesBy
         (λ t. (map (λ r. table_view r.now) t.0, map (λ v. table_view v.now) t.1))

@@ -36,7 +36,7 @@ pub(crate) fn views_of(alloc: Global, tables: &[&Table]) -> Result<Items<View>, 
 }
 
 // The view of this number.
-#[tactic(auto, unfolding(crate::specs::Views::view_of))]
+#[tactic(auto, unfolding(crate::specs::Views::view_of), using(crate::proofs::FieldNames::field_names))]
 fn view_of(alloc: Global, number: u32, table: &Table) -> Result<View, ViewFault>
     ensures { Gives ViewFault.Memory result (view_of number (table_view table.now)) }
 {
