@@ -6,7 +6,7 @@ use metric_names::AttrValue;
 use std::alloc::{AllocError, Global};
 use std::test::Fail;
 
-const SHOP: &str = r#"
+pub(crate) const SHOP: &str = r#"
 format = 1
 [[meter]]
 name = "shop"
@@ -203,7 +203,7 @@ fn shown(alloc: Global, catalogue: &Catalogue) -> Result<String, AllocError> {
 }
 
 // The same of the catalogue that a text is, or its fault as it is printed.
-fn told(alloc: Global, text: &str) -> Result<String, AllocError> {
+pub(crate) fn told(alloc: Global, text: &str) -> Result<String, AllocError> {
     match Catalogue::read(alloc, text) {
         Ok(catalogue) => shown(alloc, &catalogue),
         Err(fault) => fault.to_string(alloc),

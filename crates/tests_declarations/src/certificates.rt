@@ -231,7 +231,7 @@ fn made(alloc: Global, catalogue: &str, config: &str) -> Result<String, Fail> {
 }
 
 // The certificate that a text is, as it is written, or the fault as it is printed.
-fn rewritten(alloc: Global, text: &str) -> Result<String, AllocError> {
+pub(crate) fn rewritten(alloc: Global, text: &str) -> Result<String, AllocError> {
     match Certificate::read(alloc, text) {
         Ok(certificate) => certificate.write(alloc),
         Err(fault) => fault.to_string(alloc),
@@ -460,7 +460,7 @@ fn a_text_that_is_cut_is_no_certificate(rt: HostRuntime) -> Result<(), Fail> {
 }
 
 // Every field, the fields of each table in another order, and numbers at their edges.
-const WHOLE: &str = r#"
+pub(crate) const WHOLE: &str = r#"
 bound = [{ instrument = 4294967295, total = "18446744073709551615", amount = "0", low = "-170141183460469231731687303715884105728", high = "170141183460469231731687303715884105727" }, { instrument = 1, total = "7", amount = "8", low = "-9", high = "10" }]
 order = [{ reader = 3, streams = [] }, { reader = 2, streams = [4294967295, 0] }]
 reason = [{ view = 7, instrument = 8, takes = [] }, { view = 0, instrument = 9, rows = [[], [0, 65535]] }, { view = 1, instrument = 2, miss = "instrument_unit" }, { view = 1, instrument = 2, takes = [65535, 3] }]

@@ -7,7 +7,7 @@ use metric_views::{Config, Criteria, Reader, Settings, View};
 use std::alloc::{AllocError, Global};
 use std::test::Fail;
 
-const FULL: &str = r#"
+pub(crate) const FULL: &str = r#"
 format = 1
 [[reader]]
 name = "main"
@@ -216,7 +216,7 @@ fn shown(alloc: Global, config: &Config) -> Result<String, AllocError> {
 }
 
 // The same of the config that a text is, or its fault as it is printed.
-fn told(alloc: Global, text: &str) -> Result<String, AllocError> {
+pub(crate) fn told(alloc: Global, text: &str) -> Result<String, AllocError> {
     match Config::read(alloc, text) {
         Ok(config) => shown(alloc, &config),
         Err(fault) => fault.to_string(alloc),

@@ -24,4 +24,6 @@ mod patterns;
 #[cfg(test)]
 mod streams;
 #[cfg(test)]
+mod unknown_fields;
+#[cfg(test)]
 mod words;
