@@ -136,19 +136,15 @@ fn is_character_of_name(byte: u8) -> bool
 fn folded_order(left: &[u8], right: &[u8]) -> Ordering
     ensures { result ≡ fold_order left.now right.now }
 {
-    match left {
-        [] => match right {
-            [] => Ordering::Equal,
-            [..] => Ordering::Less,
-        },
-        [first, others @ ..] => match right {
-            [] => Ordering::Greater,
-            [other, rest @ ..] => {
-                match first.to_ascii_lowercase().cmp(&other.to_ascii_lowercase()) {
-                    Ordering::Equal => folded_order(others, rest),
-                    order => order,
-                }
-            }
-        },
+    let (mut left, mut right) = (left, right);
+    while let [first, others @ ..] = left {
+        let [other, rest @ ..] = right else {
+            return Ordering::Greater;
+        };
+        match first.to_ascii_lowercase().cmp(&other.to_ascii_lowercase()) {
+            Ordering::Equal => (left, right) = (others, rest),
+            order => return order,
+        }
     }
+    0.cmp(&right.len())
 }
