@@ -1,5 +1,5 @@
 -- What is found in a list whose first elements have no fault.
-use Rattle.std.proofs.Common.{◌≡◌, ◌<◌, ◌≤◌, ◌+◌, ◌-◌, ℕ, zero, suc, List, [], ◌∷◌, length, get_or, drop, Option, Some, None, Result, Ok, Err, ◌≢◌, ◌∙◌, inl, inr, refl, sym, subst, arith}
+use Rattle.std.proofs.Common.{◌≡◌, ◌<◌, ◌+◌, ◌-◌, ℕ, zero, suc, List, [], ◌∷◌, length, get_or, drop, Option, Some, None, Result, Ok, Err, ◌≢◌, ◌∙◌, inl, inr, sym, subst, arith}
 use Rattle.std.specs.List.{range_with_len}
 use Rattle.std.specs.Result.{IsErrAnd}
 use Rattle.metric_bounds.specs.First.{Each, Reports, Then}

@@ -1,4 +1,5 @@
 mod Listed
+mod Printed
 pub mod Digits
 pub mod Spelled
 pub mod Tabled

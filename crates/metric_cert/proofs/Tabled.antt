@@ -1,13 +1,14 @@
 -- A table whose fields were put one after the other is read as what they were put for.
-use Rattle.std.proofs.Common.{◌≡◌, ℕ, ◌^◌, codes, List, Option, Some, None, Result, Ok, Err, Ordering, Less, Equal, Greater, refl, arith, ◌≤◌}
+use Rattle.std.proofs.Common.{◌≡◌, ℕ, ◌+◌, ◌^◌, true, ◌&&◌, codes, List, Option, Some, None, Result, Ok, Err, Ordering, Less, Equal, Greater, refl, ap, ◌∙◌, arith, ◌≤◌, lit≤}
 use Rattle.std.specs.Prelude.{OnOk}
-use Rattle.std.specs.Ordering.{match_ordering, nat_cmp}
+use Rattle.std.proofs.lemmas.Bool.{and_parts}
+use Rattle.std.proofs.lemmas.Cmp.{nat_list_cmp_total}
+use Rattle.std.specs.Ordering.{match_ordering, nat_cmp, ordering_reverse}
 use Rattle.std.specs.Cmp.Lexicographic.{slice_cmp}
 use Rattle.metric_glob.specs.declared.reason.Reason.TheVariants.{Takes, Rows}
-use Rattle.toml.specs.Data.{Data, Members, no_members, member, string, depth, members_depth}
+use Rattle.toml.specs.Data.{Data, Members, no_members, member, string, table, depth, members_depth, is_before, is_sorted, members_are_sorted}
 use Rattle.metric_table.specs.Fields.{field, only, text_of}
 use Rattle.metric_cert.specs.declared.bound.InstrumentBound.{InstrumentBound}
-use Rattle.metric_cert.specs.declared.certificate.Certificate.{Certificate}
 use Rattle.metric_cert.specs.declared.fault.CertFault.{CertFault}
 use Rattle.metric_cert.specs.declared.order.ReaderOrder.{ReaderOrder}
 use Rattle.metric_cert.specs.declared.reason.Criterion.{Criterion}
@@ -17,13 +18,12 @@ use Rattle.metric_cert.specs.declared.reason.Evidence.TheVariants.{Name, Miss}
 use Rattle.metric_cert.specs.declared.stream.By.{By}
 use Rattle.metric_cert.specs.declared.stream.By.TheVariants.{Product, Budget}
 use Rattle.metric_cert.specs.Bounds.{bound_of}
-use Rattle.metric_cert.specs.Certificates.{certificate_of, format_of, parts_of}
 use Rattle.metric_cert.specs.Names.{by_name, by_of, criterion_name, criterion_of}
 use Rattle.metric_cert.specs.Orders.{order_of}
-use Rattle.metric_cert.specs.Reading.{decimal_of, list_of, needed, optional, signed_decimal_of, tables_as, whole_of}
+use Rattle.metric_cert.specs.Reading.{decimal_of, list_of, needed, optional, signed_decimal_of, whole_of}
 use Rattle.metric_cert.specs.Reasons.{PutsEvidence, evidence_of, reason_of}
 use Rattle.metric_cert.specs.Streams.{stream_of}
-use Rattle.metric_cert.specs.Writing.{Puts, PutsGiven, with_member}
+use Rattle.metric_cert.specs.Writing.{IsPrintable, Puts, PutsGiven, with_member}
 
 criterion_read : (criterion : Criterion) → criterion_of (string (criterion_name criterion)) ≡ Ok criterion
 unfolding criterion_of text_of
@@ -79,19 +79,11 @@ stream_written reader instrument None by sets none one two three four five start
 stream_written reader instrument (Some view) by sets none one two three four five start p q r s t =
     rw (t.put, s.put, r.put, q.put, p.put, start, p.reads, q.reads, r.reads, s.reads, t.reads) refl
 
-pub certificate_written : (certificate : Certificate) (none one two three four five : Members) → none ≡ no_members
-    → Puts (whole_of (2 ^ 32)) 0 (codes "format") 1 none one → Puts (tables_as reason_of) 4 (codes "reason") certificate.reasons one two
-    → Puts (tables_as stream_of) 2 (codes "stream") certificate.streams two three → Puts (tables_as bound_of) 2 (codes "bound") certificate.bounds three four
-    → Puts (tables_as order_of) 3 (codes "order") certificate.orders four five → certificate_of five ≡ Ok certificate
-unfolding certificate_of parts_of format_of only needed field
-certificate_written certificate none one two three four five start p q r s t =
-    rw (t.put, s.put, r.put, q.put, p.put, start, p.reads, q.reads, r.reads, s.reads, t.reads) refl
+-- A table stays printable as a field is put into it.
+pub none_printable : (none : Members) (most : ℕ) → none ≡ no_members → IsPrintable (most + 1) (table none)
+none_printable none most start = rw start (record { shallow = omega arith; sorted = refl })
 
--- No table nests deeper than what was put into it.
-pub none_deep : (none : Members) (most : ℕ) → none ≡ no_members → members_depth none ≤ most
-none_deep none most start = rw start (omega arith)
-
-put_depth : (name : List ℕ) (d : Data) (table : Members) (most : ℕ) → depth d ≤ most → members_depth table ≤ most → members_depth (with_member name d table) ≤ most
+put_depth : (name : List ℕ) (d : Data) (fields : Members) (most : ℕ) → depth d ≤ most → members_depth fields ≤ most → members_depth (with_member name d fields) ≤ most
 put_depth name d no_members most new old = omega arith
 put_depth name d (member other e fields) most new old =
     let rest : members_depth fields ≤ most = omega arith in
@@ -103,19 +95,51 @@ put_depth name d (member other e fields) most new old =
     by Equal more = omega arith
     by Greater more = omega arith
 
-pub put_shallow : {X : Type 0} {step : Data → Result X CertFault} {levels : ℕ} {name : List ℕ} {x : X} {before after : Members} (most : ℕ)
-    → levels ≤ most → members_depth before ≤ most → Puts step levels name x before after → members_depth after ≤ most
-put_shallow {name = name} {before = before} most within old p = rw p.put (put_depth name p.datum before most (omega (arith, p.shallow)) old)
+-- a name before all of a table is before one more that it is before
+is_before-with : (first name : List ℕ) (d : Data) (fields : Members) → slice_cmp nat_cmp first name ≡ Less → is_before first fields ≡ true → is_before first (with_member name d fields) ≡ true
+is_before-with first name d no_members less before = rw less refl
+is_before-with first name d (member other e fields) less before = by (slice_cmp nat_cmp name other)
+  where
+    by : (o : Ordering) → is_before first (match_ordering o (member name d (member other e fields)) (member other d fields) (member other e (with_member name d fields))) ≡ true
+    by Less = rw less refl
+    by Equal = before
+    by Greater = before
 
-pub given_shallow : {X : Type 0} (step : Data → Result X CertFault) (levels : ℕ) (name : List ℕ) (x : Option X) (before after : Members) (most : ℕ)
-    → levels ≤ most → members_depth before ≤ most → PutsGiven step levels name x before after → members_depth after ≤ most
-given_shallow step levels name None before after most within old p = rw p old
-given_shallow step levels name (Some x) before after most within old p = put_shallow most within old p
+put_sorted : (name : List ℕ) (d : Data) (fields : Members) → is_sorted d ≡ true → members_are_sorted fields ≡ true → members_are_sorted (with_member name d fields) ≡ true
+put_sorted name d no_members new old = rw new refl
+put_sorted name d (member other e fields) new old =
+    let (front, rest) = and_parts (is_before other fields && is_sorted e) (members_are_sorted fields) old in
+    let (before, here) = and_parts (is_before other fields) (is_sorted e) front in
+    by before here rest (slice_cmp nat_cmp name other) refl (put_sorted name d fields new rest)
+  where
+    by : is_before other fields ≡ true → is_sorted e ≡ true → members_are_sorted fields ≡ true → (o : Ordering) → slice_cmp nat_cmp name other ≡ o
+        → members_are_sorted (with_member name d fields) ≡ true
+        → members_are_sorted (match_ordering o (member name d (member other e fields)) (member other d fields) (member other e (with_member name d fields))) ≡ true
+    by before here rest Less same more = rw (same, new, before, here, rest) refl
+    by before here rest Equal same more = rw (before, new, rest) refl
+    by before here rest Greater same more =
+        let less : slice_cmp nat_cmp other name ≡ Less = nat_list_cmp_total.antisymm other name ∙ ap ordering_reverse same in
+        rw (is_before-with other name d fields less before, here, more) refl
 
-pub evidence_shallow : (evidence : Evidence) (before after : Members) → members_depth before ≤ 2 → PutsEvidence evidence before after → members_depth after ≤ 2
-evidence_shallow (Name (Takes takes)) before after old p = put_shallow 2 (omega arith) old p
-evidence_shallow (Name (Rows rows)) before after old p = put_shallow 2 (omega arith) old p
-evidence_shallow (Miss criterion) before after old p = put_shallow 2 (omega arith) old p
+pub put_printable : {X : Type 0} {step : Data → Result X CertFault} {levels : ℕ} {name : List ℕ} {x : X} {before after : Members} (most : ℕ)
+    → levels ≤ most → IsPrintable (most + 1) (table before) → Puts step levels name x before after → IsPrintable (most + 1) (table after)
+put_printable {name = name} {before = before} most within old p =
+    let deep : members_depth before ≤ most = omega (arith, old.shallow) in
+    let new : depth p.datum ≤ most = omega (arith, p.printable.shallow) in
+    rw p.put (record {
+      shallow = omega (arith, put_depth name p.datum before most new deep);
+      sorted = put_sorted name p.datum before p.printable.sorted old.sorted;
+    })
+
+pub given_printable : {X : Type 0} (step : Data → Result X CertFault) (levels : ℕ) (name : List ℕ) (x : Option X) (before after : Members) (most : ℕ)
+    → levels ≤ most → IsPrintable (most + 1) (table before) → PutsGiven step levels name x before after → IsPrintable (most + 1) (table after)
+given_printable step levels name None before after most within old p = rw p old
+given_printable step levels name (Some x) before after most within old p = put_printable most within old p
+
+pub evidence_printable : (evidence : Evidence) (before after : Members) → IsPrintable 3 (table before) → PutsEvidence evidence before after → IsPrintable 3 (table after)
+evidence_printable (Name (Takes takes)) before after old p = put_printable 2 (lit≤ tt) old p
+evidence_printable (Name (Rows rows)) before after old p = put_printable 2 (lit≤ tt) old p
+evidence_printable (Miss criterion) before after old p = put_printable 2 (lit≤ tt) old p
 
 pub when_ok : {X E : Type 0} {P Q : Type 0} (r : Result X E) → OnOk r P → (P → Q) → OnOk r Q
 when_ok (Ok x) p next = next p

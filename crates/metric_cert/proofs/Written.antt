@@ -6,10 +6,10 @@ use Rattle.std.specs.BTreeMap.{insert_entry}
 use Rattle.std.specs.Fmt.{decimal, signed_decimal}
 use Rattle.std.specs.Ordering.{match_ordering}
 use Rattle.std.specs.String.{string_cmp}
-use Rattle.toml.specs.Data.{Data, Members, member, integer, string, array, table, depth, items_depth, members_depth}
+use Rattle.toml.specs.Data.{Data, Members, member, integer, string, array, table, depth, items_depth}
 use Rattle.toml.specs.View.{items_of, items_view, members_view, view}
 use Rattle.toml.specs.declared.value.Value.{Value}
-use Rattle.toml.proofs.Views.{Entry}
+use Rattle.toml.proofs.Views.{Entry, items_are_sorted-last}
 use Rattle.std.proofs.lemmas.Bool.Decides.{nat_tests}
 use mathlib.Core.List.{map-append}
 use Rattle.metric_base.specs.Steps.{◌>>=◌, in_turn, with_next}
@@ -18,7 +18,7 @@ use Rattle.metric_text.specs.ReadingLaws.{number_of-text}
 use Rattle.metric_cert.specs.declared.fault.CertFault.{CertFault}
 use Rattle.metric_cert.proofs.Spelled.{wide_of-text}
 use Rattle.metric_cert.specs.Reading.{decimal_of, list_of, signed_decimal_of, table_as, values_of, whole_of}
-use Rattle.metric_cert.specs.Writing.{with_member}
+use Rattle.metric_cert.specs.Writing.{IsPrintable, with_member}
 
 pub decimal_of-decimal : (n : ℕ) → n < 2 ^ 64 → decimal_of (string (decimal n)) ≡ Ok n
 unfolding decimal_of text_of
@@ -46,16 +46,14 @@ pub list_of-array : {X : Type 0} (step : Data → Result X CertFault) (d : Data)
 unfolding list_of values_of
 list_of-array step d values xs is read = rw (is, items_values-items_of (map view values)) read
 
-pub list_depth : (d : Data) (values : List Value) (levels : ℕ) → d ≡ array (items_view values) → items_depth (items_view values) ≤ levels → depth d ≤ levels + 1
-list_depth d values levels is shallow = rw is (omega arith)
-
 pub table_as-table : {X : Type 0} (step : Members → Result X CertFault) (d : Data) (fields : Members) (x : X) → d ≡ table fields
     → step fields ≡ Ok x → table_as step d ≡ Ok x
 unfolding table_as table_of
 table_as-table step d fields x is read = rw is read
 
-pub table_depth : (d : Data) (fields : Members) (levels : ℕ) → d ≡ table fields → members_depth fields ≤ levels → depth d ≤ levels + 1
-table_depth d fields levels is shallow = rw is (omega arith)
+-- what a printable value is, another way
+pub same_printable : (levels : ℕ) (d e : Data) → d ≡ e → IsPrintable levels e → IsPrintable levels d
+same_printable levels d e is printable = rw is printable
 
 -- one value more
 past : {X F : Type 0} (r : Result X F) (step : Data → Result X F) (values : List Data) (d : Data) (before read : List X) (x : X)
@@ -86,9 +84,18 @@ items_depth-last (x ∷ values) v levels old new =
     let more = items_depth-last values v levels rest new in
     omega arith
 
-pub items_depth-push : (values longer : List Value) (v : Value) (levels : ℕ) → longer ≡ values ++ v ∷ [] → items_depth (items_view values) ≤ levels
-    → depth (view v) ≤ levels → items_depth (items_view longer) ≤ levels
-items_depth-push values longer v levels grown old new = rw grown (items_depth-last values v levels old new)
+pub printable-last : (values : List Value) (v : Value) (levels : ℕ) → IsPrintable (levels + 1) (array (items_view values)) → IsPrintable levels (view v)
+    → IsPrintable (levels + 1) (array (items_view (values ++ v ∷ [])))
+printable-last values v levels old new =
+    let shallow : items_depth (items_view values) ≤ levels = omega (arith, old.shallow) in
+    record {
+      shallow = omega (arith, items_depth-last values v levels shallow new.shallow);
+      sorted = items_are_sorted-last values v old.sorted new.sorted;
+    }
+
+pub printable-push : (values longer : List Value) (v : Value) (levels : ℕ) → longer ≡ values ++ v ∷ [] → IsPrintable (levels + 1) (array (items_view values))
+    → IsPrintable levels (view v) → IsPrintable (levels + 1) (array (items_view longer))
+printable-push values longer v levels grown old new = rw grown (printable-last values v levels old new)
 
 -- a map of a table with one more entry
 with_entry : (o : Ordering) (k : String Global) (v : Value) (e : Entry) (es : List Entry)

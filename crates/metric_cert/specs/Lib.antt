@@ -5,6 +5,7 @@ pub mod Making
 pub mod Names
 pub mod Ordering
 pub mod Orders
+pub mod Printing
 pub mod Reading
 pub mod Reasons
 pub mod Streams

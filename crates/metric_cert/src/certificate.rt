@@ -1,20 +1,21 @@
 //! A certificate as a whole.
-ghost use Rattle.std.specs.Prelude.{◌≡◌, ◌≤◌, ◌==◌, Ok, Err, IfOk, OnOk, string_bytes, if◌then◌else◌};
-ghost use Rattle.toml.specs.Data.{members_depth, no_members};
+ghost use Rattle.std.specs.Prelude.{◌≡◌, ◌==◌, Ok, Err, IfOk, OnOk, string_bytes, if◌then◌else◌};
 ghost use Rattle.toml.specs.View.{table_view};
 ghost use Rattle.metric_base.specs.Steps.{Gives};
 ghost use Rattle.metric_table.specs.Fields.{only};
 ghost use Rattle.metric_cert.specs.Certificates.{certificate_fields, certificate_from, certificate_of, format_of, parts_of};
+ghost use Rattle.metric_cert.specs.Printing.{AppendsLines, AppendsLists, pairs_of};
 ghost use Rattle.metric_cert.specs.Reading.{shape_faults};
 
 use crate::bound::{BoundTable, InstrumentBound};
 use crate::fault::{CertFault, shape_faults};
 use crate::fields::TableEntries;
-use crate::numbers::Number;
+use crate::numbers::{Number, whole};
 use crate::order::{OrderTable, ReaderOrder};
+use crate::printing::{push_if_empty, push_list, push_pair};
 use crate::reason::{ReasonTable, SelectionReason};
 use crate::stream::{StreamSets, StreamTable};
-use crate::tables::{empty_table, needed, put};
+use crate::tables::needed;
 use metric_base::Items;
 use metric_table::only;
 use std::alloc::{AllocError, Global};
@@ -62,25 +63,33 @@ impl Certificate {
     pub fn write(&self, alloc: Global) -> Result<String, AllocError>
         ensures { IfOk result (λ text. certificate_from (string_bytes text) ≡ Ok self.now) }
     {
-        let mut table = empty_table(alloc);
-        self.put(alloc, &mut table)?;
-        match toml::table_to_string(alloc, &table) {
-            Ok(text) => Ok(text),
-            Err(_) => Err(AllocError),
-        }
+        let mut text = String::new(alloc);
+        self.push_pairs(alloc, &mut text)?;
+        self.push_lists(alloc, &mut text)?;
+        Ok(text)
     }
 
-    // Puts the fields of the certificate into an empty table.
-    fn put(&self, alloc: Global, table: &mut Table) -> Result<(), AllocError>
-        requires { table_view table.old ≡ no_members }
-        ensures reads { OnOk result (certificate_of (table_view table.new) ≡ Ok self.now) }
-        ensures shallow { OnOk result (members_depth (table_view table.new) ≤ 80) }
+    // The lines above the first header.
+    fn push_pairs(&self, alloc: Global, text: &mut String) -> Result<(), AllocError>
+        ensures { OnOk result (AppendsLines (pairs_of self.now)
+            (string_bytes text.old) (string_bytes text.new)) }
     {
-        put::<Number>(alloc, table, "format", &1)?;
-        put::<TableEntries<ReasonTable>>(alloc, table, "reason", &self.reasons)?;
-        put::<TableEntries<StreamTable>>(alloc, table, "stream", &self.streams)?;
-        put::<TableEntries<BoundTable>>(alloc, table, "bound", &self.bounds)?;
-        put::<TableEntries<OrderTable>>(alloc, table, "order", &self.orders)
+        push_if_empty(alloc, text, "bound", &self.bounds)?;
+        push_pair(alloc, text, "format", whole(1))?;
+        push_if_empty(alloc, text, "order", &self.orders)?;
+        push_if_empty(alloc, text, "reason", &self.reasons)?;
+        push_if_empty(alloc, text, "stream", &self.streams)
+    }
+
+    // The lists, in the order of their names.
+    fn push_lists(&self, alloc: Global, text: &mut String) -> Result<(), AllocError>
+        ensures { OnOk result (AppendsLists self.now
+            (string_bytes text.old) (string_bytes text.new)) }
+    {
+        push_list::<BoundTable>(alloc, text, "bound", &self.bounds)?;
+        push_list::<OrderTable>(alloc, text, "order", &self.orders)?;
+        push_list::<ReasonTable>(alloc, text, "reason", &self.reasons)?;
+        push_list::<StreamTable>(alloc, text, "stream", &self.streams)
     }
 }
 

@@ -1,8 +1,8 @@
 //! What stands in a certificate, read and written.
-ghost use Rattle.std.specs.Prelude.{◌≡◌, ◌≤◌, Ok, IfOk};
-ghost use Rattle.toml.specs.Data.{depth};
+ghost use Rattle.std.specs.Prelude.{◌≡◌, Ok, IfOk};
 ghost use Rattle.toml.specs.View.{view};
 ghost use Rattle.metric_base.specs.Steps.{Gives};
+ghost use Rattle.metric_cert.specs.Writing.{IsPrintable};
 
 use crate::fault::CertFault;
 use std::alloc::{AllocError, Global};
@@ -31,5 +31,5 @@ pub(crate) trait Entry {
     /// A value that stands for it. Fails only where memory is refused.
     fn write(alloc: Global, entry: &Self::Read) -> Result<Value, AllocError>
         ensures reads { IfOk result (λ v. step (view v) ≡ Ok entry.now) }
-        ensures shallow { IfOk result (λ v. depth (view v) ≤ levels) };
+        ensures printable { IfOk result (λ v. IsPrintable levels (view v)) };
 }

@@ -1,8 +1,9 @@
 //! The entries of a certificate that are tables.
-ghost use Rattle.std.specs.Prelude.{◌≡◌, ◌≤◌, Ok, OnOk};
-ghost use Rattle.toml.specs.Data.{members_depth, no_members};
+ghost use Rattle.std.specs.Prelude.{◌≡◌, ◌+◌, Ok, OnOk};
+ghost use Rattle.toml.specs.Data.{no_members, table as table_data};
 ghost use Rattle.toml.specs.View.{table_view};
 ghost use Rattle.metric_base.specs.Steps.{Gives};
+ghost use Rattle.metric_cert.specs.Writing.{IsPrintable};
 
 use crate::entry::Entry;
 use crate::fault::{CertFault, shape_faults};
@@ -36,7 +37,7 @@ pub(crate) trait Fields {
     fn put(alloc: Global, table: &mut Table, entry: &Self::Read) -> Result<(), AllocError>
         requires { table_view table.old ≡ no_members }
         ensures reads { OnOk result (step (table_view table.new) ≡ Ok entry.now) }
-        ensures shallow { OnOk result (members_depth (table_view table.new) ≤ levels) };
+        ensures printable { OnOk result (IsPrintable (levels + 1) (table_data (table_view table.new))) };
 }
 
 /// An entry that is a table with such fields.

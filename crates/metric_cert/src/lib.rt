@@ -17,6 +17,7 @@ mod make_streams;
 mod making;
 mod numbers;
 mod order;
+mod printing;
 mod reason;
 mod stream;
 mod tables;

@@ -1,10 +1,11 @@
 //! The lists of a certificate.
-ghost use Rattle.std.specs.Prelude.{◌≡◌, ◌≤◌, Ok, Err, MatchResult, IfOk, map};
-ghost use Rattle.toml.specs.Data.{array, items_depth};
+ghost use Rattle.std.specs.Prelude.{◌≡◌, ◌+◌, Ok, Err, MatchResult, IfOk, map};
+ghost use Rattle.toml.specs.Data.{array};
 ghost use Rattle.toml.specs.View.{items_view, view};
 ghost use Rattle.metric_base.specs.Steps.{Gives};
 ghost use Rattle.metric_table.specs.Fields.{each_alone};
 ghost use Rattle.metric_cert.specs.Reading.{values_of};
+ghost use Rattle.metric_cert.specs.Writing.{IsPrintable};
 
 use crate::entry::Entry;
 use crate::fault::CertFault;
@@ -49,7 +50,8 @@ fn values_of(value: &Value) -> Result<&[Value], CertFault>
     }
 }
 
-fn listed(values: Vec<Value>) -> Value
+/// The value that is a list.
+pub(crate) fn listed(values: Vec<Value>) -> Value
     ensures { view result ≡ array (items_view values.items) }
 {
     Value::Array(values)
@@ -68,7 +70,8 @@ fn read_all<E: Entry>(alloc: Global, values: &[Value]) -> Result<Items<E::Read>,
 
 fn write_all<E: Entry>(alloc: Global, entries: &[E::Read]) -> Result<Vec<Value>, AllocError>
     ensures reads { IfOk result (λ vs. each_alone E.step (map view vs.items) ≡ Ok entries.now) }
-    ensures shallow { IfOk result (λ vs. items_depth (items_view vs.items) ≤ E.levels) }
+    ensures printable { IfOk result
+        (λ vs. IsPrintable (E.levels + 1) (array (items_view vs.items))) }
 {
     let mut values = Vec::new(alloc);
     for entry in entries {

@@ -114,7 +114,8 @@ impl Entry for SignedDecimal {
     }
 }
 
-fn whole(number: u32) -> Value
+/// The value that is a whole number.
+pub(crate) fn whole(number: u32) -> Value
     ensures { view result ≡ integer (pos number) }
 {
     Value::Integer(i64::from(number))

@@ -88,7 +88,8 @@ pub(crate) fn put_given<E: Entry>(
     }
 }
 
-fn insert(table: &mut Table, key: String, value: Value) -> Result<(), AllocError>
+/// Puts a value into a table.
+pub(crate) fn insert(table: &mut Table, key: String, value: Value) -> Result<(), AllocError>
     ensures { OnOk result (table_view table.new
         ≡ with_member (string_bytes key) (view value) (table_view table.old)) }
 {

@@ -1,6 +1,6 @@
 -- the fields that were put are read back
 use Rattle.std.proofs.Common.{lit≤}
-use Rattle.metric_cert.proofs.Tabled.{given_shallow, none_deep, put_shallow, stream_written, when_ok}
+use Rattle.metric_cert.proofs.Tabled.{given_printable, none_printable, put_printable, stream_written, when_ok}
 use Rattle.metric_cert.proofs.stream.StreamTableFields.put.Goals as goal
 
 pub returns-clause-reads : goal.returns-clause-reads
@@ -9,10 +9,10 @@ returns-clause-reads c =
     when_ok _ c.put-4.ensures
     (stream_written stream.reader stream.instrument stream.view stream.by stream.sets _ _ _ _ _ _ c.requires c.in_ok-put.ensures c.in_ok-put-2.ensures c.in_ok-put_given.ensures c.in_ok-put-3.ensures)
 
-pub returns-clause-shallow : goal.returns-clause-shallow
-returns-clause-shallow c =
-    let one = put_shallow 0 (lit≤ tt) (none_deep _ 0 c.requires) c.in_ok-put.ensures in
-    let two = put_shallow 0 (lit≤ tt) one c.in_ok-put-2.ensures in
-    let three = given_shallow _ _ _ _ _ _ 0 (lit≤ tt) two c.in_ok-put_given.ensures in
-    let four = put_shallow 0 (lit≤ tt) three c.in_ok-put-3.ensures in
-    when_ok _ c.put-4.ensures (put_shallow 0 (lit≤ tt) four)
+pub returns-clause-printable : goal.returns-clause-printable
+returns-clause-printable c =
+    let one = put_printable 0 (lit≤ tt) (none_printable _ 0 c.requires) c.in_ok-put.ensures in
+    let two = put_printable 0 (lit≤ tt) one c.in_ok-put-2.ensures in
+    let three = given_printable _ _ _ _ _ _ 0 (lit≤ tt) two c.in_ok-put_given.ensures in
+    let four = put_printable 0 (lit≤ tt) three c.in_ok-put-3.ensures in
+    when_ok _ c.put-4.ensures (put_printable 0 (lit≤ tt) four)
