@@ -7,11 +7,12 @@ use Rattle.indexmap.specs.IndexMap.{set_value_at}
 use Rattle.metric_aggregate.specs.declared.aggregate.Aggregate as aggregate
 use Rattle.metric_aggregate.specs.Range.{in_range}
 use Rattle.metric_history.specs.Series.{restricted, series}
-use Rattle.metric_series.specs.Calls.{TakesRecording, entry_of}
+use Rattle.metric_series.specs.Calls.{ForgetsAll, TakesRecording, entry_of}
 use Rattle.metric_series.specs.Ready.{Adds, AddsAt, FitsAt, IsReadyTable}
 use Rattle.metric_series.specs.Tables.{StandsTable, TableValue}
+use Rattle.metric_series.specs.declared.place.Place.{Place}
 use Rattle.metric_series.specs.declared.place.Place.TheVariants.{Held, New, Overflow}
-use Rattle.metric_series.proofs.Adding.{held_stands, new_stands, one_in_range, rest_stands}
+use Rattle.metric_series.proofs.Adding.{held_stands, new_stands, one_in_range, rest_stands, stands_for_none}
 use Rattle.metric_series.proofs.Placing.{found_at, found_last, written_at, written_last}
 
 module _ {A : Type 0} (by : aggregate.Ghosts A) (old now : TableValue A) (set : List ℕ) (value : ℤ) where
@@ -75,3 +76,17 @@ module _ {A : Type 0} (by : aggregate.Ghosts A) (old now : TableValue A) (set : 
       let its : Adds by old.overflow after value = subst (λ (t : TableValue A). Adds by t.overflow after value) r.prepared adds in
       subst (λ (t : TableValue A). StandsTable by (record t { overflow = after }) s (window ++ entry_of recorder set value ∷ [])) (sym r.prepared)
       (rest_stands by old s window (entry_of recorder set value) key own known r.falls.absent r.falls.full after old.series its refl)
+
+  -- what a table keeps that is made ready
+  still : (place : Place) → IsReadyTable by old now set value place → (now.kept ≡ old.kept) × (now.limit ≡ old.limit) × (now.overflow ≡ old.overflow)
+  still (Held index) r = (ap (λ (t : TableValue A). t.kept) r.prepared, ap (λ (t : TableValue A). t.limit) r.prepared, ap (λ (t : TableValue A). t.overflow) r.prepared)
+  still (New index) r = (ap (λ (t : TableValue A). t.kept) r.prepared.1, ap (λ (t : TableValue A). t.limit) r.prepared.1, ap (λ (t : TableValue A). t.overflow) r.prepared.1)
+  still Overflow r = (ap (λ (t : TableValue A). t.kept) r.prepared, ap (λ (t : TableValue A). t.limit) r.prepared, ap (λ (t : TableValue A). t.overflow) r.prepared)
+
+  -- a table that was made ready, and has then forgotten all, stands for no recordings
+  pub forgotten : (place : Place) (after : TableValue A) → IsReadyTable by old now set value place → after.series ≡ [] → after.kept ≡ now.kept → after.limit ≡ now.limit
+      → by.aggregation after.overflow ≡ by.aggregation now.overflow → by.stands after.overflow [] → ForgetsAll (StandsTable by old) (StandsTable by after)
+  forgotten place after r empty kept limit alike none s window known =
+      let e = still place r in
+      stands_for_none by after s empty (kept ∙ e.0 ∙ known.kept) (limit ∙ e.1 ∙ known.limit)
+      (alike ∙ ap by.aggregation e.2 ∙ known.rest.aggregation) none

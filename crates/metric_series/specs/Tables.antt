@@ -20,6 +20,10 @@ pub record TableValue (A : Type 0) : Type 0 where
   -- the aggregate of all other recordings
   pub overflow : A
 
+-- it has a place for any set
+abbrev pub TakesAny : {A : Type 0} → TableValue A → List ℕ → Type 0
+TakesAny t set = Unit {0}
+
 module _ {A : Type 0} (by : aggregate.Ghosts A) where
   -- an aggregate has the values of a series of the window, or of its overflow series
   pub record HasRows (a : A) (s : Stream) (window : List Entry) (place : Option (List ℕ)) : Type 0 where

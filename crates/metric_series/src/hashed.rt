@@ -115,8 +115,13 @@ impl<A: Aggregate> TableOf<A> {
 
 impl<A: Aggregate> Table for TableOf<A> {
     ghost use Rattle.metric_series.specs.Ready.{IsReadyTable};
+    ghost use Rattle.metric_series.specs.Tables.{TakesAny};
 
     ghost stands = { StandsTable A.Aggregate };
+
+    ghost takes = { TakesAny };
+
+    ghost has_room = { λ _. ⊥ };
 
     ghost is_ready = { IsReadyTable A.Aggregate };
 

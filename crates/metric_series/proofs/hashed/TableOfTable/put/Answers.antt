@@ -22,24 +22,24 @@ add_at-requires-in-New g c =
     subst (λ v. FitsAt g.A.Aggregate c.self.inside.series.entries c.in-New.index v) (sym (to_z-of_z w64 c.args.value in64))
     (new_fits_at g.A.Aggregate c.requires.0 _ c.requires.1 c.args.value c.in-New.index ready g.met.A.Aggregate.fits_in_range in64)
 
-pub returns-in-Held : goal.returns-in-Held
-returns-in-Held g c = λ old set given.
+pub returns-in-Held-clause-stands : goal.returns-in-Held-clause-stands
+returns-in-Held-clause-stands g c = λ old set given.
     let in64 : SFits w64 c.args.value = search rules in
     let ready = subst (λ t. IsReadyTable g.A.Aggregate old t set c.args.value (Held c.in-Held.index)) (sym c.self.view_is)
     (subst (λ p. IsReadyTable g.A.Aggregate old c.args.self.now set c.args.value p) c.in-Held.is given) in
     held_put g.A.Aggregate old _ set c.args.value c.in-Held.index ready c.add_at.new.series.entries
     (subst (λ v. AddsAt g.A.Aggregate c.self.inside.series.entries c.add_at.new.series.entries c.in-Held.index v) (to_z-of_z w64 c.args.value in64) c.add_at.ensures)
 
-pub returns-in-New : goal.returns-in-New
-returns-in-New g c = λ old set given.
+pub returns-in-New-clause-stands : goal.returns-in-New-clause-stands
+returns-in-New-clause-stands g c = λ old set given.
     let in64 : SFits w64 c.args.value = search rules in
     let ready = subst (λ t. IsReadyTable g.A.Aggregate old t set c.args.value (New c.in-New.index)) (sym c.self.view_is)
     (subst (λ p. IsReadyTable g.A.Aggregate old c.args.self.now set c.args.value p) c.in-New.is given) in
     new_put g.A.Aggregate old _ set c.args.value c.in-New.index ready c.add_at-in-New.new.series.entries
     (subst (λ v. AddsAt g.A.Aggregate c.self.inside.series.entries c.add_at-in-New.new.series.entries c.in-New.index v) (to_z-of_z w64 c.args.value in64) c.add_at-in-New.ensures)
 
-pub returns-in-Overflow : goal.returns-in-Overflow
-returns-in-Overflow g c = λ old set given.
+pub returns-in-Overflow-clause-stands : goal.returns-in-Overflow-clause-stands
+returns-in-Overflow-clause-stands g c = λ old set given.
     let in64 : SFits w64 c.args.value = search rules in
     let ready = subst (λ t. IsReadyTable g.A.Aggregate old t set c.args.value Overflow) (sym c.self.view_is)
     (subst (λ p. IsReadyTable g.A.Aggregate old c.args.self.now set c.args.value p) c.in-Overflow.is given) in
