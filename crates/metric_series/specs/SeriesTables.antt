@@ -5,6 +5,7 @@ use Rattle.metric_aggregate.specs.contracts.buckets.BucketAggAggregate.TheImpl a
 use Rattle.metric_aggregate.specs.contracts.last.LastAggAggregate.TheImpl as of_last
 use Rattle.metric_aggregate.specs.contracts.sum.SumAggAggregate.TheImpl as of_sum
 use Rattle.metric_aggregate.specs.declared.aggregate.Aggregate as aggregate
+use Rattle.metric_aggregate.specs.declared.buckets.HistogramParameters.{HistogramParameters}
 use Rattle.metric_aggregate.specs.declared.last.LastAgg.{LastAgg}
 use Rattle.metric_aggregate.specs.declared.sum.SumAgg.{SumAgg}
 use Rattle.metric_history.specs.declared.entry.Entry.{Entry}
@@ -46,12 +47,12 @@ module _ {S L H : Type 0} (sums : table.Ghosts S) (last_values : table.Ghosts L)
   by_aggregation = record { stands = Stands; takes = Takes; has_room = HasRoom; is_ready = IsReady }
 
 -- the tables whose series are found by hash. They have a place for any set, and take memory for each new series.
-abbrev pub hashed : {A : Type 0} → aggregate.Ghosts A → table.Ghosts (TableValue A)
+abbrev pub hashed : {A P : Type 0} → aggregate.Ghosts A P → table.Ghosts (TableValue A P)
 hashed by = record { stands = StandsTable by; takes = TakesAny; has_room = λ t. ⊥; is_ready = IsReadyTable by }
 
 -- a `SeriesTable`, and what is known of it
 abbrev pub SeriesValue : Type 0
-SeriesValue = ByAggregation (TableValue SumAgg) (TableValue LastAgg) (TableValue Buckets)
+SeriesValue = ByAggregation (TableValue SumAgg (Unit {0})) (TableValue LastAgg (Unit {0})) (TableValue Buckets HistogramParameters)
 
 abbrev pub series_tables : table.Ghosts SeriesValue
 series_tables = by_aggregation (hashed of_sum.ghosts) (hashed of_last.ghosts) (hashed of_buckets.ghosts)

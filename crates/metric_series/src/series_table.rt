@@ -5,7 +5,7 @@ use crate::fault::SeriesFault;
 use crate::hashed::TableOf;
 use crate::place::Place;
 use crate::table::Table;
-use metric_aggregate::{BucketAgg, LastAgg, SumAgg};
+use metric_aggregate::{BucketAgg, HistogramParameters, LastAgg, SumAgg};
 use metric_base::Copied;
 use metric_catalogue::SetKey;
 use metric_history::Point;
@@ -108,16 +108,19 @@ impl SeriesTable {
         let limit = stream.limit;
         match &stream.aggregation {
             StreamAggregation::Sum => {
-                let table = TableOf::new(alloc, seed, kept, limit, SumAgg::new());
+                let table = TableOf::new(alloc, seed, kept, limit, ());
                 Ok(SeriesTable::Sum(table))
             }
             StreamAggregation::LastValue => {
-                let table = TableOf::new(alloc, seed, kept, limit, LastAgg::new());
+                let table = TableOf::new(alloc, seed, kept, limit, ());
                 Ok(SeriesTable::LastValue(table))
             }
             StreamAggregation::Histogram(boundaries) => {
-                let overflow = BucketAgg::new(alloc, boundaries, stream.kind.is_monotonic())?;
-                let table = TableOf::new(alloc, seed, kept, limit, overflow);
+                let parameters = HistogramParameters {
+                    boundaries: boundaries.copy(alloc)?,
+                    keeps_sum: stream.kind.is_monotonic(),
+                };
+                let table = TableOf::new(alloc, seed, kept, limit, parameters);
                 Ok(SeriesTable::Histogram(table))
             }
         }
