@@ -90,7 +90,8 @@ impl SeriesTable {
     /// The table of a stream without recordings. Its set keys are hashed with a fixed seed, so it is for
     /// recordings that nobody chooses to slow it down. Fails only where memory is refused.
     pub fn new(alloc: Global, stream: &Stream) -> Result<SeriesTable, AllocError>
-        ensures stands { IfOk result (λ table. ⟦<SeriesTable as Table>⟧.stands table stream.now []) }
+        ensures stands { IfOk result (λ table.
+            ⟦<SeriesTable as Table>⟧.stands table stream.now []) }
         ensures takes { IfOk result (λ table.
             (set : List ℕ) → ⟦<SeriesTable as Table>⟧.takes table set) }
     {
@@ -100,7 +101,8 @@ impl SeriesTable {
     /// The same, where the set keys are hashed with this seed. With a seed that strangers do not know, such as
     /// the nanoseconds of a start, they can not choose set keys that collide.
     pub fn with_seed(alloc: Global, stream: &Stream, seed: u64) -> Result<SeriesTable, AllocError>
-        ensures stands { IfOk result (λ table. ⟦<SeriesTable as Table>⟧.stands table stream.now []) }
+        ensures stands { IfOk result (λ table.
+            ⟦<SeriesTable as Table>⟧.stands table stream.now []) }
         ensures takes { IfOk result (λ table.
             (set : List ℕ) → ⟦<SeriesTable as Table>⟧.takes table set) }
     {
