@@ -10,10 +10,16 @@ use std::alloc::{AllocError, Global};
 /// The running value of one series (Metrics SDK, aggregation).
 ///
 /// A value is tested with [`fits`](Aggregate::fits) before it is added, so that an `add` neither fails
-/// nor tests anything. Only `read` and `another` take memory.
+/// nor tests anything. Only `read` and `with_parameters` take memory.
 pub trait Aggregate: Drop {
+    /// What aggregators that are alike are made of: the configuration parameters of the aggregation.
+    type Parameters: Drop;
+
     // How the values are aggregated.
     ghost aggregation: { Self → Aggregation };
+
+    // How those are that are made of these parameters.
+    ghost aggregation_of: { Self.Parameters → Aggregation };
 
     // The running numbers are those of these values, added in this order.
     ghost stands: { Self → List ℤ → Type 0 };
@@ -36,7 +42,7 @@ pub trait Aggregate: Drop {
         ensures stands { (added : List ℤ) → stands self.old added
             → stands self.new (added ++ value ∷ []) };
 
-    /// Whether no value was added since the aggregator was made or reset.
+    /// Whether no value was added since the aggregator was made.
     fn is_empty(&self) -> bool
         ensures { result ≡ is_empty self.now };
 
@@ -46,17 +52,14 @@ pub trait Aggregate: Drop {
         ensures { IfOk result (λ value. (added : List ℤ) → stands self.now added
             → value ≡ value_of (aggregation self.now) added) };
 
-    /// Forgets all values.
-    fn reset(&mut self)
-        ensures aggregation { aggregation self.new ≡ aggregation self.old }
-        ensures stands { stands self.new [] };
-
-    /// An empty aggregator of the same aggregation. Fails only where memory is refused.
-    fn another(&self, alloc: Global) -> Result<Self, AllocError>
+    /// An empty aggregator of these parameters. All room that it will use is made here. Fails only where memory
+    /// is refused.
+    fn with_parameters(alloc: Global, parameters: &Self::Parameters) -> Result<Self, AllocError>
     where
         Self: Sized,
-        ensures aggregation { IfOk result (λ other. aggregation other ≡ aggregation self.now) }
-        ensures stands { IfOk result (λ other. stands other []) };
+        ensures aggregation { IfOk result (λ empty.
+            aggregation empty ≡ aggregation_of parameters.now) }
+        ensures stands { IfOk result (λ empty. stands empty []) };
 
     // A value fits where the longer list stays in range.
     ghost fits_in_range: { (a : Self) (added : List ℤ) (value : ℤ) → stands a added

@@ -74,11 +74,25 @@ impl BucketAgg {
     }
 }
 
+/// The configuration parameters of a histogram (Metrics SDK, explicit bucket histogram aggregation).
+#[derive(Drop)]
+pub struct HistogramParameters {
+    /// The boundaries between the buckets.
+    pub boundaries: Shared<Boundaries>,
+    /// Whether the sum of the values is kept.
+    pub keeps_sum: bool,
+}
+
 impl Aggregate for BucketAgg {
     ghost use Rattle.std.specs.Prelude.{◌==◌};
+    ghost use Rattle.metric_aggregate.specs.Aggregation.{HistogramAggregation};
     ghost use Rattle.metric_aggregate.specs.BucketAgg.{histogram_aggregation, histogram_fits, StandsBuckets, buckets_fit_in_range, buckets_are_empty_of_none};
 
+    type Parameters = HistogramParameters;
+
     ghost aggregation = { histogram_aggregation };
+
+    ghost aggregation_of = { λ p. HistogramAggregation p.boundaries p.keeps_sum };
 
     ghost stands = { StandsBuckets };
 
@@ -114,16 +128,11 @@ impl Aggregate for BucketAgg {
         })
     }
 
-    fn reset(&mut self) {
-        self.counts.fill(0);
-        self.count = 0;
-        self.total = zero_total(self.total.is_some());
-        self.least = i64::MAX;
-        self.greatest = i64::MIN;
-    }
-
-    fn another(&self, alloc: Global) -> Result<BucketAgg, AllocError> {
-        BucketAgg::new(alloc, &self.boundaries, self.total.is_some())
+    fn with_parameters(
+        alloc: Global,
+        parameters: &HistogramParameters,
+    ) -> Result<BucketAgg, AllocError> {
+        BucketAgg::new(alloc, &parameters.boundaries, parameters.keeps_sum)
     }
 
     ghost fits_in_range = { buckets_fit_in_range };

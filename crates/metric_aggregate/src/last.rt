@@ -27,7 +27,11 @@ impl Aggregate for LastAgg {
     ghost use Rattle.metric_aggregate.specs.Aggregation.{LastValueAggregation};
     ghost use Rattle.metric_aggregate.specs.LastAgg.{StandsLast, last_fits_in_range, last_is_empty_of_none};
 
+    type Parameters = ();
+
     ghost aggregation = { λ _. LastValueAggregation };
+
+    ghost aggregation_of = { λ _. LastValueAggregation };
 
     ghost stands = { StandsLast };
 
@@ -51,11 +55,7 @@ impl Aggregate for LastAgg {
         Ok(PointValue::Last(self.last.unwrap()))
     }
 
-    fn reset(&mut self) {
-        self.last = None;
-    }
-
-    fn another(&self, _alloc: Global) -> Result<LastAgg, AllocError> {
+    fn with_parameters(_alloc: Global, _parameters: &()) -> Result<LastAgg, AllocError> {
         Ok(LastAgg::new())
     }
 

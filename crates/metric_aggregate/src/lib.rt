@@ -13,7 +13,7 @@ mod search;
 mod sum;
 
 pub use aggregate::Aggregate;
-pub use buckets::BucketAgg;
+pub use buckets::{BucketAgg, HistogramParameters};
 pub use last::LastAgg;
 pub use point_value::PointValue;
 pub use sum::SumAgg;

@@ -32,7 +32,11 @@ impl Aggregate for SumAgg {
     ghost use Rattle.metric_aggregate.specs.Range.{fits_i64};
     ghost use Rattle.metric_aggregate.specs.SumAgg.{StandsSum, sum_fits_in_range, sum_is_empty_of_none};
 
+    type Parameters = ();
+
     ghost aggregation = { λ _. SumAggregation };
+
+    ghost aggregation_of = { λ _. SumAggregation };
 
     ghost stands = { StandsSum };
 
@@ -57,11 +61,7 @@ impl Aggregate for SumAgg {
         Ok(PointValue::Sum(self.sum))
     }
 
-    fn reset(&mut self) {
-        *self = SumAgg::new();
-    }
-
-    fn another(&self, _alloc: Global) -> Result<SumAgg, AllocError> {
+    fn with_parameters(_alloc: Global, _parameters: &()) -> Result<SumAgg, AllocError> {
         Ok(SumAgg::new())
     }
 

@@ -8,9 +8,9 @@ use Rattle.metric_facts.specs.Facts.{is_delta}
 use Rattle.metric_history.specs.Windows.{window}
 use Rattle.metric_history.specs.declared.entry.Entry.{Entry}
 use Rattle.metric_facts.specs.declared.facts.Facts.{Facts}
-use Rattle.metric_marked.specs.Marks.{ClosesWindow, EmptyFor, MarkedValue, StandAll, StandsMarked, windows_of}
+use Rattle.metric_marked.specs.Marks.{ClosesWindow, EmptyFor, KeepPlaces, MarkedValue, StandAll, StandsMarked, TakeAll, windows_of}
 use Rattle.metric_marked.specs.declared.stream_table.StreamTable.{StreamTable}
-use Rattle.metric_marked.proofs.TableLaws.{stands-same}
+use Rattle.metric_marked.proofs.TableLaws.{keeps-same, stands-same}
 
 no_mark : (n reader : ℕ) → slice_index (replicate n 0) reader ≡ 0
 no_mark zero reader = refl
@@ -26,10 +26,11 @@ window-push true mark journal entry low = drop-append-le mark journal (entry ∷
 window-push false mark journal entry low = refl
 
 -- a book of empty tables
-pub marked_begins : (tables : List StreamTable) (facts : Facts) → StandAll tables facts.streams (λ _. [])
+pub marked_begins : (tables : List StreamTable) (facts : Facts) → StandAll tables facts.streams (λ _. []) → ((set : List ℕ) → TakeAll tables set)
     → StandsMarked (record { tables = tables; delta = facts.delta; marks = no_marks facts; count = 0 }) facts [] (no_marks facts)
-marked_begins tables facts all = record {
+marked_begins tables facts all takes = record {
   tables = stands-same tables facts.streams (λ _. []) (windows_of facts [] (no_marks facts)) (λ reader. sym (window-none (is_delta facts reader) (slice_index (no_marks facts) reader))) all;
+  takes = λ set full. takes set;
   delta = refl;
   mark = refl;
   count = refl;
@@ -71,7 +72,7 @@ module _ (facts : Facts) (journal : List Entry) (marks : List ℕ) (reader : ℕ
 
   closed : (b : MarkedValue) (tables : List StreamTable) (delta : Bool) → is_delta facts reader ≡ delta → StandAll b.tables facts.streams (windows_of facts journal marks)
       → ClosesWindow b.tables tables delta reader → StandAll tables facts.streams (windows_of facts journal (slice_set marks reader (length journal)))
-  closed b tables true delta all closes = closes facts.streams (windows_of facts journal marks) (windows_of facts journal (slice_set marks reader (length journal))) (empty_after delta) all
+  closed b tables true delta all closes = closes.stands facts.streams (windows_of facts journal marks) (windows_of facts journal (slice_set marks reader (length journal))) (empty_after delta) all
   closed b tables false cumulative all closes =
       subst (λ (ts : List StreamTable). StandAll ts facts.streams (windows_of facts journal (slice_set marks reader (length journal)))) (sym closes)
       (stands-same b.tables facts.streams (windows_of facts journal marks) (windows_of facts journal (slice_set marks reader (length journal))) (same_after cumulative) all)
@@ -82,12 +83,18 @@ module _ (facts : Facts) (journal : List Entry) (marks : List ℕ) (reader : ℕ
       (λ differ. omega (arith, low other, mark_other marks reader (length journal) other differ))
       (cases_eq other reader)
 
+-- its tables have the places that they had
+closed_places : (old new : List StreamTable) (delta : Bool) (reader : ℕ) → ClosesWindow old new delta reader → KeepPlaces old new
+closed_places old new true reader closes = closes.places
+closed_places old new false reader closes = keeps-same old new closes
+
 -- a collection that was answered
 pub marked_moves : (b : MarkedValue) (tables : List StreamTable) (reader : ℕ) (facts : Facts) (journal : List Entry) (marks : List ℕ) → StandsMarked b facts journal marks
     → reader < length marks → ClosesWindow b.tables tables (is_delta facts reader) reader
     → StandsMarked (record b { tables = tables; marks = slice_set b.marks reader b.count }) facts journal (slice_set marks reader (length journal))
 marked_moves b tables reader facts journal marks s below closes = record {
   tables = closed facts journal marks reader below b tables (is_delta facts reader) refl s.tables closes;
+  takes = λ set full. (closed_places b.tables tables (is_delta facts reader) reader closes).sets set (s.takes set full);
   delta = s.delta;
   mark = ap (λ (m : List ℕ). slice_set m reader b.count) s.mark ∙ ap (slice_set marks reader) s.count;
   count = s.count;

@@ -15,10 +15,10 @@ use Rattle.metric_series.specs.SeriesTables.{SeriesValue, series_tables}
 use Rattle.metric_series.specs.declared.fault.SeriesFault.{SeriesFault}
 use Rattle.metric_series.specs.declared.fault.SeriesFault.TheVariants.{SumRange, Memory}
 use Rattle.metric_series.specs.declared.place.Place.{Place}
-use Rattle.metric_marked.specs.Marks.{AddsAllPoints, AddsPoints, EmptiesOne, EmptiesReader, JudgesAll, StandAll, StandsFor, TableStands, TakesAll, weightier}
+use Rattle.metric_marked.specs.Marks.{AddsAllPoints, AddsPoints, EmptiesOne, EmptyFor, EmptiesReader, JudgesAll, KeepPlaces, StandAll, StandsFor, TableStands, TakesAll, weightier}
 use Rattle.metric_marked.specs.Stepwise.{AreInRange, AreReady, EachAt, IsReady, IsReadyFor, IsSameStream, Puts, Restores}
 use Rattle.metric_marked.specs.declared.stream_table.StreamTable.{StreamTable}
-use Rattle.metric_marked.proofs.TableLaws.{judges-cons}
+use Rattle.metric_marked.proofs.TableLaws.{judges-cons, keeps-cons, keeps-same}
 
 -- the next table is what it was
 pub each-rest : {P : Type 0} (R : StreamTable → StreamTable → P → Type 0) (old new : List StreamTable) (ps : List P) (i : ℕ) (d : StreamTable)
@@ -145,14 +145,33 @@ judges-one entry (t ∷ tables) (suc i) d below unfit (s ∷ streams) windows al
     ap (λ (v : Bool). fits_stream s.stream (windows s.stream.reader) entry && v) (judges-one entry tables i d (omega arith) unfit streams windows all.1)
     ∙ false-last (fits_stream s.stream (windows s.stream.reader) entry)
 
+stands-emptied : (reader : ℕ) (old new : List StreamTable) → EachAt (λ o n (t : StreamTable). EmptiesOne o n reader) old new old
+    → (streams : List NumberedStream) (windows later : ℕ → List Entry) → EmptyFor windows later reader → StandAll old streams windows → StandAll new streams later
+stands-emptied reader [] new each streams windows later empty all =
+    subst (λ (xs : List StreamTable). StandAll xs streams later) (sym each) (none-stand streams windows later all)
+stands-emptied reader (o ∷ old) [] each streams windows later empty all = absurd each
+stands-emptied reader (o ∷ old) (n ∷ new) each [] windows later empty all = absurd all
+stands-emptied reader (o ∷ old) (n ∷ new) each (s ∷ streams) windows later empty all =
+    (each.0.stands s windows later empty all.0, stands-emptied reader old new each.1 streams windows later empty all.1)
+
+keeps-emptied : (reader : ℕ) (old new : List StreamTable) → EachAt (λ o n (t : StreamTable). EmptiesOne o n reader) old new old → KeepPlaces old new
+keeps-emptied reader [] new each = keeps-same [] new each
+keeps-emptied reader (o ∷ old) [] each = absurd each
+keeps-emptied reader (o ∷ old) (n ∷ new) each = keeps-cons o n old new each.0.places (keeps-emptied reader old new each.1)
+
 -- each table emptied, where it is the reader's
 pub emptied : (reader : ℕ) (old new : List StreamTable) → EachAt (λ o n (t : StreamTable). EmptiesOne o n reader) old new old → EmptiesReader old new reader
-emptied reader [] new each streams windows later empty all =
-    subst (λ (xs : List StreamTable). StandAll xs streams later) (sym each) (none-stand streams windows later all)
-emptied reader (o ∷ old) [] each streams windows later empty all = absurd each
-emptied reader (o ∷ old) (n ∷ new) each [] windows later empty all = absurd all
-emptied reader (o ∷ old) (n ∷ new) each (s ∷ streams) windows later empty all =
-    (each.0 s windows later empty all.0, emptied reader old new each.1 streams windows later empty all.1)
+emptied reader old new each = record { stands = stands-emptied reader old new each; places = keeps-emptied reader old new each }
+
+-- tables that were made ready, and took a recording, have the places that they had
+pub kept : (entry : Entry) (old ready new : List StreamTable) (places : List Place) → EachAt (IsReadyFor entry) old ready places
+    → EachAt (Puts entry) ready new places → KeepPlaces old new
+kept entry old ready new [] each put = keeps-same old new (put ∙ each)
+kept entry [] ready new (p ∷ ps) each put = absurd each
+kept entry (o ∷ old) [] new (p ∷ ps) each put = absurd each
+kept entry (o ∷ old) (r ∷ ready) [] (p ∷ ps) each put = absurd put
+kept entry (o ∷ old) (r ∷ ready) (n ∷ new) (p ∷ ps) each put =
+    keeps-cons o n old new (put.0 o each.0).0.places (kept entry old ready new ps each.1 put.1)
 
 -- the streams of all tables up to an index, and the one there
 record LastStream (tables : List StreamTable) (i : ℕ) (d : StreamTable) (streams : List NumberedStream) (windows : ℕ → List Entry) : Type 0 where
@@ -245,7 +264,11 @@ pub puts-one : (entry : Entry) (old new : StreamTable) (place : Place) (v : ℤ)
     → ((before : SeriesValue) (set : List ℕ) → series_tables.is_ready before old.table set v place → TakesRecording (series_tables.stands before) (series_tables.stands new.table) set v)
     → Puts entry old new place
 puts-one entry old new place v same stream puts before ready = (
-  record { number = stream.number ∙ ready.same.number; reader = stream.reader ∙ ready.same.reader },
+  record {
+    number = stream.number ∙ ready.same.number;
+    reader = stream.reader ∙ ready.same.reader;
+    places = record { sets = λ s h. stream.places.sets s (ready.same.places.sets s h); room = λ h. stream.places.room (ready.same.places.room h) };
+  },
   subst (λ (w : ℤ). TakesRecording (series_tables.stands before.table) (series_tables.stands new.table) entry.set w) same
       (puts before.table entry.set (subst (λ (w : ℤ). series_tables.is_ready before.table old.table entry.set w place) (sym same) ready.ready)),
 )

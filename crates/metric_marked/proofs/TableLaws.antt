@@ -1,11 +1,12 @@
 -- What is done to all tables, by what is done to the first and to the rest.
-use Rattle.std.proofs.Common.{◌≡◌, ℕ, Bool, ◌&&◌, List, [], ◌∷◌, ◌++◌, ap, subst, ◌∙◌}
+use Rattle.std.proofs.Common.{◌≡◌, ℕ, zero, suc, ◌<◌, Bool, ◌&&◌, List, [], ◌∷◌, ◌++◌, length, get_or, sym, ap, subst, ◌∙◌, arith}
 use Rattle.std.specs.List.{list_all}
 use Rattle.metric_history.specs.declared.entry.Entry.{Entry}
 use Rattle.metric_facts.specs.declared.facts.NumberedStream.{NumberedStream}
 use Rattle.metric_history.specs.Windows.{fits_stream}
-use Rattle.metric_series.specs.Calls.{JudgesValue}
-use Rattle.metric_marked.specs.Marks.{JudgesAll, StandAll, StandsFor, TableStands}
+use Rattle.metric_series.specs.Calls.{JudgesValue, KeepsPlaces}
+use Rattle.metric_series.specs.SeriesTables.{series_tables}
+use Rattle.metric_marked.specs.Marks.{JudgesAll, HaveRoom, KeepPlaces, StandAll, StandsFor, TableStands, TakeAll}
 use Rattle.metric_marked.specs.declared.stream_table.StreamTable.{StreamTable}
 
 pub stands-same : (tables : List StreamTable) (streams : List NumberedStream) (windows others : ℕ → List Entry) → ((reader : ℕ) → windows reader ≡ others reader)
@@ -30,3 +31,27 @@ judges-cons t tables entry a b own rest (s ∷ streams) windows all =
     ap (λ (v : Bool). v && list_all (λ (s : NumberedStream). fits_stream s.stream (windows s.stream.reader) entry) streams)
     (own s.stream (windows s.stream.reader) entry.recorder all.0.stands)
     ∙ ap (λ (v : Bool). a && v) (rest streams windows all.1)
+
+-- one table more has a place for a set
+pub takes-push : (tables : List StreamTable) (t : StreamTable) (set : List ℕ) → TakeAll tables set → series_tables.takes t.table set → TakeAll (tables ++ t ∷ []) set
+takes-push [] t set all last = (last, tt)
+takes-push (y ∷ tables) t set all last = (all.0, takes-push tables t set all.1 last)
+
+-- the table at an index has the place, and the room, that each table has
+pub takes-at : (tables : List StreamTable) (i : ℕ) (d : StreamTable) (set : List ℕ) → TakeAll tables set → i < length tables → series_tables.takes (get_or tables i d).table set
+takes-at [] i d set all below = absurd (omega arith)
+takes-at (t ∷ tables) zero d set all below = all.0
+takes-at (t ∷ tables) (suc i) d set all below = takes-at tables i d set all.1 (omega arith)
+
+pub room-at : (tables : List StreamTable) (i : ℕ) (d : StreamTable) → HaveRoom tables → i < length tables → series_tables.has_room (get_or tables i d).table
+room-at [] i d all below = absurd (omega arith)
+room-at (t ∷ tables) zero d all below = all.0
+room-at (t ∷ tables) (suc i) d all below = room-at tables i d all.1 (omega arith)
+
+-- the same tables have the same places
+pub keeps-same : (old new : List StreamTable) → new ≡ old → KeepPlaces old new
+keeps-same old new same = record { sets = λ set h. subst (λ ts. TakeAll ts set) (sym same) h; room = λ h. subst HaveRoom (sym same) h }
+
+pub keeps-cons : (o n : StreamTable) (old new : List StreamTable) → KeepsPlaces series_tables.takes series_tables.has_room o.table n.table → KeepPlaces old new
+    → KeepPlaces (o ∷ old) (n ∷ new)
+keeps-cons o n old new one rest = record { sets = λ set h. (one.sets set h.0, rest.sets set h.1); room = λ h. (one.room h.0, rest.room h.1) }

@@ -5,10 +5,10 @@ use Rattle.metric_history.specs.declared.batch.StreamPoints.{StreamPoints}
 use Rattle.metric_history.specs.declared.entry.Entry.{Entry}
 use Rattle.metric_facts.specs.declared.facts.Facts.{Facts}
 use Rattle.metric_facts.specs.declared.facts.NumberedStream.{NumberedStream}
-use Rattle.metric_facts.specs.Facts.{is_delta, is_of_reader}
+use Rattle.metric_facts.specs.Facts.{is_delta, is_full_set, is_of_reader}
 use Rattle.metric_history.specs.Points.{stream_points, with_points}
 use Rattle.metric_history.specs.Windows.{fits_stream, window}
-use Rattle.metric_series.specs.Calls.{Standing}
+use Rattle.metric_series.specs.Calls.{KeepsPlaces, Standing}
 use Rattle.metric_series.specs.SeriesTables.{series_tables}
 use Rattle.metric_series.specs.declared.fault.SeriesFault.{SeriesFault}
 use Rattle.metric_series.specs.declared.fault.SeriesFault.TheVariants.{SumRange}
@@ -38,6 +38,20 @@ StandAll [] (s ∷ streams) windows = ⊥
 StandAll (t ∷ tables) [] windows = ⊥
 StandAll (t ∷ tables) (s ∷ streams) windows = StandsFor t s (windows s.stream.reader) × StandAll tables streams windows
 
+-- each table has a place for a set
+abbrev pub TakeAll : List StreamTable → List ℕ → Type 0
+TakeAll [] set = Unit {0}
+TakeAll (t ∷ tables) set = series_tables.takes t.table set × TakeAll tables set
+
+-- each has room for all values
+abbrev pub HaveRoom : List StreamTable → Type 0
+HaveRoom [] = Unit {0}
+HaveRoom (t ∷ tables) = series_tables.has_room t.table × HaveRoom tables
+
+-- tables have the places and the room that others have
+abbrev pub KeepPlaces : List StreamTable → List StreamTable → Type 0
+KeepPlaces old new = KeepsPlaces TakeAll HaveRoom old new
+
 -- the recordings that each reader's next collection covers
 abbrev pub windows_of : Facts → List Entry → List ℕ → ℕ → List Entry
 windows_of facts journal marks reader = window (is_delta facts reader) (slice_index marks reader) journal
@@ -45,6 +59,7 @@ windows_of facts journal marks reader = window (is_delta facts reader) (slice_in
 -- a book stands for a journal with marks where its tables stand for their windows
 pub record StandsMarked (b : MarkedValue) (facts : Facts) (journal : List Entry) (marks : List ℕ) : Type 0 where
   pub tables : StandAll b.tables facts.streams (windows_of facts journal marks)
+  pub takes : (set : List ℕ) → is_full_set facts.keys set ≡ true → TakeAll b.tables set
   pub delta : b.delta ≡ facts.delta
   pub mark : b.marks ≡ marks
   pub count : b.count ≡ length journal
@@ -86,16 +101,16 @@ pub record EmptyFor (old new : ℕ → List Entry) (reader : ℕ) : Type 0 where
   pub others : (other : ℕ) → (other ≡ reader → ⊥) → new other ≡ old other
 
 -- a table stands for its window among the new ones
-abbrev pub EmptiesOne : StreamTable → StreamTable → ℕ → Type 0
-EmptiesOne old new reader =
-    (s : NumberedStream) (windows later : ℕ → List Entry) → EmptyFor windows later reader
-    → StandsFor old s (windows s.stream.reader) → StandsFor new s (later s.stream.reader)
+pub record EmptiesOne (old new : StreamTable) (reader : ℕ) : Type 0 where
+  pub stands : (s : NumberedStream) (windows later : ℕ → List Entry) → EmptyFor windows later reader
+      → StandsFor old s (windows s.stream.reader) → StandsFor new s (later s.stream.reader)
+  pub places : KeepsPlaces series_tables.takes series_tables.has_room old.table new.table
 
 -- and so does each table
-abbrev pub EmptiesReader : List StreamTable → List StreamTable → ℕ → Type 0
-EmptiesReader old new reader =
-    (streams : List NumberedStream) (windows later : ℕ → List Entry) → EmptyFor windows later reader
-    → StandAll old streams windows → StandAll new streams later
+pub record EmptiesReader (old new : List StreamTable) (reader : ℕ) : Type 0 where
+  pub stands : (streams : List NumberedStream) (windows later : ℕ → List Entry) → EmptyFor windows later reader
+      → StandAll old streams windows → StandAll new streams later
+  pub places : KeepPlaces old new
 
 -- so they do where the reader is delta, and else nothing changes
 abbrev pub ClosesWindow : List StreamTable → List StreamTable → Bool → ℕ → Type 0

@@ -1,7 +1,7 @@
 -- What is done to the first tables of an instrument, one after the other, while the rest stay as they are.
 use Rattle.std.specs.Prelude.{◌≡◌, true, List, [], ◌∷◌}
 use Rattle.metric_history.specs.declared.entry.Entry.{Entry}
-use Rattle.metric_series.specs.Calls.{JudgesValue, TakesRecording}
+use Rattle.metric_series.specs.Calls.{JudgesValue, KeepsPlaces, TakesRecording}
 use Rattle.metric_series.specs.SeriesTables.{series_tables}
 use Rattle.metric_series.specs.declared.place.Place.{Place}
 use Rattle.metric_marked.specs.Marks.{TableStands}
@@ -14,10 +14,11 @@ EachAt R [] new (p ∷ ps) = ⊥
 EachAt R (o ∷ old) [] (p ∷ ps) = ⊥
 EachAt R (o ∷ old) (n ∷ new) (p ∷ ps) = R o n p × EachAt R old new ps
 
--- a table is that of the same stream
+-- a table is that of the same stream, with its places
 pub record IsSameStream (old new : StreamTable) : Type 0 where
   pub number : new.number ≡ old.number
   pub reader : new.reader ≡ old.reader
+  pub places : KeepsPlaces series_tables.takes series_tables.has_room old.table new.table
 
 -- the new table is the old one, made ready for a recording that falls to a place
 pub record IsReadyFor (entry : Entry) (old new : StreamTable) (place : Place) : Type 0 where

@@ -1,7 +1,7 @@
 //! What is done to all tables of an instrument.
-ghost use Rattle.std.specs.Prelude.{◌≡◌, ◌≤◌, true, false, [], length, vec_capacity, IfOk, IsErrOf, OnOk, OnErr};
+ghost use Rattle.std.specs.Prelude.{◌≡◌, ◌≢◌, ◌≤◌, ℕ, true, false, List, [], length, vec_capacity, IfOk, IsErrOf, OnOk, OnErr};
 ghost use Rattle.metric_series.specs.Calls.{is_in_range};
-ghost use Rattle.metric_marked.specs.Marks.{AddsAllPoints, AddsPoints, EmptiesOne, EmptiesReader, JudgesAll, StandAll, TakesAll, weightier as more_serious};
+ghost use Rattle.metric_marked.specs.Marks.{AddsAllPoints, AddsPoints, EmptiesOne, EmptiesReader, HaveRoom, JudgesAll, KeepPlaces, StandAll, TakeAll, TakesAll, weightier as more_serious};
 ghost use Rattle.metric_marked.specs.Stepwise.{AreReady, EachAt, IsReadyFor, Puts, Restores};
 
 use crate::stream_table::StreamTable;
@@ -18,6 +18,7 @@ pub(crate) fn empty_tables(
     seed: u64,
 ) -> Result<Vec<StreamTable>, AllocError>
     ensures stand { IfOk result (λ tables. StandAll tables.items streams.now (λ _. [])) }
+    ensures takes { IfOk result (λ tables. (set : List ℕ) → TakeAll tables.items set) }
     ensures count { IfOk result (λ tables. length tables.items ≡ length streams.now) }
 {
     let mut tables = Vec::with_capacity(alloc, streams.len())?;
@@ -33,6 +34,7 @@ pub(crate) fn empty_tables(
 
 // Whether each series into which a recording falls stays in range with it.
 fn all_fit(tables: &[StreamTable], entry: &Entry) -> bool
+    requires { TakeAll tables.now entry.now.set }
     ensures { JudgesAll tables.now entry.now result }
 {
     for stream in tables {
@@ -61,6 +63,7 @@ fn ready_all(
     places: &mut Vec<Place>,
     entry: &Entry,
 ) -> Result<(), SeriesFault>
+    requires takes { TakeAll tables.old entry.now.set }
     requires none { places.old.items ≡ [] }
     requires room { length tables.old ≤ vec_capacity places.old }
     ensures ready { EachAt (IsReadyFor entry.now) tables.old tables.new places.new.items }
@@ -69,6 +72,7 @@ fn ready_all(
     ensures in_range { OnOk result (JudgesAll tables.old entry.now true) }
     ensures out_of_range { IsErrOf result SeriesFault.SumRange
         → JudgesAll tables.old entry.now false }
+    ensures memory { HaveRoom tables.old → result ≢ Err SeriesFault.Memory }
     ensures room { vec_capacity places.new ≡ vec_capacity places.old }
 {
     for stream in tables.iter_mut() {
@@ -102,15 +106,18 @@ fn put_all(tables: &mut [StreamTable], places: &[Place], entry: &Entry)
 }
 
 /// Adds a recording to each table, or to none where one of them refuses it. All memory is taken before the first
-/// value is added. There is room for a place of each table; what the list of places has held is lost.
+/// value is added, and none where each table has room for all values. There is room for a place of each table; what the list of places has held is lost.
 pub(crate) fn push_all(
     tables: &mut [StreamTable],
     places: &mut Vec<Place>,
     entry: &Entry,
 ) -> Result<(), SeriesFault>
-    requires { length tables.old ≤ vec_capacity places.old }
+    requires takes { TakeAll tables.old entry.now.set }
+    requires room { length tables.old ≤ vec_capacity places.old }
     ensures room { vec_capacity places.new ≡ vec_capacity places.old }
     ensures in_range { JudgesAll tables.old entry.now (is_in_range result) }
+    ensures memory { HaveRoom tables.old → result ≢ Err SeriesFault.Memory }
+    ensures places { KeepPlaces tables.old tables.new }
     ensures stands { OnOk result (TakesAll tables.old tables.new entry.now) }
     ensures err { OnErr result (tables.new ≡ tables.old) }
 {

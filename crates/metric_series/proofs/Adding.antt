@@ -7,7 +7,7 @@ use Rattle.std.specs.Map.{keys_of, lookup, set_value}
 use Rattle.std.specs.Str.{bytes_eq}
 use Rattle.std.proofs.lemmas.Bool.{true≢false}
 use Rattle.std.proofs.lemmas.Int.{ints}
-use Rattle.std.proofs.lemmas.List.{map_push}
+use Rattle.std.proofs.lemmas.List.{length_push, map_push}
 use Rattle.std.proofs.lemmas.Map.{keys-set_value, lookup-set_value}
 use Rattle.std.proofs.lemmas.Map.Entries.{length-keys_of}
 use Rattle.std.proofs.lemmas.Map.Made.{is_some-lookup}
@@ -21,9 +21,10 @@ use Rattle.metric_history.specs.Points.{values}
 use Rattle.metric_views.specs.declared.stream.Stream.{Stream}
 use Rattle.metric_history.specs.Series.{has, held, rows, series, place_found}
 use Rattle.metric_history.specs.SeriesLaws.{same_key, key_is_same}
+use Rattle.metric_history.specs.SumLaws.{rows_push}
 use Rattle.metric_history.specs.Windows.{fits_stream}
-use Rattle.metric_series.specs.Ready.{Adds}
-use Rattle.metric_series.specs.Tables.{HasRows, StandsTable, TableValue}
+use Rattle.metric_series.specs.Ready.{Adds, IsEmpty}
+use Rattle.metric_series.specs.Tables.{HasRest, HasRows, StandsTable, TableValue}
 use Rattle.metric_series.proofs.LongerWindow.{held-known, held-full, held-new, place_found_is, fits_where_found, values_where_found, rows-other, rows-new, rest-known, rest-room, rest-new}
 
 has_flipped : (key : List ℕ) (keys : List (List ℕ)) → list_any (bytes_eq key) keys ≡ has keys key
@@ -52,7 +53,7 @@ module _ {A : Type 0} where
   lookup-others test [] key a other = ap (λ (b : Bool). cond b (Some a) None) other
   lookup-others test (e ∷ es) key a other = ap (λ (o : Option A). cond (test e.0) (Some e.1) o) (lookup-others test es key a other)
 
-module _ {A : Type 0} (by : aggregate.Ghosts A) where
+module _ {A P : Type 0} (by : aggregate.Ghosts A P) where
   rows_added : (s : Stream) (window : List Entry) (entry : Entry) (place : Option (List ℕ)) (old new : A) → place_found s window entry ≡ place
       → Adds by old new entry.value → HasRows by old s window place → HasRows by new s (window ++ entry ∷ []) place
   rows_added s window entry place old new found adds had =
@@ -70,6 +71,11 @@ module _ {A : Type 0} (by : aggregate.Ghosts A) where
   rows_same s window entry place a same had =
       record { aggregation = had.aggregation; stands = subst (λ (es : List Entry). by.stands a (values es)) (sym same) had.stands }
 
+  rest_same : (s : Stream) (window : List Entry) (entry : Entry) (o : Option A) → rows s (window ++ entry ∷ []) None ≡ rows s window None
+      → HasRest by o s window → HasRest by o s (window ++ entry ∷ [])
+  rest_same s window entry (Some a) same had = (rows_same s window entry None a same had.0, λ none. had.1 (sym same ∙ none))
+  rest_same s window entry None same had = same ∙ had
+
   fits_found : (s : Stream) (window : List Entry) (entry : Entry) (place : Option (List ℕ)) (a : A)
       → ((added : List ℤ) (value : ℤ) → by.stands a added → by.fits a value ≡ in_range (by.aggregation a) (added ++ value ∷ [])) → place_found s window entry ≡ place
       → HasRows by a s window place → fits_stream s window entry ≡ by.fits a entry.value
@@ -80,21 +86,22 @@ module _ {A : Type 0} (by : aggregate.Ghosts A) where
       ∙ sym (law (values (rows s window place)) entry.value had.stands)
 
   -- a table of no series stands for no recordings
-  pub stands_for_none : (t : TableValue A) (s : Stream) → t.series ≡ [] → t.kept ≡ s.kept → t.limit ≡ s.limit → by.aggregation t.overflow ≡ stream_aggregation s → by.stands t.overflow []
-      → StandsTable by t s []
-  stands_for_none t s empty kept limit aggregation stands = record {
+  pub stands_for_none : (t : TableValue A P) (s : Stream) → t.series ≡ [] → t.overflow ≡ None → t.kept ≡ s.kept → t.limit ≡ s.limit
+      → by.aggregation_of t.parameters ≡ stream_aggregation s → StandsTable by t s []
+  stands_for_none t s empty free kept limit aggregation = record {
     kept = kept;
     limit = limit;
+    aggregation = aggregation;
     held = ap keys_of empty ∙ sym (none_taken s.limit);
     each = λ key a at. let never : None ≡ Some a = sym (ap (lookup (bytes_eq key)) empty) ∙ at in absurd cc;
-    rest = record { aggregation = aggregation; stands = stands };
+    rest = subst (λ (o : Option A). HasRest by o s []) (sym free) refl;
   }
     where
       none_taken : (n : ℕ) → take {A = List ℕ} n [] ≡ []
       none_taken zero = refl
       none_taken (suc n) = refl
 
-  module _ (t : TableValue A) (s : Stream) (window : List Entry) (entry : Entry) (key : List ℕ) (own : key ≡ series s.kept entry) (known : StandsTable by t s window) where
+  module _ (t : TableValue A P) (s : Stream) (window : List Entry) (entry : Entry) (key : List ℕ) (own : key ≡ series s.kept entry) (known : StandsTable by t s window) where
     held_at : (b : Bool) → is_some (lookup (bytes_eq key) t.series) ≡ b → has (held s window) (series s.kept entry) ≡ b
     held_at b e = ap (has (held s window)) (sym own) ∙ ap (λ (keys : List (List ℕ)). has keys key) (sym known.held) ∙ sym (lookup-held key t.series) ∙ e
 
@@ -116,9 +123,10 @@ module _ {A : Type 0} (by : aggregate.Ghosts A) where
       held_stands new entries adds is = record {
         kept = known.kept;
         limit = known.limit;
+        aggregation = known.aggregation;
         held = ap keys_of is ∙ keys-set_value (bytes_eq key) t.series new ∙ known.held ∙ sym (held-known s window entry in_held);
         each = each;
-        rest = rows_same s window entry None t.overflow (rest-known s window entry in_held) known.rest;
+        rest = rest_same s window entry t.overflow (rest-known s window entry in_held) known.rest;
       }
         where
           own_rows : HasRows by new s (window ++ entry ∷ []) (Some key)
@@ -174,14 +182,15 @@ module _ {A : Type 0} (by : aggregate.Ghosts A) where
             ∙ ap (λ (es : List Entry). in_range (stream_aggregation s) (values es ++ entry.value ∷ [])) no_rows
             ∙ one_in_range (stream_aggregation s) entry.value fits
 
-        pub new_stands : (empty first : A) (entries : List (List ℕ × A)) → by.aggregation empty ≡ by.aggregation t.overflow → by.stands empty [] → Adds by empty first entry.value
+        pub new_stands : (empty first : A) (entries : List (List ℕ × A)) → IsEmpty by empty t.parameters → Adds by empty first entry.value
             → entries ≡ t.series ++ (key, first) ∷ [] → StandsTable by (record t { series = entries }) s (window ++ entry ∷ [])
-        new_stands empty first entries alike none adds is = record {
+        new_stands empty first entries made adds is = record {
           kept = known.kept;
           limit = known.limit;
+          aggregation = known.aggregation;
           held = ap keys_of is ∙ map_push (λ (e : List ℕ × A). e.0) t.series (key, first) ∙ ap (λ (keys : List (List ℕ)). keys ++ key ∷ []) known.held ∙ sym held_longer;
           each = each;
-          rest = rows_same s window entry None t.overflow (rest-new s window entry some_place ∙ sym (rest-room s window some_place)) known.rest;
+          rest = rest_same s window entry t.overflow (rest-new s window entry some_place ∙ sym (rest-room s window some_place)) known.rest;
         }
           where
             one_row : entry.value ∷ [] ≡ values (rows s (window ++ entry ∷ []) (Some key))
@@ -193,8 +202,8 @@ module _ {A : Type 0} (by : aggregate.Ghosts A) where
 
             own_rows : HasRows by first s (window ++ entry ∷ []) (Some key)
             own_rows = record {
-              aggregation = adds.aggregation ∙ alike ∙ known.rest.aggregation;
-              stands = subst (λ (vs : List ℤ). by.stands first vs) one_row (adds.stands [] none);
+              aggregation = adds.aggregation ∙ made.aggregation ∙ known.aggregation;
+              stands = subst (λ (vs : List ℤ). by.stands first vs) one_row (adds.stands [] made.stands);
             }
 
             split : (other : List ℕ) (b : A) (same : Bool) → bytes_eq other key ≡ same → lookup (bytes_eq other) (t.series ++ (key, first) ∷ []) ≡ Some b
@@ -222,23 +231,54 @@ module _ {A : Type 0} (by : aggregate.Ghosts A) where
         found_rest =
             place_found_is s window entry false (ap (λ (keys : List (List ℕ)). has keys (series s.kept entry)) (held-full s window entry no_place) ∙ not_held)
 
-        -- the value falls into the overflow series
-        pub rest_fits : ((added : List ℤ) (value : ℤ) → by.stands t.overflow added → by.fits t.overflow value ≡ in_range (by.aggregation t.overflow) (added ++ value ∷ []))
-            → fits_stream s window entry ≡ by.fits t.overflow entry.value
-        rest_fits law = fits_found s window entry None t.overflow law found_rest known.rest
+        at_rest : (o : Option A) → t.overflow ≡ o → HasRest by o s window
+        at_rest o is = subst (λ (o : Option A). HasRest by o s window) is known.rest
 
-        pub rest_stands : (new : A) (entries : List (List ℕ × A)) → Adds by t.overflow new entry.value → entries ≡ t.series
-            → StandsTable by (record t { series = entries; overflow = new }) s (window ++ entry ∷ [])
-        rest_stands new entries adds is = subst (λ (es : List (List ℕ × A)). StandsTable by (record t { series = es; overflow = new }) s (window ++ entry ∷ [])) (sym is) (record {
+        -- the value falls into the overflow series
+        pub rest_fits : (a : A) → t.overflow ≡ Some a → ((added : List ℤ) (value : ℤ) → by.stands a added → by.fits a value ≡ in_range (by.aggregation a) (added ++ value ∷ []))
+            → fits_stream s window entry ≡ by.fits a entry.value
+        rest_fits a is law = fits_found s window entry None a law found_rest (at_rest (Some a) is).0
+
+        -- as its first value
+        pub first_fits : t.overflow ≡ None → SFits w64 entry.value → fits_stream s window entry ≡ true
+        first_fits none fits =
+            fits_where_found s window entry
+            ∙ ap (λ (p : Option (List ℕ)). in_range (stream_aggregation s) (values (rows s window p) ++ entry.value ∷ [])) found_rest
+            ∙ ap (λ (es : List Entry). in_range (stream_aggregation s) (values es ++ entry.value ∷ [])) (at_rest None none)
+            ∙ one_in_range (stream_aggregation s) entry.value fits
+
+        rest_longer : rows s (window ++ entry ∷ []) None ≡ rows s window None ++ entry ∷ []
+        rest_longer =
+            ap (λ (p : Option (List ℕ)). rows s (window ++ entry ∷ []) p) (sym found_rest)
+            ∙ rows_push s window entry
+            ∙ ap (λ (p : Option (List ℕ)). rows s window p ++ entry ∷ []) found_rest
+
+        rest_with : (before after : A) → HasRows by before s window None → Adds by before after entry.value
+            → StandsTable by (record t { overflow = Some after }) s (window ++ entry ∷ [])
+        rest_with before after had adds = record {
           kept = known.kept;
           limit = known.limit;
+          aggregation = known.aggregation;
           held = known.held ∙ sym (held-full s window entry no_place);
           each = λ other b h. rows_same s window entry (Some other) b (rows-other s window entry other (unlike other b h (bytes_eq (series s.kept entry) other) refl)) (known.each other b h);
-          rest = rows_added s window entry None t.overflow new found_rest adds known.rest;
-        })
+          rest = (rows_added s window entry None before after found_rest adds had, λ none. some (sym rest_longer ∙ none));
+        }
           where
+            some : rows s window None ++ entry ∷ [] ≡ [] → ⊥
+            some none = omega (arith, length_push (rows s window None) entry, ap length none)
+
             unlike : (other : List ℕ) (b : A) → lookup (bytes_eq other) t.series ≡ Some b → (same : Bool) → bytes_eq (series s.kept entry) other ≡ same → bytes_eq (series s.kept entry) other ≡ false
             unlike other b h true e =
                 let there : has (held s window) other ≡ true = ap (λ (keys : List (List ℕ)). has keys other) (sym known.held) ∙ sym (lookup-held other t.series) ∙ ap is_some h in
                 absurd (true≢false (sym there ∙ ap (has (held s window)) (sym (same_key (series s.kept entry) other e)) ∙ not_held))
             unlike other b h false e = e
+
+        pub rest_stands : (before after : A) → t.overflow ≡ Some before → Adds by before after entry.value → StandsTable by (record t { overflow = Some after }) s (window ++ entry ∷ [])
+        rest_stands before after is adds = rest_with before after (at_rest (Some before) is).0 adds
+
+        pub first_stands : (empty first : A) → t.overflow ≡ None → IsEmpty by empty t.parameters → Adds by empty first entry.value
+            → StandsTable by (record t { overflow = Some first }) s (window ++ entry ∷ [])
+        first_stands empty first none made adds =
+            rest_with empty first
+            (record { aggregation = made.aggregation ∙ known.aggregation; stands = subst (λ (es : List Entry). by.stands empty (values es)) (sym (at_rest None none)) made.stands })
+            adds

@@ -1,6 +1,7 @@
 -- The place that is found for a value, and what is written there.
-use Rattle.std.proofs.Common.{◌≡◌, ℕ, zero, suc, ◌<◌, Bool, true, false, cond, List, [], ◌∷◌, ◌++◌, Option, Some, None, length, get_or, refl, sym, ap, subst, ◌∙◌, arith}
+use Rattle.std.proofs.Common.{◌≡◌, ℕ, zero, suc, ◌<◌, Bool, true, false, cond, List, [], ◌∷◌, ◌++◌, Option, Some, None, Ok, length, get_or, refl, sym, ap, subst, ◌∙◌, arith}
 use Rattle.std.specs.Prelude.{IfSome, position, slice_get, is_some}
+use Rattle.std.specs.Option.{ok_or}
 use Rattle.std.specs.Map.{keys_of, values_of, lookup, set_value}
 use Rattle.std.proofs.lemmas.List.Quantifiers.{position-Some}
 use Rattle.indexmap.specs.IndexMap.{set_value_at}
@@ -11,6 +12,11 @@ pub placed : (result : Option Place) (place : Place) (fits : Bool) (P : Place �
     → IfSome result (λ found. found ≡ place) → (fits ≡ true → P place) → IfSome result P
 placed (Some found) place fits P range same then = subst P (sym same) (then range)
 placed None place fits P range same then = tt
+
+-- what is known of a place that was found
+pub found_place : {E : Type 0} (result : Option Place) (e : E) (place : Place) (P : Place → Type 0) → ok_or result e ≡ Ok place → IfSome result P → P place
+found_place (Some found) e place P is known = let same : found ≡ place = cc in subst P same known
+found_place None e place P is known = absurd cc
 
 module _ {A : Type 0} where
   -- what is written at the first index of a key is written at the key

@@ -1,5 +1,5 @@
 -- What a table reports is what the definitions say of the recordings.
-use Rattle.std.proofs.Common.{◌≡◌, ℕ, zero, suc, ℤ, Bool, true, false, not, ◌||◌, cond, List, [], ◌∷◌, ◌++◌, Option, Some, None, length, map, take, refl, sym, ap, ◌∙◌, arith}
+use Rattle.std.proofs.Common.{◌≡◌, ℕ, zero, suc, ℤ, Bool, true, false, not, ◌||◌, cond, List, [], ◌∷◌, ◌++◌, Option, Some, None, length, map, take, refl, sym, ap, subst, ◌∙◌, arith}
 use Rattle.std.specs.Prelude.{filter, ◌==◌}
 use Rattle.std.specs.List.{list_any}
 use Rattle.std.specs.Map.{keys_of, lookup}
@@ -18,7 +18,7 @@ use Rattle.metric_history.specs.Series.{all_series, belongs, distinct, has, held
 use Rattle.metric_history.specs.SeriesLaws.{has-distinct, has_all_series}
 use Rattle.metric_views.specs.declared.stream.Stream.{Stream}
 use Rattle.metric_series.specs.Calls.{point_of}
-use Rattle.metric_series.specs.Tables.{StandsTable, TableValue}
+use Rattle.metric_series.specs.Tables.{HasRest, HasRows, StandsTable, TableValue}
 
 none_passes : (p : Entry → Bool) (entries : List Entry) → (length (filter p entries) == 0) ≡ not (list_any p entries)
 none_passes p [] = refl
@@ -58,7 +58,7 @@ perhaps_point kind place [] false e = refl
 perhaps_point kind place (x ∷ xs) true e = refl
 perhaps_point kind place (x ∷ xs) false e = absurd (true≢false (sym e ∙ ne_eqb (length (x ∷ xs)) 0 (λ h. omega (arith, h))))
 
-module _ {A : Type 0} (by : aggregate.Ghosts A) (t : TableValue A) (s : Stream) (window : List Entry) (known : StandsTable by t s window) where
+module _ {A P : Type 0} (by : aggregate.Ghosts A P) (t : TableValue A P) (s : Stream) (window : List Entry) (known : StandsTable by t s window) where
   -- what the aggregate of a held series gives is its point
   pub point_is : (key : List ℕ) (a : A) (found : Option Point) → has (keys_of t.series) key ≡ true → lookup (bytes_eq key) t.series ≡ Some a
       → ((added : List ℤ) → by.stands a added → found ≡ point_of (by.aggregation a) (Some key) added) → found ≡ Some (point s window (Some key))
@@ -68,16 +68,29 @@ module _ {A : Type 0} (by : aggregate.Ghosts A) (t : TableValue A) (s : Stream) 
       ∙ ap (λ (kind : Aggregation). point_of kind (Some key) (values (rows s window (Some key)))) had.aggregation
       ∙ some_point (stream_aggregation s) (Some key) (values (rows s window (Some key))) (has_values s window key (ap (λ (keys : List (List ℕ)). has keys key) (sym known.held) ∙ there))
 
-  -- what that of the overflow series gives is the overflow point
-  overflow_is : (found : Option Point) → ((added : List ℤ) → by.stands t.overflow added → found ≡ point_of (by.aggregation t.overflow) None added) → option_to_list found ≡ overflow s window
-  overflow_is found read =
-      ap option_to_list (read (values (rows s window None)) known.rest.stands ∙ ap (λ (kind : Aggregation). point_of kind None (values (rows s window None))) known.rest.aggregation)
-      ∙ perhaps_point (stream_aggregation s) None (values (rows s window None)) (list_any (belongs s window None) window)
+  rest_is : option_to_list (point_of (stream_aggregation s) None (values (rows s window None))) ≡ overflow s window
+  rest_is =
+      perhaps_point (stream_aggregation s) None (values (rows s window None)) (list_any (belongs s window None) window)
       (ap (λ (n : ℕ). n == 0) (length-map (rows s window None) (λ (e : Entry). e.value)) ∙ none_passes (belongs s window None) window)
+
+  -- what that of the overflow series gives is the overflow point
+  pub overflow_is : (a : A) (found : Option Point) → t.overflow ≡ Some a → ((added : List ℤ) → by.stands a added → found ≡ point_of (by.aggregation a) None added)
+      → option_to_list found ≡ overflow s window
+  overflow_is a found at read =
+      let had : HasRows by a s window None = (subst (λ (o : Option A). HasRest by o s window) at known.rest).0 in
+      ap option_to_list (read (values (rows s window None)) had.stands ∙ ap (λ (kind : Aggregation). point_of kind None (values (rows s window None))) had.aggregation)
+      ∙ rest_is
+
+  -- where it has none, there is no overflow point
+  pub no_overflow : t.overflow ≡ None → [] ≡ overflow s window
+  no_overflow none =
+      let no_rows : rows s window None ≡ [] = subst (λ (o : Option A). HasRest by o s window) none known.rest in
+      ap (λ (es : List Entry). option_to_list (point_of (stream_aggregation s) None (values es))) (sym no_rows)
+      ∙ rest_is
 
   -- the points of the series in ascending order, and the overflow point where there is one
   pub points_are : (sorted : List (List ℕ)) (found : List Point) (last : Option Point) → sorted ≡ ascending (keys_of t.series) → found ≡ map (λ key. point s window (Some key)) sorted
-      → ((added : List ℤ) → by.stands t.overflow added → last ≡ point_of (by.aggregation t.overflow) None added) → found ++ option_to_list last ≡ points s window
-  points_are sorted found last order each read =
-      ap (λ (ps : List Point). found ++ ps) (overflow_is last read)
+      → option_to_list last ≡ overflow s window → found ++ option_to_list last ≡ points s window
+  points_are sorted found last order each rest =
+      ap (λ (ps : List Point). found ++ ps) rest
       ∙ ap (λ (ps : List Point). ps ++ overflow s window) (each ∙ ap (map (λ key. point s window (Some key))) (order ∙ ap ascending known.held))

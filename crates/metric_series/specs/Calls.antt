@@ -57,6 +57,11 @@ TakesRecording old new set value =
 abbrev pub ForgetsAll : Standing → Standing → Type 0
 ForgetsAll old new = (s : Stream) (window : List Entry) → old s window → new s []
 
+-- a table has places for the sets that another one has places for, and room for all values where the other one has it
+pub record KeepsPlaces {T : Type 0} (takes : T → List ℕ → Type 0) (has_room : T → Type 0) (old new : T) : Type 0 where
+  pub sets : (set : List ℕ) → takes old set → takes new set
+  pub room : has_room old → has_room new
+
 -- the point of a series or of the overflow series, for the values of its recordings; none without a value
 abbrev pub point_of : Aggregation → Option (List ℕ) → List ℤ → Option Point
 point_of kind place [] = None

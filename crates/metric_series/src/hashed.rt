@@ -4,11 +4,12 @@ ghost use Rattle.std.specs.Option.{option_to_list};
 ghost use Rattle.std.specs.Map.{keys_of, lookup};
 ghost use Rattle.std.specs.Str.{bytes_eq};
 ghost use Rattle.metric_history.specs.Aggregations.{stream_aggregation};
-ghost use Rattle.metric_history.specs.Points.{ascending as in_order};
+ghost use Rattle.metric_history.specs.declared.entry.Entry.{Entry};
+ghost use Rattle.metric_history.specs.Points.{ascending as in_order, overflow as overflow_of};
 ghost use Rattle.metric_views.specs.declared.stream.Stream.{Stream};
 ghost use Rattle.metric_history.specs.Series.{has, restricted};
 ghost use Rattle.metric_series.specs.Calls.{JudgesSeries, ReportsPoint, point_of as point_by};
-ghost use Rattle.metric_series.specs.Ready.{AddsAt, FitsAt, IsPlace, PutsEmpty};
+ghost use Rattle.metric_series.specs.Ready.{AddsAt, AddsRest, FitsAt, FitsRest, IsPlace, Prepares, PutsEmpty};
 ghost use Rattle.metric_series.specs.Tables.{StandsTable};
 
 use crate::fault::SeriesFault;
@@ -25,14 +26,16 @@ use std::alloc::{AllocError, Global};
 use std::marker::Model;
 
 /// The series of a stream whose values are aggregated by `A`. A clause sees the flags of the kept keys, the
-/// cardinality limit, the aggregates of the held series in the order in which they came first, and the
-/// aggregate of the overflow series.
+/// cardinality limit, what aggregates are made of, the aggregates of the held series in the order in which they came
+/// first, and the aggregate of the overflow series.
 pub struct TableOf<A: Aggregate> {
     alloc: Global,
     kept: Shared<Few<bool, 8>>,
     limit: u32,
+    parameters: A::Parameters,
     series: IndexMap<SeriesKey, A, Seeded>,
-    overflow: A,
+    // Made when the first value falls there: most tables never need one.
+    overflow: Option<A>,
 }
 
 impl<A: Aggregate> Drop for TableOf<A> {
@@ -42,6 +45,7 @@ impl<A: Aggregate> Drop for TableOf<A> {
             alloc: _,
             kept: _kept,
             limit: _,
+            parameters: _parameters,
             series: _series,
             overflow: _overflow,
         } = self;
@@ -51,32 +55,38 @@ impl<A: Aggregate> Drop for TableOf<A> {
 impl<A: Aggregate> Model for TableOf<A> {
     ghost use Rattle.metric_series.specs.Tables.{TableValue};
 
-    ghost Value = { TableValue A };
+    ghost Value = { TableValue A A.Parameters };
 
-    ghost view = { λ t. record { kept = t.kept; limit = t.limit; series = t.series.entries; overflow = t.overflow } };
+    ghost view = { λ t. record {
+      kept = t.kept;
+      limit = t.limit;
+      parameters = t.parameters;
+      series = t.series.entries;
+      overflow = t.overflow;
+    } };
 }
 
 impl<A: Aggregate> TableOf<A> {
-    /// A table of no series, where the keys with these flags are kept and so many series are held. The
-    /// empty aggregator is that of the overflow series, and makes those of all others. Keys are hashed with the
-    /// seed.
+    /// A table of no series, where the keys with these flags are kept and so many series are held. Aggregates are
+    /// made of the parameters. Keys are hashed with the seed.
     pub(crate) fn new(
         alloc: Global,
         seed: u64,
         kept: Shared<Few<bool, 8>>,
         limit: u32,
-        overflow: A,
+        parameters: A::Parameters,
     ) -> TableOf<A>
         ensures { (s : Stream) → kept ≡ s.kept → limit ≡ s.limit
-            → A.aggregation overflow ≡ stream_aggregation s → A.stands overflow []
+            → A.aggregation_of parameters ≡ stream_aggregation s
             → StandsTable A.Aggregate result s [] }
     {
         TableOf {
             alloc,
             kept,
             limit,
+            parameters,
             series: IndexMap::with_hasher(alloc, Seeded::new(seed)),
-            overflow,
+            overflow: None,
         }
     }
 
@@ -100,7 +110,27 @@ impl<A: Aggregate> TableOf<A> {
         if count < self.limit as usize {
             return Some(Place::New(count));
         }
-        fitting(&self.overflow, value, Place::Overflow)
+        match &self.overflow {
+            Some(overflow) => fitting(overflow, value, Place::Overflow),
+            None => Some(Place::NewOverflow),
+        }
+    }
+
+    // Puts in what a value at a place needs.
+    fn prepare(&mut self, key: SeriesKey, place: Place) -> Result<(), AllocError>
+        requires { (value : ℤ) × IsPlace A.Aggregate self.old key value place }
+        ensures ok { OnOk result (Prepares A.Aggregate self.old self.new key place) }
+        ensures err { OnErr result (self.new ≡ self.old) }
+    {
+        match place {
+            Place::New(_) => put_empty(&mut self.series, key, self.alloc, &self.parameters),
+            Place::NewOverflow => {
+                let empty = A::with_parameters(self.alloc, &self.parameters)?;
+                self.overflow = Some(empty);
+                Ok(())
+            }
+            Place::Held(_) | Place::Overflow => Ok(()),
+        }
     }
 
     // The point of a held series; none where its aggregate is empty.
@@ -111,12 +141,29 @@ impl<A: Aggregate> TableOf<A> {
         let aggregate = self.series.get(key).unwrap();
         point_of(alloc, Some(key.set()), aggregate)
     }
+
+    // The overflow point; none where no value fell into the overflow series.
+    fn overflow_point(&self, alloc: Global) -> Result<Option<Point>, AllocError>
+        ensures { IfOk result (λ point. (s : Stream) (window : List Entry)
+            → StandsTable A.Aggregate self.now s window
+            → option_to_list point ≡ overflow_of s window) }
+    {
+        match &self.overflow {
+            Some(overflow) => point_of(alloc, None, overflow),
+            None => Ok(None),
+        }
+    }
 }
 
 impl<A: Aggregate> Table for TableOf<A> {
     ghost use Rattle.metric_series.specs.Ready.{IsReadyTable};
+    ghost use Rattle.metric_series.specs.Tables.{TakesAny};
 
     ghost stands = { StandsTable A.Aggregate };
+
+    ghost takes = { TakesAny };
+
+    ghost has_room = { λ _. ⊥ };
 
     ghost is_ready = { IsReadyTable A.Aggregate };
 
@@ -124,13 +171,10 @@ impl<A: Aggregate> Table for TableOf<A> {
         self.find(&self.key(set), value).is_some()
     }
 
-    // Finds the place of a value, and puts an empty aggregate there where it is new.
     fn ready(&mut self, set: &SetKey, value: i64) -> Result<Place, SeriesFault> {
         let key = self.key(set);
         let place = self.find(&key, value).ok_or(SeriesFault::SumRange)?;
-        if let Place::New(_) = place {
-            put_empty(&mut self.series, key, self.alloc, &self.overflow)?;
-        }
+        self.prepare(key, place)?;
         Ok(place)
     }
 
@@ -138,19 +182,24 @@ impl<A: Aggregate> Table for TableOf<A> {
         match place {
             Place::Held(index) => add_at(&mut self.series, index, value),
             Place::New(index) => add_at(&mut self.series, index, value),
-            Place::Overflow => self.overflow.add(value),
+            Place::Overflow => add_rest(&mut self.overflow, value),
+            Place::NewOverflow => add_rest(&mut self.overflow, value),
         }
     }
 
     fn unready(&mut self, place: Place) {
-        if let Place::New(_) = place {
-            self.series.pop();
+        match place {
+            Place::New(_) => {
+                self.series.pop();
+            }
+            Place::NewOverflow => self.overflow = None,
+            Place::Held(_) | Place::Overflow => {}
         }
     }
 
     fn reset(&mut self) {
         self.series.clear();
-        self.overflow.reset();
+        self.overflow = None;
     }
 
     fn points(&self, alloc: Global) -> Result<Vec<Point>, AllocError> {
@@ -159,7 +208,7 @@ impl<A: Aggregate> Table for TableOf<A> {
         for key in &keys {
             push_point(&mut points, self.point(alloc, key)?)?;
         }
-        push_point(&mut points, point_of(alloc, None, &self.overflow)?)?;
+        push_point(&mut points, self.overflow_point(alloc)?)?;
         Ok(points)
     }
 }
@@ -214,21 +263,29 @@ fn fitting<A: Aggregate>(aggregate: &A, value: i64, place: Place) -> Option<Plac
     }
 }
 
-// Puts an empty aggregate last, of a series that is not there. The one that is given makes it.
+// Puts an empty aggregate last, of a series that is not there.
 fn put_empty<A: Aggregate>(
     series: &mut IndexMap<SeriesKey, A, Seeded>,
     key: SeriesKey,
     alloc: Global,
-    like: &A,
+    parameters: &A::Parameters,
 ) -> Result<(), AllocError>
     requires { lookup (bytes_eq key) series.old.entries ≡ None }
     ensures ok { OnOk result
-        (PutsEmpty A.Aggregate series.old.entries series.new.entries key like.now) }
+        (PutsEmpty A.Aggregate series.old.entries series.new.entries key parameters.now) }
     ensures err { OnErr result (series.new.entries ≡ series.old.entries) }
 {
-    let empty = like.another(alloc)?;
+    let empty = A::with_parameters(alloc, parameters)?;
     series.insert(key, empty)?;
     Ok(())
+}
+
+// Adds a value to the overflow series, where it fits.
+fn add_rest<A: Aggregate>(overflow: &mut Option<A>, value: i64)
+    requires { FitsRest A.Aggregate overflow.old value }
+    ensures { AddsRest A.Aggregate overflow.old overflow.new value }
+{
+    overflow.as_mut().unwrap().add(value);
 }
 
 // Adds a value to the series at an index, where it fits.

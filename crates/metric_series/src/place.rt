@@ -7,6 +7,8 @@ pub enum Place {
     Held(usize),
     /// Into a series that is not held and will be, at this index, the next.
     New(usize),
-    /// Into the overflow series.
+    /// Into the overflow series, in which there is some value.
     Overflow,
+    /// Into the overflow series as its first value.
+    NewOverflow,
 }

@@ -1,11 +1,11 @@
 //! The series of a stream, in a table of the kind that serves its aggregation.
-ghost use Rattle.std.specs.Prelude.{[], IfOk};
+ghost use Rattle.std.specs.Prelude.{[], ℕ, List, IfOk};
 
 use crate::fault::SeriesFault;
 use crate::hashed::TableOf;
 use crate::place::Place;
 use crate::table::Table;
-use metric_aggregate::{BucketAgg, LastAgg, SumAgg};
+use metric_aggregate::{BucketAgg, HistogramParameters, LastAgg, SumAgg};
 use metric_base::Copied;
 use metric_catalogue::SetKey;
 use metric_history::Point;
@@ -24,9 +24,13 @@ pub enum ByAggregation<S, L, H> {
 }
 
 impl<S: Table, L: Table, H: Table> Table for ByAggregation<S, L, H> {
-    ghost use Rattle.metric_series.specs.SeriesTables.{IsReady, Stands};
+    ghost use Rattle.metric_series.specs.SeriesTables.{HasRoom, IsReady, Stands, Takes};
 
     ghost stands = { Stands S.Table L.Table H.Table };
+
+    ghost takes = { Takes S.Table L.Table H.Table };
+
+    ghost has_room = { HasRoom S.Table L.Table H.Table };
 
     ghost is_ready = { IsReady S.Table L.Table H.Table };
 
@@ -86,7 +90,10 @@ impl SeriesTable {
     /// The table of a stream without recordings. Its set keys are hashed with a fixed seed, so it is for
     /// recordings that nobody chooses to slow it down. Fails only where memory is refused.
     pub fn new(alloc: Global, stream: &Stream) -> Result<SeriesTable, AllocError>
-        ensures { IfOk result (λ table. ⟦<SeriesTable as Table>⟧.stands table stream.now []) }
+        ensures stands { IfOk result (λ table.
+            ⟦<SeriesTable as Table>⟧.stands table stream.now []) }
+        ensures takes { IfOk result (λ table.
+            (set : List ℕ) → ⟦<SeriesTable as Table>⟧.takes table set) }
     {
         SeriesTable::with_seed(alloc, stream, 0)
     }
@@ -94,22 +101,28 @@ impl SeriesTable {
     /// The same, where the set keys are hashed with this seed. With a seed that strangers do not know, such as
     /// the nanoseconds of a start, they can not choose set keys that collide.
     pub fn with_seed(alloc: Global, stream: &Stream, seed: u64) -> Result<SeriesTable, AllocError>
-        ensures { IfOk result (λ table. ⟦<SeriesTable as Table>⟧.stands table stream.now []) }
+        ensures stands { IfOk result (λ table.
+            ⟦<SeriesTable as Table>⟧.stands table stream.now []) }
+        ensures takes { IfOk result (λ table.
+            (set : List ℕ) → ⟦<SeriesTable as Table>⟧.takes table set) }
     {
         let kept = stream.kept.copy(alloc)?;
         let limit = stream.limit;
         match &stream.aggregation {
             StreamAggregation::Sum => {
-                let table = TableOf::new(alloc, seed, kept, limit, SumAgg::new());
+                let table = TableOf::new(alloc, seed, kept, limit, ());
                 Ok(SeriesTable::Sum(table))
             }
             StreamAggregation::LastValue => {
-                let table = TableOf::new(alloc, seed, kept, limit, LastAgg::new());
+                let table = TableOf::new(alloc, seed, kept, limit, ());
                 Ok(SeriesTable::LastValue(table))
             }
             StreamAggregation::Histogram(boundaries) => {
-                let overflow = BucketAgg::new(alloc, boundaries, stream.kind.is_monotonic())?;
-                let table = TableOf::new(alloc, seed, kept, limit, overflow);
+                let parameters = HistogramParameters {
+                    boundaries: boundaries.copy(alloc)?,
+                    keeps_sum: stream.kind.is_monotonic(),
+                };
+                let table = TableOf::new(alloc, seed, kept, limit, parameters);
                 Ok(SeriesTable::Histogram(table))
             }
         }

@@ -1,6 +1,6 @@
 //! Worked values, each aggregator through its trait.
 use crate::equal::assert_equal;
-use metric_aggregate::{Aggregate, BucketAgg, LastAgg, PointValue, SumAgg};
+use metric_aggregate::{Aggregate, BucketAgg, HistogramParameters, LastAgg, PointValue, SumAgg};
 use metric_base::{Boundaries, Copied, Few, Shared, copy_all, is_rising, is_same};
 use std::alloc::Global;
 use std::test::Fail;
@@ -89,8 +89,12 @@ fn text_of(alloc: Global, value: &PointValue, refused: Option<i64>) -> Result<St
     Ok(format!(in alloc; "{copy:?} {is_copy} {refused:?}")?)
 }
 
-fn told<A: Aggregate>(alloc: Global, empty: &A, values: &[i64]) -> Result<String, Fail> {
-    let mut aggregate = empty.another(alloc)?;
+fn told<A: Aggregate>(
+    alloc: Global,
+    parameters: &A::Parameters,
+    values: &[i64],
+) -> Result<String, Fail> {
+    let mut aggregate = A::with_parameters(alloc, parameters)?;
     let refused = add_all(&mut aggregate, values);
     if aggregate.is_empty() {
         return Ok(String::from_str(alloc, "nothing")?);
@@ -112,15 +116,17 @@ fn told_between(
     keeps_sum: bool,
     values: &[i64],
 ) -> Result<String, Fail> {
-    let boundaries = Shared::new(alloc, boundaries(alloc, numbers)?)?;
-    let histogram = BucketAgg::new(alloc, &boundaries, keeps_sum)?;
-    told(alloc, &histogram, values)
+    let parameters = HistogramParameters {
+        boundaries: Shared::new(alloc, boundaries(alloc, numbers)?)?,
+        keeps_sum,
+    };
+    told::<BucketAgg>(alloc, &parameters, values)
 }
 
 fn told_by(alloc: Global, kind: Kind, values: &[i64]) -> Result<String, Fail> {
     match kind {
-        Kind::Sum => told(alloc, &SumAgg::new(), values),
-        Kind::Last => told(alloc, &LastAgg::new(), values),
+        Kind::Sum => told::<SumAgg>(alloc, &(), values),
+        Kind::Last => told::<LastAgg>(alloc, &(), values),
         Kind::Buckets(numbers, keeps_sum) => told_between(alloc, numbers, keeps_sum, values),
     }
 }

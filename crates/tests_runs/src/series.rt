@@ -45,7 +45,7 @@ New(0);New(1);Held(0);
 Some([1, 0, 0, 0, 0, 0, 0, 0]) Sum(1)
 Some([2, 0, 0, 0, 0, 0, 0, 0]) Sum(7)
 
-New(0);New(1);Overflow;SumRange;Held(0);Overflow;
+New(0);New(1);NewOverflow;SumRange;Held(0);Overflow;
 Some([1, 0, 0, 0, 0, 0, 0, 0]) Sum(5)
 Some([2, 0, 0, 0, 0, 0, 0, 0]) Sum(9223372036854775807)
 None Sum(5)
@@ -53,7 +53,7 @@ New(0);New(1);Held(0);
 Some([1, 0, 0, 0, 0, 0, 0, 0]) Last(1)
 Some([2, 0, 0, 0, 0, 0, 0, 0]) Last(2)
 
-New(0);New(1);Overflow;Held(1);Held(0);Overflow;
+New(0);New(1);NewOverflow;Held(1);Held(0);Overflow;
 Some([1, 0, 0, 0, 0, 0, 0, 0]) Last(4)
 Some([2, 0, 0, 0, 0, 0, 0, 0]) Last(1)
 None Last(2)
@@ -61,13 +61,14 @@ New(0);New(1);Held(0);
 Some([1, 0, 0, 0, 0, 0, 0, 0]) Buckets { count: 1, counts: Items { items: [1, 0] }, sum: Some(1), min: 1, max: 1 }
 Some([2, 0, 0, 0, 0, 0, 0, 0]) Buckets { count: 2, counts: Items { items: [1, 1] }, sum: Some(7), min: 2, max: 5 }
 
-New(0);New(1);Overflow;SumRange;Held(0);Overflow;
+New(0);New(1);NewOverflow;SumRange;Held(0);Overflow;
 Some([1, 0, 0, 0, 0, 0, 0, 0]) Buckets { count: 2, counts: Items { items: [1, 1] }, sum: Some(5), min: 1, max: 4 }
 Some([2, 0, 0, 0, 0, 0, 0, 0]) Buckets { count: 1, counts: Items { items: [0, 1] }, sum: Some(9223372036854775807), min: 9223372036854775807, max: 9223372036854775807 }
 None Buckets { count: 2, counts: Items { items: [2, 0] }, sum: Some(5), min: 2, max: 3 }
 ";
 
 // Makes a table ready for a value. An even one is put there, an odd one is put back and then added by one call.
+#[tactic(auto, using(crate::specs::Taking::takes_any))]
 fn write_added(
     out: &mut String,
     table: &mut SeriesTable,

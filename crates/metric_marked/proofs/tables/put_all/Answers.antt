@@ -28,4 +28,4 @@ loop-index-preserved c =
     let in64 : SFits w64 c.args.entry.now.value = search rules in
     each-stepped (Puts c.args.entry.now) c.args.tables.now c.loop-index.tables c.args.places.now c.loop-index.index c.index-tables-index.result _ (Held 0)
     c.loop-index.invariant c.requires.one_each c.loop-index-test.true
-    (puts-one c.args.entry.now _ _ _ _ (to_z-of_z w64 c.args.entry.now.value in64) (record { number = refl; reader = refl }) c.put.ensures)
+    (puts-one c.args.entry.now _ _ _ _ (to_z-of_z w64 c.args.entry.now.value in64) (record { number = refl; reader = refl; places = c.put.ensures.places }) c.put.ensures.stands)

@@ -1,16 +1,17 @@
 -- one table more is ready
-use Rattle.std.proofs.Common.{◌≡◌, ◌+◌, ◌∙◌, ℤ, true, false, List, length, get_or, Err, ap, refl, subst, arith, rules, w64, SFits}
+use Rattle.std.proofs.Common.{◌≡◌, ◌+◌, ◌∙◌, ℤ, true, false, List, length, get_or, Err, ap, refl, sym, subst, arith, rules, w64, SFits}
 use Rattle.std.proofs.lemmas.Int.{to_z-of_z}
 use Rattle.std.proofs.lemmas.List.{take_all, length-append}
 use Rattle.metric_series.specs.Calls.{JudgesValue, is_in_range}
 use Rattle.metric_series.specs.SeriesTables.{series_tables}
 use Rattle.metric_series.specs.declared.fault.SeriesFault.{SeriesFault}
-use Rattle.metric_series.specs.declared.fault.SeriesFault.TheVariants.{SumRange}
+use Rattle.metric_series.specs.declared.fault.SeriesFault.TheVariants.{Memory, SumRange}
 use Rattle.metric_series.specs.declared.place.Place.{Place}
 use Rattle.metric_marked.specs.Marks.{TableStands}
 use Rattle.metric_marked.specs.Stepwise.{AreInRange, IsReadyFor}
 use Rattle.metric_marked.specs.declared.stream_table.StreamTable.{StreamTable}
 use Rattle.metric_marked.proofs.StepLaws.{each-after, each-pushed, in_range-stepped, judges-all, judges-one}
+use Rattle.metric_marked.proofs.TableLaws.{room-at}
 use Rattle.metric_marked.proofs.tables.ready_all.Goals as goal
 
 pub returns-in-Err-clause-out_of_range : goal.returns-in-Err-clause-out_of_range
@@ -31,6 +32,19 @@ returns-in-Err-clause-out_of_range c = λ is.
     judges-one c.args.entry.now c.args.tables.now i d c.loop-stream-test.true
     (subst (λ (x : StreamTable). JudgesValue (TableStands x) c.args.entry.now.set c.args.entry.now.value false) same unfit)
 
+pub returns-in-Err-clause-memory : goal.returns-in-Err-clause-memory
+returns-in-Err-clause-memory c = λ roomy is.
+    let i = c.loop-stream.stream-index in
+    let d = c.stream-item.result in
+    let memory : c.in-Err.fault ≡ Memory = cc in
+    let same : get_or c.loop-stream.tables i d ≡ get_or c.args.tables.now i d =
+    subst (λ n. get_or c.loop-stream.tables n d ≡ get_or c.args.tables.now n d) c.loop-stream.invariant.one_each
+    (each-after (IsReadyFor c.args.entry.now) c.args.tables.now c.loop-stream.tables c.loop-stream.places.items d c.loop-stream.invariant.ready
+    (omega (arith, c.loop-stream.invariant.one_each))) in
+    c.in-Err.ensures.room
+    (subst (λ (t : StreamTable). series_tables.has_room t.table) (sym same) (room-at c.args.tables.now i d roomy c.loop-stream-test.true))
+    (ap (λ (fault : SeriesFault). Err fault) memory)
+
 pub loop-stream-preserved : goal.loop-stream-preserved
 loop-stream-preserved c =
     let in64 : SFits w64 c.args.entry.now.value = search rules in
@@ -49,7 +63,7 @@ loop-stream-preserved c =
     record {
       ready = each-pushed (IsReadyFor c.args.entry.now) c.args.tables.now c.loop-stream.tables c.loop-stream.places.items c.push_reserved.new.self.items i d _ c.in-Ok.place
           c.loop-stream.invariant.ready c.loop-stream.invariant.one_each c.loop-stream-test.true
-          (record { same = record { number = refl; reader = refl }; ready = ready }) c.push_reserved.ensures.items;
+          (record { same = record { number = refl; reader = refl; places = c.in-Ok.ensures.places }; ready = ready }) c.push_reserved.ensures.items;
       one_each = ap length c.push_reserved.ensures.items ∙ length-append c.loop-stream.places.items _ ∙ ap (λ n. n + 1) c.loop-stream.invariant.one_each;
       in_range = in_range-stepped c.args.entry.now c.args.tables.now i d c.loop-stream.invariant.in_range c.loop-stream-test.true
           (subst (λ (x : StreamTable). JudgesValue (TableStands x) c.args.entry.now.set c.args.entry.now.value true) same own);

@@ -8,4 +8,4 @@ pub loop-index-preserved : goal.loop-index-preserved
 loop-index-preserved c =
     each-stepped Restores c.args.tables.now c.loop-index.tables c.args.places.now c.loop-index.index c.index-tables-index.result _ (Held 0)
     c.loop-index.invariant c.requires c.loop-index-test.true
-    (λ entry before ready. same-table _ before ready.same.number ready.same.reader (c.unready.ensures before.table entry.set entry.value ready.ready))
+    (λ entry before ready. same-table _ before ready.same.number ready.same.reader (c.unready.ensures.restored before.table entry.set entry.value ready.ready))

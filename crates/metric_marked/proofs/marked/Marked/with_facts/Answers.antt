@@ -13,4 +13,4 @@ returns c =
     let marks : c.in_ok-vec.field-0.items ≡ no_marks c.args.facts.now = search rules in
     subst (λ (d : List Bool). StandsMarked (record { tables = c.in_ok-empty_tables.field-0.items; delta = d; marks = c.in_ok-vec.field-0.items; count = 0 }) c.args.facts.now [] (no_marks c.args.facts.now)) (sym delta)
     (subst (λ (m : List ℕ). StandsMarked (record { tables = c.in_ok-empty_tables.field-0.items; delta = c.args.facts.now.delta; marks = m; count = 0 }) c.args.facts.now [] (no_marks c.args.facts.now)) (sym marks)
-    (marked_begins c.in_ok-empty_tables.field-0.items c.args.facts.now all))
+    (marked_begins c.in_ok-empty_tables.field-0.items c.args.facts.now all c.in_ok-empty_tables.ensures.takes))

@@ -1,9 +1,10 @@
 -- the series is there, and has the recordings of its set key
-use Rattle.std.proofs.Common.{◌≡◌, Some, Option, None, Bor, Result, Ok, Err, refl, ap, sym, ◌∙◌}
+use Rattle.std.proofs.Common.{◌≡◌, Some, Option, None, Bor, refl, ap, sym, ◌∙◌}
 use Rattle.std.specs.Map.{keys_of, lookup}
 use Rattle.std.specs.Option.{option_copied}
-use Rattle.std.specs.Prelude.{is_some, IfOk}
+use Rattle.std.specs.Prelude.{is_some}
 use Rattle.std.specs.Str.{bytes_eq}
+use Rattle.std.proofs.lemmas.Result.{IfOk-weaker}
 use Rattle.metric_history.specs.Series.{has}
 use Rattle.metric_series.specs.Calls.{point_of as point_by}
 use Rattle.metric_series.proofs.Adding.{lookup-held}
@@ -14,10 +15,6 @@ is_some-option_copied : {X : Type 0} (o : Option (Bor X)) → is_some (option_co
 is_some-option_copied None = refl
 is_some-option_copied (Some x) = refl
 
-if_ok_weaker : {X E : Type 0} {P Q : X → Type 0} (result : Result X E) → ((x : X) → P x → Q x) → IfOk result P → IfOk result Q
-if_ok_weaker (Ok x) weaker p = weaker x p
-if_ok_weaker (Err e) weaker p = tt
-
 pub unwrap-aggregate-requires : goal.unwrap-aggregate-requires
 unwrap-aggregate-requires g c =
     sym (is_some-option_copied c.get.result)
@@ -27,7 +24,7 @@ unwrap-aggregate-requires g c =
     ∙ c.requires
 
 pub returns : goal.returns
-returns g c = if_ok_weaker c.point_of.result
+returns g c = IfOk-weaker c.point_of.result _ _
     (λ point read s window stands.
     let at : lookup (bytes_eq c.args.key.now) c.args.self.now.series ≡ Some c.unwrap-aggregate.result.now =
     ap (λ t. lookup (bytes_eq c.args.key.now) t.series) (sym c.self.view_is) ∙ sym c.get.ensures.value ∙ ap option_copied c.unwrap-aggregate.ensures in

@@ -1,11 +1,10 @@
 -- each key is one of the table's; the points of all keys, then the overflow point
-use Rattle.std.proofs.Common.{◌≡◌, ℤ, List, None, Some, map, ap, subst, ◌∙◌, arith}
+use Rattle.std.proofs.Common.{◌≡◌, Some, map, ap, ◌∙◌, arith}
 use Rattle.std.specs.Map.{keys_of}
 use Rattle.std.proofs.lemmas.List.{take_all}
 use Rattle.metric_history.specs.PointLaws.{ascending_has}
 use Rattle.metric_history.specs.Points.{ascending, point}
 use Rattle.metric_history.specs.Series.{has}
-use Rattle.metric_series.specs.Calls.{point_of as point_by}
 use Rattle.metric_series.proofs.Reading.{points_are}
 use Rattle.metric_series.proofs.hashed.TableOfTable.points.Goals as goal
 
@@ -22,6 +21,6 @@ returns g c = λ s window stands.
     c.deref-key-items.ensures.value ∙ c.in_ok-keys.ensures ∙ ap (λ t. ascending (keys_of t.series)) c.self.view_is in
     let all = take_all c.loop-key.key-index c.deref-key-items.result.now (omega arith) in
     c.in_ok-push_point-2.ensures
-    ∙ points_are g.A.Aggregate c.args.self.now s window stands c.deref-key-items.result.now c.loop-key.points.items c.in_ok-point_of.field-0 sorted
+    ∙ points_are g.A.Aggregate c.args.self.now s window stands c.deref-key-items.result.now c.loop-key.points.items c.in_ok-overflow_point.field-0 sorted
     (c.loop-key.invariant s window stands ∙ ap (map (λ key. point s window (Some key))) all)
-    (subst (λ t. (added : List ℤ) → g.A.Aggregate.stands t.overflow added → c.in_ok-point_of.field-0 ≡ point_by (g.A.Aggregate.aggregation t.overflow) None added) c.self.view_is c.in_ok-point_of.ensures)
+    (c.in_ok-overflow_point.ensures s window stands)
