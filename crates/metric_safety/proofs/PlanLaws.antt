@@ -12,7 +12,6 @@ use Rattle.metric_catalogue.specs.Budgets.{amount_of}
 use Rattle.metric_catalogue.specs.Sound.{IsSound}
 use Rattle.metric_catalogue.specs.declared.contents.Contents.{Contents}
 use Rattle.metric_catalogue.specs.declared.contents.Instrument.{Instrument}
-use Rattle.metric_catalogue.specs.declared.contents.Key.{Key}
 use Rattle.metric_catalogue.specs.declared.contents.Recorder.{Recorder}
 use Rattle.metric_views.specs.Choices.{is_unfit}
 use Rattle.metric_views.specs.Streams.{aggregation_with, chosen_aggregation, fill_by, fill_with, kept_or_dropped, settings_at, stream_by, template_of, unless_unfit}
@@ -27,14 +26,15 @@ use Rattle.metric_resolve.specs.Laws.{IsOwn}
 use Rattle.metric_resolve.specs.Resolved.{streams_of}
 use Rattle.metric_bounds.specs.Amounts.{total_of, amount_with, low_with, high_with}
 use Rattle.metric_bounds.specs.Safe.{AreSafe, IsSafe, SetsFit}
-use Rattle.metric_bounds.specs.Sets.{sets_of, sets_within, sets_over, factor_of}
+use Rattle.metric_bounds.specs.Sets.{sets_of}
 use Rattle.metric_bounds.specs.Sums.{is_summed, keeps_sum, sums_instrument}
 use Rattle.metric_facts.specs.declared.facts.Facts.{Facts}
 use Rattle.metric_facts.specs.declared.facts.NumberedStream.{NumberedStream}
 use Rattle.metric_facts.specs.Facts.{RunFacts, facts_from, facts_of, key_facts, numbered, numbered_from}
 use Rattle.metric_plan.specs.PlanFacts.{FactsAt, facts_at}
 use Rattle.metric_plan.specs.Plans.{PlanValue, RangesFit, plan_of, run_facts}
-use Rattle.metric_safety.specs.SafeFacts.{product_of, key_factor, IsSafeStream, IsSafeFacts}
+use Rattle.metric_plan.specs.SetLaws.{sets_are}
+use Rattle.metric_safety.specs.SafeFacts.{IsSafeStream, IsSafeFacts}
 use Rattle.metric_safety.specs.SafeRuns.{GivesSafePlan, IsSafePlan, IsSafeRun}
 
 -- ---- the flags of a stream
@@ -76,22 +76,6 @@ own_flags contents config s instrument own at =
 
 total_is : (recorders : List Recorder) (number : ℕ) → sum (map (λ (recorder : Recorder). amount_of recorder number) recorders) ≡ sum_by (λ recorder. amount_of recorder number) recorders
 total_is recorders number = sum-map (λ recorder. amount_of recorder number) recorders
-
-factor_is : (flag : Bool) (key : Key) → factor_of flag key ≡ key_factor flag (key_facts key)
-factor_is true key = refl
-factor_is false key = refl
-
--- the product over keys is that over their facts
-product_is : (kept : List Bool) (keys : List Key) → sets_over kept keys ≡ product_of kept (map key_facts keys)
-product_is [] keys = refl
-product_is (flag ∷ kept) [] = refl
-product_is (flag ∷ kept) (key ∷ keys) =
-    ap (λ (n : ℕ). n * sets_over kept keys) (factor_is flag key) ∙ ap (λ (n : ℕ). key_factor flag (key_facts key) * n) (product_is kept keys)
-
-sets_are : (contents : Contents) (s : Stream) (instrument : Instrument) → slice_get contents.instruments s.instrument ≡ Some instrument
-    → sets_of contents s ≡ product_of s.kept (map key_facts instrument.keys)
-unfolding sets_of
-sets_are contents s instrument at = ap (sets_within s) at ∙ product_is s.kept instrument.keys
 
 total_same : (contents : Contents) (number : ℕ) → sum (map (λ (recorder : Recorder). amount_of recorder number) contents.recorders) ≡ total_of contents number
 unfolding total_of
