@@ -1,6 +1,8 @@
 -- How many series a stream can have, as far as facts tell it.
-use Rattle.std.specs.Prelude.{ℕ, ◌+◌, ◌*◌, Bool, if◌then◌else◌, List, [], ◌∷◌}
+use Rattle.std.specs.Prelude.{ℕ, ◌+◌, ◌*◌, ◌≤◌, Bool, if◌then◌else◌, IsTrue, All, List, [], ◌∷◌}
+use Rattle.metric_facts.specs.declared.facts.FactsFields.{FactsFields as Facts}
 use Rattle.metric_facts.specs.declared.facts.KeyFacts.{KeyFacts}
+use Rattle.metric_facts.specs.declared.facts.NumberedStream.{NumberedStream}
 
 -- what a recording may say of a key: one of its values, or nothing where it may be left out
 abbrev pub key_choices : KeyFacts → ℕ
@@ -15,3 +17,11 @@ abbrev pub product_of : List Bool → List KeyFacts → ℕ
 product_of [] keys = 1
 product_of (flag ∷ kept) [] = 1
 product_of (flag ∷ kept) (key ∷ keys) = radix flag key * product_of kept keys
+
+-- The product over the keys that a stream keeps is at most its limit.
+abbrev pub IsProductWithin : Facts → NumberedStream → Type 0
+IsProductWithin facts s = product_of s.stream.kept facts.keys ≤ s.stream.limit
+
+-- Whatever is recorded, no stream of the facts that is by product can have more series than its limit.
+abbrev pub AreProductsWithin : Facts → Type 0
+AreProductsWithin facts = All (λ (s : NumberedStream). IsTrue s.by_product → IsProductWithin facts s) facts.streams
