@@ -2,6 +2,7 @@ pub mod EvidenceLaws
 pub mod OrderLaws
 pub mod OwnStreams
 pub mod Pairs
+pub mod Products
 pub mod Safety
 pub mod Singles
 pub mod Validity

@@ -3,3 +3,4 @@ pub mod Findings
 pub mod Known
 pub mod Paired
 pub mod Rising
+pub mod Products

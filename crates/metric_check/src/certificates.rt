@@ -5,6 +5,7 @@ ghost use Rattle.metric_cert.specs.Valid.{IsValid};
 ghost use Rattle.metric_plan.specs.Plans.{plan_of};
 ghost use Rattle.metric_resolve.specs.Resolved.{streams_of};
 ghost use Rattle.metric_check.specs.Findings.{CheckFinds, StreamsFind};
+ghost use Rattle.metric_check.specs.Products.{by_product_of, entry_flags, is_product};
 
 use crate::bounds::check_bounds;
 use crate::entries::check_entries;
@@ -12,17 +13,17 @@ use crate::limits::check_limits;
 use crate::orders::check_orders;
 use crate::reasons::check_reasons;
 use crate::selection::ByReasons;
-use metric_base::Few;
+use metric_base::{Few, Items};
 use metric_catalogue::Catalogue;
-use metric_cert::Certificate;
+use metric_cert::{By, Certificate, StreamSets};
 use metric_glob::Pattern;
 use metric_plan::{CheckFault, Plan};
 use metric_resolve::streams_by;
 use metric_views::{Config, Stream};
-use std::alloc::Global;
+use std::alloc::{AllocError, Global};
 
 /// The certified plan of a catalogue and a config, where a certificate shows that they can overflow neither
-/// a limit nor a number, whoever made it.
+/// a limit nor a number, whoever made it. A stream of the plan is by product where its entry says so.
 ///
 /// The faults are tried in these steps: the reasons of all pairs of a view and an instrument, by view
 /// (`PairMissing`, `BadTakes`, `BadMiss`, `BadRows`); the streams that the reasons give (`StreamStrange`,
@@ -36,7 +37,8 @@ pub fn check(
     config: Config,
     certificate: &Certificate,
 ) -> Result<Plan, (Catalogue, Config, CheckFault)>
-    ensures plan { IfOk result (λ plan. plan ≡ plan_of true catalogue config) }
+    ensures plan { IfOk result (λ plan.
+        plan ≡ plan_of true (by_product_of certificate.now) catalogue config) }
     ensures valid { OnOk result (IsValid catalogue config certificate.now) }
     ensures fault { IfErr result (λ refused. refused.2 ≢ CheckFault.Memory
         → CheckFinds catalogue config certificate.now (Some refused.2)) }
@@ -47,9 +49,21 @@ pub fn check(
     // What each catalogue keeps is among the reasons why a valid certificate shows safety.
     let _ = catalogue.meters();
     match checked_streams(alloc, &catalogue, &config, certificate) {
-        Ok(streams) => Plan::certified(alloc, catalogue, config, streams),
+        Ok(checked) => {
+            let CheckedStreams {
+                streams,
+                by_product,
+            } = checked;
+            Plan::certified(alloc, catalogue, config, streams, by_product)
+        }
         Err(fault) => Err((catalogue, config, fault)),
     }
+}
+
+// The streams of a config, and a flag for each that says whether its entry is by product.
+struct CheckedStreams {
+    streams: Few<Stream, 2_097_152>,
+    by_product: Items<bool>,
 }
 
 // The streams, where no step has a fault.
@@ -58,10 +72,13 @@ fn checked_streams(
     catalogue: &Catalogue,
     config: &Config,
     certificate: &Certificate,
-) -> Result<Few<Stream, 2_097_152>, CheckFault>
+) -> Result<CheckedStreams, CheckFault>
     ensures found { Reports CheckFault.Memory
         (CheckFinds catalogue.now config.now certificate.now) result }
-    ensures streams { IfOk result (λ streams. streams ≡ streams_of catalogue.now config.now) }
+    ensures streams { IfOk result (λ checked.
+        checked.streams ≡ streams_of catalogue.now config.now) }
+    ensures by_product { IfOk result (λ checked.
+        checked.by_product ≡ by_product_of certificate.now) }
 {
     let any = Pattern::any(alloc)?;
     let reasons = certificate.reasons.as_slice();
@@ -73,7 +90,31 @@ fn checked_streams(
     };
     let streams = streams_by(alloc, &selection)?;
     check_streams(alloc, catalogue, config, certificate, streams.as_slice())?;
-    Ok(streams)
+    let by_product = entry_flags(alloc, certificate.streams.as_slice())?;
+    Ok(CheckedStreams {
+        streams,
+        by_product,
+    })
+}
+
+// Whether each entry is by product.
+fn entry_flags(alloc: Global, entries: &[StreamSets]) -> Result<Items<bool>, AllocError>
+    ensures { IfOk result (λ flags. flags ≡ entry_flags entries.now) }
+{
+    let mut flags = Items::new(alloc);
+    for entry in entries {
+        flags.push(is_product(entry.by))?;
+    }
+    Ok(flags)
+}
+
+fn is_product(by: By) -> bool
+    ensures { result ≡ is_product by }
+{
+    match by {
+        By::Product => true,
+        By::Budget => false,
+    }
 }
 
 // The first fault of the steps after the reasons.

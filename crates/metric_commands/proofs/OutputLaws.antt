@@ -1,5 +1,5 @@
 -- An input has one output.
-use Rattle.std.proofs.Common.{Bool, true, false, inl, inr, ◌≡◌, ℕ, List, [], Option, Some, sym, ap, subst, ◌∙◌}
+use Rattle.std.proofs.Common.{Bool, true, false, inl, inr, ◌≡◌, ℕ, List, [], Option, Some, None, Ok, IsSomeAnd, sym, ap, subst, ◌∙◌}
 use Rattle.metric_base.specs.StepLaws.{ok_is}
 use Rattle.metric_catalogue.specs.Catalogues.{catalogue_of}
 use Rattle.metric_catalogue.specs.declared.contents.Contents.{Contents as Declared}
@@ -13,6 +13,9 @@ use Rattle.metric_parts.specs.declared.parts.Parts.{Parts}
 use Rattle.metric_script.specs.Scripts.{IsScript}
 use Rattle.metric_history.specs.Legal.{AllLegal}
 use Rattle.metric_plan.specs.Plans.{PlanValue, plan_of}
+use Rattle.metric_cert.specs.Certificates.{certificate_from}
+use Rattle.metric_cert.specs.declared.certificate.Certificate.{Certificate}
+use Rattle.metric_check.specs.Products.{by_product_of}
 use Rattle.metric_history.specs.declared.event.Event.{Event}
 use Rattle.metric_history.specs.declared.event.Reply.{Reply}
 use Rattle.metric_commands.specs.declared.options.ReplayOptions.{ReplayOptions}
@@ -29,16 +32,25 @@ same_read : (law : (needs : Needs) (lines : List (List ℕ)) (a b : Contents) �
 same_read law needs lines a b p q = p.texts ∙ ap (read_of needs) (law needs lines p.parts q.parts p.is_input q.is_input) ∙ sym q.texts
 
 -- parts have one catalogue and one config
-same_facts : (is_certified : Bool) (read : Parts) (c d : Declared) (e f : Setup) → IsDeclared read c e → IsDeclared read d f → plan_of is_certified c e ≡ plan_of is_certified d f
-same_facts is_certified read c d e f p q =
+same_facts : (is_certified : Bool) (by_product : List Bool) (read : Parts) (c d : Declared) (e f : Setup) → IsDeclared read c e → IsDeclared read d f
+    → plan_of is_certified by_product c e ≡ plan_of is_certified by_product d f
+same_facts is_certified by_product read c d e f p q =
     let contents : c ≡ d = ok_is c d (catalogue_of read.catalogue) p.is_catalogue q.is_catalogue in
     let config : e ≡ f = ok_is e f (config_of read.config) p.is_config q.is_config in
-    ap (λ (x : Declared). plan_of is_certified x e) contents ∙ ap (λ (x : Setup). plan_of is_certified d x) config
+    ap (λ (x : Declared). plan_of is_certified by_product x e) contents ∙ ap (λ (x : Setup). plan_of is_certified by_product d x) config
+
+-- parts have one certificate
+same_certificate : (text : Option (List ℕ)) (a b : Certificate) → IsSomeAnd text (λ t. certificate_from t ≡ Ok a) → IsSomeAnd text (λ t. certificate_from t ≡ Ok b) → a ≡ b
+same_certificate None a b p q = absurd p
+same_certificate (Some text) a b p q = ok_is a b (certificate_from text) p q
 
 same_plan : (options : ReplayOptions) (read : Parts) (a b : PlanValue) → IsPlanned options read a → IsPlanned options read b → a ≡ b
-same_plan options read a b (inl (_, p)) (inl (_, q)) = p.planned ∙ same_facts false read p.contents q.contents p.config q.config p.declared q.declared ∙ sym q.planned
+same_plan options read a b (inl (_, p)) (inl (_, q)) = p.planned ∙ same_facts false [] read p.contents q.contents p.config q.config p.declared q.declared ∙ sym q.planned
 same_plan options read a b (inr (_, p)) (inr (_, q)) =
-    p.planned ∙ same_facts true read p.contents q.contents p.config q.config p.claimed.declared q.claimed.declared ∙ sym q.planned
+    p.planned
+    ∙ same_facts true (by_product_of p.certificate) read p.contents q.contents p.config q.config p.claimed.declared q.claimed.declared
+    ∙ ap (λ (c : Certificate). plan_of true (by_product_of c) q.contents q.config) (same_certificate read.certificate p.certificate q.certificate p.claimed.is_certificate q.claimed.is_certificate)
+    ∙ sym q.planned
 same_plan options read a b (inl (trial, p)) (inr (certified, q)) = absurd cc
 same_plan options read a b (inr (certified, p)) (inl (trial, q)) = absurd cc
 

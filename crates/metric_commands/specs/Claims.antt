@@ -10,6 +10,7 @@ use Rattle.metric_cert.specs.Valid.{IsValid}
 use Rattle.metric_plan.specs.Plans.{PlanValue, plan_of}
 use Rattle.metric_plan.specs.declared.fault.CheckFault.{CheckFault}
 use Rattle.metric_check.specs.Findings.{CheckFinds}
+use Rattle.metric_check.specs.Products.{by_product_of}
 use Rattle.metric_commands.specs.declared.fault.KitFault.{KitFault}
 use Rattle.metric_commands.specs.declared.fault.KitFault.TheVariants.{Certificate as BadCertificate, Check}
 use Rattle.metric_commands.specs.Declarations.{IsDeclared, IsDeclaredFault}
@@ -26,7 +27,7 @@ pub record IsCertifiedPlan (read : Parts) (plan : PlanValue) : Type 0 where
   pub certificate : Certificate
   pub claimed : IsClaimed read contents config certificate
   pub valid : IsValid contents config certificate
-  pub planned : plan ≡ plan_of true contents config
+  pub planned : plan ≡ plan_of true (by_product_of certificate) contents config
 
 -- The catalogue and the config are right, and the certificate has this first fault.
 pub record IsFaultyCertificate (read : Parts) (fault : CertFault) : Type 0 where

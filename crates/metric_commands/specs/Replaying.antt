@@ -1,5 +1,5 @@
 -- What a replay makes of the bytes of its input.
-use Rattle.std.specs.Prelude.{◌≡◌, ◌⊎◌, ℕ, true, false, not, List, Some}
+use Rattle.std.specs.Prelude.{◌≡◌, ◌⊎◌, ℕ, true, false, not, List, [], Some}
 use Rattle.std.proofs.Common.{inr}
 use Rattle.metric_text.specs.Lines.{lines_of}
 use Rattle.metric_parts.specs.Input.{IsFirstFault as IsFaultyLine}
@@ -33,7 +33,7 @@ pub record IsTrialPlan (read : Parts) (plan : PlanValue) : Type 0 where
   pub config : Setup
   pub declared : IsDeclared read contents config
   pub counted : is_counted contents ≡ true
-  pub planned : plan ≡ plan_of false contents config
+  pub planned : plan ≡ plan_of false [] contents config
 
 -- The plan of a trial, or else the one that the certificate shows to be safe.
 abbrev pub IsPlanned : ReplayOptions → Parts → PlanValue → Type 0

@@ -238,21 +238,21 @@ unfolding settings_flat flat_kind flat_tag flat_temporality
 settings_read =
     both _ _ (both _ _ (both _ _ (both _ _ number number) view) kind) (both _ _ (both _ _ (both _ _ one kept) number) temporality)
 
--- a stream's number and settings
+-- a stream's number, whether it is by product, and its settings
 abbrev Front : Type 0
-Front = ℕ × Settings
+Front = (ℕ × Bool) × Settings
 
 front_flat : Front → List ℕ
-front_flat = pair flat_number settings_flat
+front_flat = pair (pair flat_number flat_flag) settings_flat
 
 front_read : Reads front_flat
 unfolding front_flat
-front_read = both _ _ number settings_read
+front_read = both _ _ (both _ _ number flag) settings_read
 
 front_of : NumberedStream → Front
 front_of n =
     let s = n.stream in
-    (n.number, ((((s.reader, s.instrument), s.view), s.kind), (((aggregation_number s.aggregation, s.kept), s.limit), s.temporality)))
+    ((n.number, n.by_product), ((((s.reader, s.instrument), s.view), s.kind), (((aggregation_number s.aggregation, s.kept), s.limit), s.temporality)))
 
 -- the last stream of the same view, as the front tells
 last_for : List NumberedStream → Front → Option NumberedStream
@@ -302,7 +302,8 @@ details_after earlier x y r s e = at (repeats earlier x) (repeats earlier y) ref
 
 stream_of : Front → Details → NumberedStream
 stream_of f d = record {
-  number = f.0;
+  number = f.0.0;
+  by_product = f.0.1;
   stream = record {
     reader = f.1.0.0.0.0;
     instrument = f.1.0.0.0.1;
@@ -321,7 +322,7 @@ stream_of f d = record {
 stream_back : (n : NumberedStream) → stream_of (front_of n) (details_of n.stream) ≡ n
 unfolding stream_of front_of
 stream_back n =
-    ap (λ (a : StreamAggregation). record { number = n.number; stream = record n.stream { aggregation = a } }) (aggregation_back n.stream.aggregation)
+    ap (λ (a : StreamAggregation). record { number = n.number; by_product = n.by_product; stream = record n.stream { aggregation = a } }) (aggregation_back n.stream.aggregation)
 
 -- The front tells the view, and so which earlier stream the details are compared with.
 stream : (earlier : List NumberedStream) → Reads (λ (n : NumberedStream). flat_stream (last_of_view earlier n) n)

@@ -54,18 +54,24 @@ is_delta_temporality Cumulative = false
 abbrev pub is_delta_reader : Kind → Reader → Bool
 is_delta_reader kind reader = is_delta_temporality (choice_for reader.temporality kind)
 
--- a stream with its number, where it is of the instrument
-abbrev pub numbered : ℕ → ℕ → Stream → List NumberedStream
-numbered instrument number s = if s.instrument == instrument then record { number = number; stream = s } ∷ [] else []
+-- whether the stream of a number is by product: a flag for each stream, in order, and where there is none it is not
+abbrev pub is_by_product : List Bool → ℕ → Bool
+is_by_product flags number = slice_index_or flags number false
+
+-- a stream with its number, and whether it is by product, where it is of the instrument
+abbrev pub numbered : ℕ → ℕ → Bool → Stream → List NumberedStream
+numbered instrument number by_product s =
+    if s.instrument == instrument then record { number = number; by_product = by_product; stream = s } ∷ [] else []
 
 -- those of the instrument's streams, the first of which has this number
-abbrev pub numbered_from : ℕ → ℕ → List Stream → List NumberedStream
-numbered_from instrument number [] = []
-numbered_from instrument number (s ∷ streams) = numbered instrument number s ++ numbered_from instrument (number + 1) streams
+abbrev pub numbered_from : List Bool → ℕ → ℕ → List Stream → List NumberedStream
+numbered_from flags instrument number [] = []
+numbered_from flags instrument number (s ∷ streams) =
+    numbered instrument number (is_by_product flags number) s ++ numbered_from flags instrument (number + 1) streams
 
 -- the facts of the instrument of a number. A stream's number is its place among all.
-abbrev pub facts_of : Bool → List Recorder → List Reader → List Stream → ℕ → Instrument → Facts
-facts_of certified recorders readers streams number instrument = record {
+abbrev pub facts_of : Bool → List Bool → List Recorder → List Reader → List Stream → ℕ → Instrument → Facts
+facts_of certified flags recorders readers streams number instrument = record {
   certified = certified;
   instrument = number;
   keys = map key_facts instrument.keys;
@@ -73,21 +79,21 @@ facts_of certified recorders readers streams number instrument = record {
   hi = instrument.hi;
   budgets = map (λ (recorder : Recorder). amount_of recorder number) recorders;
   delta = map (is_delta_reader instrument.kind) readers;
-  streams = numbered_from number 0 streams;
+  streams = numbered_from flags number 0 streams;
 }
 
 -- those of each instrument, the first of which has this number
-abbrev pub facts_from : Bool → List Recorder → List Reader → List Stream → ℕ → List Instrument → List Facts
-facts_from certified recorders readers streams number [] = []
-facts_from certified recorders readers streams number (instrument ∷ instruments) =
-    facts_of certified recorders readers streams number instrument
-    ∷ facts_from certified recorders readers streams (number + 1) instruments
+abbrev pub facts_from : Bool → List Bool → List Recorder → List Reader → List Stream → ℕ → List Instrument → List Facts
+facts_from certified flags recorders readers streams number [] = []
+facts_from certified flags recorders readers streams number (instrument ∷ instruments) =
+    facts_of certified flags recorders readers streams number instrument
+    ∷ facts_from certified flags recorders readers streams (number + 1) instruments
 
 -- facts, the first of which are of the instrument of a number, with one stream more
-abbrev pub with_stream : ℕ → ℕ → Stream → List Facts → List Facts
-with_stream first number s [] = []
-with_stream first number s (own ∷ all) =
-    record own { streams = own.streams ++ numbered first number s } ∷ with_stream (first + 1) number s all
+abbrev pub with_stream : ℕ → ℕ → Bool → Stream → List Facts → List Facts
+with_stream first number by_product s [] = []
+with_stream first number by_product s (own ∷ all) =
+    record own { streams = own.streams ++ numbered first number by_product s } ∷ with_stream (first + 1) number by_product s all
 
 -- what attributes are encoded to is a full set
 abbrev pub EncodesFullSets : Type 0

@@ -121,7 +121,7 @@ is_of_view view numbered = view_number numbered.stream.view == view
 -- a stream after an earlier one
 abbrev pub flat_stream : Option NumberedStream → NumberedStream → List ℕ
 flat_stream earlier numbered =
-    flat_number numbered.number ++ flat_settings numbered.stream ++ flat_details_after earlier (details_of numbered.stream)
+    flat_number numbered.number ++ flat_flag numbered.by_product ++ flat_settings numbered.stream ++ flat_details_after earlier (details_of numbered.stream)
 
 -- the last stream of the same view, where the last of all stands first
 abbrev pub last_of_view : List NumberedStream → NumberedStream → Option NumberedStream

@@ -1,2 +1,4 @@
 pub mod Facts
 pub mod Flat
+pub mod Products
+pub mod NumberedLaws

@@ -1,5 +1,6 @@
 //! What the run of an instrument depends on.
-ghost use Rattle.std.specs.Prelude.{◌≡◌, ◌↔◌, IfOk, IsTrue};
+ghost use Rattle.std.specs.Prelude.{◌≡◌, ◌↔◌, IfOk, IsTrue, false, slice_index_or};
+ghost use Rattle.metric_facts.specs.Facts.{is_by_product};
 ghost use Rattle.metric_facts.specs.Flat.{flat_facts};
 
 use crate::flat::flat_facts;
@@ -23,6 +24,9 @@ pub struct KeyFacts {
 pub struct NumberedStream {
     /// The number.
     pub number: u32,
+    /// Whether a certificate shows that the stream can have at most as many series as its limit whatever is
+    /// recorded, by the product over the keys that it keeps of what a recording may say of each.
+    pub by_product: bool,
     /// The stream.
     pub stream: Stream,
 }
@@ -166,12 +170,23 @@ impl FactsFields {
     pub fn is_delta(&self, reader: u32) -> bool
         ensures { result ≡ is_delta self.now reader }
     {
-        self.delta
-            .as_slice()
-            .get(reader as usize)
-            .copied()
-            .unwrap_or(false)
+        flag_at(self.delta.as_slice(), reader)
     }
+}
+
+// The flag of a number, where there is one.
+pub(crate) fn flag_at(flags: &[bool], number: u32) -> bool
+    ensures { result ≡ slice_index_or flags.now number false }
+{
+    flags.get(number as usize).copied().unwrap_or(false)
+}
+
+/// Whether the stream of a number is by product, where the flags are those of the streams, in order; a stream
+/// without a flag is not.
+pub fn is_by_product(flags: &[bool], stream: u32) -> bool
+    ensures { result ≡ is_by_product flags.now stream }
+{
+    flag_at(flags, stream)
 }
 
 // One more owner of the same fields, which takes no room.

@@ -288,6 +288,7 @@ fn write_stream(
         ≡ bytes.old.items ++ flat_stream (option_copied earlier.entry) numbered.now) }
 {
     write_number(bytes, u64::from(numbered.number))?;
+    write_flag(bytes, numbered.by_product)?;
     write_settings(bytes, &numbered.stream)?;
     write_details_after(bytes, earlier, &numbered.stream)
 }

@@ -3,7 +3,7 @@ ghost use Rattle.std.specs.Prelude.{◌≡◌, ◌≤◌, ◌<◌, ◌^◌, [], 
 ghost use Rattle.metric_catalogue.specs.Budgets.{amount_of};
 ghost use Rattle.metric_facts.specs.Facts.{facts_from, facts_of, is_delta_reader, is_delta_temporality, key_facts, with_stream};
 
-use crate::facts::{Facts, FactsFields, KeyFacts, NumberedStream};
+use crate::facts::{Facts, FactsFields, KeyFacts, NumberedStream, is_by_product};
 use metric_base::{Copied, Items};
 use metric_catalogue::{Catalogue, Instrument, Key, Kind, Recorder};
 use metric_views::{Reader, Stream, Temporality};
@@ -63,7 +63,7 @@ fn instrument_facts(
     instrument: &Instrument,
 ) -> Result<FactsFields, AllocError>
     ensures { IfOk result (λ facts.
-        facts ≡ facts_of certified recorders.now readers.now [] number instrument.now) }
+        facts ≡ facts_of certified [] recorders.now readers.now [] number instrument.now) }
 {
     let keys = key_facts_of(alloc, instrument.keys.as_slice())?;
     let budgets = budgets_of(alloc, recorders, number)?;
@@ -90,7 +90,7 @@ fn without_streams(
 ) -> Result<Vec<FactsFields>, AllocError>
     requires { length instruments.now ≤ 512 }
     ensures { IfOk result (λ all.
-        all.items ≡ facts_from certified recorders.now readers.now [] 0 instruments.now) }
+        all.items ≡ facts_from certified [] recorders.now readers.now [] 0 instruments.now) }
 {
     let mut all = Vec::new(alloc);
     for (number, instrument) in instruments.iter().enumerate() {
@@ -112,9 +112,10 @@ fn add_stream(
     alloc: Global,
     all: &mut [FactsFields],
     number: u32,
+    by_product: bool,
     stream: &Stream,
 ) -> Result<(), AllocError>
-    ensures { OnOk result (all.new ≡ with_stream 0 number stream.now all.old) }
+    ensures { OnOk result (all.new ≡ with_stream 0 number by_product stream.now all.old) }
 {
     let at = stream.instrument as usize;
     if at >= all.len() {
@@ -122,7 +123,11 @@ fn add_stream(
     }
     let stream = stream.copy(alloc)?;
     let own = &mut all[at];
-    own.streams.push(NumberedStream { number, stream })?;
+    own.streams.push(NumberedStream {
+        number,
+        by_product,
+        stream,
+    })?;
     Ok(())
 }
 
@@ -138,10 +143,12 @@ fn sealed(alloc: Global, all: Vec<FactsFields>) -> Result<Items<Facts>, AllocErr
 }
 
 /// The facts of each instrument of a catalogue, for the readers of a config and all their streams, of which
-/// each has its place among them as its number. Fails only where memory is refused.
+/// each has its place among them as its number. The flags say which streams are by product, in the same order; those
+/// without a flag are not. Fails only where memory is refused.
 pub fn all_facts(
     alloc: Global,
     certified: bool,
+    by_product: &[bool],
     catalogue: &Catalogue,
     readers: &[Reader],
     streams: &[Stream],
@@ -149,7 +156,8 @@ pub fn all_facts(
     requires { length streams.now < 2 ^ 32 }
     ensures { IfOk result (λ all. let declared = catalogue.now in
         let recorders = declared.recorders in
-        all ≡ facts_from certified recorders readers.now streams.now 0 declared.instruments) }
+        let flags = by_product.now in
+        all ≡ facts_from certified flags recorders readers.now streams.now 0 declared.instruments) }
 {
     let mut all = without_streams(
         alloc,
@@ -159,7 +167,9 @@ pub fn all_facts(
         catalogue.instruments(),
     )?;
     for (number, stream) in streams.iter().enumerate() {
-        add_stream(alloc, all.as_mut_slice(), number as u32, stream)?;
+        let number = number as u32;
+        let own = is_by_product(by_product, number);
+        add_stream(alloc, all.as_mut_slice(), number, own, stream)?;
     }
     sealed(alloc, all)
 }

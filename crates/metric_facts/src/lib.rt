@@ -8,5 +8,5 @@ mod flat;
 mod instruments;
 pub mod laws;
 
-pub use facts::{Facts, FactsFields, KeyFacts, NumberedStream, same_facts};
+pub use facts::{Facts, FactsFields, KeyFacts, NumberedStream, is_by_product, same_facts};
 pub use instruments::all_facts;

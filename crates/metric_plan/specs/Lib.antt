@@ -2,3 +2,4 @@ pub mod Faults
 pub mod Counting
 pub mod Plans
 pub mod PlanFacts
+pub mod SetLaws

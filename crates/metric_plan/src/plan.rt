@@ -1,16 +1,19 @@
 //! Plans and how a trial makes one.
-ghost use Rattle.std.specs.Prelude.{◌≡◌, ◌↔◌, ◌<◌, Some, IsTrue, true, false, length, slice_get, FitsSigned, IfOk, IfErr, OnOk};
+ghost use Rattle.std.specs.Prelude.{◌≡◌, ◌↔◌, ◌<◌, ◌≤◌, [], Some, IsTrue, true, false, length, slice_get, FitsSigned, IfOk, IfErr, IsSomeAnd, OnOk};
 ghost use Rattle.std.specs.Int.{w64};
 ghost use Rattle.metric_bounds.specs.Safe.{AreSafe};
+ghost use Rattle.metric_bounds.specs.Sets.{sets_of};
+ghost use Rattle.metric_facts.specs.Facts.{is_by_product};
+ghost use Rattle.metric_facts.specs.Products.{AreProductsWithin};
 ghost use Rattle.metric_resolve.specs.Resolved.{streams_of};
 ghost use Rattle.metric_plan.specs.Counting.{is_counted};
-ghost use Rattle.metric_plan.specs.Plans.{IsPlan, RangesFit, plan_of, run_facts};
+ghost use Rattle.metric_plan.specs.Plans.{AreSetsWithin, AreVouched, IsPlan, RangesFit, plan_of, run_facts};
 
 use crate::counting::is_counted;
 use crate::fault::CheckFault;
 use metric_base::{Few, Items};
 use metric_catalogue::Catalogue;
-use metric_facts::{Facts, all_facts};
+use metric_facts::{Facts, all_facts, is_by_product};
 use metric_resolve::resolve_streams;
 use metric_views::{Config, Stream};
 use std::alloc::{AllocError, Global};
@@ -20,11 +23,13 @@ use std::marker::Model;
 ///
 /// The type of a certified plan keeps that no two of its streams share an identity, that each can have at
 /// most as many series as its limit, and that no count and no kept sum leaves 64 bits, whatever is recorded
-/// within the budgets.
+/// within the budgets. Where a stream of it is by product, it can have at most as many series as its limit
+/// whatever the budgets are.
 pub struct Plan {
     catalogue: Catalogue,
     config: Config,
     streams: Few<Stream, 2_097_152>,
+    by_product: Items<bool>,
     facts: Items<Facts>,
     is_certified: bool,
 }
@@ -36,6 +41,7 @@ impl Drop for Plan {
             catalogue: _catalogue,
             config: _config,
             streams: _streams,
+            by_product: _by_product,
             facts: _facts,
             is_certified: _,
         } = self;
@@ -49,6 +55,7 @@ impl Model for Plan {
 
     ghost view = { λ p. record {
       is_certified = p.is_certified;
+      by_product = p.by_product;
       config = p.config;
       streams = p.streams;
       facts = record { contents = p.catalogue; instruments = p.facts };
@@ -56,6 +63,7 @@ impl Model for Plan {
 
     ghost invariant = { λ p. IsPlan (record {
       is_certified = p.is_certified;
+      by_product = p.by_product;
       config = p.config;
       streams = p.streams;
       facts = record { contents = p.catalogue; instruments = p.facts };
@@ -71,7 +79,7 @@ impl Plan {
         catalogue: Catalogue,
         config: Config,
     ) -> Result<Plan, (Catalogue, Config, CheckFault)>
-        ensures plan { IfOk result (λ plan. plan ≡ plan_of false catalogue config) }
+        ensures plan { IfOk result (λ plan. plan ≡ plan_of false [] catalogue config) }
         ensures counted { OnOk result (is_counted catalogue ≡ true) }
         ensures count_range { IfErr result (λ refused.
             (refused.2 ≡ CheckFault.CountRange) ↔ (is_counted catalogue ≡ false)) }
@@ -83,27 +91,33 @@ impl Plan {
             return Err((catalogue, config, CheckFault::CountRange));
         }
         match resolve_streams(alloc, &catalogue, &config) {
-            Ok(streams) => Plan::new(alloc, false, catalogue, config, streams),
+            Ok(streams) => {
+                let none = Items::new(alloc);
+                Plan::new(alloc, false, catalogue, config, streams, none)
+            }
             Err(_) => Err((catalogue, config, CheckFault::Memory)),
         }
     }
 
-    /// The certified plan of a catalogue and a config with the streams that they give. Who calls it has
-    /// shown that they can overflow neither a limit nor a number. Only `Memory` refuses; catalogue and
-    /// config are then handed back.
+    /// The certified plan of a catalogue and a config with the streams that they give, of which the flags say
+    /// which are by product, in order. Who calls it has shown that they can overflow neither a limit nor a number,
+    /// and that those by product can have no more series than their limits, whatever is recorded. Only `Memory`
+    /// refuses; catalogue and config are then handed back.
     pub fn certified(
         alloc: Global,
         catalogue: Catalogue,
         config: Config,
         streams: Few<Stream, 2_097_152>,
+        by_product: Items<bool>,
     ) -> Result<Plan, (Catalogue, Config, CheckFault)>
         requires streams { streams ≡ streams_of catalogue config }
         requires safe { AreSafe catalogue streams }
-        ensures plan { IfOk result (λ plan. plan ≡ plan_of true catalogue config) }
+        requires products { AreSetsWithin catalogue by_product streams }
+        ensures plan { IfOk result (λ plan. plan ≡ plan_of true by_product catalogue config) }
         ensures memory { IfErr result (λ refused. refused.2 ≡ CheckFault.Memory) }
         ensures back { IfErr result (λ refused. (refused.0 ≡ catalogue) × (refused.1 ≡ config)) }
     {
-        Plan::new(alloc, true, catalogue, config, streams)
+        Plan::new(alloc, true, catalogue, config, streams, by_product)
     }
 
     fn new(
@@ -112,21 +126,33 @@ impl Plan {
         catalogue: Catalogue,
         config: Config,
         streams: Few<Stream, 2_097_152>,
+        by_product: Items<bool>,
     ) -> Result<Plan, (Catalogue, Config, CheckFault)>
         requires streams { streams ≡ streams_of catalogue config }
         requires counted { is_counted catalogue ≡ true }
         requires safe { IsTrue is_certified → AreSafe catalogue streams }
-        ensures plan { IfOk result (λ plan. plan ≡ plan_of is_certified catalogue config) }
+        requires products { AreSetsWithin catalogue by_product streams }
+        requires vouched { AreVouched is_certified by_product }
+        ensures plan { IfOk result (λ plan.
+            plan ≡ plan_of is_certified by_product catalogue config) }
         ensures memory { IfErr result (λ refused. refused.2 ≡ CheckFault.Memory) }
         ensures back { IfErr result (λ refused. (refused.0 ≡ catalogue) × (refused.1 ≡ config)) }
     {
-        match facts_of(alloc, is_certified, &catalogue, &config, &streams) {
+        match facts_of(
+            alloc,
+            is_certified,
+            &by_product,
+            &catalogue,
+            &config,
+            &streams,
+        ) {
             Ok(facts) => {
                 ranges_fit(facts.as_slice());
                 Ok(Plan {
                     catalogue,
                     config,
                     streams,
+                    by_product,
                     facts,
                     is_certified,
                 })
@@ -170,10 +196,25 @@ impl Plan {
         self.streams.as_slice()
     }
 
+    /// Whether the certificate bounds how many series the stream of this number can have by the product over the
+    /// keys that it keeps (`by = "product"`), and not by the budgets: it can then have at most as many as its limit,
+    /// whatever is recorded. No stream of a trial is.
+    pub fn by_product(&self, stream: u32) -> bool
+        requires { stream < length self.now.streams }
+        ensures flag { result ≡ is_by_product self.now.by_product stream }
+        ensures certified { IsTrue result → IsTrue self.now.is_certified }
+        ensures within { IsTrue result → IsSomeAnd (slice_get self.now.streams stream)
+            (λ s. sets_of self.now.facts.contents s ≤ s.limit) }
+        ensures kept { IsPlan self.now }
+    {
+        is_by_product(self.by_product.as_slice(), stream)
+    }
+
     /// What the run of the instrument of this number depends on.
     pub fn facts(&self, instrument: u32) -> &Facts
         requires { instrument < length self.now.facts.instruments }
         ensures facts { slice_get self.now.facts.instruments instrument ≡ Some result.now }
+        ensures products { AreProductsWithin result.now }
         ensures kept { IsPlan self.now }
     {
         &self.facts.as_slice()[instrument as usize]
@@ -192,16 +233,18 @@ impl Plan {
 fn facts_of(
     alloc: Global,
     is_certified: bool,
+    by_product: &Items<bool>,
     catalogue: &Catalogue,
     config: &Config,
     streams: &Few<Stream, 2_097_152>,
 ) -> Result<Items<Facts>, AllocError>
     ensures { IfOk result (λ facts. facts
-        ≡ (run_facts is_certified catalogue.now config.now streams.now).instruments) }
+        ≡ (run_facts is_certified by_product.now catalogue.now config.now streams.now).instruments) }
 {
     all_facts(
         alloc,
         is_certified,
+        by_product.as_slice(),
         catalogue,
         config.readers(),
         streams.as_slice(),

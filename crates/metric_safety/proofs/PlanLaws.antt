@@ -1,10 +1,10 @@
 -- The facts of the run of a safe catalogue and config are safe.
-use Rattle.std.proofs.Common.{◌≡◌, ℕ, zero, suc, ◌+◌, ◌*◌, ◌^◌, ◌<◌, ◌≤◌, min, pos, ◌≤ℤ◌, ◌<ℤ◌, Bool, true, false, cond, List, [], ◌∷◌, length, map, get_or, All, Contains, Option, Some, None, refl, sym, ap, subst, ◌∙◌, arith}
+use Rattle.std.proofs.Common.{◌≡◌, ℕ, ◌+◌, ◌^◌, ◌<◌, ◌≤◌, min, pos, ◌≤ℤ◌, ◌<ℤ◌, Bool, true, false, List, length, map, All, Contains, Option, Some, None, refl, sym, ap, subst, ◌∙◌, arith}
 use Rattle.std.specs.Prelude.{sum, sum_by, slice_get, ◌==◌, ◌↔◌, IsTrue, FitsSigned}
 use Rattle.std.specs.Int.{w64}
-use Rattle.std.proofs.lemmas.Bool.{and_from, eq-eqb, eqb-true}
+use Rattle.std.proofs.lemmas.Bool.{and_from, eq-eqb}
 use Rattle.std.proofs.lemmas.List.{length-map}
-use Rattle.std.proofs.lemmas.List.Elements.{All-nil, All-cons, All-append, All-head, All-tail, All-contains, Contains-get_or}
+use Rattle.std.proofs.lemmas.List.Elements.{All-contains, Contains-get_or}
 use Rattle.std.proofs.lemmas.List.Folds.{list_any_at}
 use Rattle.std.proofs.lemmas.List.Sums.{sum-map}
 use Rattle.std.proofs.lemmas.Option.{slice_get_within, get_or_from_slice_get}
@@ -12,7 +12,6 @@ use Rattle.metric_catalogue.specs.Budgets.{amount_of}
 use Rattle.metric_catalogue.specs.Sound.{IsSound}
 use Rattle.metric_catalogue.specs.declared.contents.Contents.{Contents}
 use Rattle.metric_catalogue.specs.declared.contents.Instrument.{Instrument}
-use Rattle.metric_catalogue.specs.declared.contents.Key.{Key}
 use Rattle.metric_catalogue.specs.declared.contents.Recorder.{Recorder}
 use Rattle.metric_views.specs.Choices.{is_unfit}
 use Rattle.metric_views.specs.Streams.{aggregation_with, chosen_aggregation, fill_by, fill_with, kept_or_dropped, settings_at, stream_by, template_of, unless_unfit}
@@ -27,14 +26,16 @@ use Rattle.metric_resolve.specs.Laws.{IsOwn}
 use Rattle.metric_resolve.specs.Resolved.{streams_of}
 use Rattle.metric_bounds.specs.Amounts.{total_of, amount_with, low_with, high_with}
 use Rattle.metric_bounds.specs.Safe.{AreSafe, IsSafe, SetsFit}
-use Rattle.metric_bounds.specs.Sets.{sets_of, sets_within, sets_over, factor_of}
+use Rattle.metric_bounds.specs.Sets.{sets_of}
 use Rattle.metric_bounds.specs.Sums.{is_summed, keeps_sum, sums_instrument}
 use Rattle.metric_facts.specs.declared.facts.Facts.{Facts}
 use Rattle.metric_facts.specs.declared.facts.NumberedStream.{NumberedStream}
-use Rattle.metric_facts.specs.Facts.{RunFacts, facts_from, facts_of, key_facts, numbered, numbered_from}
+use Rattle.metric_facts.specs.Facts.{RunFacts, facts_from, facts_of, key_facts}
+use Rattle.metric_facts.specs.NumberedLaws.{all_numbered}
 use Rattle.metric_plan.specs.PlanFacts.{FactsAt, facts_at}
 use Rattle.metric_plan.specs.Plans.{PlanValue, RangesFit, plan_of, run_facts}
-use Rattle.metric_safety.specs.SafeFacts.{product_of, key_factor, IsSafeStream, IsSafeFacts}
+use Rattle.metric_plan.specs.SetLaws.{sets_are}
+use Rattle.metric_safety.specs.SafeFacts.{IsSafeStream, IsSafeFacts}
 use Rattle.metric_safety.specs.SafeRuns.{GivesSafePlan, IsSafePlan, IsSafeRun}
 
 -- ---- the flags of a stream
@@ -77,71 +78,19 @@ own_flags contents config s instrument own at =
 total_is : (recorders : List Recorder) (number : ℕ) → sum (map (λ (recorder : Recorder). amount_of recorder number) recorders) ≡ sum_by (λ recorder. amount_of recorder number) recorders
 total_is recorders number = sum-map (λ recorder. amount_of recorder number) recorders
 
-factor_is : (flag : Bool) (key : Key) → factor_of flag key ≡ key_factor flag (key_facts key)
-factor_is true key = refl
-factor_is false key = refl
-
--- the product over keys is that over their facts
-product_is : (kept : List Bool) (keys : List Key) → sets_over kept keys ≡ product_of kept (map key_facts keys)
-product_is [] keys = refl
-product_is (flag ∷ kept) [] = refl
-product_is (flag ∷ kept) (key ∷ keys) =
-    ap (λ (n : ℕ). n * sets_over kept keys) (factor_is flag key) ∙ ap (λ (n : ℕ). key_factor flag (key_facts key) * n) (product_is kept keys)
-
-sets_are : (contents : Contents) (s : Stream) (instrument : Instrument) → slice_get contents.instruments s.instrument ≡ Some instrument
-    → sets_of contents s ≡ product_of s.kept (map key_facts instrument.keys)
-unfolding sets_of
-sets_are contents s instrument at = ap (sets_within s) at ∙ product_is s.kept instrument.keys
-
 total_same : (contents : Contents) (number : ℕ) → sum (map (λ (recorder : Recorder). amount_of recorder number) contents.recorders) ≡ total_of contents number
 unfolding total_of
 total_same contents number = total_is contents.recorders number
-
--- a fact of the streams of an instrument is one of its numbered streams
-numbered_each : (P : Stream → Type 0) (number first : ℕ) (streams : List Stream) → All (λ (s : Stream). s.instrument ≡ number → P s) streams
-    → All (λ (n : NumberedStream). P n.stream) (numbered_from number first streams)
-numbered_each P number first [] all = All-nil (λ (n : NumberedStream). P n.stream)
-numbered_each P number first (s ∷ streams) all =
-    All-append (λ (n : NumberedStream). P n.stream) (numbered number first s) (numbered_from number (first + 1) streams)
-    (here (s.instrument == number) refl)
-    (numbered_each P number (first + 1) streams (All-tail (λ (s : Stream). s.instrument ≡ number → P s) s streams all))
-  where
-    here : (b : Bool) → (s.instrument == number) ≡ b → All (λ (n : NumberedStream). P n.stream) (cond b (record { number = first; stream = s } ∷ []) [])
-    here true e =
-        All-cons (λ (n : NumberedStream). P n.stream) (record { number = first; stream = s }) []
-        (All-head (λ (s : Stream). s.instrument ≡ number → P s) s streams all (eqb-true s.instrument number e)) (All-nil (λ (n : NumberedStream). P n.stream))
-    here false e = All-nil (λ (n : NumberedStream). P n.stream)
-
--- the number of a stream is its place
-numbered_places : (all : List Stream) (number first : ℕ) (streams : List Stream) → ((k : ℕ) (s : Stream) → slice_get streams k ≡ Some s → slice_get all (first + k) ≡ Some s)
-    → All (λ (n : NumberedStream). slice_get all n.number ≡ Some n.stream) (numbered_from number first streams)
-numbered_places all number first [] places = All-nil (λ (n : NumberedStream). slice_get all n.number ≡ Some n.stream)
-numbered_places all number first (s ∷ streams) places =
-    All-append (λ (n : NumberedStream). slice_get all n.number ≡ Some n.stream) (numbered number first s) (numbered_from number (first + 1) streams)
-    (here (s.instrument == number))
-    (numbered_places all number (first + 1) streams (λ k t at. ap (slice_get all) (next k) ∙ places (suc k) t at))
-  where
-    next : (k : ℕ) → first + 1 + k ≡ first + suc k
-    next k = omega arith
-
-    start : first ≡ first + 0
-    start = omega arith
-
-    here : (b : Bool) → All (λ (n : NumberedStream). slice_get all n.number ≡ Some n.stream) (cond b (record { number = first; stream = s } ∷ []) [])
-    here true =
-        All-cons (λ (n : NumberedStream). slice_get all n.number ≡ Some n.stream) (record { number = first; stream = s }) []
-        (ap (slice_get all) start ∙ places zero s refl) (All-nil (λ (n : NumberedStream). slice_get all n.number ≡ Some n.stream))
-    here false = All-nil (λ (n : NumberedStream). slice_get all n.number ≡ Some n.stream)
 
 -- ---- safety
 
 record HasFlags (contents : Contents) (s : Stream) : Type 0 where
   flags : (instrument : Instrument) → slice_get contents.instruments s.instrument ≡ Some instrument → length s.kept ≡ length instrument.keys
 
-stream_safe : (certified : Bool) (contents : Contents) (readers : List Reader) (streams : List Stream) (number : ℕ) (instrument : Instrument) (s : Stream)
+stream_safe : (certified : Bool) (flags : List Bool) (contents : Contents) (readers : List Reader) (streams : List Stream) (number : ℕ) (instrument : Instrument) (s : Stream)
     → AreSafe contents streams → Contains streams s → HasFlags contents s → slice_get contents.instruments number ≡ Some instrument → s.instrument ≡ number
-    → IsSafeStream (facts_of certified contents.recorders readers streams number instrument) s
-stream_safe certified contents readers streams number instrument s safe there has at of =
+    → IsSafeStream (facts_of certified flags contents.recorders readers streams number instrument) s
+stream_safe certified flags contents readers streams number instrument s safe there has at of =
     let own_at : slice_get contents.instruments s.instrument ≡ Some instrument = ap (slice_get contents.instruments) of ∙ at in
     let ranges = safe.instruments number instrument at in
     let fits : min (sets_of contents s) (total_of contents s.instrument) ≤ s.limit = All-contains (SetsFit contents) streams s safe.sets there in
@@ -161,20 +110,20 @@ stream_safe certified contents readers streams number instrument s safe there ha
         list_any_at (sums_instrument number) streams there.0 s there.1
         (ap (sums_instrument number) there.2 ∙ and_from (s.instrument == number) (keeps_sum s) (eq-eqb s.instrument number of) kept)
 
-facts_safe : (certified : Bool) (contents : Contents) (readers : List Reader) (streams : List Stream) (number : ℕ) (instrument : Instrument)
+facts_safe : (certified : Bool) (flags : List Bool) (contents : Contents) (readers : List Reader) (streams : List Stream) (number : ℕ) (instrument : Instrument)
     → AreSafe contents streams → ((s : Stream) → Contains streams s → HasFlags contents s) → slice_get contents.instruments number ≡ Some instrument
-    → instrument.lo ≤ℤ instrument.hi → IsSafeFacts (facts_of certified contents.recorders readers streams number instrument)
-facts_safe certified contents readers streams number instrument safe has at ordered =
+    → instrument.lo ≤ℤ instrument.hi → IsSafeFacts (facts_of certified flags contents.recorders readers streams number instrument)
+facts_safe certified flags contents readers streams number instrument safe has at ordered =
     let ranges = safe.instruments number instrument at in
     let same : total_of contents number ≡ sum (map (λ (recorder : Recorder). amount_of recorder number) contents.recorders) = sym (total_same contents number) in
     record {
       ordered = ordered;
       counts = subst (λ (n : ℕ). n < 2 ^ 64) same ranges.counts;
       amounts = subst (λ (n : ℕ). amount_with n instrument.lo instrument.hi <ℤ pos (2 ^ 64)) same ranges.amounts;
-      streams = numbered_each (IsSafeStream (facts_of certified contents.recorders readers streams number instrument)) number 0 streams
-          (λ k d inside of.
-          let there : Contains streams (get_or streams k d) = Contains-get_or streams k d inside in
-          stream_safe certified contents readers streams number instrument (get_or streams k d) safe there (has (get_or streams k d) there) at of);
+      streams = all_numbered (λ (n : NumberedStream). IsSafeStream (facts_of certified flags contents.recorders readers streams number instrument) n.stream) flags number 0 streams
+          (λ k s found of.
+          let there : Contains streams s = subst (Contains streams) (get_or_from_slice_get streams k s s found) (Contains-get_or streams k s (slice_get_within streams k s found)) in
+          stream_safe certified flags contents readers streams number instrument s safe there (has s there) at of);
     }
 
 in_order : (contents : Contents) (number : ℕ) (instrument : Instrument) → IsSound contents → slice_get contents.instruments number ≡ Some instrument → instrument.lo ≤ℤ instrument.hi
@@ -192,12 +141,12 @@ one_instrument a b o p q = cc
 
 -- the facts of a safe catalogue and config
 safe_run : ((contents : Contents) (config : Config) (s : Stream) → Contains (streams_of contents config) s ↔ IsOwn contents config s)
-    → (contents : Contents) (config : Config) (certified : Bool) → IsSound contents → IsSafe contents config
-    → RangesFit (plan_of certified contents config).facts.instruments → IsSafeRun (streams_of contents config) (plan_of certified contents config).facts
-safe_run exact contents config certified sound safe ranges = record {
+    → (contents : Contents) (config : Config) (certified : Bool) (by_product : List Bool) → IsSound contents → IsSafe contents config
+    → RangesFit (plan_of certified by_product contents config).facts.instruments → IsSafeRun (streams_of contents config) (plan_of certified by_product contents config).facts
+safe_run exact contents config certified by_product sound safe ranges = record {
   safe = λ number own e.
       let here = at number own e in
-      subst IsSafeFacts (sym here.is) (facts_safe certified contents config.readers (streams_of contents config) number here.instrument safe flags here.at (in_order contents number here.instrument sound here.at));
+      subst IsSafeFacts (sym here.is) (facts_safe certified by_product contents config.readers (streams_of contents config) number here.instrument safe flags here.at (in_order contents number here.instrument sound here.at));
   keys = λ number own instrument e f.
       let here = at number own e in
       ap (λ (x : Facts). x.keys) here.is ∙ ap (λ (x : Instrument). map key_facts x.keys) (one_instrument here.instrument instrument (slice_get contents.instruments number) here.at f);
@@ -208,7 +157,8 @@ safe_run exact contents config certified sound safe ranges = record {
   numbers = λ number own e.
       let here = at number own e in
       subst (λ (x : Facts). All (λ (n : NumberedStream). slice_get (streams_of contents config) n.number ≡ Some n.stream) x.streams) (sym here.is)
-      (numbered_places (streams_of contents config) number 0 (streams_of contents config) (λ k s f. ap (slice_get (streams_of contents config)) (none_before k) ∙ f));
+      (all_numbered (λ (n : NumberedStream). slice_get (streams_of contents config) n.number ≡ Some n.stream) by_product number 0 (streams_of contents config)
+      (λ k s f of. ap (slice_get (streams_of contents config)) (none_before k) ∙ f));
   distinct = safe.identities;
   ranges = ranges;
 }
@@ -219,22 +169,22 @@ safe_run exact contents config certified sound safe ranges = record {
     flags : (s : Stream) → Contains (streams_of contents config) s → HasFlags contents s
     flags s there = record { flags = λ instrument f. own_flags contents config s instrument ((exact contents config s).0 there) f }
 
-    at : (number : ℕ) (own : Facts) → slice_get (facts_from certified contents.recorders config.readers (streams_of contents config) 0 contents.instruments) number ≡ Some own
-        → FactsAt certified contents.recorders config.readers (streams_of contents config) number contents.instruments number own
-    at number own e = facts_at certified contents.recorders config.readers (streams_of contents config) 0 number contents.instruments number own (none_before number) e
+    at : (number : ℕ) (own : Facts) → slice_get (facts_from certified by_product contents.recorders config.readers (streams_of contents config) 0 contents.instruments) number ≡ Some own
+        → FactsAt certified by_product contents.recorders config.readers (streams_of contents config) number contents.instruments number own
+    at number own e = facts_at certified by_product contents.recorders config.readers (streams_of contents config) 0 number contents.instruments number own (none_before number) e
 
 -- the facts of a safe plan
 pub plan_runs : ((contents : Contents) (config : Config) (s : Stream) → Contains (streams_of contents config) s ↔ IsOwn contents config s)
     → (plan : PlanValue) → IsSafePlan plan → IsSafeRun plan.streams plan.facts
 plan_runs exact plan own =
     subst (IsSafeRun plan.streams) (sym own.facts)
-    (subst (λ (streams : List Stream). IsSafeRun streams (run_facts plan.is_certified plan.facts.contents plan.config streams)) (sym own.streams)
-    (safe_run exact plan.facts.contents plan.config plan.is_certified own.sound (subst (AreSafe plan.facts.contents) own.streams own.safe) ranges))
+    (subst (λ (streams : List Stream). IsSafeRun streams (run_facts plan.is_certified plan.by_product plan.facts.contents plan.config streams)) (sym own.streams)
+    (safe_run exact plan.facts.contents plan.config plan.is_certified plan.by_product own.sound (subst (AreSafe plan.facts.contents) own.streams own.safe) ranges))
   where
-    ranges : RangesFit (plan_of plan.is_certified plan.facts.contents plan.config).facts.instruments
+    ranges : RangesFit (plan_of plan.is_certified plan.by_product plan.facts.contents plan.config).facts.instruments
     ranges =
-        subst (λ (streams : List Stream). RangesFit (run_facts plan.is_certified plan.facts.contents plan.config streams).instruments) own.streams
+        subst (λ (streams : List Stream). RangesFit (run_facts plan.is_certified plan.by_product plan.facts.contents plan.config streams).instruments) own.streams
         (subst (λ (run : RunFacts). RangesFit run.instruments) own.facts own.ranges)
 
-pub plan_of_safe : (is_certified : Bool) (contents : Contents) (config : Config) → GivesSafePlan is_certified contents config
-plan_of_safe is_certified contents config sound safe ranges = record { sound = sound; streams = refl; facts = refl; safe = safe; ranges = ranges }
+pub plan_of_safe : (is_certified : Bool) (by_product : List Bool) (contents : Contents) (config : Config) → GivesSafePlan is_certified by_product contents config
+plan_of_safe is_certified by_product contents config sound safe ranges = record { sound = sound; streams = refl; facts = refl; safe = safe; ranges = ranges }

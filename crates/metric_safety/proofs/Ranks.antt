@@ -9,8 +9,8 @@ use Rattle.std.proofs.lemmas.Nat.{mul-add-lt, same_from_place}
 use Rattle.std.proofs.Math.Nat.{mul_comm}
 use Rattle.metric_facts.specs.declared.facts.KeyFacts.{KeyFacts}
 use Rattle.metric_facts.specs.Facts.{is_entry, is_full_set}
+use Rattle.metric_facts.specs.Products.{product_of, radix}
 use Rattle.metric_history.specs.Series.{restricted}
-use Rattle.metric_safety.specs.SafeFacts.{key_factor, product_of}
 
 -- an entry of a key as a digit: where the key may be left out, that is the first of its choices
 abbrev pub digit : KeyFacts → ℕ → ℕ
@@ -32,7 +32,7 @@ entry_below values false zero e = absurd (true≢false (sym e))
 entry_below values true (suc n) e = grind (arith, nat_tests, e)
 entry_below values false (suc n) e = grind (arith, nat_tests, e)
 
-digit_below : (flag : Bool) (key : KeyFacts) (entry : ℕ) → is_entry key entry ≡ true → digit_if flag key entry < key_factor flag key
+digit_below : (flag : Bool) (key : KeyFacts) (entry : ℕ) → is_entry key entry ≡ true → digit_if flag key entry < radix flag key
 digit_below true key entry e = entry_below key.values key.optional entry e
 digit_below false key entry e = omega arith
 
@@ -44,7 +44,7 @@ rank_below (flag ∷ kept) (key ∷ keys) [] full = absurd (true≢false (sym fu
 rank_below (flag ∷ kept) (key ∷ keys) (entry ∷ set) full =
     let parts = and_parts (is_entry key entry) (is_full_set keys set) full in
     let rest = rank_below kept keys set parts.1 in
-    omega (arith, mul-add-lt (digit_if flag key entry) (product_of kept keys) (rank kept keys set) (key_factor flag key) (digit_below flag key entry parts.0) rest, mul_comm (key_factor flag key) (product_of kept keys))
+    omega (arith, mul-add-lt (digit_if flag key entry) (product_of kept keys) (rank kept keys set) (radix flag key) (digit_below flag key entry parts.0) rest, mul_comm (radix flag key) (product_of kept keys))
 
 -- zeros of one length are one list
 zeros_same : (xs ys : List ℕ) → list_all (λ entry. entry == 0) xs ≡ true → list_all (λ entry. entry == 0) ys ≡ true → length xs ≡ length ys → xs ≡ ys

@@ -13,7 +13,7 @@ use Rattle.metric_facts.specs.declared.facts.KeyFacts.{KeyFacts}
 use Rattle.metric_facts.specs.Facts.{is_full_set}
 use Rattle.metric_history.specs.Series.{restricted, distinct, others}
 use Rattle.metric_history.specs.SeriesLaws.{key_is_same, distinct-cons}
-use Rattle.metric_safety.specs.SafeFacts.{product_of}
+use Rattle.metric_facts.specs.Products.{product_of}
 use Rattle.metric_safety.proofs.Ranks.{rank, rank_below, rank_same, digit_if}
 
 -- the rank of a series is that of each set of it

@@ -31,7 +31,8 @@ use Rattle.metric_history.specs.Points.{ascending, overflow, point, points, repo
 use Rattle.metric_history.specs.Series.{all_series, belongs, distinct, has, held, place_of, rows, series}
 use Rattle.metric_history.specs.SeriesLaws.{same_key, key_is_same, has-distinct, has_own_series}
 use Rattle.metric_history.specs.Windows.{window, fits_stream, fits_all}
-use Rattle.metric_safety.specs.SafeFacts.{product_of, total, IsSafeStream, IsSafeFacts, is_admitted, are_admitted, IsJournal}
+use Rattle.metric_facts.specs.Products.{product_of}
+use Rattle.metric_safety.specs.SafeFacts.{total, IsSafeStream, IsSafeFacts, is_admitted, are_admitted, IsJournal}
 use Rattle.metric_safety.specs.WindowBounds.{IsValueWithin, is_histogram, count_in, sum_in, IsBounded, IsReportWithin}
 use Rattle.metric_safety.proofs.SeriesBounds.{IsSeries, distinct_apart, All-distinct, length-distinct, series_bounded}
 use Rattle.metric_safety.proofs.Counts.{sum_by_same, sum_by-map, entries_counted, sum_of_same, entries_summed}

@@ -1,5 +1,5 @@
 -- When the facts of an instrument let no limit and no number overflow, whatever is recorded within its budgets.
-use Rattle.std.specs.Prelude.{◌≡◌, ℕ, ◌+◌, ◌*◌, ◌^◌, ◌<◌, ◌≤◌, pos, ◌≤ℤ◌, ◌<ℤ◌, min, Bool, true, ◌&&◌, ◌==◌, if◌then◌else◌, IsTrue, All, List, [], ◌∷◌, length, sum, FitsSigned}
+use Rattle.std.specs.Prelude.{◌≡◌, ℕ, ◌^◌, ◌<◌, ◌≤◌, pos, ◌≤ℤ◌, ◌<ℤ◌, min, Bool, true, ◌&&◌, ◌==◌, IsTrue, All, List, length, sum, FitsSigned}
 use Rattle.std.specs.Int.{w64}
 use Rattle.std.specs.List.{list_all}
 use Rattle.metric_views.specs.declared.stream.Stream.{Stream}
@@ -7,23 +7,9 @@ use Rattle.metric_bounds.specs.Amounts.{amount_with, low_with, high_with}
 use Rattle.metric_bounds.specs.Sums.{keeps_sum}
 use Rattle.metric_history.specs.declared.entry.Entry.{Entry}
 use Rattle.metric_facts.specs.declared.facts.Facts.{Facts}
-use Rattle.metric_facts.specs.declared.facts.KeyFacts.{KeyFacts}
 use Rattle.metric_facts.specs.declared.facts.NumberedStream.{NumberedStream}
 use Rattle.metric_facts.specs.Facts.{in_bounds, is_full_set}
-
--- what a recording may say of a key: one of its values, or nothing where it may be left out
-abbrev pub key_choices : KeyFacts → ℕ
-key_choices key = key.values + (if key.optional then 1 else 0)
-
--- the same, as far as a stream sees it: a key that it does not keep tells nothing apart
-abbrev pub key_factor : Bool → KeyFacts → ℕ
-key_factor kept key = if kept then key_choices key else 1
-
--- how many distinct series recordings may have: the product over the keys, of which each is kept or not
-abbrev pub product_of : List Bool → List KeyFacts → ℕ
-product_of [] keys = 1
-product_of (flag ∷ kept) [] = 1
-product_of (flag ∷ kept) (key ∷ keys) = key_factor flag key * product_of kept keys
+use Rattle.metric_facts.specs.Products.{product_of}
 
 -- how often the instrument may be recorded
 abbrev pub total : Facts → ℕ

@@ -114,15 +114,15 @@ OfSafeRuns P = (streams : List Stream) (facts : RunFacts) (start : ℕ) (h : His
 pub record IsSafePlan (plan : PlanValue) : Type 0 where
   pub sound : IsSound plan.facts.contents
   pub streams : plan.streams ≡ streams_of plan.facts.contents plan.config
-  pub facts : plan.facts ≡ run_facts plan.is_certified plan.facts.contents plan.config plan.streams
+  pub facts : plan.facts ≡ run_facts plan.is_certified plan.by_product plan.facts.contents plan.config plan.streams
   pub safe : AreSafe plan.facts.contents plan.streams
   pub ranges : RangesFit plan.facts.instruments
 
 -- such is the plan of a sound catalogue and a config that are safe, where ranges are of 64-bit numbers, as each plan keeps
-abbrev pub GivesSafePlan : Bool → Contents → Config → Type 0
-GivesSafePlan is_certified contents config =
-    IsSound contents → IsSafe contents config → RangesFit (plan_of is_certified contents config).facts.instruments
-    → IsSafePlan (plan_of is_certified contents config)
+abbrev pub GivesSafePlan : Bool → List Bool → Contents → Config → Type 0
+GivesSafePlan is_certified by_product contents config =
+    IsSound contents → IsSafe contents config → RangesFit (plan_of is_certified by_product contents config).facts.instruments
+    → IsSafePlan (plan_of is_certified by_product contents config)
 
 -- What every legal history of a safe plan is: its exported streams differ in identity, its windows are bounded, no series and no sum
 -- overflows, and its numbers are 64-bit numbers.

@@ -20,7 +20,8 @@ use Rattle.metric_facts.specs.Facts.{is_delta}
 use Rattle.metric_history.specs.Points.{points, reported, values}
 use Rattle.metric_history.specs.Series.{all_series, distinct, rows}
 use Rattle.metric_history.specs.Windows.{fits_all, window}
-use Rattle.metric_safety.specs.SafeFacts.{product_of, total, IsJournal, IsSafeFacts}
+use Rattle.metric_facts.specs.Products.{product_of}
+use Rattle.metric_safety.specs.SafeFacts.{total, IsJournal, IsSafeFacts}
 
 -- a sum of at most so many values of the instrument's range
 pub record IsSumWithin (facts : Facts) (count : ℕ) (sum : ℤ) : Type 0 where

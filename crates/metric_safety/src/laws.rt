@@ -1,5 +1,5 @@
 //! What a safe plan entails for each of its runs. The functions do nothing.
-ghost use Rattle.std.specs.Prelude.{ℕ, Bool};
+ghost use Rattle.std.specs.Prelude.{ℕ, Bool, List};
 ghost use Rattle.metric_catalogue.specs.declared.contents.Contents.{Contents};
 ghost use Rattle.metric_views.specs.declared.config.Config.{Config};
 ghost use Rattle.metric_history.specs.History.{History};
@@ -14,8 +14,8 @@ use metric_resolve::streams_are_what_views_give;
 /// A sound catalogue and a config that are safe give a safe plan, whoever vouched for them.
 #[tactic(auto, using(crate::proofs::PlanLaws::plan_of_safe))]
 pub fn safe_configs_give_safe_plans()
-    ensures { (is_certified : Bool) (contents : Contents) (config : Config)
-        → GivesSafePlan is_certified contents config }
+    ensures { (is_certified : Bool) (by_product : List Bool) (contents : Contents) (config : Config)
+        → GivesSafePlan is_certified by_product contents config }
 {}
 
 /// The facts of a safe plan are safe, with no two streams of one identity.

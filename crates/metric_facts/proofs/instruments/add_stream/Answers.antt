@@ -7,7 +7,7 @@ use Rattle.metric_facts.proofs.FactsLaws.{with_stream-at, with_stream-none}
 use Rattle.metric_facts.proofs.instruments.add_stream.Goals as goal
 
 pub returns-then-at-all : goal.returns-then-at-all
-returns-then-at-all c = with_stream-none 0 c.args.number c.args.stream.now c.args.all.now (omega (arith, c.if-at-all.true))
+returns-then-at-all c = with_stream-none 0 c.args.number c.args.by_product c.args.stream.now c.args.all.now (omega (arith, c.if-at-all.true))
 
 pub returns : goal.returns
 returns c =
@@ -15,5 +15,5 @@ returns c =
     let s = c.args.stream.now in
     let own : Facts = get_or all s.instrument c.index-all-at.result in
     ap (λ (streams : List NumberedStream). slice_set all s.instrument (record own { streams = streams }))
-    (c.in_ok-push.ensures.ok ∙ ap (λ (t : Stream). own.streams ++ record { number = c.args.number; stream = t } ∷ []) c.in_ok-stream.ensures)
-    ∙ with_stream-at 0 c.args.number s all s.instrument own own (omega arith) (omega (arith, c.if-at-all.false)) (ap (get_or all s.instrument) c.index-all-at.is)
+    (c.in_ok-push.ensures.ok ∙ ap (λ (t : Stream). own.streams ++ record { number = c.args.number; by_product = c.args.by_product; stream = t } ∷ []) c.in_ok-stream.ensures)
+    ∙ with_stream-at 0 c.args.number c.args.by_product s all s.instrument own own (omega arith) (omega (arith, c.if-at-all.false)) (ap (get_or all s.instrument) c.index-all-at.is)

@@ -12,6 +12,6 @@ loop-number-preserved c =
     let readers = c.args.readers.now in
     let all = c.args.instruments.now in
     let number = c.loop-number.number in
-    ap (λ (done : List Facts). done ++ facts_from certified recorders readers [] (number + 1) (drop (number + 1) all)) c.in_ok-push.ensures.items
-    ∙ instruments_more certified recorders readers [] number all c.loop-number.all.items (facts_from certified recorders readers [] 0 all) c.index-instruments-number.result c.in_ok-facts.facts
+    ap (λ (done : List Facts). done ++ facts_from certified [] recorders readers [] (number + 1) (drop (number + 1) all)) c.in_ok-push.ensures.items
+    ∙ instruments_more certified [] recorders readers [] number all c.loop-number.all.items (facts_from certified [] recorders readers [] 0 all) c.index-instruments-number.result c.in_ok-facts.facts
     c.loop-number-test.true c.index-instruments-number.is c.in_ok-facts.ensures c.loop-number.invariant

@@ -9,10 +9,12 @@ invariant_of-result c =
     let contents = c.args.catalogue in
     let config = c.args.config in
     record {
-      one_each = ap length c.in-Ok.ensures ∙ length-facts_from c.args.is_certified contents.recorders config.readers c.args.streams 0 contents.instruments;
+      one_each = ap length c.in-Ok.ensures ∙ length-facts_from c.args.is_certified c.args.by_product contents.recorders config.readers c.args.streams 0 contents.instruments;
       streams = c.requires.streams;
       facts = rw (c.in-Ok.ensures) refl;
       counted = c.requires.counted;
       safe = c.requires.safe;
+      products = c.requires.products;
+      vouched = c.requires.vouched;
       ranges = subst RangesFit c.as_slice.ensures c.ranges_fit.ensures;
     }

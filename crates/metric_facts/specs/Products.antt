@@ -1,0 +1,27 @@
+-- How many series a stream can have, as far as facts tell it.
+use Rattle.std.specs.Prelude.{ℕ, ◌+◌, ◌*◌, ◌≤◌, Bool, if◌then◌else◌, IsTrue, All, List, [], ◌∷◌}
+use Rattle.metric_facts.specs.declared.facts.FactsFields.{FactsFields as Facts}
+use Rattle.metric_facts.specs.declared.facts.KeyFacts.{KeyFacts}
+use Rattle.metric_facts.specs.declared.facts.NumberedStream.{NumberedStream}
+
+-- what a recording may say of a key: one of its values, or nothing where it may be left out
+abbrev pub key_choices : KeyFacts → ℕ
+key_choices key = key.values + (if key.optional then 1 else 0)
+
+-- the same, as far as a stream sees it: a key that it does not keep tells nothing apart
+abbrev pub radix : Bool → KeyFacts → ℕ
+radix kept key = if kept then key_choices key else 1
+
+-- how many distinct series recordings may have: the product over the keys, of which each is kept or not
+abbrev pub product_of : List Bool → List KeyFacts → ℕ
+product_of [] keys = 1
+product_of (flag ∷ kept) [] = 1
+product_of (flag ∷ kept) (key ∷ keys) = radix flag key * product_of kept keys
+
+-- The product over the keys that a stream keeps is at most its limit.
+abbrev pub IsProductWithin : Facts → NumberedStream → Type 0
+IsProductWithin facts s = product_of s.stream.kept facts.keys ≤ s.stream.limit
+
+-- Whatever is recorded, no stream of the facts that is by product can have more series than its limit.
+abbrev pub AreProductsWithin : Facts → Type 0
+AreProductsWithin facts = All (λ (s : NumberedStream). IsTrue s.by_product → IsProductWithin facts s) facts.streams
