@@ -1,5 +1,6 @@
 pub mod FieldNames
 mod SameValues
+mod Words
 mod Numbered
 mod SoundLists
 mod SoundKeys

@@ -1,6 +1,6 @@
 -- Laws of numberings.
 use Rattle.std.proofs.lemmas.List.{take_more, drop_more}
-use Rattle.std.proofs.Common.{take, drop, get_or, length-take, is_some, ◌≡◌, ℕ, ◌+◌, Bool, true, false, cond, List, [], ◌∷◌, ◌++◌, length, Option, Some, None, String, Global, refl, sym, ap, subst, ◌∙◌, arith, IfSome, ◌<◌, string_bytes}
+use Rattle.std.proofs.Common.{All, take, drop, get_or, length-take, is_some, ◌≡◌, ℕ, ◌+◌, Bool, true, false, cond, List, [], ◌∷◌, ◌++◌, length, Option, Some, None, String, Global, refl, sym, ap, subst, ◌∙◌, arith, IfSome, ◌<◌, string_bytes}
 use Rattle.std.specs.Str.{bytes_eq}
 use Rattle.std.specs.String.{string_eq}
 use Rattle.std.specs.HashMap.{Updates}
@@ -12,6 +12,10 @@ use Rattle.metric_catalogue.specs.Places.{place, repeats_after, same_value}
 use Rattle.metric_catalogue.specs.PlaceLaws.{or_else, position_from-push, position_from-within}
 use Rattle.metric_catalogue.proofs.SameValues.{same_value-Decides}
 use Rattle.metric_catalogue.specs.Numbering.{number_in, Numbers}
+use Rattle.std.proofs.lemmas.List.Elements.{All-contains}
+use Rattle.metric_catalogue.specs.declared.shortcuts.Numbered.{Numbered}
+use Rattle.metric_catalogue.specs.Packed.{text_of}
+use Rattle.metric_catalogue.specs.Shortcuts.{IsRight, Leads}
 
 -- the value and its number are given last
 pub numbers_push : (n m : Numbering) (values : List AttrValue) (w : AttrValue) → Numbers n values → number_in n w ≡ None
@@ -73,3 +77,10 @@ repeats_more values i w within is fresh =
 pub none_from_test : {X : Type 0} (o : Option X) → is_some o ≡ false → o ≡ None
 none_from_test None e = refl
 none_from_test (Some x) e = absurd cc
+
+-- what a slot leads to is the place of the text
+pub place_led : (values : List AttrValue) (slots : List (Option Numbered)) (text : List ℕ) (number : ℕ) → All (IsRight values) slots → Leads slots text number → place values (Text text) ≡ Some number
+place_led values slots text number right leads =
+    let (held, contains, is, same) = leads in
+    let here : place values (Text (text_of held.text)) ≡ Some held.number = All-contains (IsRight values) slots (Some held) right contains in
+    subst (λ (t : List ℕ). place values (Text t) ≡ Some number) is (here ∙ ap Some same)

@@ -2,6 +2,8 @@ pub mod Refusals
 pub mod Places
 pub mod PlaceLaws
 pub mod Numbering
+pub mod Packed
+pub mod Shortcuts
 pub mod Faults
 pub mod FaultPlaces
 pub mod Defects

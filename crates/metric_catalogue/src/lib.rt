@@ -11,9 +11,11 @@ mod keys;
 mod kinds;
 mod meters;
 mod numbering;
+mod packed;
 mod recorders;
 mod refusal;
 mod repeats;
+mod shortcuts;
 mod texts;
 mod values;
 
