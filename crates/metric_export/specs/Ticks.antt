@@ -1,5 +1,5 @@
 -- The ticks that a list gives.
-use Rattle.std.specs.Prelude.{◌≡◌, ℕ, ◌+◌, ◌≤◌, ◌==◌, max, Bool, ◌||◌, if◌then◌else◌, List, [], ◌∷◌, Option, Some, None}
+use Rattle.std.specs.Prelude.{◌≡◌, ◌≢◌, ℕ, ◌+◌, ◌≤◌, ◌==◌, max, Bool, ◌||◌, if◌then◌else◌, List, [], ◌∷◌, Option, Some, None}
 use Rattle.metric_io.specs.Counts.{next_count}
 use Rattle.metric_export.specs.declared.tick.Tick.{Tick}
 use Rattle.metric_export.specs.declared.tick.Tick.TheVariants.{At, Stop}
@@ -37,6 +37,10 @@ after_tick left = record {
   asked = next_count left.asked;
 }
 
+-- one tick of a list's ticker
+abbrev pub ListTicks : TicksLeft → TicksLeft → Tick → Type 0
+ListTicks old new tick = (tick ≡ next_tick old) × (new ≡ after_tick old)
+
 -- a clock's ticker: how many nanoseconds it waits for a tick, how many ticks are left at most, the moment of the last one, and
 -- how often the ticker was asked
 pub record ClockTicksLeft : Type 0 where
@@ -58,3 +62,13 @@ ClockTicks old new (At moment) =
     (old.last ≤ moment) × (new ≡ record old { left = new.left; last = moment; asked = next_count old.asked }) × (old.left ≡ new.left + 1)
 ClockTicks old new (Stop moment) =
     (old.last ≤ moment) × (new ≡ record old { left = 0; last = moment; asked = next_count old.asked })
+
+-- One tick by what a wait for so many nanoseconds tells of the flag, and by what the clock then tells: unless no tick is left, the
+-- ticker waits for its period.
+pub record WatchTicks (waits : ℕ → Bool → Type 0) (reads : Option ℕ → Type 0) (old new : ClockTicksLeft) (tick : Tick) : Type 0 where
+  pub is_set : Bool
+  pub moment : Option ℕ
+  pub waited : old.left ≢ 0 → waits old.period is_set
+  pub read : reads moment
+  pub gives : tick ≡ clock_tick old is_set moment
+  pub ticks : ClockTicks old new tick

@@ -1,43 +1,14 @@
 //! The ticks of a clock.
 ghost use Rattle.std.specs.Prelude.{◌≡◌, ◌*◌, max};
 ghost use Rattle.metric_io.specs.Counts.{next_count};
-ghost use Rattle.metric_export.specs.Ticks.{ClockTicks, clock_tick};
+ghost use Rattle.metric_export.specs.Ticks.{ClockTicks, WatchTicks, clock_tick};
 
+use crate::stop_flag::StopFlag;
 use crate::tick::{Tick, Ticker};
+use crate::watch::{FlagAndClock, Watch};
 use std::marker::Model;
-use std::sync::{Condvar, Mutex, Wait};
-use std::time::{Clock, Duration, SystemTime, UNIX_EPOCH};
-
-/// A flag that stops a [`ClockTicker`], also one that waits. Threads share it by reference.
-#[derive(Drop)]
-pub struct StopFlag {
-    is_set: Mutex<bool>,
-    changed: Condvar,
-}
-
-impl StopFlag {
-    /// A flag that is not set.
-    pub fn new() -> StopFlag {
-        StopFlag {
-            is_set: Mutex::new(false),
-            changed: Condvar::new(),
-        }
-    }
-
-    /// Sets the flag, for good.
-    pub fn set<R: Wait>(&self, rt: &R) {
-        *self.is_set.lock(rt) = true;
-        self.changed.notify_all();
-    }
-
-    // Waits for so long, or until the flag is set. Whether it was set.
-    fn is_set_within<R: Wait + Clock>(&self, rt: &R, time: Duration) -> bool {
-        let (is_set, _) = self
-            .changed
-            .wait_timeout_while(rt, self.is_set.lock(rt), time, |is_set| !*is_set);
-        *is_set
-    }
-}
+use std::sync::Wait;
+use std::time::{Clock, Duration};
 
 /// A ticker that waits for a time before each tick, and gives the moment that the system's clock then
 /// has, in nanoseconds since 1970. It stops after a number of ticks, when its [`StopFlag`] is set,
@@ -102,6 +73,16 @@ impl<'a> ClockTicker<'a> {
         Tick::Stop(self.last)
     }
 
+    // Waits for the period, unless no tick is left, and then reads the clock.
+    fn next_by<W: Watch>(&mut self, watch: &W) -> Tick
+        ensures ticks { WatchTicks (W.waits watch.now) (W.reads watch.now)
+            self.old self.new result }
+        ensures asked { self.new.asked ≡ next_count self.old.asked }
+    {
+        let is_set = self.left == 0 || watch.is_set_within(self.period);
+        self.tick(is_set, watch.moment())
+    }
+
     // What comes after a wait, at which the flag was set or not and the clock had this moment.
     fn tick(&mut self, is_set: bool, moment: Option<u64>) -> Tick
         ensures tick { result ≡ clock_tick self.old is_set moment }
@@ -124,18 +105,13 @@ impl<'a> ClockTicker<'a> {
 impl<R: Wait + Clock> Ticker<R> for ClockTicker<'_> {
     ghost asked = { λ t. t.asked };
 
+    ghost next_gives = { ClockTicks };
+
     fn next(&mut self, rt: &R) -> Tick
         ensures tick { ClockTicks self.old self.new result }
         ensures asked { self.new.asked ≡ next_count self.old.asked }
     {
-        let is_set = self.left == 0 || self.flag.is_set_within(rt, self.period);
-        self.tick(is_set, moment_of(rt))
+        let flag = self.flag;
+        self.next_by(&FlagAndClock { flag, rt })
     }
-}
-
-// The nanoseconds since 1970 by the system's clock, where it can be read.
-fn moment_of<R: Clock>(rt: &R) -> Option<u64> {
-    let now = SystemTime::now(rt).ok()?;
-    let since = now.duration_since(UNIX_EPOCH).ok()?;
-    Some(u64::try_from(since.as_nanos()).unwrap_or(u64::MAX))
 }

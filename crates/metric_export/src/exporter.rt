@@ -1,11 +1,12 @@
 //! What every exporter promises.
-ghost use Rattle.std.specs.Prelude.{◌≡◌, ℕ, List, Option};
+ghost use Rattle.std.specs.Prelude.{◌≡◌, ℕ, List, Option, Result};
 ghost use Rattle.std.specs.Io.KnownBytes.{Keeps};
 ghost use Rattle.metric_io.specs.Counts.{HasFailed};
 ghost use Rattle.metric_history.specs.declared.batch.Batch.{Batch};
 ghost use Rattle.metric_plan.specs.Plans.{PlanValue};
 ghost use Rattle.metric_export.specs.Exports.{Exports};
 ghost use Rattle.metric_export.specs.States.{Answers, GoesOn};
+ghost use Rattle.metric_export.specs.declared.fault.ExportFault.{ExportFault};
 ghost use Rattle.metric_export.specs.declared.state.ExporterState.{ExporterState};
 
 use crate::fault::ExportFault;
@@ -16,7 +17,8 @@ use std::alloc::Global;
 /// What batches are handed on to (Metrics SDK, push metric exporter).
 ///
 /// Contracts see in which text the exporter hands on a batch; the bytes that it handed on, where it
-/// knows them; the count of the failures of its device, which stops at 2^64 - 1; and its state. After
+/// knows them; the count of the failures of its device, which stops at 2^64 - 1; its state; and what
+/// it says of its calls beside that, by which a caller can promise each call that it makes. After
 /// [`shutdown`](MetricExporter::shutdown), whatever it answered, every call answers
 /// [`ExportFault::ShutDown`]. An exporter may go on after a failure, as one over a network does, or be
 /// broken by it, as a [`TextExporter`](crate::TextExporter) is.
@@ -33,6 +35,12 @@ pub trait MetricExporter {
     // Whether the exporter takes calls.
     ghost state: { Self → ExporterState };
 
+    // What an export does to the exporter, by the plan, the batch and the answer.
+    ghost export_gives: { Self → Self → PlanValue → Batch → Result (Unit {0}) ExportFault → Type 0 };
+
+    // What a shutdown does to it, by the answer.
+    ghost shutdown_gives: { Self → Self → Result (Unit {0}) ExportFault → Type 0 };
+
     /// Hands on a batch of the plan.
     ///
     /// # Errors
@@ -46,7 +54,8 @@ pub trait MetricExporter {
             (text plan.now batch.now) result }
         ensures answer { Answers (state self.old)
             (HasFailed (failures self.old) (failures self.new)) result }
-        ensures state { GoesOn (state self.old) (state self.new) result };
+        ensures state { GoesOn (state self.old) (state self.new) result }
+        ensures gives { export_gives self.old self.new plan.now batch.now result };
 
     /// Passes on what the exporter may still hold back. No text is added. The errors are those of
     /// [`export`](MetricExporter::export).
@@ -62,5 +71,6 @@ pub trait MetricExporter {
         ensures text { Keeps (contents self.old) (contents self.new) }
         ensures answer { Answers (state self.old)
             (HasFailed (failures self.old) (failures self.new)) result }
-        ensures state { state self.new ≡ ExporterState.ShutDown };
+        ensures state { state self.new ≡ ExporterState.ShutDown }
+        ensures gives { shutdown_gives self.old self.new result };
 }

@@ -1,6 +1,7 @@
 //! The ticks of a list.
 ghost use Rattle.std.specs.Prelude.{◌≡◌};
-ghost use Rattle.metric_export.specs.Ticks.{after_tick, next_tick};
+ghost use Rattle.metric_io.specs.Counts.{next_count};
+ghost use Rattle.metric_export.specs.Ticks.{ListTicks, after_tick, next_tick};
 
 use crate::tick::{Tick, Ticker};
 use std::marker::Model;
@@ -41,9 +42,13 @@ impl<'a> ListTicker<'a> {
 impl<R> Ticker<R> for ListTicker<'_> {
     ghost asked = { λ t. t.asked };
 
+    ghost next_gives = { ListTicks };
+
     fn next(&mut self, _rt: &R) -> Tick
         ensures tick { result ≡ next_tick self.old }
         ensures after { self.new ≡ after_tick self.old }
+        ensures asked { self.new.asked ≡ next_count self.old.asked }
+        ensures gives { ListTicks self.old self.new result }
     {
         self.asked = self.asked.saturating_add(1);
         let Some((tick, later)) = self.ticks.split_first() else {

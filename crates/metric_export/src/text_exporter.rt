@@ -2,6 +2,7 @@
 ghost use Rattle.std.specs.Prelude.{◌≡◌, ◌≢◌, IsErrOf, IsOkUnless, OnOk};
 ghost use Rattle.std.specs.Io.KnownBytes.{Keeps};
 ghost use Rattle.metric_io.specs.Counts.{HasFailed, CountsFlush};
+ghost use Rattle.metric_export.specs.ExporterCalls.{ExportsText, ShutsTextDown};
 ghost use Rattle.metric_export.specs.Exports.{Exports, plan_text};
 ghost use Rattle.metric_export.specs.States.{Answers, state_after};
 
@@ -76,6 +77,10 @@ impl<W: Sink> MetricExporter for TextExporter<W> {
     ghost failures = { λ e. W.failures e.sink };
 
     ghost state = { λ e. e.state };
+
+    ghost export_gives = { ExportsText W.contents W.failures };
+
+    ghost shutdown_gives = { ShutsTextDown W.contents W.failures };
 
     fn export(&mut self, alloc: Global, plan: &Plan, batch: &Batch) -> Result<(), ExportFault>
         ensures text { Exports (W.contents self.old.sink) (W.contents self.new.sink)

@@ -2,6 +2,7 @@
 ghost use Rattle.std.specs.Prelude.{◌≡◌, ℕ};
 ghost use Rattle.metric_io.specs.Counts.{next_count};
 ghost use Rattle.metric_export.specs.Ticks.{moment_of};
+ghost use Rattle.metric_export.specs.declared.tick.Tick.{Tick};
 
 /// The next moment of a periodic reader.
 #[derive(Clone, Copy, Debug, PartialEq, Eq, Drop)]
@@ -27,12 +28,17 @@ impl Tick {
 /// nanoseconds since 1970 where a clock gives them.
 ///
 /// `R` is the runtime by which a ticker may wait for a moment to come. Contracts see how often the
-/// ticker was asked, which stops at 2^64 - 1.
+/// ticker was asked, which stops at 2^64 - 1, and what it says of the ticks that it gives, by which a
+/// caller can promise that each of its ticks is one that the ticker gave.
 pub trait Ticker<R> {
     // How often the ticker was asked.
     ghost asked: { Self → ℕ };
 
+    // What asking does to the ticker, by the tick that it gives.
+    ghost next_gives: { Self → Self → Tick → Type 0 };
+
     /// The next moment, once it has come. After [`Tick::Stop`] it is not asked again.
     fn next(&mut self, rt: &R) -> Tick
-        ensures { asked self.new ≡ next_count (asked self.old) };
+        ensures asked { asked self.new ≡ next_count (asked self.old) }
+        ensures gives { next_gives self.old self.new result };
 }

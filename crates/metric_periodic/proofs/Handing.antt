@@ -1,62 +1,120 @@
--- Batches that are handed on one after the other.
-use Rattle.std.proofs.Common.{◌≡◌, ◌⊎◌, ℕ, ◌+◌, ◌<◌, ◌≤◌, List, [], ◌∷◌, ◌++◌, Option, Result, length, get_or, take, subst, refl, arith}
-use Rattle.std.specs.Io.KnownBytes.{Keeps}
-use Rattle.std.proofs.lemmas.List.{take_all, take_more}
+-- What a run hands on, by the calls of the exporter that it makes.
+use Rattle.std.proofs.Common.{◌≡◌, ◌⊎◌, ℕ, ◌<◌, zero, suc, List, [], ◌∷◌, ◌++◌, Bool, Option, Some, None, IsSome, Result, Ok, Err, inl, inr, ap, sym, ◌∙◌, subst, refl, arith, rules}
 use Rattle.metric_io.specs.Counts.{next_count}
+use Rattle.std.specs.Io.KnownBytes.{Keeps}
 use Rattle.metric_export.specs.Exports.{Exports}
 use Rattle.metric_export.specs.declared.fault.ExportFault.{ExportFault}
 use Rattle.metric_history.specs.declared.batch.Batch.{Batch}
-use Rattle.metric_periodic.specs.Counts.{AreHandedOn, Handed, HandsOn, HandsOnOne, HandsOnToEnd, IsCounted, handed}
+use Rattle.metric_provider.specs.Seats.{CollectorValue, ProviderValue}
+use Rattle.metric_periodic.specs.Collections.{Collected, Collecting, CollectingLast, CollectsLast}
+use Rattle.metric_periodic.specs.Counts.{AreHandedOn, Handed, HandsOn, HandsOnToEnd, handed}
+use Rattle.metric_periodic.specs.Exported.{Exporting, ExportsCollected, ExportsEach, ShuttingDown, Tally, failed_after}
+use Rattle.metric_periodic.specs.Runs.{IsRun}
+use Rattle.metric_periodic.specs.Turns.{AreTurns, Giving, Progress}
 
--- a batch that was handed on and counted by its answer
-pub one_handed : (text : Batch → List ℕ) (a b : Option (List ℕ)) (e f e' f' : ℕ) (batch : Batch) (answer : Result (Unit {0}) ExportFault)
-    → Exports a b (text batch) answer → IsCounted e f e' f' answer → HandsOnOne text (handed a e f) (handed b e' f') batch
-one_handed text a b e f e' f' batch answer p q = record { answer = answer; exports = p; counted = q }
+-- ---- batches that are handed on one after the other
+
+hands_on_none : (text : Batch → List ℕ) (a : Handed) → HandsOn text a a
+hands_on_none text a = record { batches = []; are = refl }
 
 -- some, and then others
-pub all_handed : (text : Batch → List ℕ) (a b c : Handed) (xs ys : List Batch) → AreHandedOn text a b xs → AreHandedOn text b c ys
+all_handed : (text : Batch → List ℕ) (a b c : Handed) (xs ys : List Batch) → AreHandedOn text a b xs → AreHandedOn text b c ys
     → AreHandedOn text a c (xs ++ ys)
 all_handed text a b c [] ys p q = subst (λ (h : Handed). AreHandedOn text h c ys) p q
 all_handed text a b c (x ∷ xs) ys p q = (p.0, (p.1.0, all_handed text p.0 b c xs ys p.1.1 q))
 
--- the first of a list, and then the next
-pub next_handed : (text : Batch → List ℕ) (a b c : Handed) (batches : List Batch) (i : ℕ) (batch : Batch) → i < length batches
-    → batch ≡ get_or batches i batch → AreHandedOn text a b (take i batches) → HandsOnOne text b c batch → AreHandedOn text a c (take (i + 1) batches)
-next_handed text a b c batches i batch within is p q =
-    let more : AreHandedOn text a c (take i batches ++ batch ∷ []) = all_handed text a b c (take i batches) (batch ∷ []) p (c, (q, refl)) in
-    let same : take i batches ++ batch ∷ [] ≡ take (i + 1) batches = rw (take_more batches i batch within, ← is) refl in
-    subst (AreHandedOn text a c) same more
-
-pub hands_on_none : (text : Batch → List ℕ) (a : Handed) → HandsOn text a a
-hands_on_none text a = record { batches = []; are = refl }
-
-pub hands_on_more : (text : Batch → List ℕ) (a b c : Handed) → HandsOn text a b → HandsOn text b c → HandsOn text a c
+hands_on_more : (text : Batch → List ℕ) (a b c : Handed) → HandsOn text a b → HandsOn text b c → HandsOn text a c
 hands_on_more text a b c p q = record { batches = p.batches ++ q.batches; are = all_handed text a b c p.batches q.batches p.are q.are }
 
--- all of a list
-pub all_taken : (text : Batch → List ℕ) (a b : Handed) (batches : List Batch) (i : ℕ) → length batches ≤ i → AreHandedOn text a b (take i batches)
-    → AreHandedOn text a b batches
-all_taken text a b batches i over p = subst (AreHandedOn text a b) (take_all i batches over) p
+-- ---- the calls of an exporter hand on
 
-pub hands_on : (text : Batch → List ℕ) (a b : Handed) (batches : List Batch) → AreHandedOn text a b batches → HandsOn text a b
-hands_on text a b batches p = record { batches = batches; are = p }
+-- what an exporter handed on, with its counts
+abbrev pub shown : {E : Type 0} → (E → Option (List ℕ)) → Tally E → Handed
+shown contents counts = handed (contents counts.exporter) counts.exported counts.failed
 
--- at the end, the exporter is shut down
-pub to_end : (text : Batch → List ℕ) (start : Handed) (a b : Option (List ℕ)) (e f e' f' : ℕ) → HandsOn text start (handed a e f) → Keeps a b
-    → e' ≡ e → (f' ≡ f) ⊎ (f' ≡ next_count f) → HandsOnToEnd text start (handed b e' f')
-to_end text start a b e f e' f' p kept exported failed =
-    record { before = handed a e f; hands_on = p; kept = kept; exported = exported; failed = failed }
+-- what is said of a call of `export` tells what was appended
+abbrev pub Appending : {E : Type 0} → Exporting E → (Batch → List ℕ) → (E → Option (List ℕ)) → Type 0
+Appending {E} exports text contents = (old new : E) (batch : Batch) (answer : Result (Unit {0}) ExportFault) → exports old new batch answer
+    → Exports (contents old) (contents new) (text batch) answer
 
--- a last collection that was handed on after others
-pub more_to_end : (text : Batch → List ℕ) (a b c : Handed) → HandsOn text a b → HandsOnToEnd text b c → HandsOnToEnd text a c
-more_to_end text a b c p q = record {
-  before = q.before;
-  hands_on = hands_on_more text a b q.before p q.hands_on;
-  kept = q.kept;
-  exported = q.exported;
-  failed = q.failed;
+handed_each : {E : Type 0} (exports : Exporting E) (text : Batch → List ℕ) (contents : E → Option (List ℕ)) → Appending exports text contents
+    → (a b : Tally E) (batches : List Batch) → ExportsEach exports a b batches → AreHandedOn text (shown contents a) (shown contents b) batches
+handed_each exports text contents appending a b [] p = ap (shown contents) p
+handed_each exports text contents appending a b (batch ∷ batches) p =
+    let one = p.1.0 in (
+      shown contents p.0,
+      (
+        record { answer = one.answer; exports = appending _ _ _ _ one.call; counted = one.counted },
+        handed_each exports text contents appending p.0 b batches p.1.1,
+      ),
+    )
+
+handed_collected : {E : Type 0} (exports : Exporting E) (text : Batch → List ℕ) (contents : E → Option (List ℕ)) → Appending exports text contents
+    → (a b : Tally E) (collected : Collected) → ExportsCollected exports a b collected → HandsOn text (shown contents a) (shown contents b)
+handed_collected exports text contents appending a b (Ok batches) p =
+    record { batches = batches.items; are = handed_each exports text contents appending a b batches.items p }
+handed_collected exports text contents appending a b (Err fault) p =
+    record { batches = fault.done.items; are = handed_each exports text contents appending _ b fault.done.items p }
+
+handed_turns : {T C E : Type 0} (gives : Giving T) (collects : Collecting C) (exports : Exporting E) (text : Batch → List ℕ)
+    (contents : E → Option (List ℕ)) → Appending exports text contents → (made : ℕ) (start end : Progress T C E)
+    → AreTurns gives collects exports made start end → HandsOn text (shown contents start.counts) (shown contents end.counts)
+handed_turns {T} {C} {E} gives collects exports text contents appending zero start end p =
+    subst (λ (e : Progress T C E). HandsOn text (shown contents start.counts) (shown contents e.counts)) (sym p) (hands_on_none text _)
+handed_turns gives collects exports text contents appending (suc made) start end p =
+    let turn = p.1.1.collected_at in
+    hands_on_more text _ _ _ (handed_turns gives collects exports text contents appending made start p.0 p.1.0)
+    (handed_collected exports text contents appending p.0.counts end.counts turn.collected turn.exported)
+
+-- a shutdown that failed is one failure more
+failed_or_not : (old new : ℕ) (answer : Result (Unit {0}) ExportFault) → new ≡ failed_after old answer → (new ≡ old) ⊎ (new ≡ next_count old)
+failed_or_not old new (Ok done) p = inl p
+failed_or_not old new (Err fault) p = inr p
+
+pub run_hands_on : {T C E : Type 0} (gives : Giving T) (collects : Collecting C) (last : CollectingLast C)
+    (exports : Exporting E) (shuts_down : ShuttingDown E) (text : Batch → List ℕ)
+    (contents : E → Option (List ℕ)) → Appending exports text contents
+    → ((old new : E) (answer : Result (Unit {0}) ExportFault) → shuts_down old new answer → Keeps (contents old) (contents new))
+    → (most : ℕ) (start : Progress T C E) (ticker : T) (stopped : Bool) (kept : Option C) (counts : Tally E)
+    → IsRun gives collects last exports shuts_down most start ticker stopped kept counts
+    → HandsOnToEnd text (shown contents start.counts) (shown contents counts)
+run_hands_on gives collects last exports shuts_down text contents appending keeping most start ticker stopped kept counts run = record {
+  before = shown contents run.before_shutdown;
+  hands_on =
+      hands_on_more text _ _ _
+      (handed_turns gives collects exports text contents appending run.turns.made start _ run.turns.turns)
+      (handed_collected exports text contents appending run.after_turns run.before_shutdown run.collected run.exported);
+  kept = keeping _ _ _ run.shut_down.call;
+  exported = run.shut_down.exported;
+  failed = failed_or_not _ _ run.shut_down.answer run.shut_down.failed;
 }
 
--- what was counted is counted
-pub some_counted : (old new : ℕ) → new ≡ next_count old → 0 < new
-some_counted old new is = omega arith
+-- ---- a seat that is kept was refused
+
+refused_each : {E : Type 0} (exports : Exporting E) (a b : Tally E) (batches : List Batch) → ExportsEach exports a b batches → b.refused ≡ a.refused
+refused_each exports a b [] p = ap (λ (counts : Tally _). counts.refused) p
+refused_each exports a b (batch ∷ batches) p = refused_each exports p.0 b batches p.1.1 ∙ p.1.0.refused
+
+refused_some : (old new : ℕ) → new ≡ next_count old → 0 < new
+refused_some old new is = omega arith
+
+none_kept : (kept : Option CollectorValue) → kept ≡ None → IsSome kept → ⊥
+none_kept None is some = search rules
+none_kept (Some seat) is some = cc
+
+refused_kept : {E : Type 0} (exports : Exporting E) (p : ProviderValue) (seat : CollectorValue) (kept : Option CollectorValue) (a b : Tally E)
+    (collected : Collected) → CollectsLast p seat kept collected → ExportsCollected exports a b collected → IsSome kept → 0 < b.refused
+refused_kept exports p seat kept a b (Ok batches) collects exported some =
+    absurd (none_kept kept collects.1 some)
+refused_kept exports p seat kept a b (Err fault) collects exported some =
+    refused_some a.refused b.refused (refused_each exports _ b fault.done.items exported)
+
+pub run_keeps_refused : {T E : Type 0} (gives : Giving T) (collects : Collecting CollectorValue) (exports : Exporting E)
+    (shuts_down : ShuttingDown E) (p : ProviderValue) (most : ℕ) (start : Progress T CollectorValue E) (ticker : T)
+    (stopped : Bool) (kept : Option CollectorValue) (counts : Tally E)
+    → IsRun gives collects (λ _ old new collected. CollectsLast p old new collected) exports shuts_down most start ticker stopped kept counts
+    → IsSome kept → 0 < counts.refused
+run_keeps_refused gives collects exports shuts_down p most start ticker stopped kept counts run some =
+    let refused : 0 < run.before_shutdown.refused =
+    refused_kept exports p run.seat kept run.after_turns run.before_shutdown run.collected run.collects_at run.exported some in
+    rw run.shut_down.refused refused

@@ -1,1 +1,3 @@
+mod Calling
+mod Turning
 mod Handing

@@ -1,10 +1,42 @@
 -- What the collections of a periodic reader gave.
-use Rattle.std.specs.Prelude.{List, Vec, Result, Ok, Err}
+use Rattle.std.specs.Prelude.{◌≡◌, ℕ, List, Option, Some, None, Vec, Result, Ok, Err, true, length}
 use Rattle.std.specs.Global.{Global}
 use Rattle.metric_history.specs.declared.batch.Batch.{Batch}
 use Rattle.metric_provider.specs.declared.fault.AllFault.{AllFault}
+use Rattle.metric_provider.specs.Collections.{AllRefused, AnswersEach, with_all_seen}
+use Rattle.metric_provider.specs.Seats.{CollectorValue, ProviderValue, is_collector_of}
+
+-- what a collection of all instruments answers
+abbrev pub Collected : Type 0
+Collected = Result (Vec Batch Global) AllFault
+
+-- what is said of a collection: the moment that it is made at, the seat before and after it, and the answer
+abbrev pub Collecting : Type 0 → Type 1
+Collecting C = ℕ → C → C → Collected → Type 0
+
+-- the same of the last one, by the seat that is kept after it
+abbrev pub CollectingLast : Type 0 → Type 1
+CollectingLast C = ℕ → C → Option C → Collected → Type 0
 
 -- the batches that a collection gave, also where it was refused before its end
-abbrev pub batches_of : Result (Vec Batch Global) AllFault → List Batch
+abbrev pub batches_of : Collected → List Batch
 batches_of (Ok batches) = batches.items
 batches_of (Err fault) = fault.done.items
+
+-- The next batch of each instrument of the provider, in order.
+pub record AreNextBatches (p : ProviderValue) (seat : CollectorValue) (batches : List Batch) : Type 0 where
+  pub own : is_collector_of p seat ≡ true
+  pub each : AnswersEach p seat batches
+  pub all : length batches ≡ length p.plan.facts.instruments
+
+-- a collection with a seat, which has then seen the batches that it gave
+abbrev pub Collects : ProviderValue → CollectorValue → CollectorValue → Collected → Type 0
+Collects p old new (Ok batches) = AreNextBatches p old batches.items × (new ≡ with_all_seen old batches.items)
+Collects p old new (Err fault) =
+    AllRefused p old fault.done.items fault.instrument fault.refusal × (new ≡ with_all_seen old fault.done.items)
+
+-- the last collection with a seat, which is kept only where it was refused
+abbrev pub CollectsLast : ProviderValue → CollectorValue → Option CollectorValue → Collected → Type 0
+CollectsLast p old kept (Ok batches) = AreNextBatches p old batches.items × (kept ≡ None)
+CollectsLast p old kept (Err fault) =
+    AllRefused p old fault.done.items fault.instrument fault.refusal × (kept ≡ Some (with_all_seen old fault.done.items))

@@ -1,3 +1,5 @@
-pub mod Turns
-pub mod Counts
 pub mod Collections
+pub mod Counts
+pub mod Exported
+pub mod Turns
+pub mod Runs

@@ -1,7 +1,9 @@
--- A periodic reader, as contracts see it.
-use Rattle.std.specs.Prelude.{ℕ, Bool, true, false}
+-- A periodic reader, as contracts see it, and its turns.
+use Rattle.std.specs.Prelude.{◌≡◌, ◌<◌, ℕ, zero, suc, Bool, true, false}
 use Rattle.metric_export.specs.declared.tick.Tick.{Tick}
 use Rattle.metric_export.specs.declared.tick.Tick.TheVariants.{At, Stop}
+use Rattle.metric_periodic.specs.Collections.{Collected, Collecting}
+use Rattle.metric_periodic.specs.Exported.{Exporting, ExportsCollected, Tally}
 
 -- a reader that was not run: its exporter, and how often it asks its ticker at most
 pub record PeriodicValue (E : Type 0) : Type 0 where
@@ -12,3 +14,65 @@ pub record PeriodicValue (E : Type 0) : Type 0 where
 abbrev pub is_stop : Tick → Bool
 is_stop (At moment) = false
 is_stop (Stop moment) = true
+
+-- how far a run has come: its ticker, the moment of the last tick, the seat, and the exporter with the counts
+pub record Progress (T C E : Type 0) : Type 0 where
+  pub ticker : T
+  pub moment : ℕ
+  pub seat : C
+  pub counts : Tally E
+
+abbrev pub progress : {T C E : Type 0} → T → ℕ → C → Tally E → Progress T C E
+progress ticker moment seat counts = record { ticker = ticker; moment = moment; seat = seat; counts = counts }
+
+-- what is said of a tick: the ticker before and after it was asked, and the tick
+abbrev pub Giving : Type 0 → Type 1
+Giving T = T → T → Tick → Type 0
+
+-- A collection was made at a moment, and the exporter called for each batch that it gave.
+pub record IsCollectedAt {C E : Type 0}
+    (collects : Collecting C)
+    (exports : Exporting E)
+    (moment : ℕ)
+    (old new : C)
+    (before after : Tally E) : Type 0 where
+  pub collected : Collected
+  pub collects_at : collects moment old new collected
+  pub exported : ExportsCollected exports before after collected
+
+-- One turn: the ticker gave a moment, and a collection was made at it.
+pub record IsTurn {T C E : Type 0}
+    (gives : Giving T)
+    (collects : Collecting C)
+    (exports : Exporting E)
+    (old new : Progress T C E) : Type 0 where
+  pub tick : gives old.ticker new.ticker (At new.moment)
+  pub collected_at : IsCollectedAt collects exports new.moment old.seat new.seat old.counts new.counts
+
+-- so many turns, one after the other
+abbrev pub AreTurns : {T C E : Type 0} → Giving T → Collecting C → Exporting E → ℕ → Progress T C E → Progress T C E → Type 0
+AreTurns gives collects exports zero old new = new ≡ old
+AreTurns {T} {C} {E} gives collects exports (suc turns) old new =
+    (mid : Progress T C E) × (AreTurns gives collects exports turns old mid × IsTurn gives collects exports mid new)
+
+-- How the turns end: all are made and the moment is that of the last tick, or fewer are made and the ticker then gave a stop.
+abbrev pub EndsTurns : {T : Type 0} → Giving T → ℕ → ℕ → ℕ → T → T → Tick → Type 0
+EndsTurns gives most made moment old new (At last) = (made ≡ most) × ((last ≡ moment) × (new ≡ old))
+EndsTurns gives most made moment old new (Stop last) = (made < most) × gives old new (Stop last)
+
+-- All turns of a run, from a start on: what they leave of the ticker, the last tick, the seat, and the exporter with the counts.
+pub record MakesTurns {T C E : Type 0}
+    (gives : Giving T)
+    (collects : Collecting C)
+    (exports : Exporting E)
+    (most : ℕ)
+    (start : Progress T C E)
+    (ticker : T)
+    (last : Tick)
+    (seat : C)
+    (counts : Tally E) : Type 0 where
+  pub made : ℕ
+  pub before : T
+  pub moment : ℕ
+  pub turns : AreTurns gives collects exports made start (progress before moment seat counts)
+  pub ends : EndsTurns gives most made moment before ticker last

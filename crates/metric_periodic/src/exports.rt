@@ -1,16 +1,15 @@
 //! Collections handed on to an exporter, and counted.
-ghost use Rattle.std.specs.Prelude.{◌≡◌, ◌⊎◌, IsErr, IsOk};
-ghost use Rattle.std.specs.Io.KnownBytes.{Keeps};
-ghost use Rattle.metric_io.specs.Counts.{next_count};
-ghost use Rattle.metric_export.specs.declared.state.ExporterState.{ExporterState};
-ghost use Rattle.metric_periodic.specs.Counts.{AreHandedOn, HandsOnOne, IsCounted, handed};
-ghost use Rattle.metric_periodic.specs.Collections.{batches_of};
+ghost use Rattle.std.specs.Prelude.{◌≡◌};
+ghost use Rattle.metric_export.specs.ExporterCalls.{IsExport, IsShutdown};
+ghost use Rattle.metric_periodic.specs.Counts.{IsCounted};
+ghost use Rattle.metric_periodic.specs.Exported.{ExportsCollected, ExportsEach, ExportsOne, ShutsDown, with_collection};
 
 use metric_export::{ExportFault, MetricExporter};
 use metric_history::Batch;
 use metric_plan::Plan;
 use metric_provider::AllFault;
 use std::alloc::Global;
+use std::marker::Model;
 
 /// An exporter, with the counts of what it was handed. Each count stops at 2^64 - 1.
 #[derive(Drop)]
@@ -22,6 +21,19 @@ pub(crate) struct Exports<E> {
     pub failed: u64,
     /// The collections that were refused.
     pub refused: u64,
+}
+
+impl<E> Model for Exports<E> {
+    ghost use Rattle.metric_periodic.specs.Exported.{Tally};
+
+    ghost Value = { Tally E };
+
+    ghost view = { λ e. record {
+      exporter = e.exporter;
+      exported = e.exported;
+      failed = e.failed;
+      refused = e.refused;
+    } };
 }
 
 impl<E: MetricExporter> Exports<E> {
@@ -44,30 +56,31 @@ impl<E: MetricExporter> Exports<E> {
         plan: &Plan,
         collected: &Result<Vec<Batch>, AllFault>,
     )
-        ensures handed { AreHandedOn (E.text plan.now)
-            (handed (E.contents self.old.exporter) self.old.exported self.old.failed)
-            (handed (E.contents self.new.exporter) self.new.exported self.new.failed)
-            (batches_of collected.now) }
-        ensures refused { IsErr collected.now →
-            self.new.refused ≡ next_count self.old.refused }
-        ensures accepted { IsOk collected.now → self.new.refused ≡ self.old.refused }
+        ensures { let exports =
+            IsExport E.export_gives E.text E.contents E.failures E.state plan.now in
+            ExportsCollected exports self.old self.new collected.now }
     {
+        self.count_collection(collected);
         match collected {
             Ok(batches) => self.hand_on(alloc, plan, batches),
-            Err(fault) => {
-                self.refused = self.refused.saturating_add(1);
-                self.hand_on(alloc, plan, &fault.done);
-            }
+            Err(fault) => self.hand_on(alloc, plan, &fault.done),
+        }
+    }
+
+    // Counts a collection that was refused.
+    fn count_collection(&mut self, collected: &Result<Vec<Batch>, AllFault>)
+        ensures { self.new ≡ with_collection self.old collected.now }
+    {
+        if collected.is_err() {
+            self.refused = self.refused.saturating_add(1);
         }
     }
 
     // Hands on each batch in order, once.
     fn hand_on(&mut self, alloc: Global, plan: &Plan, batches: &[Batch])
-        ensures handed { AreHandedOn (E.text plan.now)
-            (handed (E.contents self.old.exporter) self.old.exported self.old.failed)
-            (handed (E.contents self.new.exporter) self.new.exported self.new.failed)
-            batches.now }
-        ensures refused { self.new.refused ≡ self.old.refused }
+        ensures { let exports =
+            IsExport E.export_gives E.text E.contents E.failures E.state plan.now in
+            ExportsEach exports self.old self.new batches.now }
     {
         for batch in batches {
             self.hand_on_one(alloc, plan, batch);
@@ -75,13 +88,11 @@ impl<E: MetricExporter> Exports<E> {
     }
 
     // Hands on a batch, and counts the exporter's answer.
-    #[tactic(auto, using(crate::proofs::Handing::one_handed))]
+    #[tactic(auto, using(crate::proofs::Calling::one_exported))]
     fn hand_on_one(&mut self, alloc: Global, plan: &Plan, batch: &Batch)
-        ensures handed { HandsOnOne (E.text plan.now)
-            (handed (E.contents self.old.exporter) self.old.exported self.old.failed)
-            (handed (E.contents self.new.exporter) self.new.exported self.new.failed)
-            batch.now }
-        ensures refused { self.new.refused ≡ self.old.refused }
+        ensures { let exports =
+            IsExport E.export_gives E.text E.contents E.failures E.state plan.now in
+            ExportsOne exports self.old self.new batch.now }
     {
         let answer = self.exporter.export(alloc, plan, batch);
         self.count(&answer);
@@ -100,14 +111,12 @@ impl<E: MetricExporter> Exports<E> {
         }
     }
 
-    /// Shuts the exporter down.
+    /// Shuts the exporter down, and counts its failure.
+    #[tactic(auto, using(crate::proofs::Calling::shut_down_counted))]
     pub(crate) fn shut_down(&mut self)
-        ensures kept { Keeps (E.contents self.old.exporter) (E.contents self.new.exporter) }
-        ensures state { E.state self.new.exporter ≡ ExporterState.ShutDown }
-        ensures exported { self.new.exported ≡ self.old.exported }
-        ensures failed { (self.new.failed ≡ self.old.failed)
-            ⊎ (self.new.failed ≡ next_count self.old.failed) }
-        ensures refused { self.new.refused ≡ self.old.refused }
+        ensures { let shuts_down =
+            IsShutdown E.shutdown_gives E.contents E.failures E.state in
+            ShutsDown shuts_down self.old self.new }
     {
         if self.exporter.shutdown().is_err() {
             self.failed = self.failed.saturating_add(1);

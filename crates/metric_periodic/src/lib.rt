@@ -4,5 +4,7 @@
 
 mod exports;
 mod periodic;
+mod reading;
+mod seat;
 
 pub use periodic::{Periodic, PeriodicEnd};

@@ -1,16 +1,19 @@
 //! The periodic reader.
-ghost use Rattle.std.specs.Prelude.{◌≡◌, ◌+◌, ◌<◌, ◌≤◌, IsErr, IsSome, false};
+ghost use Rattle.std.specs.Prelude.{◌≡◌, ◌+◌, ◌<◌, ◌≤◌, IsSome, false};
 ghost use Rattle.metric_io.specs.Counts.{higher_count};
+ghost use Rattle.metric_export.specs.ExporterCalls.{IsExport, IsShutdown};
 ghost use Rattle.metric_export.specs.declared.state.ExporterState.{ExporterState};
+ghost use Rattle.metric_periodic.specs.Collections.{Collects, CollectsLast};
 ghost use Rattle.metric_periodic.specs.Counts.{HandsOnToEnd, handed};
-ghost use Rattle.metric_periodic.specs.Turns.{is_stop};
+ghost use Rattle.metric_periodic.specs.Exported.{tally};
+ghost use Rattle.metric_periodic.specs.Runs.{IsRun};
+ghost use Rattle.metric_periodic.specs.Turns.{progress};
 
 use crate::exports::Exports;
+use crate::reading::{Ended, Reading, read_to_end};
 use metric_book::Book;
-use metric_export::{MetricExporter, Tick, Ticker};
-use metric_history::Batch;
-use metric_plan::Plan;
-use metric_provider::{AllFault, Collector, Gate, Provider};
+use metric_export::{MetricExporter, Ticker};
+use metric_provider::{Collector, Gate, Provider};
 use std::alloc::Global;
 use std::marker::Model;
 use std::sync::Wait;
@@ -57,12 +60,12 @@ impl<E: MetricExporter> Periodic<E> {
     }
 
     /// Collects at each tick and hands on each batch in order. Where a collection is refused, what was
-    /// collected before is handed on. An export that fails is not tried again. Contracts see that batches
-    /// were handed on, and how the exporter answered, but not which batches the collector was given.
+    /// collected before is handed on. An export that fails is not tried again. Contracts see that each turn
+    /// makes one collection, at the moment of its tick, and calls the exporter once for each batch that the
+    /// collection gave.
     ///
     /// When the ticker stops, or was asked as often as it may be, a last collection is made, at the
     /// moment of the last tick, 0 where there was none; then the exporter is shut down.
-    #[tactic(auto, using(crate::proofs::Handing::hands_on_none, crate::proofs::Handing::hands_on_more, crate::proofs::Handing::hands_on))]
     pub fn run<R: Wait, B: Book, G: Gate, T: Ticker<R>>(
         self,
         rt: &R,
@@ -71,6 +74,15 @@ impl<E: MetricExporter> Periodic<E> {
         collector: Collector,
         ticker: &mut T,
     ) -> PeriodicEnd<E>
+        ensures run { let exports = IsExport E.export_gives E.text E.contents E.failures
+            E.state provider.now.plan in
+            let shuts_down = IsShutdown E.shutdown_gives E.contents E.failures E.state in
+            IsRun T.next_gives (λ _ old new collected. Collects provider.now old new collected)
+            (λ _ old kept collected. CollectsLast provider.now old kept collected)
+            exports shuts_down self.turns
+            (progress ticker.old 0 collector (tally self.exporter 0 0 0))
+            ticker.new result.stopped result.kept
+            (tally result.exporter result.exported result.failed result.refused) }
         ensures asked { T.asked ticker.new ≤ T.asked ticker.old + self.turns }
         ensures all_turns { result.stopped ≡ false →
             higher_count (T.asked ticker.old) self.turns ≤ T.asked ticker.new }
@@ -81,60 +93,24 @@ impl<E: MetricExporter> Periodic<E> {
         ensures kept { IsSome result.kept → 0 < result.refused }
     {
         let Periodic { exporter, turns } = self;
-        let mut exports = Exports::new(exporter);
-        let mut collector = collector;
-        let mut last = Tick::At(0);
-        for _turn in 0..turns {
-            last = ticker.next(rt);
-            let Tick::At(now) = last else {
-                break;
-            };
-            let collected = collector.collect_all(rt, alloc, provider, now);
-            exports.hand_on_collected(alloc, provider.plan(), &collected);
+        let reading = Reading {
+            seat: collector,
+            exports: Exports::new(exporter),
+        };
+        let plan = provider.plan();
+        let ended = read_to_end(rt, alloc, plan, provider, turns, reading, ticker);
+        let Ended {
+            exports,
+            stopped,
+            kept,
+        } = ended;
+        PeriodicEnd {
+            exporter: exports.exporter,
+            exported: exports.exported,
+            failed: exports.failed,
+            refused: exports.refused,
+            stopped,
+            kept,
         }
-        let collected = collector.shutdown(rt, alloc, provider, last.moment());
-        end_of(alloc, provider.plan(), exports, collected, last)
-    }
-}
-
-// Hands on the last collection, and shuts the exporter down.
-#[tactic(auto, using(crate::proofs::Handing::to_end, crate::proofs::Handing::hands_on, crate::proofs::Handing::some_counted))]
-fn end_of<E: MetricExporter>(
-    alloc: Global,
-    plan: &Plan,
-    exports: Exports<E>,
-    collected: Result<Vec<Batch>, (Collector, AllFault)>,
-    last: Tick,
-) -> PeriodicEnd<E>
-    ensures handed { HandsOnToEnd (E.text plan.now)
-        (handed (E.contents exports.exporter) exports.exported exports.failed)
-        (handed (E.contents result.exporter) result.exported result.failed) }
-    ensures stopped { result.stopped ≡ is_stop last }
-    ensures shut_down { E.state result.exporter ≡ ExporterState.ShutDown }
-    ensures kept { IsSome result.kept → 0 < result.refused }
-{
-    let mut exports = exports;
-    let (collected, kept) = parted(collected);
-    exports.hand_on_collected(alloc, plan, &collected);
-    exports.shut_down();
-    PeriodicEnd {
-        exporter: exports.exporter,
-        exported: exports.exported,
-        failed: exports.failed,
-        refused: exports.refused,
-        stopped: matches!(last, Tick::Stop(_)),
-        kept,
-    }
-}
-
-// The last collection apart from the collector, which is kept only where it was refused.
-fn parted(
-    collected: Result<Vec<Batch>, (Collector, AllFault)>,
-) -> (Result<Vec<Batch>, AllFault>, Option<Collector>)
-    ensures { IsSome result.1 → IsErr result.0 }
-{
-    match collected {
-        Ok(batches) => (Ok(batches), None),
-        Err((collector, fault)) => (Err(fault), Some(collector)),
     }
 }

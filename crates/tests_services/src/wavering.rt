@@ -1,5 +1,7 @@
 //! An exporter of a user's own in a periodic reader: it keeps no text, fails one export, and goes on.
-ghost use Rattle.std.specs.Prelude.{[], None};
+ghost use Rattle.std.specs.Prelude.{◌≡◌, [], None};
+ghost use Rattle.metric_export.specs.States.{GoesOn};
+ghost use Rattle.metric_export.specs.declared.state.ExporterState.TheVariants.{ShutDown};
 
 use crate::equal::assert_equal;
 use crate::periods::TICKS;
@@ -33,6 +35,10 @@ impl MetricExporter for WaveringExporter {
     ghost failures = { λ e. e.failures };
 
     ghost state = { λ e. e.state };
+
+    ghost export_gives = { λ old new _ _ answer. GoesOn old.state new.state answer };
+
+    ghost shutdown_gives = { λ _ new _. new.state ≡ ShutDown };
 
     fn export(&mut self, _alloc: Global, _plan: &Plan, batch: &Batch) -> Result<(), ExportFault> {
         self.state.admit()?;

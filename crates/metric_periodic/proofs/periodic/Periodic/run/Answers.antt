@@ -1,10 +1,21 @@
-use Rattle.std.proofs.Common.{rules}
-use Rattle.metric_periodic.proofs.Handing.{more_to_end}
+use Rattle.metric_periodic.proofs.Handing.{run_hands_on, run_keeps_refused}
 use Rattle.metric_periodic.proofs.periodic.Periodic.run.Goals as goal
+
+pub returns-clause-run : goal.returns-clause-run
+returns-clause-run g c =
+    rw (← c.self.view_is) (rw (c.plan-plan.ensures, c.new.ensures, ← c.exports.view_is) at c.read_to_end-ended.ensures.run)
 
 pub returns-clause-handed : goal.returns-clause-handed
 returns-clause-handed g c =
-    more_to_end (g.E.MetricExporter.text c.args.provider.now.plan) _ _ _ c.loop-turn.invariant.handed (rw c.plan-2.ensures at c.end_of.ensures.handed)
+    rw (← c.self.view_is)
+    (run_hands_on _ _ _ _ _ _ _ (λ old new batch answer call. call.appends) (λ old new answer call. call.keeps) _ _ _ _ _ _
+    (rw (c.plan-plan.ensures, c.new.ensures, ← c.exports.view_is) at c.read_to_end-ended.ensures.run))
 
-pub returns-clause-asked : goal.returns-clause-asked
-returns-clause-asked g c = search rules
+pub returns-clause-shut_down : goal.returns-clause-shut_down
+returns-clause-shut_down g c =
+    let run = rw (← c.exports.view_is) at c.read_to_end-ended.ensures.run in
+    run.shut_down.call.shut_down
+
+pub returns-clause-kept : goal.returns-clause-kept
+returns-clause-kept g c =
+    run_keeps_refused _ _ _ _ _ _ _ _ _ _ _ (rw (← c.exports.view_is) at c.read_to_end-ended.ensures.run)

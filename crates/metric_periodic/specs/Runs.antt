@@ -1,0 +1,32 @@
+-- A whole run of a periodic reader.
+use Rattle.std.specs.Prelude.{◌≡◌, ℕ, Bool, Option}
+use Rattle.metric_export.specs.Ticks.{moment_of}
+use Rattle.metric_export.specs.declared.tick.Tick.{Tick}
+use Rattle.metric_periodic.specs.Collections.{Collected, Collecting, CollectingLast}
+use Rattle.metric_periodic.specs.Exported.{Exporting, ExportsCollected, ShutsDown, ShuttingDown, Tally}
+use Rattle.metric_periodic.specs.Turns.{Giving, MakesTurns, Progress, is_stop}
+
+-- After its turns a run makes the last collection, at the moment of the last tick, calls the exporter for each batch that it gave, and
+-- shuts the exporter down. The run was stopped where the ticker's last tick was a stop.
+pub record IsRun {T C E : Type 0}
+    (gives : Giving T)
+    (collects : Collecting C)
+    (collects_last : CollectingLast C)
+    (exports : Exporting E)
+    (shuts_down : ShuttingDown E)
+    (most : ℕ)
+    (start : Progress T C E)
+    (ticker : T)
+    (stopped : Bool)
+    (kept : Option C)
+    (counts : Tally E) : Type 0 where
+  pub last : Tick
+  pub seat : C
+  pub after_turns : Tally E
+  pub turns : MakesTurns gives collects exports most start ticker last seat after_turns
+  pub is_stopped : stopped ≡ is_stop last
+  pub collected : Collected
+  pub collects_at : collects_last (moment_of last) seat kept collected
+  pub before_shutdown : Tally E
+  pub exported : ExportsCollected exports after_turns before_shutdown collected
+  pub shut_down : ShutsDown shuts_down before_shutdown counts

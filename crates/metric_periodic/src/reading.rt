@@ -1,0 +1,123 @@
+//! The turns of a periodic reader, with any ticker, seat and exporter.
+ghost use Rattle.std.specs.Prelude.{◌≡◌, ◌+◌, ◌≤◌, false};
+ghost use Rattle.metric_io.specs.Counts.{higher_count};
+ghost use Rattle.metric_export.specs.ExporterCalls.{IsExport, IsShutdown};
+ghost use Rattle.metric_periodic.specs.Runs.{IsRun};
+ghost use Rattle.metric_periodic.specs.Turns.{IsCollectedAt, MakesTurns, is_stop, progress};
+
+use crate::exports::Exports;
+use crate::seat::Seat;
+use metric_export::{MetricExporter, Tick, Ticker};
+use metric_plan::Plan;
+use std::alloc::Global;
+
+/// A seat, and the exporter that its batches are handed on to.
+pub(crate) struct Reading<C, E> {
+    pub seat: C,
+    pub exports: Exports<E>,
+}
+
+/// What a run leaves: the exporter with the counts, whether the ticker said that the run was to stop,
+/// and the seat where its last collection was refused.
+pub(crate) struct Ended<C, E> {
+    pub exports: Exports<E>,
+    pub stopped: bool,
+    pub kept: Option<C>,
+}
+
+/// Collects at each tick and hands on what was collected, until the ticker stops or was asked so many
+/// times; then once more, at the moment of the last tick, 0 where there was none; and shuts the exporter
+/// down.
+pub(crate) fn read_to_end<R, P, C: Seat<R, P>, E: MetricExporter, T: Ticker<R>>(
+    rt: &R,
+    alloc: Global,
+    plan: &Plan,
+    provider: &P,
+    turns: u32,
+    reading: Reading<C, E>,
+    ticker: &mut T,
+) -> Ended<C, E>
+    ensures run { let exports =
+        IsExport E.export_gives E.text E.contents E.failures E.state plan.now in
+        let shuts_down = IsShutdown E.shutdown_gives E.contents E.failures E.state in
+        IsRun T.next_gives (C.collects provider.now) (C.collects_last provider.now)
+        exports shuts_down turns
+        (progress ticker.old 0 reading.seat reading.exports)
+        ticker.new result.stopped result.kept result.exports }
+    ensures asked { T.asked ticker.new ≤ T.asked ticker.old + turns }
+    ensures all_turns { result.stopped ≡ false →
+        higher_count (T.asked ticker.old) turns ≤ T.asked ticker.new }
+{
+    let mut reading = reading;
+    let last = make_turns(rt, alloc, plan, provider, turns, &mut reading, ticker);
+    let Reading { seat, exports } = reading;
+    let (collected, kept) = seat.collect_last_at(rt, alloc, provider, last.moment());
+    let mut exports = exports;
+    exports.hand_on_collected(alloc, plan, &collected);
+    exports.shut_down();
+    Ended {
+        exports,
+        stopped: stops(last),
+        kept,
+    }
+}
+
+// Whether a tick is a stop.
+fn stops(last: Tick) -> bool
+    ensures { result ≡ is_stop last }
+{
+    match last {
+        Tick::At(_) => false,
+        Tick::Stop(_) => true,
+    }
+}
+
+// Makes the turns. The last tick: a stop, or that of the last turn, at 0 where there was none.
+fn make_turns<R, P, C: Seat<R, P>, E: MetricExporter, T: Ticker<R>>(
+    rt: &R,
+    alloc: Global,
+    plan: &Plan,
+    provider: &P,
+    turns: u32,
+    reading: &mut Reading<C, E>,
+    ticker: &mut T,
+) -> Tick
+    ensures turns { let exports =
+        IsExport E.export_gives E.text E.contents E.failures E.state plan.now in
+        MakesTurns T.next_gives (C.collects provider.now) exports turns
+        (progress ticker.old 0 reading.old.seat reading.old.exports)
+        ticker.new result reading.new.seat reading.new.exports }
+    ensures asked { T.asked ticker.new ≤ T.asked ticker.old + turns }
+    ensures all_turns { is_stop result ≡ false →
+        higher_count (T.asked ticker.old) turns ≤ T.asked ticker.new }
+{
+    let mut last = 0;
+    for _turn in 0..turns {
+        match ticker.next(rt) {
+            Tick::Stop(moment) => return Tick::Stop(moment),
+            Tick::At(now) => {
+                collect_and_export(rt, alloc, plan, provider, now, reading);
+                last = now;
+            }
+        }
+    }
+    Tick::At(last)
+}
+
+// Collects at a moment, and hands on what was collected.
+fn collect_and_export<R, P, C: Seat<R, P>, E: MetricExporter>(
+    rt: &R,
+    alloc: Global,
+    plan: &Plan,
+    provider: &P,
+    now: u64,
+    reading: &mut Reading<C, E>,
+)
+    ensures { let exports =
+        IsExport E.export_gives E.text E.contents E.failures E.state plan.now in
+        IsCollectedAt (C.collects provider.now) exports now
+        reading.old.seat reading.new.seat reading.old.exports reading.new.exports }
+{
+    let collected = reading.seat.collect_at(rt, alloc, provider, now);
+    reading.exports.hand_on_collected(alloc, plan, &collected);
+}

@@ -1,0 +1,98 @@
+//! What a clock's ticker waits for and reads, by a clock of the tests' own.
+use crate::equal::assert_equal;
+use metric_export::{ClockTicker, StopFlag, Tick, Ticker};
+use std::cell::Cell;
+use std::io;
+use std::process::Abort;
+use std::sync::Wait;
+use std::time::{Clock, Duration};
+
+// A clock by which a millisecond goes by from one reading to the next, as it counts. The times since 1970 are these
+// nanoseconds, one after the other, and then there is none. It waits by a runtime that may.
+#[derive(Drop)]
+struct SteppingClock<'a, R> {
+    _rt: &'a R,
+    readings: Cell<u64>,
+    moments: Cell<&'static [u64]>,
+}
+
+impl<R: Wait> Wait for SteppingClock<'_, R> {}
+
+impl<R> Clock for SteppingClock<'_, R> {
+    fn monotonic(&self) -> io::Result<Duration> {
+        let readings = self.readings.get();
+        self.readings.set(readings.saturating_add(1));
+        Ok(Duration::from_millis(readings))
+    }
+
+    fn since_1970(&self) -> io::Result<Duration> {
+        match self.moments.get() {
+            [] => Err(io::Error::from_raw_os_error(5)),
+            [first, later @ ..] => {
+                self.moments.set(later);
+                Ok(Duration::from_nanos(*first))
+            }
+        }
+    }
+}
+
+// The milliseconds of the period and how many ticks there are at most, what the clock tells, the ticks that are given, and how
+// often the waits read the clock: at its start, one reading later, and from there on every third, until the period has gone
+// by; there are two readings between.
+struct Case {
+    period: u64,
+    most: u64,
+    moments: &'static [u64],
+    ticks: &'static [Tick],
+    readings: u64,
+}
+
+const CASES: &[Case] = &[
+    Case {
+        period: 3,
+        most: 9,
+        moments: &[5, 3, 9],
+        ticks: &[Tick::At(5), Tick::At(5), Tick::At(9), Tick::Stop(9)],
+        readings: 20,
+    },
+    Case {
+        period: 0,
+        most: 9,
+        moments: &[7, 8],
+        ticks: &[Tick::At(7), Tick::At(8)],
+        readings: 4,
+    },
+    Case {
+        period: 5,
+        most: 1,
+        moments: &[4, 6],
+        ticks: &[Tick::At(4), Tick::Stop(6)],
+        readings: 8,
+    },
+];
+
+fn assert_ticks<R: Abort + Wait>(
+    rt: &R,
+    clock: &SteppingClock<R>,
+    ticker: &mut ClockTicker,
+    ticks: &[Tick],
+) {
+    for tick in ticks {
+        assert_equal(rt, ticker.next(clock), *tick);
+    }
+}
+
+#[test]
+fn a_clock_is_read_after_each_period(rt: HostRuntime) {
+    for case in CASES {
+        let flag = StopFlag::new();
+        let clock = SteppingClock {
+            _rt: &rt,
+            readings: Cell::new(0),
+            moments: Cell::new(case.moments),
+        };
+        let mut ticker = ClockTicker::new(case.period, case.most, &flag);
+        assert_ticks(&rt, &clock, &mut ticker, case.ticks);
+        assert_equal(&rt, clock.readings.get(), case.readings);
+    }
+}
