@@ -59,8 +59,9 @@ impl Recorder {
     }
 
     /// The set key of a recording of this value on the instrument of this number that the seat may make, or the first
-    /// refusal: `Stranger` where the seat is not of this provider, `UnknownInstrument`, those of the
-    /// attributes in their order, `ValueRange`. Takes no memory and no lock.
+    /// refusal: `Stranger` where the seat's run is of another number, the seat was made for another number of instruments,
+    /// or the plan has no recorder of its number; `UnknownInstrument`, those of the attributes in their order,
+    /// `ValueRange`. Takes no memory and no lock.
     pub fn admits<B: Book, G: Gate>(
         &self,
         provider: &Provider<B, G>,
