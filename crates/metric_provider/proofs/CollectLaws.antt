@@ -13,11 +13,11 @@ use Rattle.metric_provider.specs.Collections.{AnswersCollector, AnswersEach, IsN
 use Rattle.metric_provider.specs.Seats.{CollectorValue, ProviderValue, is_collector_of}
 
 -- what an answered collection tells of its seat and its instrument
-pub record IsCollected (p : ProviderValue) (seat : CollectorValue) (instrument : ℕ) (batch : Batch) : Type 0 where
+pub record IsCollected (p : ProviderValue) (seat : CollectorValue) (instrument now : ℕ) (batch : Batch) : Type 0 where
   pub own : Facts
   pub found : slice_get p.plan.facts.instruments instrument ≡ Some own
   pub long : length seat.seen ≡ length p.plan.facts.instruments
-  pub next : IsNextBatch own seat.number (slice_index seat.seen instrument) batch
+  pub next : IsNextBatch own seat.number (slice_index seat.seen instrument) now batch
 
 seat_long : (p : ProviderValue) (seat : CollectorValue) → is_collector_of p seat ≡ true → length seat.seen ≡ length p.plan.facts.instruments
 seat_long p seat of =
@@ -26,16 +26,16 @@ seat_long p seat of =
     let parts = and_parts (seat.run == p.run) (known && long) of in
     eqb-true (length seat.seen) (length p.plan.facts.instruments) (and_parts known long parts.1).1
 
-pub collected : (p : ProviderValue) (seat : CollectorValue) (instrument : ℕ) (batch : Batch) → AnswersCollector (collectable p seat instrument) seat instrument (Ok batch) → IsCollected p seat instrument batch
-collected p seat instrument batch answer = of (is_collector_of p seat) refl answer
+pub collected : (p : ProviderValue) (seat : CollectorValue) (instrument now : ℕ) (batch : Batch) → AnswersCollector (collectable p seat instrument) seat instrument now (Ok batch) → IsCollected p seat instrument now batch
+collected p seat instrument now batch answer = of (is_collector_of p seat) refl answer
   where
     found : (o : Option Facts) → slice_get p.plan.facts.instruments instrument ≡ o → is_collector_of p seat ≡ true
-        → AnswersCollector (require_some o UnknownInstrument) seat instrument (Ok batch) → IsCollected p seat instrument batch
+        → AnswersCollector (require_some o UnknownInstrument) seat instrument now (Ok batch) → IsCollected p seat instrument now batch
     found None at own answer = absurd answer
     found (Some facts) at own answer = record { own = facts; found = at; long = seat_long p seat own; next = answer }
 
     of : (b : Bool) → is_collector_of p seat ≡ b
-        → AnswersCollector (require b Stranger >>= λ _. require_some (slice_get p.plan.facts.instruments instrument) UnknownInstrument) seat instrument (Ok batch) → IsCollected p seat instrument batch
+        → AnswersCollector (require b Stranger >>= λ _. require_some (slice_get p.plan.facts.instruments instrument) UnknownInstrument) seat instrument now (Ok batch) → IsCollected p seat instrument now batch
     of true own answer = found (slice_get p.plan.facts.instruments instrument) refl own answer
     of false own answer = absurd answer
 
@@ -71,72 +71,73 @@ at_each_push P (w ∷ xs) x each last (suc i) y found = at_each_push (λ n. P (s
 
 -- ---- a seat that has seen batches of the first instruments is answered as the first one
 
-first_length : (p : ProviderValue) (seat : CollectorValue) (done : List Batch) → length done < length p.plan.facts.instruments → AnswersEach p seat done
+first_length : (p : ProviderValue) (seat : CollectorValue) (now : ℕ) (done : List Batch) → length done < length p.plan.facts.instruments → AnswersEach p seat now done
     → length (with_all_seen seat done).seen ≡ length seat.seen
-first_length p seat [] below each = refl
-first_length p seat (d ∷ done) below each =
-    let from = collected p seat 0 d (each 0 d refl) in
+first_length p seat now [] below each = refl
+first_length p seat now (d ∷ done) below each =
+    let from = collected p seat 0 now d (each 0 d refl) in
     let parts : length (with_all_seen seat (d ∷ done)).seen ≡ length (d ∷ done) + (length seat.seen - length (d ∷ done)) =
     length-append (map (λ (b : Batch). b.mark) (d ∷ done)) (drop (length (d ∷ done)) seat.seen)
     ∙ ap (λ (n : ℕ). n + length (drop (length (d ∷ done)) seat.seen)) (length-map (d ∷ done) (λ (b : Batch). b.mark))
     ∙ ap (λ (n : ℕ). length (d ∷ done) + n) (length-drop (length (d ∷ done)) seat.seen) in
     omega (arith, parts, from.long, below)
 
-moved : (allowed : Result Facts Refusal) (now seat : CollectorValue) (i : ℕ) (result : Result Batch Refusal) → now.number ≡ seat.number
-    → slice_index now.seen i ≡ slice_index seat.seen i → AnswersCollector allowed now i result → AnswersCollector allowed seat i result
-moved (Err first) now seat i (Err refusal) number seen answer = answer
-moved (Err first) now seat i (Ok batch) number seen answer = absurd answer
-moved (Ok own) now seat i (Ok batch) number seen answer =
-    subst (λ (n : ℕ). IsNextBatch own seat.number n batch) seen (subst (λ (n : ℕ). IsNextBatch own n (slice_index now.seen i) batch) number answer)
-moved (Ok own) now seat i (Err refusal) number seen answer = answer
+moved : (allowed : Result Facts Refusal) (later seat : CollectorValue) (i now : ℕ) (result : Result Batch Refusal) → later.number ≡ seat.number
+    → slice_index later.seen i ≡ slice_index seat.seen i → AnswersCollector allowed later i now result → AnswersCollector allowed seat i now result
+moved (Err first) later seat i now (Err refusal) number seen answer = answer
+moved (Err first) later seat i now (Ok batch) number seen answer = absurd answer
+moved (Ok own) later seat i now (Ok batch) number seen answer =
+    subst (λ (n : ℕ). IsNextBatch own seat.number n now batch) seen (subst (λ (n : ℕ). IsNextBatch own n (slice_index later.seen i) now batch) number answer)
+moved (Ok own) later seat i now (Err refusal) number seen answer = answer
 
-own_as_first : (p : ProviderValue) (seat : CollectorValue) (done : List Batch) → length done < length p.plan.facts.instruments → AnswersEach p seat done
-    → is_collector_of p (with_all_seen seat done) ≡ is_collector_of p seat
-own_as_first p seat done below each =
+own_as_first : (p : ProviderValue) (seat : CollectorValue) (now : ℕ) (done : List Batch) → length done < length p.plan.facts.instruments
+    → AnswersEach p seat now done → is_collector_of p (with_all_seen seat done) ≡ is_collector_of p seat
+own_as_first p seat now done below each =
     ap (λ (n : ℕ). (seat.run == p.run) && (nat_lt seat.number (length p.plan.config.readers) && (n == length p.plan.facts.instruments)))
-    (first_length p seat done below each)
+    (first_length p seat now done below each)
 
-pub as_first : (p : ProviderValue) (first seat : CollectorValue) (done : List Batch) (i : ℕ) (result : Result Batch Refusal) → length done ≡ i
-    → seat ≡ with_all_seen first done → i < length p.plan.facts.instruments → AnswersEach p first done
-    → AnswersCollector (collectable p seat i) seat i result → AnswersCollector (collectable p first i) first i result
-as_first p first seat done i result count seen known each answer =
+pub as_first : (p : ProviderValue) (first seat : CollectorValue) (now : ℕ) (done : List Batch) (i : ℕ) (result : Result Batch Refusal) → length done ≡ i
+    → seat ≡ with_all_seen first done → i < length p.plan.facts.instruments → AnswersEach p first now done
+    → AnswersCollector (collectable p seat i) seat i now result → AnswersCollector (collectable p first i) first i now result
+as_first p first seat now done i result count seen known each answer =
     let below : length done < length p.plan.facts.instruments = omega (arith, count, known) in
     let later : CollectorValue = with_all_seen first done in
-    let here : AnswersCollector (collectable p later i) later i result =
-    subst (λ (s : CollectorValue). AnswersCollector (collectable p s i) s i result) seen answer in
+    let here : AnswersCollector (collectable p later i) later i now result =
+    subst (λ (s : CollectorValue). AnswersCollector (collectable p s i) s i now result) seen answer in
     let mark : slice_index later.seen i ≡ slice_index first.seen i =
     subst (λ (n : ℕ). slice_index later.seen n ≡ slice_index first.seen n) count (seen_at done first.seen) in
-    moved (collectable p first i) later first i result refl mark
-    (subst (λ (b : Bool). AnswersCollector (require b Stranger >>= λ _. require_some (slice_get p.plan.facts.instruments i) UnknownInstrument) later i result)
-    (own_as_first p first done below each) here)
+    moved (collectable p first i) later first i now result refl mark
+    (subst (λ (b : Bool). AnswersCollector (require b Stranger >>= λ _. require_some (slice_get p.plan.facts.instruments i) UnknownInstrument) later i now result)
+    (own_as_first p first now done below each) here)
 
 -- a stranger is refused at the first instrument, also where there is none
-pub stranger : (p : ProviderValue) (seat : CollectorValue) → is_collector_of p seat ≡ false → IsRefusedAt p seat 0 Stranger
-stranger p seat other = record {
+pub stranger : (p : ProviderValue) (seat : CollectorValue) (now : ℕ) → is_collector_of p seat ≡ false → IsRefusedAt p seat now 0 Stranger
+stranger p seat now other = record {
   known = λ own. absurd cc;
   answer =
-      subst (λ (b : Bool). AnswersCollector (require b Stranger >>= λ _. require_some (slice_get p.plan.facts.instruments 0) UnknownInstrument) seat 0 (Err Stranger))
+      subst (λ (b : Bool). AnswersCollector (require b Stranger >>= λ _. require_some (slice_get p.plan.facts.instruments 0) UnknownInstrument) seat 0 now (Err Stranger))
       (sym other) refl;
 }
 
 -- one collection more
-pub record IsOneMore (p : ProviderValue) (first after : CollectorValue) (done : List Batch) : Type 0 where
-  pub each : AnswersEach p first done
+pub record IsOneMore (p : ProviderValue) (first after : CollectorValue) (now : ℕ) (done : List Batch) : Type 0 where
+  pub each : AnswersEach p first now done
   pub seen : after ≡ with_all_seen first done
 
-pub one_more : (p : ProviderValue) (first seat after : CollectorValue) (done new : List Batch) (batch : Batch) (instrument : ℕ) → length done ≡ instrument
-    → seat ≡ with_all_seen first done → AnswersEach p first done → new ≡ done ++ batch ∷ [] → instrument < length p.plan.facts.instruments
-    → AnswersCollector (collectable p seat instrument) seat instrument (Ok batch) → after ≡ with_seen seat instrument batch.mark → IsOneMore p first after new
-one_more p first seat after done new batch instrument count seen before is known answer then =
-    let here : AnswersCollector (collectable p first instrument) first instrument (Ok batch) =
-    as_first p first seat done instrument (Ok batch) count seen known before answer in
-    let from = collected p first instrument batch here in
+pub one_more : (p : ProviderValue) (first seat after : CollectorValue) (now : ℕ) (done new : List Batch) (batch : Batch) (instrument : ℕ) → length done ≡ instrument
+    → seat ≡ with_all_seen first done → AnswersEach p first now done → new ≡ done ++ batch ∷ [] → instrument < length p.plan.facts.instruments
+    → AnswersCollector (collectable p seat instrument) seat instrument now (Ok batch) → after ≡ with_seen seat instrument batch.mark
+    → IsOneMore p first after now new
+one_more p first seat after now done new batch instrument count seen before is known answer then =
+    let here : AnswersCollector (collectable p first instrument) first instrument now (Ok batch) =
+    as_first p first seat now done instrument (Ok batch) count seen known before answer in
+    let from = collected p first instrument now batch here in
     let below : length done < length first.seen = omega (arith, from.long, known, count) in
-    let last : AnswersCollector (collectable p first (length done)) first (length done) (Ok batch) =
-    subst (λ (n : ℕ). AnswersCollector (collectable p first n) first n (Ok batch)) (sym count) here in
+    let last : AnswersCollector (collectable p first (length done)) first (length done) now (Ok batch) =
+    subst (λ (n : ℕ). AnswersCollector (collectable p first n) first n now (Ok batch)) (sym count) here in
     record {
-      each = subst (λ (all : List Batch). AnswersEach p first all) (sym is)
-          (at_each_push (λ (i : ℕ) (b : Batch). AnswersCollector (collectable p first i) first i (Ok b)) done batch before last);
+      each = subst (λ (all : List Batch). AnswersEach p first now all) (sym is)
+          (at_each_push (λ (i : ℕ) (b : Batch). AnswersCollector (collectable p first i) first i now (Ok b)) done batch before last);
       seen = then
           ∙ ap (λ (s : CollectorValue). with_seen s instrument batch.mark) seen
           ∙ ap (λ (n : ℕ). with_seen (with_all_seen first done) n batch.mark) (sym count)

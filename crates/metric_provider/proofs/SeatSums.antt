@@ -1,15 +1,15 @@
 -- What recorders were told adds up to what a cell has counted, where there is one seat for each of them.
-use Rattle.std.proofs.Common.{◌≡◌, ◌≢◌, ◌<◌, ◌≤◌, ℕ, zero, suc, ◌+◌, Bool, true, false, not, ◌&&◌, ◌||◌, List, [], ◌∷◌, length, get_or, refl, sym, ap, subst, ◌∙◌, arith}
+use Rattle.std.proofs.Common.{◌≡◌, ◌≢◌, ◌<◌, ℕ, zero, suc, ◌+◌, Bool, true, false, not, ◌||◌, List, [], ◌∷◌, length, get_or, refl, sym, ap, subst, ◌∙◌, arith}
 use Rattle.std.specs.Prelude.{◌==◌, nat_lt, slice_index, slice_set, sum, sum_by}
-use Rattle.std.specs.List.{list_all, list_any, range_with_len}
+use Rattle.std.specs.List.{list_all, range_with_len}
 use Rattle.std.proofs.lemmas.Bool.{and_parts, and_from, ltb-true, eqb-true}
 use Rattle.std.proofs.lemmas.Bool.Decides.{nat_tests}
-use Rattle.std.proofs.lemmas.List.{length-set, get_or-set_same, get_or-set_other}
+use Rattle.std.proofs.lemmas.List.{length-set, get_or-set_other}
 use Rattle.std.proofs.lemmas.List.Folds.{list_all_at}
 use Rattle.std.proofs.lemmas.List.FromFn.{get_or-range_with_len, length-range_with_len}
 use Rattle.std.proofs.lemmas.List.Sums.{sum_by-cons, sum_by-set}
 use Rattle.metric_provider.specs.Seats.{RecorderValue}
-use Rattle.metric_provider.specs.Totals.{are_distinct, has_each, has_seat, is_numbered, AreOneEach}
+use Rattle.metric_provider.specs.Totals.{are_distinct, has_each, has_seat, AreOneEach}
 
 -- what is left where the numbers of the seats are taken out
 cleared : List ℕ → List RecorderValue → List ℕ

@@ -2,6 +2,7 @@ pub mod Seats
 pub mod Providers
 pub mod NewSlots
 pub mod Recordings
+pub mod KeyRecordings
 pub mod Collections
 pub mod Closing
 pub mod Totals

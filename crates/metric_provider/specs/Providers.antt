@@ -2,7 +2,7 @@
 use Rattle.std.specs.Prelude.{◌≡◌, ◌<◌, ℕ, ℤ, IsTrue, List, Some, true, length, slice_get}
 use Rattle.metric_facts.specs.declared.facts.Facts.{Facts}
 use Rattle.metric_facts.specs.Facts.{in_bounds, is_full_set}
-use Rattle.metric_plan.specs.Plans.{IsPlan, PlanValue}
+use Rattle.metric_plan.specs.Plans.{PlanValue}
 
 -- What each provider keeps: a certificate vouches for the plan, and there is a slot for each instrument.
 pub record IsProvider (plan : PlanValue) (slots : ℕ) : Type 0 where

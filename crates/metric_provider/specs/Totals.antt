@@ -1,5 +1,5 @@
 -- What a provider comes to when it is finished.
-use Rattle.std.specs.Prelude.{◌≡◌, ◌+◌, ℕ, ℤ, pos, ◌+ℤ◌, ◌*ℤ◌, Bool, true, false, not, ◌&&◌, ◌==◌, List, [], ◌∷◌, Some, Result, Ok, Err, length, nat_lt, slice_get, slice_index, sum_by}
+use Rattle.std.specs.Prelude.{◌≡◌, ◌+◌, ℕ, ℤ, pos, ◌+ℤ◌, ◌*ℤ◌, Bool, true, not, ◌&&◌, ◌==◌, List, [], ◌∷◌, Some, Result, Ok, Err, length, nat_lt, slice_get, slice_index, sum_by}
 use Rattle.std.specs.List.{list_all, list_any, range_with_len}
 use Rattle.metric_base.specs.Steps.{◌>>=◌, require}
 use Rattle.metric_core.specs.Cells.{CellValue}

@@ -61,12 +61,13 @@ impl Collector {
     }
 
     /// What the reader is told of an instrument at a time in nanoseconds: its points since its last batch (delta) or since
-    /// the start (cumulative) (Metrics SDK, collect).
+    /// the start (cumulative) (Metrics SDK, collect). Where the reader's last batch has a later time, this one has that too.
     ///
     /// # Errors
     ///
-    /// `Stranger` where the seat is not of this provider, `UnknownInstrument`. Then, under the instrument's lock,
-    /// `Stranger` where what is found there is not what the seat has seen, and `Memory`.
+    /// `Stranger` where the seat's run is of another number, the seat was made for another number of instruments, or the plan
+    /// has no reader of its number; `UnknownInstrument`. Then, under the instrument's lock, `Stranger` where what is found
+    /// there is not what the seat has seen, and `Memory`.
     pub fn collect<R: Wait, B: Book, G: Gate>(
         &mut self,
         rt: &R,
@@ -76,7 +77,7 @@ impl Collector {
         now: u64,
     ) -> Result<Batch, Refusal>
         ensures answer { let allowed = collectable provider.now self.old instrument in
-            AnswersCollector allowed self.old instrument result }
+            AnswersCollector allowed self.old instrument now result }
         ensures seen { IfOk result (λ batch. self.new ≡ with_seen self.old instrument batch.mark) }
         ensures err { OnErr result (self.new ≡ self.old) }
     {
@@ -96,7 +97,7 @@ impl Collector {
     ///
     /// # Errors
     ///
-    /// The first refusal of [`Collector::collect`], with its instrument; instrument 0 where the seat is not of this provider.
+    /// The first refusal of [`Collector::collect`], with its instrument; instrument 0 where it is a `Stranger` before any lock.
     /// Where there is no memory for the list itself, it is `Memory` at instrument 0, and nothing was collected.
     pub fn collect_all<R: Wait, B: Book, G: Gate>(
         &mut self,
@@ -106,13 +107,13 @@ impl Collector {
         now: u64,
     ) -> Result<Vec<Batch>, AllFault>
         ensures each { IfOk result (λ batches.
-            AnswersEach provider.now self.old batches.items) }
+            AnswersEach provider.now self.old now batches.items) }
         ensures all { IfOk result (λ batches.
             length batches.items ≡ length provider.now.plan.facts.instruments) }
         ensures own { OnOk result (is_collector_of provider.now self.old ≡ true) }
         ensures seen { IfOk result (λ batches. self.new ≡ with_all_seen self.old batches.items) }
         ensures refused { IfErr result (λ fault.
-            AllRefused provider.now self.old fault.done.items fault.instrument fault.refusal) }
+            AllRefused provider.now self.old now fault.done.items fault.instrument fault.refusal) }
         ensures seen_before { IfErr result (λ fault.
             self.new ≡ with_all_seen self.old fault.done.items) }
     {
@@ -161,12 +162,12 @@ impl Collector {
         now: u64,
     ) -> Result<Vec<Batch>, (Collector, AllFault)>
         ensures each { IfOk result (λ batches.
-            AnswersEach provider.now self batches.items) }
+            AnswersEach provider.now self now batches.items) }
         ensures all { IfOk result (λ batches.
             length batches.items ≡ length provider.now.plan.facts.instruments) }
         ensures own { OnOk result (is_collector_of provider.now self ≡ true) }
         ensures refused { IfErr result (λ refused. let fault = refused.1 in
-            AllRefused provider.now self fault.done.items fault.instrument fault.refusal) }
+            AllRefused provider.now self now fault.done.items fault.instrument fault.refusal) }
         ensures seen_before { IfErr result (λ refused.
             refused.0 ≡ with_all_seen self refused.1.done.items) }
     {

@@ -24,7 +24,7 @@ pub struct AllFault {
 pub enum FinishFault {
     /// The seat of some recorder is not there.
     RecorderMissing,
-    /// A seat is of another provider, or stands twice.
+    /// A seat is of another run or of a plan of other sizes, or stands twice.
     Stranger,
     /// An instrument's state is not that of the plan and of what its recorders were told.
     AuditMismatch,

@@ -24,7 +24,8 @@ impl<B: Book, G: Gate> Provider<B, G> {
     ///
     /// # Errors
     ///
-    /// - [`FinishFault::Stranger`] where a seat is of another provider, or two seats are of one recorder.
+    /// - [`FinishFault::Stranger`] where a seat's run is of another number, a seat was made for another number of instruments,
+    ///   the plan has no recorder of its number, or two seats are of one recorder.
     /// - [`FinishFault::RecorderMissing`] where a recorder has no seat among them.
     /// - [`FinishFault::AuditMismatch`] where an instrument's facts, one of its spent budgets or its sum is another.
     /// - [`FinishFault::Memory`], which may stand in the place of `AuditMismatch`.

@@ -9,6 +9,7 @@ mod collector;
 mod fault;
 mod finish;
 mod gate;
+mod keys;
 mod provider;
 mod recorder;
 mod settling;

@@ -157,7 +157,7 @@ impl<B: Book, G: Gate> Provider<B, G> {
         requires { KnowsReader self.now.plan instrument reader }
         ensures batch { IfOk result (λ batch.
             IfSome (slice_get self.now.plan.facts.instruments instrument) (λ own.
-            IsNextBatch own reader seen.old batch)) }
+            IsNextBatch own reader seen.old now batch)) }
         ensures seen { IfOk result (λ batch. seen.new ≡ batch.mark) }
         ensures refused { IfErr result (λ refusal. RefusesCollection refusal) }
         ensures seen_err { OnErr result (seen.new ≡ seen.old) }

@@ -1,11 +1,13 @@
 //! The seat of a recorder.
-ghost use Rattle.std.specs.Prelude.{◌≡◌, ◌<◌, Some, None, length, map, slice_get, slice_set, IfOk, IfSome, OnOk, OnErr};
+ghost use Rattle.std.specs.Prelude.{◌≡◌, ◌<◌, Some, None, length, map, slice_get, slice_set, IfOk, IfSome, Ok, OnOk, OnErr};
 ghost use Rattle.metric_catalogue.specs.Attributes.{given_by};
+ghost use Rattle.metric_provider.specs.KeyRecordings.{admitted_key};
 ghost use Rattle.metric_provider.specs.Providers.{KnowsRecording};
 ghost use Rattle.metric_provider.specs.Recordings.{AnswersSeat, admitted, declared_set, told_at, with_recording};
 ghost use Rattle.metric_provider.specs.Seats.{is_recorder_of, new_recorder, provider_of};
 
 use crate::gate::Gate;
+use crate::keys::declared_key;
 use crate::provider::Provider;
 use metric_book::Book;
 use metric_catalogue::{Attr, Refusal, SetKey};
@@ -59,8 +61,9 @@ impl Recorder {
     }
 
     /// The set key of a recording of this value on the instrument of this number that the seat may make, or the first
-    /// refusal: `Stranger` where the seat is not of this provider, `UnknownInstrument`, those of the
-    /// attributes in their order, `ValueRange`. Takes no memory and no lock.
+    /// refusal: `Stranger` where the seat's run is of another number, the seat was made for another number of instruments,
+    /// or the plan has no recorder of its number; `UnknownInstrument`, those of the attributes in their order,
+    /// `ValueRange`. Takes no memory and no lock.
     pub fn admits<B: Book, G: Gate>(
         &self,
         provider: &Provider<B, G>,
@@ -68,8 +71,10 @@ impl Recorder {
         attrs: &[Attr<'_>],
         value: i64,
     ) -> Result<SetKey, Refusal>
-        ensures { let given = map given_by attrs.now in
+        ensures exact { let given = map given_by attrs.now in
             result ≡ admitted provider.now self.now instrument given value }
+        ensures known { IfOk result (λ set.
+            KnowsRecording provider.now.plan instrument self.now.number set value) }
     {
         self.admit(provider.plan(), provider.run(), instrument, attrs, &value)
     }
@@ -97,9 +102,57 @@ impl Recorder {
         ensures err { OnErr result (self.new ≡ self.old) }
     {
         let set = self.admit(provider.plan(), provider.run(), instrument, attrs, &value)?;
+        self.record_known(rt, provider, instrument, set, &value)
+    }
+
+    /// Makes a recording of a set key that [`Recorder::admits`] answered for the instrument (Metrics API, synchronous
+    /// instruments), and tells the seat of it. Who records one set of attributes often finds its key once.
+    ///
+    /// # Errors
+    ///
+    /// `Stranger` and `UnknownInstrument` as of [`Recorder::admits`], `UnknownValue` where the set key is not one of the
+    /// instrument's: it names a value that a key does not declare, or none of a required key; then `ValueRange`. Then,
+    /// under the instrument's lock, those of [`Recorder::record`].
+    pub fn record_set<R: Wait, B: Book, G: Gate>(
+        &mut self,
+        rt: &R,
+        provider: &Provider<B, G>,
+        instrument: u32,
+        set: SetKey,
+        value: i64,
+    ) -> Result<(), Refusal>
+        ensures answer { let admission = admitted_key provider.now self.old instrument set value in
+            AnswersSeat admission provider.now.plan self.old instrument result }
+        ensures told { OnOk result (
+            IfSome (slice_get provider.now.plan.facts.instruments instrument) (λ own.
+            self.new ≡ with_recording self.old instrument own value)) }
+        ensures err { OnErr result (self.new ≡ self.old) }
+    {
+        let set = self.admit_key(provider.plan(), provider.run(), instrument, set, &value)?;
+        self.record_known(rt, provider, instrument, set, &value)
+    }
+
+    // Makes a recording that the seat may make, and tells it of that.
+    fn record_known<R: Wait, B: Book, G: Gate>(
+        &mut self,
+        rt: &R,
+        provider: &Provider<B, G>,
+        instrument: u32,
+        set: SetKey,
+        value: &i64,
+    ) -> Result<(), Refusal>
+        requires known { let by = self.old.number in
+            KnowsRecording provider.now.plan instrument by set value.now }
+        requires long { instrument < length self.old.told }
+        ensures answer { AnswersSeat (Ok set) provider.now.plan self.old instrument result }
+        ensures told { OnOk result (
+            IfSome (slice_get provider.now.plan.facts.instruments instrument) (λ own.
+            self.new ≡ with_recording self.old instrument own value.now)) }
+        ensures err { OnErr result (self.new ≡ self.old) }
+    {
         let number = self.number;
         let told = &mut self.told[instrument as usize];
-        provider.record_inside(rt, instrument, told, number, set, &value)
+        provider.record_inside(rt, instrument, told, number, set, value)
     }
 
     /// What the recorder was told of its accepted recordings on an instrument; nothing for an unknown one.
@@ -154,6 +207,27 @@ impl Recorder {
             return Err(Refusal::Stranger);
         }
         declared_set(plan, instrument, attrs, value)
+    }
+
+    // The set key of a recording that the seat may make of this run of the plan, or the first refusal.
+    fn admit_key(
+        &self,
+        plan: &Plan,
+        run: u64,
+        instrument: u32,
+        set: SetKey,
+        value: &i64,
+    ) -> Result<SetKey, Refusal>
+        ensures exact { let p = provider_of plan.now run in
+            result ≡ admitted_key p self.now instrument set value.now }
+        ensures known { IfOk result (λ set.
+            KnowsRecording plan.now instrument self.now.number set value.now) }
+        ensures long { OnOk result (instrument < length self.now.told) }
+    {
+        if !self.is_of(plan, run) {
+            return Err(Refusal::Stranger);
+        }
+        declared_key(plan, instrument, set, value)
     }
 }
 

@@ -16,9 +16,9 @@ use std::alloc::{AllocError, Global};
 use std::sync::Wait;
 
 /// A provider of a certified plan without recordings, since a start in nanoseconds, with a seat for each recorder and
-/// each reader, in order. Seats serve the run that they were made for, so no two providers at a time may have the same
-/// number of the run. The seed of books that hash is made of the start and the number of the run. Where memory is
-/// refused, the plan and the gate are handed back.
+/// each reader, in order. Seats serve the number of the run that they were made for: give each provider one of its own,
+/// since seats of one run and of plans of the same sizes are told apart by nothing else. The seed of books that hash is
+/// made of the start and the number of the run. Where memory is refused, the plan and the gate are handed back.
 pub fn start<R: Wait, B: Book, G: Gate>(
     _rt: &R,
     alloc: Global,

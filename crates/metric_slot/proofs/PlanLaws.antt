@@ -1,6 +1,6 @@
 -- What a certified plan says of each of its instruments.
-use Rattle.std.proofs.Common.{◌≡◌, ap, subst, ◌∙◌}
-use Rattle.std.specs.Prelude.{IsTrue}
+use Rattle.std.proofs.Common.{◌≡◌, ℕ, Some, ap, subst, sym}
+use Rattle.std.specs.Prelude.{IsTrue, slice_get}
 use Rattle.metric_catalogue.specs.Sound.{IsSound}
 use Rattle.metric_catalogue.specs.declared.contents.Contents.{Contents}
 use Rattle.metric_facts.specs.declared.facts.Facts.{Facts}
@@ -12,7 +12,10 @@ use Rattle.metric_slot.specs.Slots.{AreCertified}
 pub are_certified : (plan : PlanValue) (contents : Contents) → IsPlan plan → contents ≡ plan.facts.contents → IsSound contents
     → ((p : PlanValue) → IsSafePlan p → IsSafeRun p.streams p.facts) → IsTrue plan.is_certified → AreCertified plan.facts.instruments
 are_certified plan contents p declared sound law vouched number own found = record {
-  certified = ap (λ (f : Facts). f.certified) (plan_facts_at plan number own p found).is ∙ vouched;
+  plan = plan;
+  kept = p;
+  certified = vouched;
+  of = subst (λ (n : ℕ). slice_get plan.facts.instruments n ≡ Some own) (sym (ap (λ (f : Facts). f.instrument) (plan_facts_at plan number own p found).is)) found;
   safe =
       (law plan (record { sound = subst IsSound declared sound; streams = p.streams; facts = p.facts; safe = p.safe vouched; ranges = p.ranges })).safe number own found;
 }

@@ -1,6 +1,6 @@
 -- What the calls of a slot answer.
 use Rattle.std.proofs.Common.{◌≡◌, ℕ, ◌+◌, ◌<◌, ◌≤◌, ℤ, true, false, List, [], ◌∷◌, ◌++◌, Result, Ok, Err, length, sym, ap, subst, ◌∙◌, arith}
-use Rattle.std.specs.Prelude.{OnOk, slice_index, if◌then◌else◌}
+use Rattle.std.specs.Prelude.{OnOk, max, slice_index, slice_index_or, if◌then◌else◌}
 use Rattle.std.proofs.lemmas.List.{length_push}
 use Rattle.metric_book.specs.Journals.{Standing}
 use Rattle.metric_catalogue.specs.declared.refusal.Refusal.{Refusal}
@@ -91,6 +91,13 @@ batch_within stands c own reader now told law safe k same reports =
     subst (λ (f : Facts). IsReportWithin f told.from told.mark told.streams) same
     (subst (λ (b : Batch). IsReportWithin c.facts b.from b.mark b.streams) (sym (reports k.journal k.known))
     (law c.facts k.journal reader (slice_index c.marks reader) safe (kept_journal stands c k)))
+
+-- what a reader is told is of no earlier time than it was asked for
+pub batch_time : {B : Type 0} (stands : B → Standing) (c : CellValue B) (reader now : ℕ) (told : Batch) → CellKept stands c → ReportsBatch stands c reader now told
+    → now ≤ told.time
+batch_time stands c reader now told k reports =
+    let is : told.time ≡ max now (slice_index_or c.times reader c.start) = ap (λ (b : Batch). b.time) (reports k.journal k.known) in
+    omega (arith, is)
 
 -- what a reader is told is of the recordings of the cell
 pub batch_journal : {B : Type 0} (stands : B → Standing) (c : CellValue B) (own : Facts) (reader seen now : ℕ) (told : Batch)

@@ -1,16 +1,20 @@
 -- What stands behind a lock, and whose a call may be.
-use Rattle.std.specs.Prelude.{◌≡◌, ℕ, List, Some, pos, ◌≤ℤ◌, true, slice_get, slice_index}
+use Rattle.std.specs.Prelude.{◌≡◌, ℕ, IsTrue, List, Some, pos, ◌≤ℤ◌, slice_get, slice_index}
 use Rattle.metric_bounds.specs.Amounts.{amount_with}
 use Rattle.metric_core.specs.Cells.{CellValue}
 use Rattle.metric_facts.specs.declared.facts.Facts.{Facts}
+use Rattle.metric_plan.specs.Plans.{IsPlan, PlanValue}
 use Rattle.metric_safety.specs.SafeFacts.{IsSafeFacts}
 use Rattle.metric_slot.specs.declared.told.Told.{Told}
 
--- A certificate vouches for the facts of an instrument, and no limit and no number overflows. What each slot keeps of its cell; that
--- the cell's recordings are within the budgets, and what they come to, is what each cell keeps.
-pub record IsCertified (facts : Facts) : Type 0 where
-  pub certified : facts.certified ≡ true
-  pub safe : IsSafeFacts facts
+-- The facts are those of a certified plan for one instrument, the one of their number, so no limit and no number overflows. What each
+-- slot keeps of its cell; that the cell's recordings are within the budgets, and what they come to, is what each cell keeps.
+pub record IsCertified (own : Facts) : Type 0 where
+  pub plan : PlanValue
+  pub kept : IsPlan plan
+  pub certified : IsTrue plan.is_certified
+  pub of : slice_get plan.facts.instruments own.instrument ≡ Some own
+  pub safe : IsSafeFacts own
 
 -- those of each instrument are certified
 abbrev pub AreCertified : List Facts → Type 0

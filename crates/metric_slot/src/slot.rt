@@ -23,7 +23,8 @@ use std::marker::Model;
 
 /// The cell of an instrument of a certified plan, as it stands behind a lock.
 ///
-/// Its type keeps that a certificate vouches for the instrument's limits and numbers. A seat's call brings the facts of the
+/// Its type keeps that the facts are those of a certified plan for the instrument, so that no limit and no number
+/// overflows; no call changes them. A seat's call brings the facts of the
 /// seat's plan and the number that the seat was told last; where the cell's are others, the seat is a `Stranger` and
 /// nothing changes.
 #[derive(Drop)]
@@ -132,6 +133,7 @@ impl<B: Book> Slot<B> {
         ensures new { IfOk result (λ batch.
             self.new ≡ with_batch self.old reader batch.time self.new.book) }
         ensures stands { OnOk result (KeepsJournal B.stands self.old self.new) }
+        ensures time { IfOk result (λ batch. now ≤ batch.time) }
         ensures continues { IfOk result (λ batch. Continues facts.now reader seen.old batch) }
         ensures journal { IfOk result (λ batch. ReportsJournal facts.now reader seen.old batch) }
         ensures within { IfOk result (λ batch.

@@ -1,10 +1,10 @@
 -- one instrument more, each of which is that of the plan and has a slot
-use Rattle.std.proofs.Common.{◌≡◌, ◌<◌, ◌≤◌, ◌++◌, ℕ, List, Some, length, get_or, sym, ap, subst, ◌∙◌, arith}
+use Rattle.std.proofs.Common.{◌≡◌, ◌<◌, ◌≤◌, ◌++◌, ℕ, List, Some, length, sym, ap, subst, ◌∙◌, arith}
 use Rattle.std.specs.Prelude.{slice_get}
 use Rattle.std.proofs.lemmas.Option.{slice_get-get_or, slice_get_within}
 use Rattle.metric_core.specs.Cells.{CellValue}
 use Rattle.metric_provider.specs.declared.totals.Total.{Total}
-use Rattle.metric_provider.specs.Totals.{AreOneEach, IsAsTold, told_totals}
+use Rattle.metric_provider.specs.Totals.{AreOneEach, told_totals}
 use Rattle.metric_provider.proofs.PlanFacts.{budgets_each}
 use Rattle.metric_provider.proofs.SettleLaws.{told_more_cells, totals_end, totals_more}
 use Rattle.metric_provider.proofs.settling.settle.Goals as goal

@@ -1,10 +1,10 @@
 -- a cell as told, and one that is not
 use Rattle.std.proofs.Common.{◌≡◌, true, false, sym, ◌∙◌}
-use Rattle.std.specs.Prelude.{◌==◌, slice_index, sum}
+use Rattle.std.specs.Prelude.{◌==◌, slice_index}
 use Rattle.std.specs.List.{list_all}
 use Rattle.metric_provider.specs.Recordings.{told_at}
 use Rattle.metric_provider.specs.Seats.{RecorderValue}
-use Rattle.metric_provider.specs.Totals.{told_count, told_sum}
+use Rattle.metric_provider.specs.Totals.{told_count}
 use Rattle.metric_provider.proofs.SettleLaws.{count_is, sum_with, total_is}
 use Rattle.metric_provider.proofs.settling.settled.Goals as goal
 

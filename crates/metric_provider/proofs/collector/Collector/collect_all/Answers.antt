@@ -15,7 +15,7 @@ returns-in-Err-clause-refused g c =
       each = c.loop-instrument.invariant.each;
       why = inl (record {
         known = λ own. known;
-        answer = as_first c.args.provider.now c.args.self.now c.loop-instrument.self c.loop-instrument.done.items c.loop-instrument.instrument (Err c.in-Err.refusal)
+        answer = as_first c.args.provider.now c.args.self.now c.loop-instrument.self c.args.now c.loop-instrument.done.items c.loop-instrument.instrument (Err c.in-Err.refusal)
             c.loop-instrument.invariant.count c.loop-instrument.invariant.seen known c.loop-instrument.invariant.each c.in-Err.ensures.answer;
       });
     }
@@ -23,7 +23,7 @@ returns-in-Err-clause-refused g c =
 pub loop-instrument-preserved : goal.loop-instrument-preserved
 loop-instrument-preserved g c =
     let known : c.loop-instrument.instrument < length c.args.provider.now.plan.facts.instruments = search rules in
-    let more = one_more c.args.provider.now c.args.self.now c.loop-instrument.self c.collect.new.self c.loop-instrument.done.items c.push_reserved.new.self.items c.in-Ok-collect.batch
+    let more = one_more c.args.provider.now c.args.self.now c.loop-instrument.self c.collect.new.self c.args.now c.loop-instrument.done.items c.push_reserved.new.self.items c.in-Ok-collect.batch
     c.loop-instrument.instrument c.loop-instrument.invariant.count c.loop-instrument.invariant.seen c.loop-instrument.invariant.each c.push_reserved.ensures.items known
     c.in-Ok-collect.ensures.answer c.in-Ok-collect.ensures.seen in
     record {
@@ -44,6 +44,6 @@ returns-then-not-is_own-clause-refused g c =
     sym (ap (λ (q : ProviderValue). is_collector_of q c.args.self.now) same) ∙ sym c.is_of-is_own.ensures ∙ c.if-not-is_own.true in
     record {
       before = ap length c.new.ensures.items;
-      each = subst (λ (all : List Batch). AnswersEach p c.args.self.now all) (sym c.new.ensures.items) (λ i batch found. absurd cc);
-      why = inl (stranger p c.args.self.now other);
+      each = subst (λ (all : List Batch). AnswersEach p c.args.self.now c.args.now all) (sym c.new.ensures.items) (λ i batch found. absurd cc);
+      why = inl (stranger p c.args.self.now c.args.now other);
     }

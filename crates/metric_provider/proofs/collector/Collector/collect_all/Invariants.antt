@@ -7,6 +7,6 @@ abbrev pub invariant-loop-instrument : goal.invariant-loop-instrument
 invariant-loop-instrument g l = record {
   count : length l.done.items ≡ l.instrument;
   room : length l.provider.plan.facts.instruments ≤ vec_capacity l.done;
-  each : AnswersEach l.provider l.fn.self l.done.items;
+  each : AnswersEach l.provider l.fn.self l.fn.now l.done.items;
   seen : l.self ≡ with_all_seen l.fn.self l.done.items;
 }
