@@ -32,6 +32,9 @@ name = 'console'
 
 const ORDERS: [(&str, i64); 3] = [("de", 2), ("fr", 1), ("de", 5)];
 
+// The number of the run: no two providers of a process may have the same.
+const RUN: u64 = 1;
+
 fn main(rt: HostRuntime) -> anyhow::Result<()> {
     let plan = certified_plan(rt.alloc(), CATALOGUE, CONFIG)?;
     run(&rt, rt.alloc(), plan)
@@ -41,7 +44,7 @@ fn main(rt: HostRuntime) -> anyhow::Result<()> {
 fn run<R: Wait + Print>(rt: &R, alloc: Global, plan: Plan) -> anyhow::Result<()>
     requires { IsTrue plan.is_certified }
 {
-    match start::<R, Marked, NoGate>(rt, alloc, plan, 0, 0, NoGate) {
+    match start::<R, Marked, NoGate>(rt, alloc, plan, 0, RUN, NoGate) {
         Ok((provider, mut recorders, mut collectors)) => {
             serve(rt, alloc, &provider, &mut recorders, &mut collectors)
         }

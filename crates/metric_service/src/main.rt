@@ -27,8 +27,8 @@ const START: u64 = 0;
 
 const END: u64 = 1_000_000_000;
 
-// The number of the run: no two providers of a process may have the same.
-const RUN: u64 = 0;
+// The number of the run: no two providers of a process may have the same, so that a seat of one does not serve another.
+const RUN: u64 = 2;
 
 // How many milliseconds lie between two exports, and how many exports there are at most.
 const PERIOD: u64 = 5;
