@@ -42,7 +42,7 @@ pub trait Aggregate: Drop {
         ensures stands { (added : List ℤ) → stands self.old added
             → stands self.new (added ++ value ∷ []) };
 
-    /// Whether no value was added since the aggregator was made.
+    /// Whether no value was added since the aggregator was made or reset.
     fn is_empty(&self) -> bool
         ensures { result ≡ is_empty self.now };
 
@@ -51,6 +51,11 @@ pub trait Aggregate: Drop {
         requires { is_empty self.now ≡ false }
         ensures { IfOk result (λ value. (added : List ℤ) → stands self.now added
             → value ≡ value_of (aggregation self.now) added) };
+
+    /// Forgets all values. Takes no memory.
+    fn reset(&mut self)
+        ensures aggregation { aggregation self.new ≡ aggregation self.old }
+        ensures stands { stands self.new [] };
 
     /// An empty aggregator of these parameters. All room that it will use is made here. Fails only where memory
     /// is refused.

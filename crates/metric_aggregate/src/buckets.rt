@@ -128,6 +128,14 @@ impl Aggregate for BucketAgg {
         })
     }
 
+    fn reset(&mut self) {
+        self.counts.fill(0);
+        self.count = 0;
+        self.total = zero_total(self.total.is_some());
+        self.least = i64::MAX;
+        self.greatest = i64::MIN;
+    }
+
     fn with_parameters(
         alloc: Global,
         parameters: &HistogramParameters,

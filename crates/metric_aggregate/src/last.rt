@@ -55,6 +55,10 @@ impl Aggregate for LastAgg {
         Ok(PointValue::Last(self.last.unwrap()))
     }
 
+    fn reset(&mut self) {
+        self.last = None;
+    }
+
     fn with_parameters(_alloc: Global, _parameters: &()) -> Result<LastAgg, AllocError> {
         Ok(LastAgg::new())
     }

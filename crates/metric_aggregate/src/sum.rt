@@ -61,6 +61,10 @@ impl Aggregate for SumAgg {
         Ok(PointValue::Sum(self.sum))
     }
 
+    fn reset(&mut self) {
+        *self = SumAgg::new();
+    }
+
     fn with_parameters(_alloc: Global, _parameters: &()) -> Result<SumAgg, AllocError> {
         Ok(SumAgg::new())
     }
