@@ -1,8 +1,9 @@
 -- How many series a stream can have, as far as facts tell it.
-use Rattle.std.specs.Prelude.{ℕ, ◌+◌, ◌*◌, ◌≤◌, Bool, if◌then◌else◌, IsTrue, All, List, [], ◌∷◌}
+use Rattle.std.specs.Prelude.{◌≡◌, ℕ, ◌+◌, ◌*◌, ◌≤◌, ◌<◌, Bool, if◌then◌else◌, IsTrue, All, List, [], ◌∷◌, length}
 use Rattle.metric_facts.specs.declared.facts.FactsFields.{FactsFields as Facts}
 use Rattle.metric_facts.specs.declared.facts.KeyFacts.{KeyFacts}
 use Rattle.metric_facts.specs.declared.facts.NumberedStream.{NumberedStream}
+use Rattle.metric_views.specs.declared.stream.Stream.{Stream}
 
 -- what a recording may say of a key: one of its values, or nothing where it may be left out
 abbrev pub key_choices : KeyFacts → ℕ
@@ -25,3 +26,19 @@ IsProductWithin facts s = product_of s.stream.kept facts.keys ≤ s.stream.limit
 -- Whatever is recorded, no stream of the facts that is by product can have more series than its limit.
 abbrev pub AreProductsWithin : Facts → Type 0
 AreProductsWithin facts = All (λ (s : NumberedStream). IsTrue s.by_product → IsProductWithin facts s) facts.streams
+
+-- A stream of at most 8 keys has room for each series that there can be: it says of each key whether it is kept, and some number of
+-- series, at most its limit, can come of the kept ones.
+pub record IsDense (keys : List KeyFacts) (s : Stream) : Type 0 where
+  pub few : length keys ≤ 8
+  pub flags : length s.kept ≡ length keys
+  pub some : 0 < product_of s.kept keys
+  pub room : product_of s.kept keys ≤ s.limit
+
+-- each stream that is by product has
+abbrev pub AreDense : Facts → Type 0
+AreDense facts = All (λ (s : NumberedStream). IsTrue s.by_product → IsDense facts.keys s.stream) facts.streams
+
+-- each stream is by product
+abbrev pub AreAllByProduct : Facts → Type 0
+AreAllByProduct facts = All (λ (s : NumberedStream). IsTrue s.by_product) facts.streams

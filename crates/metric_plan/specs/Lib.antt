@@ -3,3 +3,4 @@ pub mod Counting
 pub mod Plans
 pub mod PlanFacts
 pub mod SetLaws
+pub mod DenseFacts
