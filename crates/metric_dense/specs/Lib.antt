@@ -1,0 +1,4 @@
+pub mod Ranks
+pub mod RankLaws
+pub mod Weights
+pub mod DenseTables
