@@ -1,5 +1,5 @@
 -- What the calls of a book do, for every journal for which it stands.
-use Rattle.std.specs.Prelude.{◌≡◌, ◌<◌, ◌+◌, ◌^◌, ℕ, Bool, true, false, List, [], ◌∷◌, ◌++◌, Some, Result, Ok, Err, length, replicate, slice_get, slice_index, slice_set, if◌then◌else◌}
+use Rattle.std.specs.Prelude.{◌≡◌, ◌≢◌, ◌<◌, ◌+◌, ◌^◌, ℕ, Bool, true, false, List, [], ◌∷◌, ◌++◌, Some, Result, Ok, Err, length, replicate, slice_get, slice_index, slice_set, if◌then◌else◌}
 use Rattle.metric_book.specs.declared.book.Window.{Window}
 use Rattle.metric_catalogue.specs.declared.refusal.Refusal.{Refusal}
 use Rattle.metric_catalogue.specs.declared.refusal.Refusal.TheVariants.{SumRange, Memory}
@@ -30,6 +30,11 @@ pub record MayFollow (facts : Facts) (journal : List Entry) (entry : Entry) : Ty
 -- the book stands for a journal which the recording may follow
 abbrev pub MayTake : Standing → Entry → Type 0
 MayTake stands entry = (facts : Facts) × (journal : List Entry) × (marks : List ℕ) × (stands facts journal marks × MayFollow facts journal entry)
+
+-- want of memory is answered only on an instrument whose recordings take some
+abbrev pub AsksForMemory : Standing → (Facts → Type 0) → Result (Unit {0}) Refusal → Type 0
+AsksForMemory stands spares_memory result =
+    (facts : Facts) (journal : List Entry) (marks : List ℕ) → stands facts journal marks → spares_memory facts → result ≢ Err Memory
 
 -- the instrument has a reader of this number
 abbrev pub HasReader : Standing → ℕ → Type 0

@@ -1,6 +1,6 @@
 //! What each book does.
 ghost use Rattle.std.specs.Prelude.{◌≡◌, ◌<◌, ℕ, List, length, IfOk, OnOk, OnErr};
-ghost use Rattle.metric_book.specs.Journals.{BeginsJournal, HasReader, JudgesRecording, MayTake, MovesMark, ReportsWindow, TakesRecording};
+ghost use Rattle.metric_book.specs.Journals.{AsksForMemory, BeginsJournal, HasReader, JudgesRecording, MayTake, MovesMark, ReportsWindow, TakesRecording};
 ghost use Rattle.metric_history.specs.declared.entry.Entry.{Entry as entries};
 ghost use Rattle.metric_facts.specs.declared.facts.Facts.{Facts as facts};
 
@@ -30,6 +30,9 @@ pub trait Book: Drop {
     // The book stands for this journal with these marks, of an instrument with these facts.
     ghost stands: { Self → facts → List entries → List ℕ → Type 0 };
 
+    // Recordings on an instrument with these facts take no memory.
+    ghost spares_memory: { facts → Type 0 };
+
     /// The book of an instrument without recordings. Where set keys are hashed, the seed keeps strangers from
     /// choosing sets that collide. Fails only where memory is refused.
     fn new(alloc: Global, plan: &Plan, instrument: u32, seed: u64) -> Result<Self, AllocError>
@@ -39,10 +42,12 @@ pub trait Book: Drop {
         ensures { IfOk result (λ book. BeginsJournal (stands book) plan.now.facts instrument) };
 
     /// Puts a recording last. `SumRange` comes exactly where it would take a series of some stream out of range;
-    /// the only other refusal is `Memory`. Refused, the book is as it was.
+    /// the only other refusal is `Memory`, which never comes where recordings take none. Refused, the book is as it
+    /// was.
     fn push(&mut self, entry: Entry) -> Result<(), Refusal>
         requires { MayTake (stands self.old) entry }
         ensures answer { JudgesRecording (stands self.old) entry result }
+        ensures memory { AsksForMemory (stands self.old) spares_memory result }
         ensures stands { OnOk result (TakesRecording (stands self.old) (stands self.new) entry) }
         ensures err { OnErr result (self.new ≡ self.old) };
 

@@ -161,6 +161,9 @@ impl Book for JournalBook {
 
     ghost stands = { StandsForList };
 
+    // Each recording makes the list longer.
+    ghost spares_memory = { λ _. ⊥ };
+
     fn new(
         alloc: Global,
         plan: &Plan,

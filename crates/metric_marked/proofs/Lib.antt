@@ -1,3 +1,4 @@
+pub mod PlacedLaws
 pub mod TableLaws
 pub mod MarkLaws
 pub mod StepLaws

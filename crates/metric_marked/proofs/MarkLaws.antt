@@ -4,11 +4,12 @@ use Rattle.std.specs.Prelude.{replicate, slice_index, slice_set}
 use Rattle.std.proofs.lemmas.Bool.{cases_eq}
 use Rattle.std.proofs.lemmas.List.{drop-append-le, drop_all, get_or-set_same, get_or-set_other, length-set, length-replicate}
 use Rattle.metric_book.specs.Journals.{no_marks}
-use Rattle.metric_facts.specs.Facts.{is_delta}
+use Rattle.metric_facts.specs.Facts.{is_delta, is_full_set}
+use Rattle.metric_facts.specs.Products.{AreAllByProduct}
 use Rattle.metric_history.specs.Windows.{window}
 use Rattle.metric_history.specs.declared.entry.Entry.{Entry}
 use Rattle.metric_facts.specs.declared.facts.Facts.{Facts}
-use Rattle.metric_marked.specs.Marks.{ClosesWindow, EmptyFor, KeepPlaces, MarkedValue, StandAll, StandsMarked, TakeAll, windows_of}
+use Rattle.metric_marked.specs.Marks.{ClosesWindow, EmptyFor, HaveRoom, KeepPlaces, MarkedValue, StandAll, StandsMarked, TakeAll, windows_of}
 use Rattle.metric_marked.specs.declared.stream_table.StreamTable.{StreamTable}
 use Rattle.metric_marked.proofs.TableLaws.{keeps-same, stands-same}
 
@@ -26,11 +27,12 @@ window-push true mark journal entry low = drop-append-le mark journal (entry ∷
 window-push false mark journal entry low = refl
 
 -- a book of empty tables
-pub marked_begins : (tables : List StreamTable) (facts : Facts) → StandAll tables facts.streams (λ _. []) → ((set : List ℕ) → TakeAll tables set)
+pub marked_begins : (tables : List StreamTable) (facts : Facts) → StandAll tables facts.streams (λ _. []) → ((set : List ℕ) → is_full_set facts.keys set ≡ true → TakeAll tables set) → (AreAllByProduct facts → HaveRoom tables)
     → StandsMarked (record { tables = tables; delta = facts.delta; marks = no_marks facts; count = 0 }) facts [] (no_marks facts)
-marked_begins tables facts all takes = record {
+marked_begins tables facts all takes room = record {
   tables = stands-same tables facts.streams (λ _. []) (windows_of facts [] (no_marks facts)) (λ reader. sym (window-none (is_delta facts reader) (slice_index (no_marks facts) reader))) all;
-  takes = λ set full. takes set;
+  takes = takes;
+  room = room;
   delta = refl;
   mark = refl;
   count = refl;
@@ -95,6 +97,7 @@ pub marked_moves : (b : MarkedValue) (tables : List StreamTable) (reader : ℕ) 
 marked_moves b tables reader facts journal marks s below closes = record {
   tables = closed facts journal marks reader below b tables (is_delta facts reader) refl s.tables closes;
   takes = λ set full. (closed_places b.tables tables (is_delta facts reader) reader closes).sets set (s.takes set full);
+  room = λ dense. (closed_places b.tables tables (is_delta facts reader) reader closes).room (s.room dense);
   delta = s.delta;
   mark = ap (λ (m : List ℕ). slice_set m reader b.count) s.mark ∙ ap (slice_set marks reader) s.count;
   count = s.count;

@@ -11,7 +11,7 @@ use Rattle.metric_facts.specs.declared.facts.NumberedStream.{NumberedStream}
 use Rattle.metric_history.specs.Windows.{fits_stream}
 use Rattle.metric_history.specs.declared.entry.Entry.{Entry}
 use Rattle.metric_series.specs.Calls.{JudgesValue, TakesRecording, is_in_range}
-use Rattle.metric_series.specs.SeriesTables.{SeriesValue, series_tables}
+use Rattle.metric_marked.specs.StreamSeries.{StreamSeriesValue, stream_series}
 use Rattle.metric_series.specs.declared.fault.SeriesFault.{SeriesFault}
 use Rattle.metric_series.specs.declared.fault.SeriesFault.TheVariants.{SumRange, Memory}
 use Rattle.metric_series.specs.declared.place.Place.{Place}
@@ -261,7 +261,7 @@ same-table t before n r s = λ i. record { number = n i; reader = r i; table = s
 
 -- what puts a value into a table, puts a recording of the value in
 pub puts-one : (entry : Entry) (old new : StreamTable) (place : Place) (v : ℤ) → v ≡ entry.value → IsSameStream old new
-    → ((before : SeriesValue) (set : List ℕ) → series_tables.is_ready before old.table set v place → TakesRecording (series_tables.stands before) (series_tables.stands new.table) set v)
+    → ((before : StreamSeriesValue) (set : List ℕ) → stream_series.is_ready before old.table set v place → TakesRecording (stream_series.stands before) (stream_series.stands new.table) set v)
     → Puts entry old new place
 puts-one entry old new place v same stream puts before ready = (
   record {
@@ -269,6 +269,6 @@ puts-one entry old new place v same stream puts before ready = (
     reader = stream.reader ∙ ready.same.reader;
     places = record { sets = λ s h. stream.places.sets s (ready.same.places.sets s h); room = λ h. stream.places.room (ready.same.places.room h) };
   },
-  subst (λ (w : ℤ). TakesRecording (series_tables.stands before.table) (series_tables.stands new.table) entry.set w) same
-      (puts before.table entry.set (subst (λ (w : ℤ). series_tables.is_ready before.table old.table entry.set w place) (sym same) ready.ready)),
+  subst (λ (w : ℤ). TakesRecording (stream_series.stands before.table) (stream_series.stands new.table) entry.set w) same
+      (puts before.table entry.set (subst (λ (w : ℤ). stream_series.is_ready before.table old.table entry.set w place) (sym same) ready.ready)),
 )

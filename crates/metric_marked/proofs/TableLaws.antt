@@ -5,7 +5,7 @@ use Rattle.metric_history.specs.declared.entry.Entry.{Entry}
 use Rattle.metric_facts.specs.declared.facts.NumberedStream.{NumberedStream}
 use Rattle.metric_history.specs.Windows.{fits_stream}
 use Rattle.metric_series.specs.Calls.{JudgesValue, KeepsPlaces}
-use Rattle.metric_series.specs.SeriesTables.{series_tables}
+use Rattle.metric_marked.specs.StreamSeries.{stream_series}
 use Rattle.metric_marked.specs.Marks.{JudgesAll, HaveRoom, KeepPlaces, StandAll, StandsFor, TableStands, TakeAll}
 use Rattle.metric_marked.specs.declared.stream_table.StreamTable.{StreamTable}
 
@@ -33,17 +33,22 @@ judges-cons t tables entry a b own rest (s ∷ streams) windows all =
     ∙ ap (λ (v : Bool). a && v) (rest streams windows all.1)
 
 -- one table more has a place for a set
-pub takes-push : (tables : List StreamTable) (t : StreamTable) (set : List ℕ) → TakeAll tables set → series_tables.takes t.table set → TakeAll (tables ++ t ∷ []) set
+pub takes-push : (tables : List StreamTable) (t : StreamTable) (set : List ℕ) → TakeAll tables set → stream_series.takes t.table set → TakeAll (tables ++ t ∷ []) set
 takes-push [] t set all last = (last, tt)
 takes-push (y ∷ tables) t set all last = (all.0, takes-push tables t set all.1 last)
 
+-- one table more has room for all values
+pub room-push : (tables : List StreamTable) (t : StreamTable) → HaveRoom tables → stream_series.has_room t.table → HaveRoom (tables ++ t ∷ [])
+room-push [] t all last = (last, tt)
+room-push (y ∷ tables) t all last = (all.0, room-push tables t all.1 last)
+
 -- the table at an index has the place, and the room, that each table has
-pub takes-at : (tables : List StreamTable) (i : ℕ) (d : StreamTable) (set : List ℕ) → TakeAll tables set → i < length tables → series_tables.takes (get_or tables i d).table set
+pub takes-at : (tables : List StreamTable) (i : ℕ) (d : StreamTable) (set : List ℕ) → TakeAll tables set → i < length tables → stream_series.takes (get_or tables i d).table set
 takes-at [] i d set all below = absurd (omega arith)
 takes-at (t ∷ tables) zero d set all below = all.0
 takes-at (t ∷ tables) (suc i) d set all below = takes-at tables i d set all.1 (omega arith)
 
-pub room-at : (tables : List StreamTable) (i : ℕ) (d : StreamTable) → HaveRoom tables → i < length tables → series_tables.has_room (get_or tables i d).table
+pub room-at : (tables : List StreamTable) (i : ℕ) (d : StreamTable) → HaveRoom tables → i < length tables → stream_series.has_room (get_or tables i d).table
 room-at [] i d all below = absurd (omega arith)
 room-at (t ∷ tables) zero d all below = all.0
 room-at (t ∷ tables) (suc i) d all below = room-at tables i d all.1 (omega arith)
@@ -52,6 +57,6 @@ room-at (t ∷ tables) (suc i) d all below = room-at tables i d all.1 (omega ari
 pub keeps-same : (old new : List StreamTable) → new ≡ old → KeepPlaces old new
 keeps-same old new same = record { sets = λ set h. subst (λ ts. TakeAll ts set) (sym same) h; room = λ h. subst HaveRoom (sym same) h }
 
-pub keeps-cons : (o n : StreamTable) (old new : List StreamTable) → KeepsPlaces series_tables.takes series_tables.has_room o.table n.table → KeepPlaces old new
+pub keeps-cons : (o n : StreamTable) (old new : List StreamTable) → KeepsPlaces stream_series.takes stream_series.has_room o.table n.table → KeepPlaces old new
     → KeepPlaces (o ∷ old) (n ∷ new)
 keeps-cons o n old new one rest = record { sets = λ set h. (one.sets set h.0, rest.sets set h.1); room = λ h. (one.room h.0, rest.room h.1) }

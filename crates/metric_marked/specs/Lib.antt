@@ -1,2 +1,3 @@
+pub mod StreamSeries
 pub mod Marks
 pub mod Stepwise

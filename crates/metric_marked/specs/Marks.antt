@@ -6,10 +6,11 @@ use Rattle.metric_history.specs.declared.entry.Entry.{Entry}
 use Rattle.metric_facts.specs.declared.facts.Facts.{Facts}
 use Rattle.metric_facts.specs.declared.facts.NumberedStream.{NumberedStream}
 use Rattle.metric_facts.specs.Facts.{is_delta, is_full_set, is_of_reader}
+use Rattle.metric_facts.specs.Products.{AreAllByProduct}
 use Rattle.metric_history.specs.Points.{stream_points, with_points}
 use Rattle.metric_history.specs.Windows.{fits_stream, window}
 use Rattle.metric_series.specs.Calls.{KeepsPlaces, Standing}
-use Rattle.metric_series.specs.SeriesTables.{series_tables}
+use Rattle.metric_marked.specs.StreamSeries.{stream_series}
 use Rattle.metric_series.specs.declared.fault.SeriesFault.{SeriesFault}
 use Rattle.metric_series.specs.declared.fault.SeriesFault.TheVariants.{SumRange}
 use Rattle.metric_marked.specs.declared.stream_table.StreamTable.{StreamTable}
@@ -23,7 +24,7 @@ pub record MarkedValue : Type 0 where
 
 -- for which streams and windows a table stands
 abbrev pub TableStands : StreamTable → Standing
-TableStands t = series_tables.stands t.table
+TableStands t = stream_series.stands t.table
 
 -- the table is that of a stream, and stands for a window
 pub record StandsFor (t : StreamTable) (s : NumberedStream) (window : List Entry) : Type 0 where
@@ -41,12 +42,12 @@ StandAll (t ∷ tables) (s ∷ streams) windows = StandsFor t s (windows s.strea
 -- each table has a place for a set
 abbrev pub TakeAll : List StreamTable → List ℕ → Type 0
 TakeAll [] set = Unit {0}
-TakeAll (t ∷ tables) set = series_tables.takes t.table set × TakeAll tables set
+TakeAll (t ∷ tables) set = stream_series.takes t.table set × TakeAll tables set
 
 -- each has room for all values
 abbrev pub HaveRoom : List StreamTable → Type 0
 HaveRoom [] = Unit {0}
-HaveRoom (t ∷ tables) = series_tables.has_room t.table × HaveRoom tables
+HaveRoom (t ∷ tables) = stream_series.has_room t.table × HaveRoom tables
 
 -- tables have the places and the room that others have
 abbrev pub KeepPlaces : List StreamTable → List StreamTable → Type 0
@@ -60,6 +61,7 @@ windows_of facts journal marks reader = window (is_delta facts reader) (slice_in
 pub record StandsMarked (b : MarkedValue) (facts : Facts) (journal : List Entry) (marks : List ℕ) : Type 0 where
   pub tables : StandAll b.tables facts.streams (windows_of facts journal marks)
   pub takes : (set : List ℕ) → is_full_set facts.keys set ≡ true → TakeAll b.tables set
+  pub room : AreAllByProduct facts → HaveRoom b.tables
   pub delta : b.delta ≡ facts.delta
   pub mark : b.marks ≡ marks
   pub count : b.count ≡ length journal
@@ -104,7 +106,7 @@ pub record EmptyFor (old new : ℕ → List Entry) (reader : ℕ) : Type 0 where
 pub record EmptiesOne (old new : StreamTable) (reader : ℕ) : Type 0 where
   pub stands : (s : NumberedStream) (windows later : ℕ → List Entry) → EmptyFor windows later reader
       → StandsFor old s (windows s.stream.reader) → StandsFor new s (later s.stream.reader)
-  pub places : KeepsPlaces series_tables.takes series_tables.has_room old.table new.table
+  pub places : KeepsPlaces stream_series.takes stream_series.has_room old.table new.table
 
 -- and so does each table
 pub record EmptiesReader (old new : List StreamTable) (reader : ℕ) : Type 0 where

@@ -2,7 +2,7 @@
 use Rattle.std.specs.Prelude.{◌≡◌, true, List, [], ◌∷◌}
 use Rattle.metric_history.specs.declared.entry.Entry.{Entry}
 use Rattle.metric_series.specs.Calls.{JudgesValue, KeepsPlaces, TakesRecording}
-use Rattle.metric_series.specs.SeriesTables.{series_tables}
+use Rattle.metric_marked.specs.StreamSeries.{stream_series}
 use Rattle.metric_series.specs.declared.place.Place.{Place}
 use Rattle.metric_marked.specs.Marks.{TableStands}
 use Rattle.metric_marked.specs.declared.stream_table.StreamTable.{StreamTable}
@@ -18,12 +18,12 @@ EachAt R (o ∷ old) (n ∷ new) (p ∷ ps) = R o n p × EachAt R old new ps
 pub record IsSameStream (old new : StreamTable) : Type 0 where
   pub number : new.number ≡ old.number
   pub reader : new.reader ≡ old.reader
-  pub places : KeepsPlaces series_tables.takes series_tables.has_room old.table new.table
+  pub places : KeepsPlaces stream_series.takes stream_series.has_room old.table new.table
 
 -- the new table is the old one, made ready for a recording that falls to a place
 pub record IsReadyFor (entry : Entry) (old new : StreamTable) (place : Place) : Type 0 where
   pub same : IsSameStream old new
-  pub ready : series_tables.is_ready old.table new.table entry.set entry.value place
+  pub ready : stream_series.is_ready old.table new.table entry.set entry.value place
 
 -- the new table is what the old one was before it was made ready
 abbrev pub Restores : StreamTable → StreamTable → Place → Type 0

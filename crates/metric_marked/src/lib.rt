@@ -5,6 +5,7 @@
 #![tactic(auto)]
 
 mod marked;
+mod stream_series;
 mod stream_table;
 mod tables;
 

@@ -1,6 +1,7 @@
 //! A book of running tables with a mark for each reader.
 ghost use Rattle.std.specs.Prelude.{◌≡◌, [], length, slice_index_or, false, IfOk, if◌then◌else◌};
 ghost use Rattle.metric_book.specs.Journals.{no_marks};
+ghost use Rattle.metric_facts.specs.Products.{AreDense};
 ghost use Rattle.metric_marked.specs.Marks.{ClosesWindow, StandsMarked};
 
 use crate::stream_table::StreamTable;
@@ -54,10 +55,11 @@ impl Model for Marked {
 impl Marked {
     // The book of an instrument with these facts, without recordings.
     fn with_facts(alloc: Global, facts: &Facts, seed: u64) -> Result<Marked, AllocError>
+        requires { AreDense facts.now }
         ensures { IfOk result (λ book. StandsMarked book facts.now [] (no_marks facts.now)) }
     {
         Ok(Marked {
-            tables: empty_tables(alloc, facts.streams.as_slice(), seed)?,
+            tables: empty_tables(alloc, facts, seed)?,
             places: Vec::with_capacity(alloc, facts.streams.len())?,
             delta: Items::from_vec(facts.delta.as_slice().to_vec(alloc)?),
             marks: vec![in alloc; 0; facts.delta.len()]?,
@@ -67,11 +69,16 @@ impl Marked {
 }
 
 impl Book for Marked {
+    ghost use Rattle.metric_facts.specs.Products.{AreAllByProduct};
     ghost use Rattle.metric_marked.specs.Marks.{StandsMarked};
 
     ghost stands = { StandsMarked };
 
+    ghost spares_memory = { AreAllByProduct };
+
     fn new(alloc: Global, plan: &Plan, instrument: u32, seed: u64) -> Result<Marked, AllocError> {
+        // For the proof alone: the catalogue is sound.
+        let _sound = plan.catalogue().instruments();
         Marked::with_facts(alloc, plan.facts(instrument), seed)
     }
 

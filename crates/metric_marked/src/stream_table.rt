@@ -1,5 +1,5 @@
 //! The table of a stream.
-use metric_series::SeriesTable;
+use crate::stream_series::StreamSeries;
 
 /// The table of a stream, with what a collection has to know of the stream.
 #[derive(Drop)]
@@ -9,5 +9,5 @@ pub struct StreamTable {
     /// The number of its reader.
     pub(crate) reader: u32,
     /// Its series, with the numbers of the reader's window.
-    pub(crate) table: SeriesTable,
+    pub(crate) table: StreamSeries,
 }

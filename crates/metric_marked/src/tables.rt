@@ -1,32 +1,41 @@
 //! What is done to all tables of an instrument.
 ghost use Rattle.std.specs.Prelude.{◌≡◌, ◌≢◌, ◌≤◌, ℕ, true, false, List, [], length, vec_capacity, IfOk, IsErrOf, OnOk, OnErr};
+ghost use Rattle.metric_facts.specs.Facts.{is_full_set};
+ghost use Rattle.metric_facts.specs.Products.{AreAllByProduct, AreDense};
 ghost use Rattle.metric_series.specs.Calls.{is_in_range};
 ghost use Rattle.metric_marked.specs.Marks.{AddsAllPoints, AddsPoints, EmptiesOne, EmptiesReader, HaveRoom, JudgesAll, KeepPlaces, StandAll, TakeAll, TakesAll, weightier as more_serious};
 ghost use Rattle.metric_marked.specs.Stepwise.{AreReady, EachAt, IsReadyFor, Puts, Restores};
 
+use crate::stream_series::StreamSeries;
 use crate::stream_table::StreamTable;
 use metric_base::Items;
-use metric_facts::NumberedStream;
+use metric_facts::Facts;
 use metric_history::{Entry, StreamPoints};
-use metric_series::{Place, SeriesFault, SeriesTable, Table};
+use metric_series::{Place, SeriesFault, Table};
 use std::alloc::{AllocError, Global};
 
-/// The tables of streams without recordings, whose set keys are hashed with the seed.
+/// The tables of the streams of an instrument without recordings. Set keys are hashed with the seed where a stream is
+/// not by product.
 pub(crate) fn empty_tables(
     alloc: Global,
-    streams: &[NumberedStream],
+    facts: &Facts,
     seed: u64,
 ) -> Result<Vec<StreamTable>, AllocError>
-    ensures stand { IfOk result (λ tables. StandAll tables.items streams.now (λ _. [])) }
-    ensures takes { IfOk result (λ tables. (set : List ℕ) → TakeAll tables.items set) }
-    ensures count { IfOk result (λ tables. length tables.items ≡ length streams.now) }
+    requires { AreDense facts.now }
+    ensures stand { IfOk result (λ tables. StandAll tables.items facts.now.streams (λ _. [])) }
+    ensures takes { IfOk result (λ tables. (set : List ℕ)
+        → is_full_set facts.now.keys set ≡ true → TakeAll tables.items set) }
+    ensures room { IfOk result (λ tables. AreAllByProduct facts.now → HaveRoom tables.items) }
+    ensures count { IfOk result (λ tables. length tables.items ≡ length facts.now.streams) }
 {
+    let keys = facts.keys.as_slice();
+    let streams = facts.streams.as_slice();
     let mut tables = Vec::with_capacity(alloc, streams.len())?;
     for numbered in streams {
         tables.push(StreamTable {
             number: numbered.number,
             reader: numbered.stream.reader,
-            table: SeriesTable::with_seed(alloc, &numbered.stream, seed)?,
+            table: StreamSeries::new(alloc, keys, numbered, seed)?,
         })?;
     }
     Ok(tables)

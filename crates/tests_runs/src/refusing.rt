@@ -35,6 +35,8 @@ impl Book for Refusing {
 
     ghost stands = { StandsRefusing };
 
+    ghost spares_memory = { λ _. ⊥ };
+
     fn new(alloc: Global, plan: &Plan, instrument: u32, seed: u64) -> Result<Refusing, AllocError> {
         Ok(Refusing {
             book: Marked::new(alloc, plan, instrument, seed)?,

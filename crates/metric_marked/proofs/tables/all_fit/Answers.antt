@@ -1,13 +1,20 @@
 -- the verdict on the table at the index
-use Rattle.std.proofs.Common.{◌≡◌, Bool, true, false, List, subst, rules, w64, SFits}
+use Rattle.std.proofs.Common.{◌≡◌, Bool, true, false, List, sym, subst, rules, w64, SFits}
 use Rattle.std.proofs.lemmas.Int.{to_z-of_z}
 use Rattle.std.proofs.lemmas.List.{take_all}
 use Rattle.metric_series.specs.Calls.{JudgesValue}
 use Rattle.metric_marked.specs.Marks.{TableStands}
+use Rattle.metric_marked.specs.StreamSeries.{stream_series}
 use Rattle.metric_marked.specs.Stepwise.{AreInRange}
 use Rattle.metric_marked.specs.declared.stream_table.StreamTable.{StreamTable}
 use Rattle.metric_marked.proofs.StepLaws.{in_range-stepped, judges-all, judges-one}
+use Rattle.metric_marked.proofs.TableLaws.{takes-at}
 use Rattle.metric_marked.proofs.tables.all_fit.Goals as goal
+
+pub fits-requires : goal.fits-requires
+fits-requires c =
+    subst (λ (t : StreamTable). stream_series.takes t.table c.args.entry.now.set) (sym c.stream-item.is)
+    (takes-at c.args.tables.now c.loop-stream.stream-index c.stream-item.result c.args.entry.now.set c.requires c.loop-stream-test.true)
 
 pub returns-then-not-fits : goal.returns-then-not-fits
 returns-then-not-fits c =

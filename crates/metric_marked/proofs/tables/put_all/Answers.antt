@@ -1,7 +1,7 @@
 -- one table more has taken the value
 use Rattle.std.proofs.Common.{◌≡◌, get_or, ℤ, refl, sym, subst, rules, w64, SFits}
 use Rattle.std.proofs.lemmas.Int.{to_z-of_z}
-use Rattle.metric_series.specs.SeriesTables.{series_tables}
+use Rattle.metric_marked.specs.StreamSeries.{stream_series}
 use Rattle.metric_series.specs.declared.place.Place.TheVariants.{Held}
 use Rattle.metric_marked.specs.Stepwise.{Puts}
 use Rattle.metric_marked.specs.declared.stream_table.StreamTable.{StreamTable}
@@ -19,8 +19,8 @@ put-requires c =
     let known = ready-at c.args.entry.now c.args.tables.now c.args.places.now i d (Held 0) c.requires.ready c.loop-index-test.true in (
       known.0.table,
       c.args.entry.now.set,
-      subst (λ (v : ℤ). series_tables.is_ready known.0.table (get_or c.loop-index.tables i d).table c.args.entry.now.set v place) (sym (to_z-of_z w64 c.args.entry.now.value in64))
-          (subst (λ (t : StreamTable). series_tables.is_ready known.0.table t.table c.args.entry.now.set c.args.entry.now.value place) (sym same) known.1.ready),
+      subst (λ (v : ℤ). stream_series.is_ready known.0.table (get_or c.loop-index.tables i d).table c.args.entry.now.set v place) (sym (to_z-of_z w64 c.args.entry.now.value in64))
+          (subst (λ (t : StreamTable). stream_series.is_ready known.0.table t.table c.args.entry.now.set c.args.entry.now.value place) (sym same) known.1.ready),
     )
 
 pub loop-index-preserved : goal.loop-index-preserved

@@ -3,7 +3,7 @@ use Rattle.std.proofs.Common.{◌≡◌, ◌+◌, ◌∙◌, ℤ, true, false, L
 use Rattle.std.proofs.lemmas.Int.{to_z-of_z}
 use Rattle.std.proofs.lemmas.List.{take_all, length-append}
 use Rattle.metric_series.specs.Calls.{JudgesValue, is_in_range}
-use Rattle.metric_series.specs.SeriesTables.{series_tables}
+use Rattle.metric_marked.specs.StreamSeries.{stream_series}
 use Rattle.metric_series.specs.declared.fault.SeriesFault.{SeriesFault}
 use Rattle.metric_series.specs.declared.fault.SeriesFault.TheVariants.{Memory, SumRange}
 use Rattle.metric_series.specs.declared.place.Place.{Place}
@@ -11,8 +11,19 @@ use Rattle.metric_marked.specs.Marks.{TableStands}
 use Rattle.metric_marked.specs.Stepwise.{AreInRange, IsReadyFor}
 use Rattle.metric_marked.specs.declared.stream_table.StreamTable.{StreamTable}
 use Rattle.metric_marked.proofs.StepLaws.{each-after, each-pushed, in_range-stepped, judges-all, judges-one}
-use Rattle.metric_marked.proofs.TableLaws.{room-at}
+use Rattle.metric_marked.proofs.TableLaws.{room-at, takes-at}
 use Rattle.metric_marked.proofs.tables.ready_all.Goals as goal
+
+pub ready-requires : goal.ready-requires
+ready-requires c =
+    let i = c.loop-stream.stream-index in
+    let d = c.stream-item.result in
+    let same : get_or c.loop-stream.tables i d ≡ get_or c.args.tables.now i d =
+    subst (λ n. get_or c.loop-stream.tables n d ≡ get_or c.args.tables.now n d) c.loop-stream.invariant.one_each
+    (each-after (IsReadyFor c.args.entry.now) c.args.tables.now c.loop-stream.tables c.loop-stream.places.items d c.loop-stream.invariant.ready
+    (omega (arith, c.loop-stream.invariant.one_each))) in
+    subst (λ (t : StreamTable). stream_series.takes t.table c.args.entry.now.set) (sym same)
+    (takes-at c.args.tables.now i d c.args.entry.now.set c.requires.takes c.loop-stream-test.true)
 
 pub returns-in-Err-clause-out_of_range : goal.returns-in-Err-clause-out_of_range
 returns-in-Err-clause-out_of_range c = λ is.
@@ -42,7 +53,7 @@ returns-in-Err-clause-memory c = λ roomy is.
     (each-after (IsReadyFor c.args.entry.now) c.args.tables.now c.loop-stream.tables c.loop-stream.places.items d c.loop-stream.invariant.ready
     (omega (arith, c.loop-stream.invariant.one_each))) in
     c.in-Err.ensures.room
-    (subst (λ (t : StreamTable). series_tables.has_room t.table) (sym same) (room-at c.args.tables.now i d roomy c.loop-stream-test.true))
+    (subst (λ (t : StreamTable). stream_series.has_room t.table) (sym same) (room-at c.args.tables.now i d roomy c.loop-stream-test.true))
     (ap (λ (fault : SeriesFault). Err fault) memory)
 
 pub loop-stream-preserved : goal.loop-stream-preserved
@@ -56,8 +67,8 @@ loop-stream-preserved c =
     subst (λ n. get_or c.loop-stream.tables n d ≡ get_or c.args.tables.now n d) c.loop-stream.invariant.one_each
     (each-after (IsReadyFor c.args.entry.now) c.args.tables.now c.loop-stream.tables c.loop-stream.places.items d c.loop-stream.invariant.ready
     (omega (arith, c.loop-stream.invariant.one_each))) in
-    let ready : series_tables.is_ready t.table c.ready.new.self c.args.entry.now.set c.args.entry.now.value c.in-Ok.place =
-    subst (λ (v : ℤ). series_tables.is_ready t.table c.ready.new.self c.args.entry.now.set v c.in-Ok.place) back c.in-Ok.ensures.ok in
+    let ready : stream_series.is_ready t.table c.ready.new.self c.args.entry.now.set c.args.entry.now.value c.in-Ok.place =
+    subst (λ (v : ℤ). stream_series.is_ready t.table c.ready.new.self c.args.entry.now.set v c.in-Ok.place) back c.in-Ok.ensures.ok in
     let own : JudgesValue (TableStands t) c.args.entry.now.set c.args.entry.now.value true =
     subst (λ (v : ℤ). JudgesValue (TableStands t) c.args.entry.now.set v true) back c.in-Ok.ensures.in_range in
     record {

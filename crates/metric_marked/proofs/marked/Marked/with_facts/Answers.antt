@@ -2,15 +2,14 @@
 use Rattle.std.proofs.Common.{◌≡◌, [], Bool, List, ℕ, sym, ap, subst, ◌∙◌, rules}
 use Rattle.metric_book.specs.Journals.{no_marks}
 use Rattle.metric_facts.specs.declared.facts.Facts.{Facts}
-use Rattle.metric_marked.specs.Marks.{StandAll, StandsMarked}
+use Rattle.metric_marked.specs.Marks.{StandsMarked}
 use Rattle.metric_marked.proofs.MarkLaws.{marked_begins}
 use Rattle.metric_marked.proofs.marked.Marked.with_facts.Goals as goal
 
 pub returns : goal.returns
 returns c =
-    let all = subst (λ streams. StandAll c.in_ok-empty_tables.field-0.items streams (λ _. [])) (c.as_slice.ensures ∙ ap (λ (f : Facts). f.streams) c.deref.ensures) c.in_ok-empty_tables.ensures.stand in
     let delta : c.from_vec.result ≡ c.args.facts.now.delta = search rules in
     let marks : c.in_ok-vec.field-0.items ≡ no_marks c.args.facts.now = search rules in
     subst (λ (d : List Bool). StandsMarked (record { tables = c.in_ok-empty_tables.field-0.items; delta = d; marks = c.in_ok-vec.field-0.items; count = 0 }) c.args.facts.now [] (no_marks c.args.facts.now)) (sym delta)
     (subst (λ (m : List ℕ). StandsMarked (record { tables = c.in_ok-empty_tables.field-0.items; delta = c.args.facts.now.delta; marks = m; count = 0 }) c.args.facts.now [] (no_marks c.args.facts.now)) (sym marks)
-    (marked_begins c.in_ok-empty_tables.field-0.items c.args.facts.now all c.in_ok-empty_tables.ensures.takes))
+    (marked_begins c.in_ok-empty_tables.field-0.items c.args.facts.now c.in_ok-empty_tables.ensures.stand c.in_ok-empty_tables.ensures.takes c.in_ok-empty_tables.ensures.room))
