@@ -1,5 +1,5 @@
 //! The state of one instrument.
-ghost use Rattle.std.specs.Prelude.{◌≡◌, ◌≤◌, ◌<◌, ◌-◌, ◌^◌, pos, neg_ℤ, ◌+ℤ◌, ◌≤ℤ◌, Some, [], true, length, slice_get, slice_index, sum, IfOk, IfErr, OnOk, OnErr};
+ghost use Rattle.std.specs.Prelude.{◌≡◌, ◌≢◌, ◌≤◌, ◌<◌, ◌-◌, ◌^◌, pos, neg_ℤ, ◌+ℤ◌, ◌≤ℤ◌, Some, [], true, length, slice_get, slice_index, sum, IfOk, IfErr, OnOk, OnErr};
 ghost use Rattle.metric_core.specs.Cells.{CellKept, CellStands, new_cell};
 ghost use Rattle.metric_core.specs.CellAnswers.{AnswersClose, AnswersRecording, GainsEntry, KeepsJournal, ReportsBatch, entry_of, with_batch, with_entry};
 ghost use Rattle.metric_facts.specs.Facts.{in_bounds, is_full_set};
@@ -130,12 +130,14 @@ impl<B: Book> Cell<B> {
 
     /// Makes a recording (Metrics API, synchronous instruments). `Closed` comes exactly where the instrument is
     /// closed, else `Budget` exactly where the recorder has made as many recordings as its budget, else `SumRange`
-    /// exactly where some series would leave its range; the only other refusal is `Memory`.
+    /// exactly where some series would leave its range; the only other refusal is `Memory`, which never comes where
+    /// the book says that recordings take none.
     pub fn record(&mut self, recorder: u32, set: SetKey, value: i64) -> Result<(), Refusal>
         requires recorder { recorder < length self.old.facts.budgets }
         requires set { is_full_set self.old.facts.keys set ≡ true }
         requires value { in_bounds self.old.facts value ≡ true }
         ensures answer { AnswersRecording B.stands self.old (entry_of recorder set value) result }
+        ensures memory { B.spares_memory self.old.facts → result ≢ Err Refusal.Memory }
         ensures new { let entry = entry_of recorder set value in
             OnOk result (self.new ≡ with_entry self.old entry self.new.book) }
         ensures stands { let entry = entry_of recorder set value in

@@ -29,21 +29,22 @@ admitted p seat instrument attrs value =
 abbrev pub told_at : RecorderValue → ℕ → Told
 told_at seat instrument = slice_index_or seat.told instrument nothing_told
 
--- what refuses an admitted recording under the lock: `Budget` only where the recorder was told of as many as its budget
-abbrev pub RefusesRecording : Facts → ℕ → Told → Refusal → Type 0
-RefusesRecording own recorder told Stranger = Unit {0}
-RefusesRecording own recorder told Closed = Unit {0}
-RefusesRecording own recorder told Budget = slice_index own.budgets recorder ≤ told.count
-RefusesRecording own recorder told Memory = Unit {0}
-RefusesRecording own recorder told other = ⊥
+-- what refuses an admitted recording under the lock: `Budget` only where the recorder was told of as many as its budget, `Memory` only
+-- where recordings on the instrument take some
+abbrev pub RefusesRecording : (Facts → Type 0) → Facts → ℕ → Told → Refusal → Type 0
+RefusesRecording spares_memory own recorder told Stranger = Unit {0}
+RefusesRecording spares_memory own recorder told Closed = Unit {0}
+RefusesRecording spares_memory own recorder told Budget = slice_index own.budgets recorder ≤ told.count
+RefusesRecording spares_memory own recorder told Memory = ¬ spares_memory own
+RefusesRecording spares_memory own recorder told other = ⊥
 
 -- What a recording with this admission is answered: what it is refused for before the lock is taken, else what the lock's call answers.
-abbrev pub AnswersSeat : Result (List ℕ) Refusal → PlanValue → RecorderValue → ℕ → Result (Unit {0}) Refusal → Type 0
-AnswersSeat (Err first) plan seat instrument (Err refusal) = refusal ≡ first
-AnswersSeat (Err first) plan seat instrument (Ok done) = ⊥
-AnswersSeat (Ok set) plan seat instrument (Ok done) = Unit {0}
-AnswersSeat (Ok set) plan seat instrument (Err refusal) =
-    IfSome (slice_get plan.facts.instruments instrument) (λ (own : Facts). RefusesRecording own seat.number (told_at seat instrument) refusal)
+abbrev pub AnswersSeat : (Facts → Type 0) → Result (List ℕ) Refusal → PlanValue → RecorderValue → ℕ → Result (Unit {0}) Refusal → Type 0
+AnswersSeat spares_memory (Err first) plan seat instrument (Err refusal) = refusal ≡ first
+AnswersSeat spares_memory (Err first) plan seat instrument (Ok done) = ⊥
+AnswersSeat spares_memory (Ok set) plan seat instrument (Ok done) = Unit {0}
+AnswersSeat spares_memory (Ok set) plan seat instrument (Err refusal) =
+    IfSome (slice_get plan.facts.instruments instrument) (λ (own : Facts). RefusesRecording spares_memory own seat.number (told_at seat instrument) refusal)
 
 -- the seat that was told of one recording more, of this value on an instrument with these facts
 abbrev pub with_recording : RecorderValue → ℕ → Facts → ℤ → RecorderValue

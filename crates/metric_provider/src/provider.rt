@@ -133,7 +133,7 @@ impl<B: Book, G: Gate> Provider<B, G> {
             told.new ≡ told_more told.old own.lo value.now)) }
         ensures refused { IfErr result (λ refusal.
             IfSome (slice_get self.now.plan.facts.instruments instrument) (λ own.
-            RefusesRecording own recorder told.old refusal)) }
+            RefusesRecording B.spares_memory own recorder told.old refusal)) }
         ensures told_err { OnErr result (told.new ≡ told.old) }
     {
         let facts = self.plan.facts(instrument);

@@ -84,7 +84,8 @@ impl Recorder {
     /// # Errors
     ///
     /// Those of [`Recorder::admits`]. Then, under the instrument's lock, `Stranger` where what is found there is not what the
-    /// seat was told, `Closed`, `Budget`, and `Memory`. No recording is refused for a sum.
+    /// seat was told, `Closed`, `Budget`, and `Memory`, which never comes where the book says that recordings on the instrument
+    /// take none. No recording is refused for a sum.
     pub fn record<R: Wait, B: Book, G: Gate>(
         &mut self,
         rt: &R,
@@ -95,7 +96,7 @@ impl Recorder {
     ) -> Result<(), Refusal>
         ensures answer { let given = map given_by attrs.now in
             let admission = admitted provider.now self.old instrument given value in
-            AnswersSeat admission provider.now.plan self.old instrument result }
+            AnswersSeat B.spares_memory admission provider.now.plan self.old instrument result }
         ensures told { OnOk result (
             IfSome (slice_get provider.now.plan.facts.instruments instrument) (λ own.
             self.new ≡ with_recording self.old instrument own value)) }
@@ -122,7 +123,7 @@ impl Recorder {
         value: i64,
     ) -> Result<(), Refusal>
         ensures answer { let admission = admitted_key provider.now self.old instrument set value in
-            AnswersSeat admission provider.now.plan self.old instrument result }
+            AnswersSeat B.spares_memory admission provider.now.plan self.old instrument result }
         ensures told { OnOk result (
             IfSome (slice_get provider.now.plan.facts.instruments instrument) (λ own.
             self.new ≡ with_recording self.old instrument own value)) }
@@ -144,7 +145,8 @@ impl Recorder {
         requires known { let by = self.old.number in
             KnowsRecording provider.now.plan instrument by set value.now }
         requires long { instrument < length self.old.told }
-        ensures answer { AnswersSeat (Ok set) provider.now.plan self.old instrument result }
+        ensures answer { let plan = provider.now.plan in
+            AnswersSeat B.spares_memory (Ok set) plan self.old instrument result }
         ensures told { OnOk result (
             IfSome (slice_get provider.now.plan.facts.instruments instrument) (λ own.
             self.new ≡ with_recording self.old instrument own value.now)) }

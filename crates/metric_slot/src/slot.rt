@@ -1,5 +1,5 @@
 //! The cell of one instrument as it stands behind a lock.
-ghost use Rattle.std.specs.Prelude.{◌≡◌, ◌↔◌, ◌<◌, ◌≤◌, ◌≤ℤ◌, Some, IsTrue, [], true, length, slice_get, slice_index, IfOk, IfErr, OnOk, OnErr};
+ghost use Rattle.std.specs.Prelude.{◌≡◌, ◌≢◌, ◌↔◌, ◌<◌, ◌≤◌, ◌≤ℤ◌, Some, IsTrue, [], true, length, slice_get, slice_index, IfOk, IfErr, OnOk, OnErr};
 ghost use Rattle.metric_core.specs.Cells.{CellKept, CellStands, new_cell};
 ghost use Rattle.metric_core.specs.CellAnswers.{AnswersClose, GainsEntry, KeepsJournal, ReportsBatch, entry_of, with_batch, with_entry};
 ghost use Rattle.metric_facts.specs.Facts.{in_bounds, is_full_set};
@@ -87,7 +87,7 @@ impl<B: Book> Slot<B> {
     /// of this one too. `Stranger` comes exactly where the cell's facts are not these, or its number of the recorder's
     /// recordings is not the one told, or so many values can not be as far above the least as was told. Else `Closed`
     /// comes exactly where the instrument is closed, else `Budget` exactly where the recorder has made as many recordings as its budget;
-    /// the only other refusal is `Memory`.
+    /// the only other refusal is `Memory`, which never comes where the book says that recordings take none.
     pub fn record(
         &mut self,
         facts: &Facts,
@@ -101,6 +101,7 @@ impl<B: Book> Slot<B> {
         requires value { in_bounds facts.now value ≡ true }
         ensures answer { let entry = entry_of recorder set value in
             AnswersRecorder B.stands self.old facts.now told.old entry result }
+        ensures memory { B.spares_memory facts.now → result ≢ Err Refusal.Memory }
         ensures budget { IfErr result (λ refusal. refusal ≡ Refusal.Budget
             → slice_index facts.now.budgets recorder ≤ told.old.count) }
         ensures new { let entry = entry_of recorder set value in
@@ -191,6 +192,7 @@ fn record_own<B: Book>(
     requires value { in_bounds facts.now value ≡ true }
     ensures answer { let entry = entry_of recorder set value in
         AnswersRecorder B.stands cell.old facts.now told.now entry result }
+    ensures memory { B.spares_memory facts.now → result ≢ Err Refusal.Memory }
     ensures room { OnOk result (HasRoom told.now facts.now.lo value) }
     ensures new { let entry = entry_of recorder set value in
         OnOk result (cell.new ≡ with_entry cell.old entry cell.new.book) }

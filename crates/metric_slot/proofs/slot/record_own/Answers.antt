@@ -1,5 +1,5 @@
 -- one recording more
-use Rattle.std.proofs.Common.{◌≡◌, ℤ, to_z, of_z, w64, length, rules, subst}
+use Rattle.std.proofs.Common.{◌≡◌, ℤ, to_z, of_z, w64, length, rules, sym, subst}
 use Rattle.std.proofs.lemmas.Int.{to_z-of_z}
 use Rattle.metric_core.specs.CellAnswers.{AnswersRecording, entry_of}
 use Rattle.metric_history.specs.declared.entry.Entry.{Entry}
@@ -22,3 +22,8 @@ returns-clause-room g c =
     let same : to_z w64 (of_z w64 c.args.value) ≡ c.args.value = to_z-of_z w64 c.args.value c.ranges.value in
     answer_room g.B.Book.stands c.args.cell.now c.args.facts.now c.args.told.now (entry_of c.args.recorder c.args.set c.args.value) c.record.result c.requires.safe c.facts.ensures.kept own c.requires.value
     (subst (λ (v : ℤ). AnswersRecording g.B.Book.stands c.args.cell.now (entry_of c.args.recorder c.args.set v) c.record.result) same c.record.ensures.answer)
+
+pub returns-clause-memory : goal.returns-clause-memory
+returns-clause-memory g c = λ spares.
+    let own = c.is_own_recorder.ensures.0 c.if-not-is_own_recorder.false in
+    c.record.ensures.memory (subst g.B.Book.spares_memory (sym own.facts) spares)

@@ -1,6 +1,7 @@
 -- one recording more
 use Rattle.std.proofs.Common.{◌≡◌, ◌<◌, ◌^◌, ◌≤ℤ◌, ℤ, pos, neg_ℤ, to_z, of_z, w64, true, [], ◌∷◌, ◌++◌, length, slice_index, rules, sym, ap, subst, ◌∙◌, arith}
 use Rattle.std.proofs.lemmas.Int.{ints, to_z-of_z}
+use Rattle.std.proofs.lemmas.Result.{err_from_is_err_and}
 use Rattle.metric_book.specs.Journals.{MayTake}
 use Rattle.metric_history.specs.declared.entry.Entry.{Entry}
 use Rattle.metric_facts.specs.declared.facts.Facts.{Facts}
@@ -85,3 +86,10 @@ returns-clause-stands g c = λ journal s.
     stands_recorded g.B.Book.stands _ _ entry journal (search rules) c.self.invariant.one_budget_each known before
     (subst (λ (v : ℤ). g.B.Book.stands c.push.new.self c.self.inside.facts (journal ++ entry_of c.args.recorder c.args.set v ∷ []) c.self.inside.marks.items) same
     (c.in_ok-push.ensures.stands c.self.inside.facts journal c.self.inside.marks.items before.book))
+
+pub returns-in_err-push-clause-memory : goal.returns-in_err-push-clause-memory
+returns-in_err-push-clause-memory g c = λ spares.
+    let p = err_from_is_err_and c.from_residual.result c.from_residual.ensures.1 in
+    rw (p.1, p.2)
+    (c.in_err-push.ensures.memory c.self.inside.facts c.self.invariant.journal c.self.inside.marks.items c.self.invariant.known.book
+    (subst (λ (v : CellValue g.row.B.Denot). g.B.Book.spares_memory v.facts) (sym c.self.view_is) spares))
