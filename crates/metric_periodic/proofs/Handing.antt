@@ -102,19 +102,19 @@ none_kept : (kept : Option CollectorValue) → kept ≡ None → IsSome kept →
 none_kept None is some = search rules
 none_kept (Some seat) is some = cc
 
-refused_kept : {E : Type 0} (exports : Exporting E) (p : ProviderValue) (seat : CollectorValue) (kept : Option CollectorValue) (a b : Tally E)
-    (collected : Collected) → CollectsLast p seat kept collected → ExportsCollected exports a b collected → IsSome kept → 0 < b.refused
-refused_kept exports p seat kept a b (Ok batches) collects exported some =
+refused_kept : {E : Type 0} (exports : Exporting E) (p : ProviderValue) (now : ℕ) (seat : CollectorValue) (kept : Option CollectorValue) (a b : Tally E)
+    (collected : Collected) → CollectsLast p now seat kept collected → ExportsCollected exports a b collected → IsSome kept → 0 < b.refused
+refused_kept exports p now seat kept a b (Ok batches) collects exported some =
     absurd (none_kept kept collects.1 some)
-refused_kept exports p seat kept a b (Err fault) collects exported some =
+refused_kept exports p now seat kept a b (Err fault) collects exported some =
     refused_some a.refused b.refused (refused_each exports _ b fault.done.items exported)
 
 pub run_keeps_refused : {T E : Type 0} (gives : Giving T) (collects : Collecting CollectorValue) (exports : Exporting E)
     (shuts_down : ShuttingDown E) (p : ProviderValue) (most : ℕ) (start : Progress T CollectorValue E) (ticker : T)
     (stopped : Bool) (kept : Option CollectorValue) (counts : Tally E)
-    → IsRun gives collects (λ _ old new collected. CollectsLast p old new collected) exports shuts_down most start ticker stopped kept counts
+    → IsRun gives collects (CollectsLast p) exports shuts_down most start ticker stopped kept counts
     → IsSome kept → 0 < counts.refused
 run_keeps_refused gives collects exports shuts_down p most start ticker stopped kept counts run some =
     let refused : 0 < run.before_shutdown.refused =
-    refused_kept exports p run.seat kept run.after_turns run.before_shutdown run.collected run.collects_at run.exported some in
+    refused_kept exports p _ run.seat kept run.after_turns run.before_shutdown run.collected run.collects_at run.exported some in
     rw run.shut_down.refused refused

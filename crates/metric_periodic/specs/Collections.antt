@@ -23,20 +23,20 @@ abbrev pub batches_of : Collected → List Batch
 batches_of (Ok batches) = batches.items
 batches_of (Err fault) = fault.done.items
 
--- The next batch of each instrument of the provider, in order.
-pub record AreNextBatches (p : ProviderValue) (seat : CollectorValue) (batches : List Batch) : Type 0 where
+-- The next batch of each instrument of the provider at a moment, in order.
+pub record AreNextBatches (p : ProviderValue) (seat : CollectorValue) (now : ℕ) (batches : List Batch) : Type 0 where
   pub own : is_collector_of p seat ≡ true
-  pub each : AnswersEach p seat batches
+  pub each : AnswersEach p seat now batches
   pub all : length batches ≡ length p.plan.facts.instruments
 
--- a collection with a seat, which has then seen the batches that it gave
-abbrev pub Collects : ProviderValue → CollectorValue → CollectorValue → Collected → Type 0
-Collects p old new (Ok batches) = AreNextBatches p old batches.items × (new ≡ with_all_seen old batches.items)
-Collects p old new (Err fault) =
-    AllRefused p old fault.done.items fault.instrument fault.refusal × (new ≡ with_all_seen old fault.done.items)
+-- a collection at a moment with a seat, which has then seen the batches that it gave
+abbrev pub Collects : ProviderValue → Collecting CollectorValue
+Collects p now old new (Ok batches) = AreNextBatches p old now batches.items × (new ≡ with_all_seen old batches.items)
+Collects p now old new (Err fault) =
+    AllRefused p old now fault.done.items fault.instrument fault.refusal × (new ≡ with_all_seen old fault.done.items)
 
 -- the last collection with a seat, which is kept only where it was refused
-abbrev pub CollectsLast : ProviderValue → CollectorValue → Option CollectorValue → Collected → Type 0
-CollectsLast p old kept (Ok batches) = AreNextBatches p old batches.items × (kept ≡ None)
-CollectsLast p old kept (Err fault) =
-    AllRefused p old fault.done.items fault.instrument fault.refusal × (kept ≡ Some (with_all_seen old fault.done.items))
+abbrev pub CollectsLast : ProviderValue → CollectingLast CollectorValue
+CollectsLast p now old kept (Ok batches) = AreNextBatches p old now batches.items × (kept ≡ None)
+CollectsLast p now old kept (Err fault) =
+    AllRefused p old now fault.done.items fault.instrument fault.refusal × (kept ≡ Some (with_all_seen old fault.done.items))

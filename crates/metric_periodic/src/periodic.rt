@@ -77,8 +77,7 @@ impl<E: MetricExporter> Periodic<E> {
         ensures run { let exports = IsExport E.export_gives E.text E.contents E.failures
             E.state provider.now.plan in
             let shuts_down = IsShutdown E.shutdown_gives E.contents E.failures E.state in
-            IsRun T.next_gives (λ _ old new collected. Collects provider.now old new collected)
-            (λ _ old kept collected. CollectsLast provider.now old kept collected)
+            IsRun T.next_gives (Collects provider.now) (CollectsLast provider.now)
             exports shuts_down self.turns
             (progress ticker.old 0 collector (tally self.exporter 0 0 0))
             ticker.new result.stopped result.kept

@@ -42,10 +42,9 @@ pub(crate) trait Seat<R, P> {
 impl<R: Wait, B: Book, G: Gate> Seat<R, Provider<B, G>> for Collector {
     ghost use Rattle.metric_periodic.specs.Collections.{Collects, CollectsLast};
 
-    ghost collects = { λ provider _ old new collected. Collects provider old new collected };
+    ghost collects = { Collects };
 
-    ghost collects_last = { λ provider _ old kept collected.
-        CollectsLast provider old kept collected };
+    ghost collects_last = { CollectsLast };
 
     fn collect_at(
         &mut self,
