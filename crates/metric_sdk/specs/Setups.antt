@@ -1,18 +1,21 @@
 -- The certified plan of two texts, and why they come to none.
-use Rattle.std.specs.Prelude.{◌≡◌, ℕ, true, List, Some, Result, Ok, Err}
+use Rattle.std.specs.Prelude.{◌≡◌, ℕ, Bool, true, List, map, nat_le, Some, Result, Ok, Err}
 use Rattle.metric_catalogue.specs.Catalogues.{catalogue_of}
 use Rattle.metric_catalogue.specs.declared.contents.Contents.{Contents}
 use Rattle.metric_catalogue.specs.declared.fault.CatalogueFault.{CatalogueFault}
 use Rattle.metric_views.specs.Configs.{config_of}
 use Rattle.metric_views.specs.declared.config.Setup.{Setup}
 use Rattle.metric_views.specs.declared.fault.ViewFault.{ViewFault}
+use Rattle.metric_views.specs.declared.stream.Stream.{Stream}
 use Rattle.metric_resolve.specs.Resolved.{streams_of}
 use Rattle.metric_bounds.specs.Finding.{SafetyFinds}
 use Rattle.metric_bounds.specs.Safe.{IsSafe}
-use Rattle.metric_cert.specs.Making.{make_faults}
+use Rattle.metric_bounds.specs.Sets.{sets_of}
+use Rattle.metric_cert.specs.Making.{entry_of, make_faults}
 use Rattle.metric_cert.specs.Valid.{IsValid}
 use Rattle.metric_cert.specs.declared.certificate.Certificate.{Certificate}
 use Rattle.metric_cert.specs.declared.make_fault.MakeFault.{MakeFault}
+use Rattle.metric_check.specs.Products.{by_product_of}
 use Rattle.metric_plan.specs.Plans.{PlanValue, plan_of}
 use Rattle.metric_sdk.specs.declared.fault.SetupFault.{SetupFault}
 use Rattle.metric_sdk.specs.declared.fault.SetupFault.TheVariants.{Catalogue, Config, Unsafe, Memory}
@@ -22,13 +25,17 @@ pub record IsDeclared (catalogue config : List ℕ) (contents : Contents) (setup
   pub is_catalogue : catalogue_of catalogue ≡ Ok contents
   pub is_config : config_of config ≡ Ok setup
 
+-- whether each stream is by product: it is wherever the sets that it may see are within its limit
+abbrev pub bounded_flags : Contents → List Stream → List Bool
+bounded_flags contents streams = map (λ s. nat_le (sets_of contents s) s.limit) streams
+
 -- The texts are safe, and this is the plan that they come to.
 pub record IsCertifiedPlan (catalogue config : List ℕ) (plan : PlanValue) : Type 0 where
   pub contents : Contents
   pub setup : Setup
   pub declared : IsDeclared catalogue config contents setup
   pub safe : IsSafe contents setup
-  pub planned : plan ≡ plan_of true contents setup
+  pub planned : plan ≡ plan_of true (bounded_flags contents (streams_of contents setup)) contents setup
 
 -- The catalogue is right, and the config has this first fault.
 pub record IsFaultyConfig (catalogue config : List ℕ) (fault : ViewFault) : Type 0 where
@@ -68,10 +75,11 @@ ReadsConfig (Err (Config fault)) read = read ≡ Err fault
 ReadsConfig (Err Memory) read = Unit {0}
 ReadsConfig (Err _) read = ⊥
 
--- The certificate shows that a catalogue and a config are safe, which they are.
+-- The certificate shows that a catalogue and a config are safe, which they are, by product wherever it can.
 pub record Certifies (contents : Contents) (setup : Setup) (certificate : Certificate) : Type 0 where
   pub safe : IsSafe contents setup
   pub valid : IsValid contents setup certificate
+  pub entries : certificate.streams ≡ map (entry_of contents) (streams_of contents setup)
 
 -- a certificate, or the first part of safety that fails, unless memory was refused
 abbrev pub Makes : Result Certificate SetupFault → Contents → Setup → Type 0
@@ -80,8 +88,8 @@ Makes (Err (Unsafe fault)) contents setup = IsUnsafe contents setup fault
 Makes (Err Memory) contents setup = Unit {0}
 Makes (Err _) contents setup = ⊥
 
--- the certified plan, unless memory was refused
-abbrev pub Plans : Result PlanValue SetupFault → Contents → Setup → Type 0
-Plans (Ok plan) contents setup = plan ≡ plan_of true contents setup
-Plans (Err Memory) contents setup = Unit {0}
-Plans (Err _) contents setup = ⊥
+-- the plan of a certificate, unless memory was refused
+abbrev pub Plans : Result PlanValue SetupFault → Contents → Setup → Certificate → Type 0
+Plans (Ok plan) contents setup certificate = plan ≡ plan_of true (by_product_of certificate) contents setup
+Plans (Err Memory) contents setup certificate = Unit {0}
+Plans (Err _) contents setup certificate = ⊥

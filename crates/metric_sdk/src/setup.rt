@@ -83,7 +83,7 @@ fn checked_plan(
 ) -> Result<Plan, SetupFault>
     requires { IsValid catalogue config certificate.now }
     ensures certified { IfOk result (λ plan. IsTrue plan.is_certified) }
-    ensures plan { Plans result catalogue config }
+    ensures plan { Plans result catalogue config certificate.now }
 {
     match check(alloc, catalogue, config, certificate) {
         Ok(plan) => Ok(plan),
