@@ -19,6 +19,10 @@ use std::alloc::{AllocError, Global};
 use std::marker::Model;
 use std::sync::Wait;
 
+// Room behind what a seat was told: 128 bytes. What it writes is then so far from the next block of the heap, in which
+// another seat may write, wherever the allocator puts the two; so they share no lines of cache.
+const ROOM_BEHIND: usize = 8;
+
 /// The seat of one recorder: with it a thread records (Metrics API, synchronous instruments). It keeps what the
 /// recorder was told of its accepted recordings.
 #[derive(Drop)]
@@ -50,7 +54,8 @@ impl Recorder {
             count: 0,
             amount: 0,
         };
-        let told = vec![in alloc; nothing; instruments]?;
+        let mut told = Vec::with_capacity(alloc, instruments.saturating_add(ROOM_BEHIND))?;
+        told.resize(instruments, nothing)?;
         Ok(Recorder { run, number, told })
     }
 
