@@ -18,7 +18,7 @@ use Rattle.metric_provider.specs.Seats.{ProviderValue, RecorderValue, is_recorde
 use Rattle.metric_provider.proofs.PlanFacts.{full_at}
 
 -- what a declared recording is known to be
-record IsDeclared (plan : PlanValue) (instrument : ℕ) (set : List ℕ) (value : ℤ) : Type 0 where
+pub record IsDeclared (plan : PlanValue) (instrument : ℕ) (set : List ℕ) (value : ℤ) : Type 0 where
   pub own : Facts
   pub found : slice_get plan.facts.instruments instrument ≡ Some own
   pub full : is_full_set own.keys set ≡ true
@@ -42,7 +42,7 @@ of_attributes plan instrument attrs value set kept full made =
       ranged = bounds.0;
     }))
 
-of_key : (plan : PlanValue) (instrument : ℕ) (set key : List ℕ) (value : ℤ) → declared_key plan instrument set value ≡ Ok key → IsDeclared plan instrument key value
+pub of_key : (plan : PlanValue) (instrument : ℕ) (set key : List ℕ) (value : ℤ) → declared_key plan instrument set value ≡ Ok key → IsDeclared plan instrument key value
 of_key plan instrument set key value made =
     after_ok (require_some (slice_get plan.facts.instruments instrument) UnknownInstrument) _ key made (λ own given rest.
     let whole = require_ok (is_full_set own.keys set) UnknownValue _ key rest in
@@ -69,7 +69,7 @@ seat_parts p seat of =
       long = eqb-true (length seat.told) (length p.plan.facts.instruments) parts.1;
     }
 
-knows : (p : ProviderValue) (seat : RecorderValue) (instrument : ℕ) (set : List ℕ) (value : ℤ) → is_recorder_of p seat ≡ true
+pub knows : (p : ProviderValue) (seat : RecorderValue) (instrument : ℕ) (set : List ℕ) (value : ℤ) → is_recorder_of p seat ≡ true
     → IsDeclared p.plan instrument set value → KnowsRecording p.plan instrument seat.number set value
 knows p seat instrument set value of from = record {
   known = slice_get_within p.plan.facts.instruments instrument from.own from.found;
@@ -78,7 +78,7 @@ knows p seat instrument set value of from = record {
   ranged = λ own at. subst (λ (f : Facts). in_bounds f value ≡ true) (same_Some from.own own (sym from.found ∙ at)) from.ranged;
 }
 
-told_there : (p : ProviderValue) (seat : RecorderValue) (instrument : ℕ) (set : List ℕ) (value : ℤ) → is_recorder_of p seat ≡ true
+pub told_there : (p : ProviderValue) (seat : RecorderValue) (instrument : ℕ) (set : List ℕ) (value : ℤ) → is_recorder_of p seat ≡ true
     → IsDeclared p.plan instrument set value → instrument < length seat.told
 told_there p seat instrument set value of from =
     omega (arith, (seat_parts p seat of).long, slice_get_within p.plan.facts.instruments instrument from.own from.found)

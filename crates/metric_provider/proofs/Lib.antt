@@ -3,3 +3,4 @@ pub mod SeatSums
 pub mod CollectLaws
 pub mod SettleLaws
 pub mod AdmitLaws
+pub mod KeyLaws

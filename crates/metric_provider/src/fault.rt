@@ -18,6 +18,15 @@ pub struct AllFault {
     pub refusal: Refusal,
 }
 
+/// Where a list of recordings ended: those before it were made.
+#[derive(Clone, Copy, Debug, PartialEq, Eq, Drop)]
+pub struct SetsFault {
+    /// The place in the list of the one that was refused.
+    pub place: usize,
+    /// Why.
+    pub refusal: Refusal,
+}
+
 /// Why a provider is not finished, in the order in which the faults are tried: `Stranger`, `RecorderMissing`,
 /// `AuditMismatch`, `Memory`.
 #[derive(Clone, Copy, Debug, PartialEq, Eq, Drop)]

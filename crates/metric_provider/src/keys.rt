@@ -8,6 +8,15 @@ use metric_catalogue::{Refusal, SetKey};
 use metric_facts::KeyFacts;
 use metric_plan::Plan;
 
+/// A recording by the set key of its attributes.
+#[derive(Clone, Copy, Debug, PartialEq, Eq, Drop)]
+pub struct Measurement {
+    /// The set key.
+    pub set: SetKey,
+    /// The value.
+    pub value: i64,
+}
+
 /// The set key of a recording that the plan declares, or the first refusal.
 pub(crate) fn declared_key(
     plan: &Plan,

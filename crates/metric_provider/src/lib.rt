@@ -17,8 +17,9 @@ mod starting;
 mod totals;
 
 pub use collector::Collector;
-pub use fault::{AllFault, FinishFault};
+pub use fault::{AllFault, FinishFault, SetsFault};
 pub use gate::{Gate, NoGate};
+pub use keys::Measurement;
 pub use metric_slot::{Slot, Told};
 pub use provider::Provider;
 pub use recorder::Recorder;

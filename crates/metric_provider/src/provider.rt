@@ -1,16 +1,20 @@
 //! The instruments of a plan behind their locks.
-ghost use Rattle.std.specs.Prelude.{◌≡◌, ◌<◌, Some, length, slice_get, vec_len, IfOk, IfErr, IfSome, OnOk, OnErr};
+ghost use Rattle.std.specs.Prelude.{◌≡◌, ◌<◌, Some, All, length, slice_get, vec_len, IfOk, IfErr, IfSome, OnOk, OnErr};
 ghost use Rattle.metric_provider.specs.Closing.{AnswersClosing};
 ghost use Rattle.metric_provider.specs.Collections.{IsNextBatch, RefusesCollection};
+ghost use Rattle.metric_provider.specs.KeyRecordings.{IsRecordable, IsRefusedUnder, KnowsEach, told_each};
 ghost use Rattle.metric_provider.specs.Providers.{IsProvider, KnowsReader, KnowsRecording};
 ghost use Rattle.metric_provider.specs.Recordings.{RefusesRecording};
 ghost use Rattle.metric_provider.specs.Seats.{provider_of};
 ghost use Rattle.metric_slot.specs.Tellings.{told_more};
 
+use crate::fault::SetsFault;
 use crate::gate::Gate;
+use crate::keys::Measurement;
 use crossbeam_utils::CachePadded;
 use metric_book::Book;
 use metric_catalogue::{Refusal, SetKey};
+use metric_facts::Facts;
 use metric_history::Batch;
 use metric_plan::Plan;
 use metric_slot::{Slot, Told};
@@ -144,6 +148,32 @@ impl<B: Book, G: Gate> Provider<B, G> {
         answer
     }
 
+    // Makes recordings under the instrument's lock, one after the other, and tells their recorder of each, up to the
+    // first that is refused.
+    pub(crate) fn record_each_inside<R: Wait>(
+        &self,
+        rt: &R,
+        instrument: u32,
+        told: &mut Told,
+        recorder: u32,
+        all: &[Measurement],
+    ) -> Result<(), SetsFault>
+        requires known { instrument < length self.now.plan.facts.instruments }
+        requires recorder { recorder < length self.now.plan.facts.contents.recorders }
+        requires each { KnowsEach self.now.plan instrument recorder all.now }
+        ensures told { OnOk result (
+            IfSome (slice_get self.now.plan.facts.instruments instrument) (λ own.
+            told.new ≡ told_each told.old own.lo all.now)) }
+        ensures refused { IfErr result (λ fault.
+            IfSome (slice_get self.now.plan.facts.instruments instrument) (λ own.
+            IsRefusedUnder B.spares_memory own recorder told.old told.new all.now fault)) }
+    {
+        let facts = self.plan.facts(instrument);
+        let slot: &Mutex<Slot<B>> = &self.slots[instrument as usize];
+        let mut guard = slot.lock(rt);
+        record_each(rt, &self.gate, &mut guard, facts, told, recorder, all)
+    }
+
     // Makes a collection under the instrument's lock, which its reader has then seen.
     pub(crate) fn collect_inside<R: Wait>(
         &self,
@@ -169,4 +199,49 @@ impl<B: Book, G: Gate> Provider<B, G> {
         self.gate.inside(rt, instrument);
         answer
     }
+}
+
+// Makes recordings, one after the other, and tells their recorder of each, up to the first that is refused.
+fn record_each<R: Wait, B: Book, G: Gate>(
+    rt: &R,
+    gate: &G,
+    slot: &mut Slot<B>,
+    facts: &Facts,
+    told: &mut Told,
+    recorder: u32,
+    all: &[Measurement],
+) -> Result<(), SetsFault>
+    requires recorder { recorder < length facts.now.budgets }
+    requires each { All (IsRecordable facts.now) all.now }
+    ensures told { OnOk result (told.new ≡ told_each told.old facts.now.lo all.now) }
+    ensures refused { IfErr result (λ fault.
+        IsRefusedUnder B.spares_memory facts.now recorder told.old told.new all.now fault) }
+{
+    for (place, one) in all.iter().enumerate() {
+        let answer = record_one(slot, facts, told, recorder, one);
+        gate.inside(rt, facts.instrument);
+        match answer {
+            Ok(()) => {}
+            Err(refusal) => return Err(SetsFault { place, refusal }),
+        }
+    }
+    Ok(())
+}
+
+// Makes a recording, and tells its recorder of it.
+fn record_one<B: Book>(
+    slot: &mut Slot<B>,
+    facts: &Facts,
+    told: &mut Told,
+    recorder: u32,
+    one: &Measurement,
+) -> Result<(), Refusal>
+    requires recorder { recorder < length facts.now.budgets }
+    requires one { IsRecordable facts.now one.now }
+    ensures told { OnOk result (told.new ≡ told_more told.old facts.now.lo one.now.value) }
+    ensures refused { IfErr result (λ refusal.
+        RefusesRecording B.spares_memory facts.now recorder told.old refusal) }
+    ensures told_err { OnErr result (told.new ≡ told.old) }
+{
+    slot.record(facts, told, recorder, one.set, one.value)
 }

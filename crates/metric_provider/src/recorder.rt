@@ -1,13 +1,14 @@
 //! The seat of a recorder.
-ghost use Rattle.std.specs.Prelude.{◌≡◌, ◌<◌, Some, None, length, map, slice_get, slice_set, IfOk, IfSome, Ok, OnOk, OnErr};
+ghost use Rattle.std.specs.Prelude.{◌≡◌, ◌<◌, Some, None, length, map, take, slice_get, slice_set, IfOk, IfErr, IfSome, Ok, OnOk, OnErr};
 ghost use Rattle.metric_catalogue.specs.Attributes.{given_by};
-ghost use Rattle.metric_provider.specs.KeyRecordings.{admitted_key};
+ghost use Rattle.metric_provider.specs.KeyRecordings.{AreAccepted, AreAdmitted, IsRefusedAfter, IsUnadmittedAfter, admitted_key, told_of_all};
 ghost use Rattle.metric_provider.specs.Providers.{KnowsRecording};
 ghost use Rattle.metric_provider.specs.Recordings.{AnswersSeat, admitted, declared_set, told_at, with_recording};
 ghost use Rattle.metric_provider.specs.Seats.{is_recorder_of, new_recorder, provider_of};
 
+use crate::fault::SetsFault;
 use crate::gate::Gate;
-use crate::keys::declared_key;
+use crate::keys::{Measurement, declared_key};
 use crate::provider::Provider;
 use metric_book::Book;
 use metric_catalogue::{Attr, Refusal, SetKey};
@@ -17,6 +18,10 @@ use metric_slot::Told;
 use std::alloc::{AllocError, Global};
 use std::marker::Model;
 use std::sync::Wait;
+
+// Room behind what a seat was told: 128 bytes. What it writes is then so far from the next block of the heap, in which
+// another seat may write, wherever the allocator puts the two; so they share no lines of cache.
+const ROOM_BEHIND: usize = 8;
 
 /// The seat of one recorder: with it a thread records (Metrics API, synchronous instruments). It keeps what the
 /// recorder was told of its accepted recordings.
@@ -49,7 +54,8 @@ impl Recorder {
             count: 0,
             amount: 0,
         };
-        let told = vec![in alloc; nothing; instruments]?;
+        let mut told = Vec::with_capacity(alloc, instruments.saturating_add(ROOM_BEHIND))?;
+        told.resize(instruments, nothing)?;
         Ok(Recorder { run, number, told })
     }
 
@@ -131,6 +137,63 @@ impl Recorder {
     {
         let set = self.admit_key(provider.plan(), provider.run(), instrument, set, &value)?;
         self.record_known(rt, provider, instrument, set, &value)
+    }
+
+    /// Makes recordings of one instrument by their set keys (Metrics API, synchronous instruments), in order and under one
+    /// lock, up to the first that is refused: no other thread records on the instrument between them. The seat is told of
+    /// exactly those before the refused one. An empty list is accepted of any seat. Takes no memory of its own.
+    ///
+    /// # Errors
+    ///
+    /// The first refusal of [`Recorder::record_set`], as if they were made one by one, with its place in the list. What that
+    /// tests before the lock is tested of all of them before the lock.
+    pub fn record_sets<R: Wait, B: Book, G: Gate>(
+        &mut self,
+        rt: &R,
+        provider: &Provider<B, G>,
+        instrument: u32,
+        all: &[Measurement],
+    ) -> Result<(), SetsFault>
+        ensures accepted { OnOk result (
+            AreAccepted B.spares_memory provider.now self.old instrument all.now) }
+        ensures told { OnOk result (
+            self.new ≡ told_of_all provider.now.plan self.old instrument all.now) }
+        ensures refused { IfErr result (λ fault.
+            IsRefusedAfter B.spares_memory provider.now self.old instrument all.now fault) }
+        ensures told_before { IfErr result (λ fault. let made = take fault.place all.now in
+            self.new ≡ told_of_all provider.now.plan self.old instrument made) }
+    {
+        let admitted = self.admit_each(provider.plan(), provider.run(), instrument, all);
+        let count = match admitted {
+            Ok(()) => all.len(),
+            Err(fault) => fault.place,
+        };
+        self.record_each_known(rt, provider, instrument, &all[..count])?;
+        admitted
+    }
+
+    // Makes recordings that the seat may make, and tells it of them, up to the first that is refused.
+    fn record_each_known<R: Wait, B: Book, G: Gate>(
+        &mut self,
+        rt: &R,
+        provider: &Provider<B, G>,
+        instrument: u32,
+        all: &[Measurement],
+    ) -> Result<(), SetsFault>
+        requires { AreAdmitted provider.now self.old instrument all.now }
+        ensures told { OnOk result (
+            self.new ≡ told_of_all provider.now.plan self.old instrument all.now) }
+        ensures refused { IfErr result (λ fault.
+            IsRefusedAfter B.spares_memory provider.now self.old instrument all.now fault) }
+        ensures told_before { IfErr result (λ fault. let made = take fault.place all.now in
+            self.new ≡ told_of_all provider.now.plan self.old instrument made) }
+    {
+        if all.is_empty() {
+            return Ok(());
+        }
+        let by = self.number;
+        let so_far = &mut self.told[instrument as usize];
+        provider.record_each_inside(rt, instrument, so_far, by, all)
     }
 
     // Makes a recording that the seat may make, and tells it of that.
@@ -230,6 +293,28 @@ impl Recorder {
             return Err(Refusal::Stranger);
         }
         declared_key(plan, instrument, set, value)
+    }
+
+    // Whether the seat may make each of these recordings of this run of the plan, or the first refusal.
+    fn admit_each(
+        &self,
+        plan: &Plan,
+        run: u64,
+        instrument: u32,
+        all: &[Measurement],
+    ) -> Result<(), SetsFault>
+        ensures admitted { let p = provider_of plan.now run in
+            OnOk result (AreAdmitted p self.now instrument all.now) }
+        ensures refused { let p = provider_of plan.now run in
+            IfErr result (IsUnadmittedAfter p self.now instrument all.now) }
+    {
+        for (place, one) in all.iter().enumerate() {
+            match self.admit_key(plan, run, instrument, one.set, &one.value) {
+                Ok(_) => {}
+                Err(refusal) => return Err(SetsFault { place, refusal }),
+            }
+        }
+        Ok(())
     }
 }
 

@@ -96,12 +96,13 @@ fn new_slots<B: Book>(
     Ok(slots)
 }
 
-// The slots in order, each behind a lock of its own.
+// The slots in order, each behind a lock of its own. They stand 128 bytes apart; there is room for one more, so that the
+// last one is as far from the next block of the heap.
 fn locked<B: Book>(alloc: Global, slots: Vec<Slot<B>>) -> Result<Vec<Locked<B>>, AllocError>
     ensures { IfOk result (λ locked. vec_len locked ≡ vec_len slots) }
 {
     let mut unlocked = slots;
-    let mut locked = Vec::with_capacity(alloc, unlocked.len())?;
+    let mut locked = Vec::with_capacity(alloc, unlocked.len().saturating_add(1))?;
     unlocked.as_mut_slice().reverse();
     put_back(&mut unlocked, &mut locked);
     Ok(locked)

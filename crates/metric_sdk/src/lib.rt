@@ -15,7 +15,9 @@
 //!    [`MeterProvider`], of whose tables [`tables_are_bounded`] speaks.
 //! 4. **Recording.** A thread records with a [`Recorder`], by the number of the instrument, its [`Attr`]s, each a key
 //!    with a [`ValueRef`], and the value. What is not counted is answered by a [`Refusal`]. `Recorder::admits` answers
-//!    the [`SetKey`] that the attributes come to, `Recorder::accepted` what the seat was [`Told`] of.
+//!    the [`SetKey`] that the attributes come to, `Recorder::accepted` what the seat was [`Told`] of. `Recorder::record_set`
+//!    records by a set key, and `Recorder::record_sets` a list of [`Measurement`]s of one instrument under one lock, up to
+//!    a [`SetsFault`].
 //! 5. **Collection.** A thread collects with a [`Collector`]: a [`Batch`] of an instrument has the [`StreamPoints`] of
 //!    each of its streams, a [`Point`] the [`PointValue`] of one series. A collection of all instruments that is
 //!    refused midway answers an [`AllFault`], with the batches before.
@@ -57,7 +59,8 @@ pub use metric_names::{AttrValue, ValueRef};
 pub use metric_periodic::{Periodic, PeriodicEnd};
 pub use metric_plan::{CheckFault, Plan};
 pub use metric_provider::{
-    AllFault, Collector, FinishFault, Gate, NoGate, Provider, Recorder, Told, Total, Totals, start,
+    AllFault, Collector, FinishFault, Gate, Measurement, NoGate, Provider, Recorder, SetsFault,
+    Told, Total, Totals, start,
 };
 pub use metric_views::{Config, ConfigPlace, Stream, ViewDefect, ViewFault};
 pub use provider::MeterProvider;

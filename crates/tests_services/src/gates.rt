@@ -1,9 +1,9 @@
-//! A recording that is held inside its lock, and a second one of another instrument or of the same.
+//! A recording, or a list of them, that is held inside its lock, and a second one of another instrument or of the same.
 use crate::equal::assert_equal;
 use crate::samples::{MAIN, PAIR};
 use metric_catalogue::Refusal;
 use metric_marked::Marked;
-use metric_provider::{Gate, Provider, Recorder, start};
+use metric_provider::{Gate, Measurement, Provider, Recorder, start};
 use metric_sdk::certified_plan;
 use std::alloc::Global;
 use std::sync::Wait;
@@ -61,6 +61,27 @@ fn record<R: Wait>(
     seat.record(rt, provider, instrument, &[], 1)
 }
 
+// Records on the first instrument, once or by a list of two.
+fn record_first<R: Wait>(
+    rt: &R,
+    provider: &Held<'_>,
+    seat: Recorder,
+    is_list: bool,
+) -> Result<(), Refusal> {
+    if !is_list {
+        return record(rt, provider, seat, 0);
+    }
+    let mut seat = seat;
+    let one = Measurement {
+        set: [0; 8],
+        value: 1,
+    };
+    match seat.record_sets(rt, provider, 0, &[one, one]) {
+        Ok(()) => Ok(()),
+        Err(fault) => Err(fault.refusal),
+    }
+}
+
 // Records on an instrument while the first one is held, and tells that it was answered.
 fn record_second<R: Wait>(
     rt: &R,
@@ -82,7 +103,7 @@ fn both_answers<R: Threads + Wait + Sync>(
     rt: &R,
     provider: &Held<'_>,
     mut seats: Vec<Recorder>,
-    instrument: u32,
+    (is_list, instrument): (bool, u32),
     flags: &Flags,
 ) -> Result<Answers, Fail> {
     let (Some(second), Some(first)) = (seats.pop(), seats.pop()) else {
@@ -90,7 +111,7 @@ fn both_answers<R: Threads + Wait + Sync>(
     };
     Ok(join(
         rt,
-        move || record(rt, provider, first, 0),
+        move || record_first(rt, provider, first, is_list),
         move || record_second(rt, provider, second, instrument, flags),
     ))
 }
@@ -99,28 +120,29 @@ fn both_answers<R: Threads + Wait + Sync>(
 fn answers<R: Threads + Wait + Sync>(
     rt: &R,
     alloc: Global,
-    instrument: u32,
+    recordings: (bool, u32),
     flags: &Flags,
 ) -> Result<Answers, Fail> {
     let plan = certified_plan(alloc, PAIR, MAIN)?;
     match start(rt, alloc, plan, 0, 0, Holding { flags }) {
-        Ok((provider, recorders, _)) => both_answers(rt, &provider, recorders, instrument, flags),
+        Ok((provider, recorders, _)) => both_answers(rt, &provider, recorders, recordings, flags),
         Err((_, _, refused)) => Err(Fail::from(refused)),
     }
 }
 
-// The instrument of the second recording, and whether it is answered while the first one is held.
-const SECONDS: &[(u32, bool)] = &[(1, true), (0, false)];
+// Whether the first recorder brings a list, the instrument of the second recording, and whether that is answered while the
+// first one is held: for a list, at its last recording.
+const CASES: &[(bool, u32, bool)] = &[(false, 1, true), (false, 0, false), (true, 0, false)];
 
 #[test]
 fn a_held_instrument_keeps_its_own_recordings(rt: HostRuntime) -> Result<(), Fail> {
-    for (instrument, wanted) in SECONDS {
+    for (is_list, instrument, wanted) in CASES {
         let flags = Flags {
             is_inside: AtomicBool::new(false),
             is_answered: AtomicBool::new(false),
             is_seen: AtomicBool::new(false),
         };
-        let answers = answers(&rt, rt.alloc(), *instrument, &flags)?;
+        let answers = answers(&rt, rt.alloc(), (*is_list, *instrument), &flags)?;
         let is_seen = flags.is_seen.load(Ordering::SeqCst);
         assert_equal(&rt, (answers, is_seen), ((Ok(()), Ok(())), *wanted));
     }

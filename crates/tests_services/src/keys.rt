@@ -1,10 +1,12 @@
 //! Recordings by set keys.
 use crate::equal::assert_equal;
-use crate::samples::{CODES, MAIN};
+use crate::samples::{CODES, MAIN, ROUTES};
 use crate::seats::{Seats, seats_of};
-use crate::texts::{write_batch, write_reply};
+use crate::texts::{write_batch, write_numbers, write_refusal, write_reply};
 use metric_history::Reply;
-use std::alloc::Global;
+use metric_provider::{Measurement, Recorder};
+use metric_sdk::MeterProvider;
+use std::alloc::{AllocError, Global};
 use std::sync::Wait;
 use std::test::Fail;
 
@@ -74,5 +76,132 @@ fn told<R: Wait>(rt: &R, alloc: Global) -> Result<String, Fail> {
 fn set_keys_are_recorded_or_refused(rt: HostRuntime) -> Result<(), Fail> {
     let told = told(&rt, rt.alloc())?;
     assert_equal(&rt, told.as_str(), TOLD);
+    Ok(())
+}
+
+// Lists of recordings, one after the other: the entry of the key, and the value.
+struct ListCase {
+    // The number of the run of the seat; that of the provider is 1.
+    run: u64,
+    lists: &'static [&'static [(u16, i64)]],
+    // What is answered to each list with what the seat was then told, and what is collected in the end.
+    told: &'static str,
+}
+
+const LISTS: &[ListCase] = &[
+    ListCase {
+        run: 1,
+        lists: &[&[(1, 5), (2, 3), (1, 1)]],
+        told: "made, told 3 6
+0 0, 0 to 3, 0 to 10: stream 0 [1 0] 6 [2 0] 3
+",
+    },
+    // The budget ends in a list, or before one.
+    ListCase {
+        run: 1,
+        lists: &[&[(1, 5)], &[(2, 3), (1, 2), (2, 9), (1, 1)], &[(1, 1)]],
+        told: "made, told 1 4
+2, told 3 7: 9 Budget
+0, told 3 7: 9 Budget
+0 0, 0 to 3, 0 to 10: stream 0 [1 0] 7 [2 0] 3
+",
+    },
+    // A set key or a value that is not declared, also after the budget has ended.
+    ListCase {
+        run: 1,
+        lists: &[
+            &[(1, 5), (3, 3), (2, 1)],
+            &[(2, 1), (2, 0)],
+            &[(1, 2), (1, 9), (3, 1)],
+        ],
+        told: "1, told 1 4: 5 UnknownValue
+1, told 2 4: 7 ValueRange
+1, told 3 5: 9 Budget
+0 0, 0 to 3, 0 to 10: stream 0 [1 0] 7 [2 0] 1
+",
+    },
+    // No recordings, and a stranger.
+    ListCase {
+        run: 1,
+        lists: &[&[]],
+        told: "made, told 0 0
+0 0, 0 to 0, 0 to 10: stream 0
+",
+    },
+    ListCase {
+        run: 2,
+        lists: &[&[], &[(1, 5), (3, 3)]],
+        told: "made, told 0 0
+0, told 0 0: 12 Stranger
+0 0, 0 to 0, 0 to 10: stream 0
+",
+    },
+];
+
+fn measurements(alloc: Global, list: &[(u16, i64)]) -> Result<Vec<Measurement>, AllocError> {
+    let mut all = Vec::new(alloc);
+    for (entry, value) in list {
+        let set = [*entry, 0, 0, 0, 0, 0, 0, 0];
+        let value = *value;
+        all.push(Measurement { set, value })?;
+    }
+    Ok(all)
+}
+
+// Writes what the seat was told.
+fn write_told(out: &mut String, seat: &Recorder) -> Result<(), AllocError> {
+    match seat.accepted(0) {
+        None => Ok(()),
+        Some(told) => write_numbers(out, &[(", told ", told.count), (" ", told.amount)]),
+    }
+}
+
+// Writes the answer to each list of recordings.
+fn write_lists<R: Wait>(
+    out: &mut String,
+    rt: &R,
+    alloc: Global,
+    provider: &MeterProvider,
+    seat: &mut Recorder,
+    lists: &[&[(u16, i64)]],
+) -> Result<(), AllocError> {
+    for list in lists {
+        let all = measurements(alloc, list)?;
+        match seat.record_sets(rt, provider, 0, all.as_slice()) {
+            Ok(()) => {
+                out.push_str("made")?;
+                write_told(out, seat)?;
+                out.push_str("\n")?;
+            }
+            Err(fault) => {
+                write!(out, "{}", fault.place)?;
+                write_told(out, seat)?;
+                out.push_str(": ")?;
+                write_refusal(out, fault.refusal)?;
+            }
+        }
+    }
+    Ok(())
+}
+
+// A seat of the provider's run is its own, since both were told of nothing.
+fn told_of_lists<R: Wait>(rt: &R, alloc: Global, case: &ListCase) -> Result<String, Fail> {
+    let mut seats: Seats = seats_of(rt, alloc, ROUTES, MAIN, 0, 1)?;
+    let mut others: Seats = seats_of(rt, alloc, ROUTES, MAIN, 0, case.run)?;
+    let Some(seat) = others.recorders.first_mut() else {
+        return Err(Fail::from("no recorder"));
+    };
+    let mut out = String::new(alloc);
+    write_lists(&mut out, rt, alloc, &seats.provider, seat, case.lists)?;
+    write_collected(&mut out, rt, alloc, &mut seats)?;
+    Ok(out)
+}
+
+#[test]
+fn lists_are_recorded_up_to_the_first_refusal(rt: HostRuntime) -> Result<(), Fail> {
+    for case in LISTS {
+        let told = told_of_lists(&rt, rt.alloc(), case)?;
+        assert_equal(&rt, told.as_str(), case.told);
+    }
     Ok(())
 }

@@ -37,6 +37,20 @@ instrument = 0
 amount = 1
 ";
 
+/// A counter of values from 1 with a key of two values, and a budget of three recordings.
+pub(crate) const ROUTES: &str = "format = 1
+[[meter]]
+name = 'm'
+[[meter.instrument]]
+name = 'c'
+kind = 'counter'
+range = [1, 9]
+key = [{ name = 'route', values = ['/a', '/b'] }]
+[[recorder]]
+name = 'r'
+budget = [{ instrument = 0, amount = 3 }]
+";
+
 /// Two counters and two recorders.
 pub(crate) const PAIR: &str = "format = 1
 [[meter]]

@@ -1,0 +1,280 @@
+-- Recordings of set keys, one after the other.
+use Rattle.std.proofs.Common.{◌≡◌, ◌<◌, ◌≤◌, ℕ, zero, suc, ◌+◌, ℤ, Bool, true, ◌&&◌, List, [], ◌∷◌, ◌++◌, Option, Some, None, Result, Ok, Err, All, get_or, length, pos, take, refl, sym, ap, subst, ◌∙◌, arith}
+use Rattle.std.specs.Prelude.{IfSome, slice_get, slice_set, ◌==◌, nat_lt}
+use Rattle.std.specs.Option.{option_map_or}
+use Rattle.std.proofs.lemmas.List.{get_or-set_same, get_or_read, length-set, set-get_or, set-set, take-take, take_all, take_more}
+use Rattle.std.proofs.lemmas.List.Elements.{All-more, All-take}
+use Rattle.std.proofs.lemmas.Option.{get_or_from_slice_get, same_Some, slice_get-get_or, slice_get_within}
+use Rattle.metric_base.specs.StepLaws.{after_ok, ok_is, require_ok}
+use Rattle.metric_base.specs.Steps.{◌>>=◌, require, require_some}
+use Rattle.metric_catalogue.specs.declared.refusal.Refusal.{Refusal}
+use Rattle.metric_catalogue.specs.declared.refusal.Refusal.TheVariants.{Stranger, UnknownInstrument, UnknownValue, ValueRange}
+use Rattle.metric_facts.specs.declared.facts.Facts.{Facts}
+use Rattle.metric_facts.specs.Facts.{in_bounds, is_full_set}
+use Rattle.metric_plan.specs.Plans.{PlanValue}
+use Rattle.metric_provider.proofs.AdmitLaws.{IsDeclared, knows, of_key, told_there}
+use Rattle.metric_provider.specs.declared.fault.SetsFault.{SetsFault}
+use Rattle.metric_provider.specs.declared.keys.Measurement.{Measurement}
+use Rattle.metric_provider.specs.KeyRecordings.{AnswersKey, AreAccepted, AreAdmitted, IsAdmitted, IsRecordable, IsRefusedAfter, IsRefusedUnder, IsUnadmittedAfter, KnowsEach, admitted_key, declared_key, told_each, told_of, told_of_all}
+use Rattle.metric_provider.specs.Providers.{KnowsRecording}
+use Rattle.metric_provider.specs.Recordings.{AnswersSeat, RefusesRecording, told_at, with_recording}
+use Rattle.metric_provider.specs.Seats.{ProviderValue, RecorderValue, is_recorder_of, nothing_told}
+use Rattle.metric_slot.specs.declared.told.Told.{Told}
+use Rattle.metric_slot.specs.Tellings.{told_more}
+
+-- ---- lists
+
+at_take : {A : Type 0} (n i : ℕ) (all : List A) (x : A) → slice_get (take n all) i ≡ Some x → slice_get all i ≡ Some x
+at_take zero i all x found = absurd cc
+at_take (suc n) i [] x found = found
+at_take (suc n) zero (y ∷ all) x found = found
+at_take (suc n) (suc i) (y ∷ all) x found = at_take n i all x found
+
+below_take : {A : Type 0} (n i : ℕ) (all : List A) (x : A) → slice_get (take n all) i ≡ Some x → i < n
+below_take zero i all x found = absurd cc
+below_take (suc n) i [] x found = absurd cc
+below_take (suc n) zero (y ∷ all) x found = omega arith
+below_take (suc n) (suc i) (y ∷ all) x found = omega (arith, below_take n i all x found)
+
+-- ---- what a recorder was told
+
+told_each_more : (told : Told) (lo : ℤ) (all : List Measurement) (one : Measurement) → told_each told lo (all ++ one ∷ []) ≡ told_more (told_each told lo all) lo one.value
+told_each_more told lo [] one = refl
+told_each_more told lo (x ∷ all) one = told_each_more (told_more told lo x.value) lo all one
+
+-- one step more
+pub told_step : (first before after : Told) (lo : ℤ) (n : ℕ) (all : List Measurement) (d : Measurement) → n < length all → before ≡ told_each first lo (take n all)
+    → after ≡ told_more before lo (get_or all n d).value → after ≡ told_each first lo (take (n + 1) all)
+told_step first before after lo n all d below far now =
+    let one : Measurement = get_or all n d in
+    let more : take (n + 1) all ≡ take n all ++ one ∷ [] = take_more all n d below in
+    now ∙ ap (λ (t : Told). told_more t lo one.value) far ∙ sym (told_each_more first lo (take n all) one) ∙ sym (ap (λ (some : List Measurement). told_each first lo some) more)
+
+pub told_end : (first last : Told) (lo : ℤ) (n : ℕ) (all : List Measurement) → length all ≤ n → last ≡ told_each first lo (take n all) → last ≡ told_each first lo all
+told_end first last lo n all end far = far ∙ ap (λ (some : List Measurement). told_each first lo some) (take_all n all end)
+
+pub told_seat : (plan : PlanValue) (own : Facts) (i : ℕ) (all : List Measurement) (seat : RecorderValue) → slice_get plan.facts.instruments i ≡ Some own → i < length seat.told
+    → told_of_all plan seat i all ≡ record seat { told = slice_set seat.told i (told_each (told_at seat i) own.lo all) }
+told_seat plan own i [] seat found long = ap (λ (told : List Told). record seat { told = told }) (sym (set-get_or seat.told i nothing_told))
+told_seat plan own i (one ∷ all) seat found long =
+    let next : RecorderValue = with_recording seat i own one.value in
+    let is : told_of plan seat i one.value ≡ next = ap (λ (o : Option Facts). option_map_or (λ (f : Facts). with_recording seat i f one.value) o seat) found in
+    let here : told_at next i ≡ told_more (told_at seat i) own.lo one.value = get_or-set_same seat.told i (told_more (told_at seat i) own.lo one.value) nothing_told long in
+    ap (λ (s : RecorderValue). told_of_all plan s i all) is
+    ∙ told_seat plan own i all next found (omega (arith, length-set seat.told i (told_more (told_at seat i) own.lo one.value), long))
+    ∙ ap (λ (t : Told). record seat { told = slice_set next.told i (told_each t own.lo all) }) here
+    ∙ ap (λ (told : List Told). record seat { told = told })
+    (set-set seat.told i (told_more (told_at seat i) own.lo one.value) (told_each (told_more (told_at seat i) own.lo one.value) own.lo all))
+
+-- ---- telling does not make a seat another one
+
+record IsSameSeat (later first : RecorderValue) : Type 0 where
+  pub run : later.run ≡ first.run
+  pub number : later.number ≡ first.number
+  pub long : length later.told ≡ length first.told
+
+told_same : (o : Option Facts) (seat : RecorderValue) (i : ℕ) (value : ℤ) → IsSameSeat (option_map_or (λ (own : Facts). with_recording seat i own value) o seat) seat
+told_same None seat i value = record { run = refl; number = refl; long = refl }
+told_same (Some own) seat i value = record { run = refl; number = refl; long = length-set seat.told i (told_more (told_at seat i) own.lo value) }
+
+all_same : (plan : PlanValue) (seat : RecorderValue) (i : ℕ) (all : List Measurement) → IsSameSeat (told_of_all plan seat i all) seat
+all_same plan seat i [] = record { run = refl; number = refl; long = refl }
+all_same plan seat i (one ∷ all) =
+    let first = told_same (slice_get plan.facts.instruments i) seat i one.value in
+    let rest = all_same plan (told_of plan seat i one.value) i all in
+    record { run = rest.run ∙ first.run; number = rest.number ∙ first.number; long = rest.long ∙ first.long }
+
+own_same : (p : ProviderValue) (later first : RecorderValue) → IsSameSeat later first → is_recorder_of p later ≡ is_recorder_of p first
+own_same p later first same =
+    let recorders = length p.plan.facts.contents.recorders in
+    let instruments = length p.plan.facts.instruments in
+    ap (λ (n : ℕ). (n == p.run) && (nat_lt later.number recorders && (length later.told == instruments))) same.run
+    ∙ ap (λ (n : ℕ). (first.run == p.run) && (nat_lt n recorders && (length later.told == instruments))) same.number
+    ∙ ap (λ (n : ℕ). (first.run == p.run) && (nat_lt first.number recorders && (n == instruments))) same.long
+
+admitted_same : (p : ProviderValue) (later first : RecorderValue) (i : ℕ) (set : List ℕ) (value : ℤ) → IsSameSeat later first → admitted_key p later i set value ≡ admitted_key p first i set value
+admitted_same p later first i set value same =
+    ap (λ (b : Bool). require b Stranger >>= λ _. declared_key p.plan i set value) (own_same p later first same)
+
+-- ---- before the lock
+
+key_is : (p : ProviderValue) (seat : RecorderValue) (i : ℕ) (set key : List ℕ) (value : ℤ) → admitted_key p seat i set value ≡ Ok key → set ≡ key
+key_is p seat i set key value made =
+    after_ok (require_some (slice_get p.plan.facts.instruments i) UnknownInstrument) _ key ((require_ok (is_recorder_of p seat) Stranger _ key made).1) (λ own given rest.
+    ok_is set key (Ok set) refl ((require_ok (in_bounds own value) ValueRange _ key ((require_ok (is_full_set own.keys set) UnknownValue _ key rest).1)).1))
+
+pub admitted_more : (p : ProviderValue) (seat : RecorderValue) (i n : ℕ) (all : List Measurement) (d : Measurement) (key : List ℕ) → n < length all
+    → admitted_key p seat i (get_or all n d).set (get_or all n d).value ≡ Ok key → AreAdmitted p seat i (take n all) → AreAdmitted p seat i (take (n + 1) all)
+admitted_more p seat i n all d key below made before =
+    let one : Measurement = get_or all n d in
+    All-more (IsAdmitted p seat i) all n d below before (made ∙ ap (λ (k : List ℕ). Ok k) (sym (key_is p seat i one.set key one.value made)))
+
+pub admitted_end : (p : ProviderValue) (seat : RecorderValue) (i n : ℕ) (all : List Measurement) → length all ≤ n → AreAdmitted p seat i (take n all) → AreAdmitted p seat i all
+admitted_end p seat i n all end far = subst (λ (some : List Measurement). AreAdmitted p seat i some) (take_all n all end) far
+
+pub unadmitted : (p : ProviderValue) (seat : RecorderValue) (i n : ℕ) (all : List Measurement) (d : Measurement) (refusal : Refusal) → n < length all
+    → admitted_key p seat i (get_or all n d).set (get_or all n d).value ≡ Err refusal → AreAdmitted p seat i (take n all)
+    → IsUnadmittedAfter p seat i all (record { place = n; refusal = refusal })
+unadmitted p seat i n all d refusal below refused before = record {
+  before = before;
+  one = get_or all n d;
+  found = slice_get-get_or all n d below;
+  refused = refused;
+}
+
+-- ---- answers
+
+admitted_at : (p : ProviderValue) (seat : RecorderValue) (i : ℕ) (all : List Measurement) (place : ℕ) (one : Measurement) → AreAdmitted p seat i all → slice_get all place ≡ Some one
+    → IsAdmitted p seat i one
+admitted_at p seat i all place one admitted found =
+    subst (IsAdmitted p seat i) (get_or_from_slice_get all place one one found) (admitted place one (slice_get_within all place one found))
+
+pub all_accepted : (spares : Facts → Type 0) (p : ProviderValue) (seat : RecorderValue) (i : ℕ) (all : List Measurement) → AreAdmitted p seat i all → AreAccepted spares p seat i all
+all_accepted spares p seat i all admitted place one found =
+    let later : RecorderValue = told_of_all p.plan seat i (take place all) in
+    subst (λ (r : Result (List ℕ) Refusal). AnswersSeat spares r p.plan later i (Ok tt))
+    (sym (admitted_same p later seat i one.set one.value (all_same p.plan seat i (take place all)) ∙ admitted_at p seat i all place one admitted found)) tt
+
+pub refused_before : (spares : Facts → Type 0) (p : ProviderValue) (seat : RecorderValue) (i : ℕ) (all : List Measurement) (fault : SetsFault) → IsUnadmittedAfter p seat i all fault
+    → IsRefusedAfter spares p seat i all fault
+refused_before spares p seat i all fault of =
+    let later : RecorderValue = told_of_all p.plan seat i (take fault.place all) in
+    record {
+      before = all_accepted spares p seat i (take fault.place all) of.before;
+      one = of.one;
+      found = of.found;
+      answer = subst (λ (r : Result (List ℕ) Refusal). AnswersSeat spares r p.plan later i (Err fault.refusal))
+          (sym (admitted_same p later seat i of.one.set of.one.value (all_same p.plan seat i (take fault.place all)) ∙ of.refused)) refl;
+    }
+
+pub knows_each : (p : ProviderValue) (seat : RecorderValue) (i : ℕ) (all : List Measurement) → AreAdmitted p seat i all → KnowsEach p.plan i seat.number all
+knows_each p seat i all admitted k d below =
+    let one : Measurement = get_or all k d in
+    let mine = require_ok (is_recorder_of p seat) Stranger _ one.set (admitted k d below) in
+    knows p seat i one.set one.value mine.0 (of_key p.plan i one.set one.set one.value mine.1)
+
+no_measurement : Measurement
+no_measurement = record { set = []; value = pos 0 }
+
+pub told_at_each : (p : ProviderValue) (seat : RecorderValue) (i : ℕ) (all : List Measurement) → AreAdmitted p seat i all → 0 < length all → i < length seat.told
+told_at_each p seat i all admitted some =
+    let one : Measurement = get_or all 0 no_measurement in
+    let mine = require_ok (is_recorder_of p seat) Stranger _ one.set (admitted 0 no_measurement some) in
+    told_there p seat i one.set one.value mine.0 (of_key p.plan i one.set one.set one.value mine.1)
+
+-- the plan has the instrument and the recorder
+pub known_at_each : (p : ProviderValue) (seat : RecorderValue) (i : ℕ) (all : List Measurement) → AreAdmitted p seat i all → 0 < length all → i < length p.plan.facts.instruments
+known_at_each p seat i all admitted some = (knows_each p seat i all admitted 0 no_measurement some).known
+
+pub recorder_at_each : (p : ProviderValue) (seat : RecorderValue) (i : ℕ) (all : List Measurement) → AreAdmitted p seat i all → 0 < length all
+    → seat.number < length p.plan.facts.contents.recorders
+recorder_at_each p seat i all admitted some = (knows_each p seat i all admitted 0 no_measurement some).recorder
+
+-- what the facts of the instrument say of each
+pub recordable : (plan : PlanValue) (i by : ℕ) (own : Facts) (all : List Measurement) → slice_get plan.facts.instruments i ≡ Some own → KnowsEach plan i by all → All (IsRecordable own) all
+recordable plan i by own all found known k d below =
+    let of = known k d below in
+    record { full = of.full own found; ranged = of.ranged own found }
+
+told_by : (spares : Facts → Type 0) (own : Facts) (later : RecorderValue) (i : ℕ) (refusal : Refusal) (o : Option Facts) → o ≡ Some own
+    → RefusesRecording spares own later.number (told_at later i) refusal → IfSome o (λ (f : Facts). RefusesRecording spares f later.number (told_at later i) refusal)
+told_by spares own later i refusal None is why = absurd cc
+told_by spares own later i refusal (Some f) is why =
+    subst (λ (g : Facts). RefusesRecording spares g later.number (told_at later i) refusal) (sym (same_Some f own is)) why
+
+pub refused_under : (spares : Facts → Type 0) (p : ProviderValue) (seat : RecorderValue) (own : Facts) (i : ℕ) (all : List Measurement) (last : Told) (fault : SetsFault)
+    → AreAdmitted p seat i all → slice_get p.plan.facts.instruments i ≡ Some own → i < length seat.told
+    → IsRefusedUnder spares own seat.number (told_at seat i) last all fault → IsRefusedAfter spares p seat i all fault
+refused_under spares p seat own i all last fault admitted found long of =
+    let one : Measurement = get_or all fault.place no_measurement in
+    let made = take fault.place all in
+    let later : RecorderValue = told_of_all p.plan seat i made in
+    let is = told_seat p.plan own i made seat found long in
+    let here : told_at later i ≡ last =
+    ap (λ (s : RecorderValue). told_at s i) is
+    ∙ get_or-set_same seat.told i (told_each (told_at seat i) own.lo made) nothing_told long
+    ∙ sym of.told in
+    let why : RefusesRecording spares own later.number (told_at later i) fault.refusal =
+    subst (λ (n : ℕ). RefusesRecording spares own n (told_at later i) fault.refusal) (sym (ap (λ (s : RecorderValue). s.number) is))
+    (subst (λ (t : Told). RefusesRecording spares own seat.number t fault.refusal) (sym here) of.why) in
+    record {
+      before = all_accepted spares p seat i made (All-take (IsAdmitted p seat i) fault.place all admitted);
+      one = one;
+      found = slice_get-get_or all fault.place no_measurement of.within;
+      answer = subst (λ (r : Result (List ℕ) Refusal). AnswersSeat spares r p.plan later i (Err fault.refusal))
+          (sym (admitted_same p later seat i one.set one.value (all_same p.plan seat i made) ∙ admitted fault.place no_measurement of.within))
+          (told_by spares own later i fault.refusal (slice_get p.plan.facts.instruments i) found why);
+    }
+
+-- ---- what the lock's call says of the seat
+
+declared_first : (p : ProviderValue) (seat : RecorderValue) (i : ℕ) (all : List Measurement) → AreAdmitted p seat i all → 0 < length all
+    → IsDeclared p.plan i (get_or all 0 no_measurement).set (get_or all 0 no_measurement).value
+declared_first p seat i all admitted some =
+    let one : Measurement = get_or all 0 no_measurement in
+    of_key p.plan i one.set one.set one.value ((require_ok (is_recorder_of p seat) Stranger _ one.set (admitted 0 no_measurement some)).1)
+
+lent_is : (inside seat : RecorderValue) (i : ℕ) (old : Told) → inside ≡ seat → i < length seat.told → old ≡ get_or inside.told i old → old ≡ told_at seat i
+lent_is inside seat i old is long lent =
+    get_or_read seat.told i old long (lent ∙ ap (λ (s : RecorderValue). get_or s.told i old) is) nothing_told
+
+-- A seat lends what it was told of the instrument. What becomes of it then stands in its place.
+pub refused_in : (spares : Facts → Type 0) (p : ProviderValue) (inside seat : RecorderValue) (i : ℕ) (all : List Measurement) (old last : Told) (fault : SetsFault)
+    → inside ≡ seat → AreAdmitted p seat i all → 0 < length all → old ≡ get_or inside.told i old
+    → IfSome (slice_get p.plan.facts.instruments i) (λ (own : Facts). IsRefusedUnder spares own inside.number old last all fault) → IsRefusedAfter spares p seat i all fault
+refused_in spares p inside seat i all old last fault is admitted some lent under =
+    let of = declared_first p seat i all admitted some in
+    let long : i < length seat.told = told_at_each p seat i all admitted some in
+    let same : old ≡ told_at seat i = lent_is inside seat i old is long lent in
+    let here : IsRefusedUnder spares of.own inside.number old last all fault =
+    subst (λ (o : Option Facts). IfSome o (λ (own : Facts). IsRefusedUnder spares own inside.number old last all fault)) of.found under in
+    refused_under spares p seat of.own i all last fault admitted of.found long
+    (subst (λ (t : Told). IsRefusedUnder spares of.own seat.number t last all fault) same
+    (subst (λ (n : ℕ). IsRefusedUnder spares of.own n old last all fault) (ap (λ (s : RecorderValue). s.number) is) here))
+
+told_under : (plan : PlanValue) (own : Facts) (i : ℕ) (all : List Measurement) (seat : RecorderValue) (last : Told) → slice_get plan.facts.instruments i ≡ Some own → i < length seat.told
+    → last ≡ told_each (told_at seat i) own.lo all → record seat { told = slice_set seat.told i last } ≡ told_of_all plan seat i all
+told_under plan own i all seat last found long is =
+    ap (λ (t : Told). record seat { told = slice_set seat.told i t }) is ∙ sym (told_seat plan own i all seat found long)
+
+pub told_in : (p : ProviderValue) (inside seat : RecorderValue) (i : ℕ) (all : List Measurement) (old last : Told)
+    → inside ≡ seat → AreAdmitted p seat i all → 0 < length all → old ≡ get_or inside.told i old
+    → IfSome (slice_get p.plan.facts.instruments i) (λ (own : Facts). last ≡ told_each old own.lo all)
+    → record inside { told = slice_set inside.told i last } ≡ told_of_all p.plan seat i all
+told_in p inside seat i all old last is admitted some lent under =
+    let of = declared_first p seat i all admitted some in
+    let long : i < length seat.told = told_at_each p seat i all admitted some in
+    let here : last ≡ told_each old of.own.lo all = subst (λ (o : Option Facts). IfSome o (λ (own : Facts). last ≡ told_each old own.lo all)) of.found under in
+    ap (λ (s : RecorderValue). record s { told = slice_set s.told i last }) is
+    ∙ told_under p.plan of.own i all seat last of.found long (here ∙ ap (λ (t : Told). told_each t of.own.lo all) (lent_is inside seat i old is long lent))
+
+pub told_before_in : (spares : Facts → Type 0) (p : ProviderValue) (inside seat : RecorderValue) (i : ℕ) (all : List Measurement) (old last : Told) (fault : SetsFault)
+    → inside ≡ seat → AreAdmitted p seat i all → 0 < length all → old ≡ get_or inside.told i old
+    → IfSome (slice_get p.plan.facts.instruments i) (λ (own : Facts). IsRefusedUnder spares own inside.number old last all fault)
+    → record inside { told = slice_set inside.told i last } ≡ told_of_all p.plan seat i (take fault.place all)
+told_before_in spares p inside seat i all old last fault is admitted some lent under =
+    let of = declared_first p seat i all admitted some in
+    let long : i < length seat.told = told_at_each p seat i all admitted some in
+    let here : IsRefusedUnder spares of.own inside.number old last all fault =
+    subst (λ (o : Option Facts). IfSome o (λ (own : Facts). IsRefusedUnder spares own inside.number old last all fault)) of.found under in
+    ap (λ (s : RecorderValue). record s { told = slice_set s.told i last }) is
+    ∙ told_under p.plan of.own i (take fault.place all) seat last of.found long
+    (here.told ∙ ap (λ (t : Told). told_each t of.own.lo (take fault.place all)) (lent_is inside seat i old is long lent))
+
+-- ---- of the first of a list
+
+pub made_same : (plan : PlanValue) (seat : RecorderValue) (i place n : ℕ) (all : List Measurement) (one : Measurement) → slice_get (take n all) place ≡ Some one
+    → told_of_all plan seat i (take place (take n all)) ≡ told_of_all plan seat i (take place all)
+made_same plan seat i place n all one found =
+    ap (λ (some : List Measurement). told_of_all plan seat i some) (take-take place n all (omega (arith, below_take n place all one found)))
+
+pub refused_first : (spares : Facts → Type 0) (p : ProviderValue) (seat : RecorderValue) (i n : ℕ) (all : List Measurement) (fault : SetsFault) → IsRefusedAfter spares p seat i (take n all) fault
+    → IsRefusedAfter spares p seat i all fault
+refused_first spares p seat i n all fault of =
+    let same : take fault.place (take n all) ≡ take fault.place all = take-take fault.place n all (omega (arith, below_take n fault.place all of.one of.found)) in
+    record {
+      before = subst (λ (some : List Measurement). AreAccepted spares p seat i some) same of.before;
+      one = of.one;
+      found = at_take n fault.place all of.one of.found;
+      answer = subst (λ (some : List Measurement). AnswersKey spares p (told_of_all p.plan seat i some) i of.one (Err fault.refusal)) same of.answer;
+    }
