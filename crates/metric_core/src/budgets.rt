@@ -1,6 +1,7 @@
 //! What the recorders of an instrument have spent of their budgets.
 ghost use Rattle.std.specs.Prelude.{◌≡◌, ◌<◌, ◌+◌, ◌^◌, length, nat_lt, replicate, slice_index, slice_set, vec_len, IfOk};
 
+use crate::room::numbers_apart;
 use std::alloc::{AllocError, Global};
 
 // How many recordings each recorder has made, of as many as its budget.
@@ -15,7 +16,7 @@ impl Budgets {
         ensures { IfOk result (λ new. new.spent.items ≡ replicate recorders 0) }
     {
         Ok(Budgets {
-            spent: vec![in alloc; 0; recorders]?,
+            spent: numbers_apart(alloc, 0, recorders)?,
         })
     }
 

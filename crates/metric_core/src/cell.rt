@@ -5,6 +5,7 @@ ghost use Rattle.metric_core.specs.CellAnswers.{AnswersClose, AnswersRecording, 
 ghost use Rattle.metric_facts.specs.Facts.{in_bounds, is_full_set};
 
 use crate::budgets::Budgets;
+use crate::room::numbers_apart;
 use metric_base::Copied;
 use metric_book::Book;
 use metric_catalogue::{Refusal, SetKey};
@@ -112,8 +113,8 @@ impl<B: Book> Cell<B> {
     {
         let facts = plan.facts(instrument).copy(alloc)?;
         let book = B::new(alloc, plan, instrument, seed)?;
-        let marks = vec![in alloc; 0; facts.delta.len()]?;
-        let times = vec![in alloc; start; facts.delta.len()]?;
+        let marks = numbers_apart(alloc, 0, facts.delta.len())?;
+        let times = numbers_apart(alloc, start, facts.delta.len())?;
         let budgets = Budgets::new(alloc, facts.budgets.len())?;
         Ok(Cell {
             facts,

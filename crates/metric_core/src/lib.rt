@@ -4,6 +4,7 @@
 
 mod budgets;
 mod cell;
+mod room;
 mod run;
 mod steps;
 

@@ -18,6 +18,10 @@ use metric_series::{Place, SeriesFault, Table};
 use std::alloc::{AllocError, Global};
 use std::marker::Model;
 
+// At least 128 bytes of aggregates: behind what recordings write is room that nobody writes, so that what the allocator hands
+// out next lies on other lines of cache.
+const SPARE: usize = 16;
+
 /// The series of a stream whose values are aggregated by `A`, each found by its rank. A clause sees the flags of
 /// the kept keys, the declared keys, and the aggregates in the order of the ranks.
 pub struct DenseOf<A: Aggregate> {
@@ -172,7 +176,7 @@ fn empty_aggregates<A: Aggregate>(
     ensures count { IfOk result (λ all. length all.items ≡ count) }
     ensures empty { IfOk result (λ all. All (IsMadeOf A.Aggregate parameters.now) all.items) }
 {
-    let mut all = Vec::with_capacity(alloc, count)?;
+    let mut all = Vec::with_capacity(alloc, count.saturating_add(SPARE))?;
     for _place in 0..count {
         all.push(A::with_parameters(alloc, parameters)?)?;
     }

@@ -1,5 +1,5 @@
 //! A book of running tables with a mark for each reader.
-ghost use Rattle.std.specs.Prelude.{◌≡◌, [], length, slice_index_or, false, IfOk, if◌then◌else◌};
+ghost use Rattle.std.specs.Prelude.{◌≡◌, [], length, replicate, slice_index_or, false, IfOk, if◌then◌else◌};
 ghost use Rattle.metric_book.specs.Journals.{no_marks};
 ghost use Rattle.metric_facts.specs.Products.{AreDense};
 ghost use Rattle.metric_marked.specs.Marks.{ClosesWindow, StandsMarked};
@@ -15,6 +15,10 @@ use metric_plan::Plan;
 use metric_series::Place;
 use std::alloc::{AllocError, Global};
 use std::marker::Model;
+
+// 128 bytes of marks, and more of places. Behind what a recording or a collection writes is room that nobody writes, so that
+// what the allocator hands out next lies on other lines of cache.
+const SPARE: usize = 16;
 
 /// The accepted recordings of one instrument as the running values of their series (Metrics SDK, aggregation
 /// temporality). A cumulative reader's tables are never emptied; a delta reader's are emptied by each of its
@@ -60,9 +64,9 @@ impl Marked {
     {
         Ok(Marked {
             tables: empty_tables(alloc, facts, seed)?,
-            places: Vec::with_capacity(alloc, facts.streams.len())?,
+            places: Vec::with_capacity(alloc, facts.streams.len().saturating_add(SPARE))?,
             delta: Items::from_vec(facts.delta.as_slice().to_vec(alloc)?),
-            marks: vec![in alloc; 0; facts.delta.len()]?,
+            marks: zeros(alloc, facts.delta.len())?,
             count: 0,
         })
     }
@@ -100,6 +104,15 @@ impl Book for Marked {
             streams: Items::from_vec(streams),
         })
     }
+}
+
+// So many zeros, with spare room behind them.
+fn zeros(alloc: Global, count: usize) -> Result<Vec<u64>, AllocError>
+    ensures { IfOk result (λ list. list.items ≡ replicate count 0) }
+{
+    let mut list = Vec::with_capacity(alloc, count.saturating_add(SPARE))?;
+    list.resize(count, 0)?;
+    Ok(list)
 }
 
 // Whether a reader is delta; a reader of another number is not.

@@ -30,7 +30,8 @@ pub(crate) fn empty_tables(
 {
     let keys = facts.keys.as_slice();
     let streams = facts.streams.as_slice();
-    let mut tables = Vec::with_capacity(alloc, streams.len())?;
+    // Room for one more, which nobody writes: what lies behind is on other lines of cache.
+    let mut tables = Vec::with_capacity(alloc, streams.len() + 1)?;
     for numbered in streams {
         tables.push(StreamTable {
             number: numbered.number,
