@@ -1,6 +1,7 @@
 -- What the program does for a command line.
-use Rattle.std.specs.Prelude.{◌≡◌, ◌++◌, ℕ, Bool, List, Result, Ok, Err, codes}
-use Rattle.std.specs.Io.KnownBytes.{Keeps}
+use Rattle.std.specs.Prelude.{◌≡◌, ◌++◌, ◌⊎◌, ℕ, Bool, List, Result, Ok, Err, codes}
+use Rattle.std.specs.Io.KnownBytes.{Appends, Keeps}
+use Rattle.metric_io.specs.Counts.{HasFailed}
 use Rattle.metric_io.specs.Prefix.{AppendsPrefix}
 use Rattle.metric_command.specs.declared.line.Line.{Line}
 use Rattle.metric_command.specs.declared.line.Line.TheVariants as lines
@@ -34,17 +35,23 @@ usage_status = 2
 
 -- what is told then
 abbrev pub usage_line : List ℕ
-usage_line = codes "refused: usage\n"
+usage_line = codes "refused: usage"
 
 -- 0 where a command is done, else the status of its fault
 abbrev pub exit_status : {A : Type 0} → Result A KitFault → ℕ
 exit_status (Ok done) = 0
 exit_status (Err fault) = status_of fault
 
--- A line is written, or a prefix of it where the sink fails.
+-- A line is written with its end, or a prefix of both where the sink failed.
+pub record IsTold (line : List ℕ) (errors : SinkRun) : Type 0 where
+  pub prefix : AppendsPrefix errors.contents errors.contents_after (line ++ codes "\n")
+  pub whole : Appends errors.contents errors.contents_after (line ++ codes "\n")
+      ⊎ HasFailed errors.failures errors.failures_after
+
+-- Some line is.
 pub record TellsLine (errors : SinkRun) : Type 0 where
   pub line : List ℕ
-  pub told : AppendsPrefix errors.contents errors.contents_after (line ++ codes "\n")
+  pub told : IsTold line errors
 
 -- A fault is told by a line, and the end of a command that is done by none.
 abbrev pub IsEndTold : {A : Type 0} → Result A KitFault → SinkRun → Type 0
@@ -60,6 +67,5 @@ pub record RunsTold (line : Line) (source : SourceRun) (sink errors : SinkRun) (
 
 -- That there is no command is told, also by the exit status.
 abbrev pub IsUnasked : LineFault → SinkRun → ℕ → Type 0
-IsUnasked unasked.Usage errors status =
-    AppendsPrefix errors.contents errors.contents_after usage_line × (status ≡ usage_status)
+IsUnasked unasked.Usage errors status = IsTold usage_line errors × (status ≡ usage_status)
 IsUnasked unasked.Memory errors status = TellsLine errors × (status ≡ status_of Memory)

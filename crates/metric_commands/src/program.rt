@@ -1,7 +1,5 @@
 //! Command lines, run.
-ghost use Rattle.std.specs.Prelude.{◌≡◌, Err, IfErr, IfOk, OnErr};
-ghost use Rattle.metric_io.specs.Prefix.{AppendsPrefix};
-ghost use Rattle.metric_command.specs.declared.line.LineFault.TheVariants.{Usage};
+ghost use Rattle.std.specs.Prelude.{◌≡◌, IfErr, IfOk, OnErr};
 ghost use Rattle.metric_commands.specs.Commands.{sink_run, source_run};
 ghost use Rattle.metric_commands.specs.Programs.{IsUnasked, RunsLine, RunsTold};
 
