@@ -5,6 +5,7 @@ mod PartLaws
 mod PieceLaws
 mod PlanLaws
 mod ScriptFaults
+mod StopLaws
 mod RunLaws
 mod TextLaws
 mod ThreadLaws

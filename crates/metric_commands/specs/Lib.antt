@@ -13,3 +13,4 @@ pub mod Declarations
 pub mod Replaying
 pub mod Showing
 pub mod Threading
+pub mod Programs

@@ -2,7 +2,8 @@
 //! checked, and recordings made by threads.
 //!
 //! Each reads one input of parts from a source and writes one text to a sink, or stops with the first
-//! fault that the input has.
+//! fault that the input has. [`run_line`] is the whole program but for its devices: it runs the command of a
+//! command line, tells why it stops, and gives the exit status.
 #![tactic(auto)]
 
 mod checks;
@@ -15,9 +16,11 @@ mod parts;
 mod pieces;
 mod planning;
 mod prepared;
+mod program;
 mod replays;
 mod replies;
 mod show;
+mod stops;
 mod threads;
 mod totals;
 mod workers;
@@ -27,6 +30,7 @@ pub use fault::KitFault;
 pub use laws::one_output;
 pub use makes::make_run;
 pub use options::{ReplayOptions, ThreadsOptions};
+pub use program::run_line;
 pub use replays::replay;
 pub use show::show_run;
 pub use threads::threads_run;

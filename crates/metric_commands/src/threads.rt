@@ -23,7 +23,7 @@ const START: u64 = 0;
 // The number of the run, of which there is one.
 const RUN: u64 = 0;
 
-/// Lets each recorder of an input record, and each reader collect, in a thread of its own where one can be made: a recorder
+/// Lets each recorder of an input record, and each reader collect, in a thread of its own: a recorder
 /// on each instrument in order, so many times, the greatest value of its range with the first declared value of each required
 /// key; a reader all instruments at the times 1 to 8 (Metrics SDK, concurrency requirements). Recordings beyond a budget are
 /// passed over. After the threads have ended it writes what each instrument comes to. A refused input writes nothing.
@@ -31,8 +31,8 @@ const RUN: u64 = 0;
 /// # Errors
 ///
 /// [`KitFault::Read`] and [`KitFault::Write`] where the source or the sink failed, [`KitFault::Memory`] also where memory
-/// was refused in a thread or for one, and else the first fault that the input has. The last of
-/// them are those of the certificate's check; after the threads [`KitFault::Finish`] may come.
+/// was refused in a thread or a thread could not be started, after the others have ended, and else the first fault that
+/// the input has. The last of them are those of the certificate's check; after the threads [`KitFault::Finish`] may come.
 pub fn threads_run<R: Threads + Wait + Sync, S: Source, W: Sink>(
     rt: &R,
     alloc: Global,

@@ -7,7 +7,8 @@ use metric_marked::Marked;
 use metric_provider::{Collector, NoGate, Provider, Recorder};
 use std::alloc::{AllocError, Global};
 use std::sync::Wait;
-use std::thread::{Threads, map_vec};
+use std::thread;
+use std::thread::{JoinHandle, Threads};
 
 /// The provider of the threads.
 pub(crate) type Shared = Provider<Marked, NoGate>;
@@ -22,8 +23,8 @@ enum Seat {
     Collector(Collector),
 }
 
-/// Lets the recorders record and the readers collect, each in a thread of its own where one can be made, and gives the
-/// recorders back after all of them have ended. Fails where memory was refused, in a thread or for one.
+/// Lets the recorders record and the readers collect, each in a thread of its own, and gives the recorders back after
+/// all of them have ended. Fails where memory was refused in a thread, or for one, or a thread could not be started.
 pub(crate) fn work<R: Threads + Wait + Sync>(
     rt: &R,
     alloc: Global,
@@ -33,8 +34,14 @@ pub(crate) fn work<R: Threads + Wait + Sync>(
     collectors: Vec<Collector>,
 ) -> Result<Vec<Recorder>, AllocError> {
     let seats = all_seats(alloc, recorders, collectors)?;
-    let used = |seat| use_seat(rt, alloc, provider, options, seat);
-    each_back(alloc, map_vec(rt, seats, &used)?)
+    thread::scope(thread::scope_env(), rt, |scope| {
+        let mut threads = Vec::new(alloc);
+        for seat in seats {
+            let used = move || use_seat(rt, alloc, provider, options, seat);
+            threads.push(scope.spawn(used)?)?;
+        }
+        each_back(rt, alloc, threads)
+    })
 }
 
 fn all_seats(
@@ -64,21 +71,25 @@ fn use_seat<R: Wait>(
     provider: &Shared,
     options: ThreadsOptions,
     seat: Seat,
-) -> Result<Option<Recorder>, AllocError> {
+) -> Used {
     match seat {
         Seat::Recorder(recorder) => record_all(rt, alloc, provider, options, recorder),
         Seat::Collector(collector) => collect_all(rt, alloc, provider, collector),
     }
 }
 
-// The recorders, or a failure of a seat.
-fn each_back(
+// What a thread comes to.
+type Used = Result<Option<Recorder>, AllocError>;
+
+// The recorders of threads that have ended, or a failure of one.
+fn each_back<R: Threads>(
+    rt: &R,
     alloc: Global,
-    used: Vec<Result<Option<Recorder>, AllocError>>,
+    threads: Vec<JoinHandle<Used>>,
 ) -> Result<Vec<Recorder>, AllocError> {
     let mut recorders = Vec::new(alloc);
-    for answer in used {
-        if let Some(recorder) = answer? {
+    for thread in threads {
+        if let Some(recorder) = thread.join(rt)? {
             recorders.push(recorder)?;
         }
     }
@@ -92,7 +103,7 @@ fn record_all<R: Wait>(
     provider: &Shared,
     options: ThreadsOptions,
     recorder: Recorder,
-) -> Result<Option<Recorder>, AllocError> {
+) -> Used {
     let mut recorder = recorder;
     let instruments = provider.plan().catalogue().instruments();
     for (number, instrument) in instruments.iter().enumerate() {
@@ -150,12 +161,7 @@ fn first_attrs(alloc: Global, instrument: &Instrument) -> Result<Vec<Attr<'_>>, 
 }
 
 // Collects all instruments at each time. Each refusal but want of memory is passed over. No recorder is given back.
-fn collect_all<R: Wait>(
-    rt: &R,
-    alloc: Global,
-    provider: &Shared,
-    collector: Collector,
-) -> Result<Option<Recorder>, AllocError> {
+fn collect_all<R: Wait>(rt: &R, alloc: Global, provider: &Shared, collector: Collector) -> Used {
     let mut collector = collector;
     for now in 1..=LAST {
         if let Err(fault) = collector.collect_all(rt, alloc, provider, now)

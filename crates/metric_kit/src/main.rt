@@ -2,30 +2,17 @@
 #![tactic(auto)]
 
 use metric_command::{Line, LineFault, command_of};
-use metric_commands::{
-    KitFault, ReplayOptions, ThreadsOptions, check_run, make_run, replay, show_run, threads_run,
-};
+use metric_commands::run_line;
 use metric_io::{StdSink, StdSource};
 use std::alloc::{AllocError, Global};
 use std::env;
-use std::io::{BufWriter, ErrorKind};
+use std::io::{BufWriter, ErrorKind, Write};
 use std::process::ExitCode;
 use std::sync::Wait;
 use std::thread::Threads;
 
-// The exit status where the words name no command.
-const USAGE: u8 = 2;
-
 fn main(rt: HostRuntime) -> ExitCode {
-    let done = match line_of(&rt) {
-        Ok(line) => run(&rt, &rt, line),
-        Err(LineFault::Usage) => return refuse(&rt, "refused: usage", USAGE),
-        Err(LineFault::Memory) => Err(KitFault::Memory),
-    };
-    match done {
-        Ok(()) => ExitCode::SUCCESS,
-        Err(fault) => tell(&rt, fault),
-    }
+    ExitCode::from(run(&rt, &rt, line_of(&rt)))
 }
 
 // The command that the words of the command line name.
@@ -54,47 +41,34 @@ fn borrowed<'a>(alloc: Global, owned: &'a [String]) -> Result<Vec<&'a str>, Allo
     Ok(words)
 }
 
-// Runs a command on standard input and output. Only main's own handle may start threads.
+// Runs a command, and gives the exit status. Only main's own handle may start threads.
 fn run<T: Threads + Wait + Sync>(
     threads: &T,
     rt: &HostRuntime,
-    line: Line,
-) -> Result<(), KitFault> {
-    let Ok(output) = BufWriter::new(rt.alloc(), rt.stdout()) else {
-        return Err(KitFault::Memory);
-    };
+    line: Result<Line, LineFault>,
+) -> u8 {
+    match BufWriter::new(rt.alloc(), rt.stdout()) {
+        Ok(output) => run_into(threads, rt, line, output),
+        Err(_) => run_into(threads, rt, Err(LineFault::Memory), rt.stdout()),
+    }
+}
+
+// Runs a command from standard input into a writer, and tells on standard error why it stops.
+fn run_into<T: Threads + Wait + Sync, W: Write + Drop>(
+    threads: &T,
+    rt: &HostRuntime,
+    line: Result<Line, LineFault>,
+    output: W,
+) -> u8 {
     let mut source = StdSource::new(rt.stdin());
     let mut sink = StdSink::new(output);
-    match line {
-        Line::Replay { trial } => replay(
-            rt.alloc(),
-            ReplayOptions { trial },
-            &mut source,
-            &mut sink,
-        ),
-        Line::Check => check_run(rt.alloc(), &mut source, &mut sink),
-        Line::Make => make_run(rt.alloc(), &mut source, &mut sink),
-        Line::Show => show_run(rt.alloc(), &mut source, &mut sink),
-        Line::Threads { each } => threads_run(
-            threads,
-            rt.alloc(),
-            ThreadsOptions { each },
-            &mut source,
-            &mut sink,
-        ),
-    }
-}
-
-// Tells a fault. Where memory is refused for its line, that is told.
-fn tell(rt: &HostRuntime, fault: KitFault) -> ExitCode {
-    match fault.line(rt.alloc()) {
-        Ok(line) => refuse(rt, line.as_str(), fault.status()),
-        Err(_) => refuse(rt, "refused: memory", fault.status()),
-    }
-}
-
-// Prints a line to standard error, and gives the exit status, which stands whatever becomes of the line.
-fn refuse(rt: &HostRuntime, line: &str, status: u8) -> ExitCode {
-    let _ = rt.eprintln(line);
-    ExitCode::from(status)
+    let mut errors = StdSink::new(rt.stderr());
+    run_line(
+        threads,
+        rt.alloc(),
+        line,
+        &mut source,
+        &mut sink,
+        &mut errors,
+    )
 }

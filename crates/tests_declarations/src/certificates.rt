@@ -207,6 +207,65 @@ bound = []
 order = []"#,
 };
 
+// As many series as the default limit: 40 values of a key times 50 of another.
+const FULL: Sample = Sample {
+    catalogue: r#"
+format = 1
+[[meter]]
+name = "m"
+[[meter.instrument]]
+name = "c"
+kind = "counter"
+range = [0, 9]
+[[meter.instrument.key]]
+name = "a"
+values = [0, 1, 2, 3, 4, 5, 6, 7, 8, 9, 10, 11, 12, 13, 14, 15, 16, 17, 18, 19, 20, 21, 22, 23, 24, 25, 26, 27, 28, 29, 30, 31, 32, 33, 34, 35, 36, 37, 38, 39]
+[[meter.instrument.key]]
+name = "b"
+values = [0, 1, 2, 3, 4, 5, 6, 7, 8, 9, 10, 11, 12, 13, 14, 15, 16, 17, 18, 19, 20, 21, 22, 23, 24, 25, 26, 27, 28, 29, 30, 31, 32, 33, 34, 35, 36, 37, 38, 39, 40, 41, 42, 43, 44, 45, 46, 47, 48, 49]
+[[recorder]]
+name = "r"
+budget = [{ instrument = 0, amount = 3000 }]
+"#,
+    config: PLAIN,
+    certificate: r#"
+format = 1
+reason = []
+stream = [{ reader = 0, instrument = 0, by = "product", sets = 2000 }]
+bound = [{ instrument = 0, total = "3000", amount = "27000", low = "0", high = "27000" }]
+order = [{ reader = 0, streams = [0] }]"#,
+};
+
+// More series than that, where the first key may be left out, but no more recordings.
+const SELDOM: Sample = Sample {
+    catalogue: r#"
+format = 1
+[[meter]]
+name = "m"
+[[meter.instrument]]
+name = "c"
+kind = "counter"
+range = [0, 9]
+[[meter.instrument.key]]
+name = "a"
+values = [0, 1, 2, 3, 4, 5, 6, 7, 8, 9, 10, 11, 12, 13, 14, 15, 16, 17, 18, 19, 20, 21, 22, 23, 24, 25, 26, 27, 28, 29, 30, 31, 32, 33, 34, 35, 36, 37, 38, 39]
+optional = true
+[[meter.instrument.key]]
+name = "b"
+values = [0, 1, 2, 3, 4, 5, 6, 7, 8, 9, 10, 11, 12, 13, 14, 15, 16, 17, 18, 19, 20, 21, 22, 23, 24, 25, 26, 27, 28, 29, 30, 31, 32, 33, 34, 35, 36, 37, 38, 39, 40, 41, 42, 43, 44, 45, 46, 47, 48, 49]
+[[recorder]]
+name = "r"
+budget = [{ instrument = 0, amount = 2000 }]
+"#,
+    config: PLAIN,
+    certificate: r#"
+format = 1
+reason = []
+stream = [{ reader = 0, instrument = 0, by = "budget", sets = 2000 }]
+bound = [{ instrument = 0, total = "2000", amount = "18000", low = "0", high = "18000" }]
+order = [{ reader = 0, streams = [0] }]"#,
+};
+
 const MADE: &[Sample] = &[
     TWO_COUNTERS,
     TWO_READERS,
@@ -215,6 +274,8 @@ const MADE: &[Sample] = &[
     WIDE_GAUGE,
     NO_INSTRUMENTS,
     NOTHING,
+    FULL,
+    SELDOM,
 ];
 
 fn made_for(alloc: Global, declared: &Declared) -> Result<String, AllocError> {
@@ -296,6 +357,8 @@ const JUDGED: &[(Sample, &str)] = &[
     (WIDE_GAUGE, "accepted"),
     (NO_INSTRUMENTS, "accepted"),
     (NOTHING, "accepted"),
+    (FULL, "accepted"),
+    (SELDOM, "accepted"),
     (TIGHT, "9 LimitExceeded"),
 ];
 
@@ -545,6 +608,8 @@ const TWICE: &str = "{ name = 'r', budget = [{ instrument = 0, amount = 2 }] }";
 
 const FOUR_TIMES: &str = "{ name = 'r', budget = [{ instrument = 0, amount = 4 }] }";
 
+const OFTEN: &str = "{ name = 'r', budget = [{ instrument = 0, amount = 3000 }] }";
+
 const TOO_OFTEN: &str =
     "{ name = 'r', budget = [{ instrument = 0, amount = 9223372036854775807 }] }, { name = 's', budget = [{ instrument = 0, amount = 9223372036854775807 }] }, { name = 't', budget = [{ instrument = 0, amount = 9223372036854775807 }] }";
 
@@ -560,6 +625,13 @@ const UNSAFE: &[(&str, &str, &str, &str)] = &[
         "kind = 'counter', range = [0, 1], key = [{ name = 'k', values = ['x', 'y', 'z'] }]",
         FOUR_TIMES,
         LIMITED,
+        "2 LimitExceeded",
+    ),
+    // The first key may be left out, so there may be 2050 series.
+    (
+        "kind = 'counter', range = [0, 9], key = [{ name = 'a', optional = true, values = [0, 1, 2, 3, 4, 5, 6, 7, 8, 9, 10, 11, 12, 13, 14, 15, 16, 17, 18, 19, 20, 21, 22, 23, 24, 25, 26, 27, 28, 29, 30, 31, 32, 33, 34, 35, 36, 37, 38, 39] }, { name = 'b', values = [0, 1, 2, 3, 4, 5, 6, 7, 8, 9, 10, 11, 12, 13, 14, 15, 16, 17, 18, 19, 20, 21, 22, 23, 24, 25, 26, 27, 28, 29, 30, 31, 32, 33, 34, 35, 36, 37, 38, 39, 40, 41, 42, 43, 44, 45, 46, 47, 48, 49] }]",
+        OFTEN,
+        PLAIN,
         "2 LimitExceeded",
     ),
     (

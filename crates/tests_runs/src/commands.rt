@@ -1,22 +1,23 @@
-//! Whole inputs replayed, shown, certified and checked: what is written, or the line and the exit status of the fault.
+//! Command lines on whole inputs: what is written, and the line and the exit status of the fault.
 use crate::equal::assert_equal;
 use crate::inputs::{
     BUDGETED, HITS, MAIN, OUTPUT, Parts, READERS, READERS_OUTPUT, READERS_RUN, RUN, RUNS, SHOP,
     SHOP_VIEWS,
 };
-use metric_commands::{KitFault, ReplayOptions, check_run, make_run, replay, show_run};
+use metric_command::{Line, LineFault};
+use metric_commands::{KitFault, run_line};
 use metric_io::{CutSink, CutSource};
+use metric_provider::FinishFault;
 use std::alloc::Global;
+use std::sync::Wait;
 use std::test::Fail;
+use std::thread::Threads;
 
-#[derive(Clone, Copy)]
-enum Command {
-    Trial,
-    Replay,
-    Check,
-    Make,
-    Show,
-}
+const TRIAL: Line = Line::Replay { trial: true };
+
+const REPLAY: Line = Line::Replay { trial: false };
+
+const FOUR_EACH: Line = Line::Threads { each: 4 };
 
 const CERTIFICATE: &str = "%% certificate
 format = 1
@@ -126,155 +127,224 @@ name = \"c\"
 budget = [{ instrument = 0, amount = 2 }]
 ";
 
+// Two counters, two recorders with ten recordings of each, and a reader.
+const COUNTED: Parts = &[
+    "%% catalogue
+format = 1
+[[meter]]
+name = \"m\"
+instrument = [
+    { name = \"A\", kind = \"counter\", range = [0, 3] },
+    { name = \"B\", kind = \"counter\", range = [0, 3] },
+]
+[[recorder]]
+name = \"r0\"
+budget = [{ instrument = 0, amount = 10 }, { instrument = 1, amount = 10 }]
+[[recorder]]
+name = \"r1\"
+budget = [{ instrument = 0, amount = 10 }, { instrument = 1, amount = 10 }]
+",
+    MAIN,
+    "%% certificate
+format = 1
+reason = []
+stream = [{ reader = 0, instrument = 0, by = \"product\", sets = 1 }, { reader = 0, instrument = 1, by = \"product\", sets = 1 }]
+bound = [{ instrument = 0, total = \"20\", amount = \"60\", low = \"0\", high = \"60\" }, { instrument = 1, total = \"20\", amount = \"60\", low = \"0\", high = \"60\" }]
+order = [{ reader = 0, streams = [0, 1] }]
+",
+];
+
+const COUNTED_FOUR_TIMES: &str = "instrument 0 count 8 sum 24
+instrument 1 count 8 sum 24
+";
+
+// A gauge of negative values with a required and an optional key, a recorder, and one without a budget.
+const KEYED: Parts = &[
+    "%% catalogue
+format = 1
+[[meter]]
+name = \"m\"
+[[meter.instrument]]
+name = \"g\"
+kind = \"gauge\"
+range = [-9, -2]
+key = [{ name = \"k\", values = [\"a\", \"b\"] }, { name = \"o\", values = [1], optional = true }]
+[[recorder]]
+name = \"r0\"
+budget = [{ instrument = 0, amount = 3 }]
+[[recorder]]
+name = \"r1\"
+",
+    MAIN,
+    "%% certificate
+format = 1
+reason = []
+stream = [{ reader = 0, instrument = 0, by = \"product\", sets = 4 }]
+bound = [{ instrument = 0, total = \"3\", amount = \"21\", low = \"-27\", high = \"0\" }]
+order = [{ reader = 0, streams = [0] }]
+",
+];
+
 // A command, the parts of its input, and what is told.
-const TOLD: &[(Command, Parts, &str)] = &[
+const TOLD: &[(Line, Parts, &str)] = &[
     (
-        Command::Replay,
+        REPLAY,
         &[BUDGETED, READERS, CERTIFICATE, READERS_RUN],
         READERS_OUTPUT,
     ),
+    (Line::Check, &[BUDGETED, READERS, CERTIFICATE], "accepted\n"),
+    (Line::Make, &[BUDGETED, READERS], MADE),
     (
-        Command::Check,
-        &[BUDGETED, READERS, CERTIFICATE],
-        "accepted\n",
-    ),
-    (Command::Make, &[BUDGETED, READERS], MADE),
-    (
-        Command::Make,
+        Line::Make,
         &[SHOWN, SHOWN_VIEWS],
         "refused: make 1 Collision, 1",
     ),
-    (Command::Show, &[SHOWN, SHOWN_VIEWS], SHOWN_OUTPUT),
-    (Command::Show, &[SHOP, SHOP_VIEWS], LISTING),
+    (Line::Show, &[SHOWN, SHOWN_VIEWS], SHOWN_OUTPUT),
+    (Line::Show, &[SHOP, SHOP_VIEWS], LISTING),
     (
-        Command::Show,
+        Line::Show,
         &[HITS, "%% config\nformat = 1\n", "%% script\nno script\n"],
         "",
     ),
+    (FOUR_EACH, COUNTED, COUNTED_FOUR_TIMES),
+    (
+        Line::Threads { each: 2 },
+        KEYED,
+        "instrument 0 count 2 sum -4\n",
+    ),
+    // No recorder records beyond its budget.
+    (
+        Line::Threads { each: 12 },
+        COUNTED,
+        "instrument 0 count 20 sum 60\ninstrument 1 count 20 sum 60\n",
+    ),
+    (
+        Line::Threads { each: 0 },
+        COUNTED,
+        "instrument 0 count 0 sum 0\ninstrument 1 count 0 sum 0\n",
+    ),
     // Faults of the input's lines, of its certificate and of its plan.
+    (FOUR_EACH, SAMPLE, "refused: input line 19, 3"),
     (
-        Command::Trial,
-        &[HITS, MAIN, "%% script\nstart 0\nrec\nclose 0\n"],
-        "refused: input line 21, 3",
-    ),
-    (
-        Command::Trial,
-        &[HITS, MAIN, "%% script\n"],
-        "refused: input line 20, 3",
-    ),
-    (
-        Command::Trial,
-        &[HITS, MAIN, "%% script\n# nothing\n\n"],
-        "refused: input line 22, 3",
-    ),
-    (
-        Command::Trial,
-        &[HITS, MAIN, "%% script\nstart 0\n%% script\n"],
-        "refused: input line 21, 3",
-    ),
-    (
-        Command::Show,
-        &[HITS, "%% config\n%% config\n"],
-        "refused: input line 16, 3",
-    ),
-    (
-        Command::Replay,
-        &[HITS, MAIN, RUN],
-        "refused: input line 19, 3",
-    ),
-    (
-        Command::Replay,
-        &[HITS, MAIN, "%% certificate\n", RUN],
-        "refused: certificate 2 Shape, 1",
-    ),
-    (
-        Command::Check,
-        &[HITS, MAIN, RUN],
-        "refused: input line 19, 3",
-    ),
-    (
-        Command::Check,
-        &[HITS, "%% config\n[a\n", "%% certificate\n[a\n"],
-        "refused: config 1 NotToml, 1",
-    ),
-    (
-        Command::Check,
-        &[HITS, MAIN, "%% certificate\n[a\n"],
-        "refused: certificate 1 NotToml, 1",
-    ),
-    (
-        Command::Check,
-        &[HITS, MAIN, "%% certificate\n", RUN],
-        "refused: certificate 2 Shape, 1",
-    ),
-    (
-        Command::Check,
+        FOUR_EACH,
         &[BUDGETED, READERS, MISJUDGED],
         "refused: check 11 SumHigh, 1",
     ),
     (
-        Command::Replay,
+        TRIAL,
+        &[HITS, MAIN, "%% script\nstart 0\nrec\nclose 0\n"],
+        "refused: input line 21, 3",
+    ),
+    (
+        TRIAL,
+        &[HITS, MAIN, "%% script\n"],
+        "refused: input line 20, 3",
+    ),
+    (
+        TRIAL,
+        &[HITS, MAIN, "%% script\n# nothing\n\n"],
+        "refused: input line 22, 3",
+    ),
+    (
+        TRIAL,
+        &[HITS, MAIN, "%% script\nstart 0\n%% script\n"],
+        "refused: input line 21, 3",
+    ),
+    (
+        Line::Show,
+        &[HITS, "%% config\n%% config\n"],
+        "refused: input line 16, 3",
+    ),
+    (REPLAY, &[HITS, MAIN, RUN], "refused: input line 19, 3"),
+    (
+        REPLAY,
+        &[HITS, MAIN, "%% certificate\n", RUN],
+        "refused: certificate 2 Shape, 1",
+    ),
+    (Line::Check, &[HITS, MAIN, RUN], "refused: input line 19, 3"),
+    (
+        Line::Check,
+        &[HITS, "%% config\n[a\n", "%% certificate\n[a\n"],
+        "refused: config 1 NotToml, 1",
+    ),
+    (
+        Line::Check,
+        &[HITS, MAIN, "%% certificate\n[a\n"],
+        "refused: certificate 1 NotToml, 1",
+    ),
+    (
+        Line::Check,
+        &[HITS, MAIN, "%% certificate\n", RUN],
+        "refused: certificate 2 Shape, 1",
+    ),
+    (
+        Line::Check,
+        &[BUDGETED, READERS, MISJUDGED],
+        "refused: check 11 SumHigh, 1",
+    ),
+    (
+        REPLAY,
         &[BUDGETED, READERS, MISJUDGED, "%% script\nrec\n"],
         "refused: check 11 SumHigh, 1",
     ),
     (
-        Command::Replay,
+        REPLAY,
         &[BUDGETED, READERS, CERTIFICATE, "%% script\nrec\n"],
         "refused: input line 23, 3",
     ),
     (
-        Command::Trial,
+        TRIAL,
         &[MANY, MAIN, "%% script\nrec\n"],
         "refused: check 12 CountRange, 1",
     ),
     // Lines outside the grammar of scripts.
     (
-        Command::Trial,
+        TRIAL,
         &[HITS, MAIN, "%% script\nstart 0\n #\n"],
         "refused: input line 21, 3",
     ),
     (
-        Command::Trial,
+        TRIAL,
         &[HITS, MAIN, "%% script\nstart 0\nstart 1\n"],
         "refused: input line 21, 3",
     ),
     (
-        Command::Trial,
+        TRIAL,
         &[HITS, MAIN, "%% script\nstart 0\nclose 01\n"],
         "refused: input line 21, 3",
     ),
     (
-        Command::Trial,
+        TRIAL,
         &[HITS, MAIN, "%% script\nstart 0\nclose 4294967296\n"],
         "refused: input line 21, 3",
     ),
     (
-        Command::Trial,
+        TRIAL,
         &[HITS, MAIN, "%% script\nstart 0\nClose 1\n"],
         "refused: input line 21, 3",
     ),
     (
-        Command::Trial,
+        TRIAL,
         &[HITS, MAIN, "%% script\nstart 0\ncollect 1 2\n"],
         "refused: input line 21, 3",
     ),
     (
-        Command::Trial,
+        TRIAL,
         &[HITS, MAIN, "%% script\nstart 0\nrecord 1 2 -0\n"],
         "refused: input line 21, 3",
     ),
     (
-        Command::Trial,
+        TRIAL,
         &[HITS, MAIN, "%% script\nstart 0\nrecord 1 2 3 \n"],
         "refused: input line 21, 3",
     ),
     (
-        Command::Trial,
+        TRIAL,
         &[HITS, MAIN, "%% script\nstart 0\nrecord 1 2 3 a=1\n"],
         "refused: input line 21, 3",
     ),
     (
-        Command::Trial,
+        TRIAL,
         &[
             HITS,
             MAIN,
@@ -283,7 +353,7 @@ const TOLD: &[(Command, Parts, &str)] = &[
         "refused: input line 21, 3",
     ),
     (
-        Command::Trial,
+        TRIAL,
         &[
             HITS,
             MAIN,
@@ -353,65 +423,55 @@ const DECLARED: &[(Parts, &str)] = &[
     ),
 ];
 
-// The fault of a command where there is one.
-fn fault_of(
-    alloc: Global,
-    command: Command,
-    source: &mut CutSource<'_>,
-    sink: &mut CutSink,
-) -> Option<KitFault> {
-    match command {
-        Command::Trial => replay(alloc, ReplayOptions { trial: true }, source, sink).err(),
-        Command::Replay => replay(alloc, ReplayOptions { trial: false }, source, sink).err(),
-        Command::Check => check_run(alloc, source, sink).err(),
-        Command::Make => make_run(alloc, source, sink).err(),
-        Command::Show => show_run(alloc, source, sink).err(),
+// Writes the line that was told and the exit status, where the command was not done.
+fn write_stop(out: &mut String, told: &[u8], status: u8) -> Result<(), Fail> {
+    match str::from_utf8(told)?.strip_suffix("\n") {
+        Some(line) => Ok(write!(out, "{line}, {status}")?),
+        None if told.is_empty() && status == 0 => Ok(()),
+        None => Err(Fail::from("no line")),
     }
-}
-
-fn write_fault(out: &mut String, alloc: Global, fault: KitFault) -> Result<(), Fail> {
-    let line = fault.line(alloc)?;
-    Ok(write!(out, "{line}, {}", fault.status())?)
 }
 
 // What is written, and then the line and the status of the fault where there is one.
-fn told(
+fn told<R: Threads + Wait + Sync>(
+    rt: &R,
     alloc: Global,
-    command: Command,
+    line: Result<Line, LineFault>,
     source: &mut CutSource<'_>,
     sink: &mut CutSink,
 ) -> Result<String, Fail> {
-    let fault = fault_of(alloc, command, source, sink);
+    let mut errors = CutSink::new(alloc, None);
+    let status = run_line(rt, alloc, line, source, sink, &mut errors);
     let mut out = String::from_str(alloc, str::from_utf8(sink.taken())?)?;
-    if let Some(fault) = fault {
-        write_fault(&mut out, alloc, fault)?;
-    }
+    write_stop(&mut out, errors.taken(), status)?;
     Ok(out)
 }
 
-fn told_into(
+fn told_into<R: Threads + Wait + Sync>(
+    rt: &R,
     alloc: Global,
-    command: Command,
+    line: Line,
     parts: Parts,
     sink: &mut CutSink,
 ) -> Result<String, Fail> {
     let input = parts.concat(alloc)?;
-    told(
-        alloc,
-        command,
-        &mut CutSource::new(input.as_bytes(), None),
-        sink,
-    )
+    let mut source = CutSource::new(input.as_bytes(), None);
+    told(rt, alloc, Ok(line), &mut source, sink)
 }
 
-fn told_whole(alloc: Global, command: Command, parts: Parts) -> Result<String, Fail> {
-    told_into(alloc, command, parts, &mut CutSink::new(alloc, None))
+fn told_whole<R: Threads + Wait + Sync>(
+    rt: &R,
+    alloc: Global,
+    line: Line,
+    parts: Parts,
+) -> Result<String, Fail> {
+    told_into(rt, alloc, line, parts, &mut CutSink::new(alloc, None))
 }
 
 #[test]
 fn each_input_is_answered(rt: HostRuntime) -> Result<(), Fail> {
-    for (command, parts, wanted) in TOLD {
-        let told = told_whole(rt.alloc(), *command, parts)?;
+    for (line, parts, wanted) in TOLD {
+        let told = told_whole(&rt, rt.alloc(), *line, parts)?;
         assert_equal(&rt, told.as_str(), *wanted);
     }
     Ok(())
@@ -420,7 +480,7 @@ fn each_input_is_answered(rt: HostRuntime) -> Result<(), Fail> {
 #[test]
 fn a_trial_writes_its_replies(rt: HostRuntime) -> Result<(), Fail> {
     for (parts, wanted) in RUNS {
-        let told = told_whole(rt.alloc(), Command::Trial, parts)?;
+        let told = told_whole(&rt, rt.alloc(), TRIAL, parts)?;
         assert_equal(&rt, told.as_str(), *wanted);
     }
     Ok(())
@@ -429,9 +489,9 @@ fn a_trial_writes_its_replies(rt: HostRuntime) -> Result<(), Fail> {
 #[test]
 fn a_faulty_declaration_is_told(rt: HostRuntime) -> Result<(), Fail> {
     for (parts, wanted) in DECLARED {
-        let tried = told_whole(rt.alloc(), Command::Trial, parts)?;
+        let tried = told_whole(&rt, rt.alloc(), TRIAL, parts)?;
         assert_equal(&rt, tried.as_str(), *wanted);
-        let shown = told_whole(rt.alloc(), Command::Show, parts)?;
+        let shown = told_whole(&rt, rt.alloc(), Line::Show, parts)?;
         assert_equal(&rt, shown.as_str(), *wanted);
     }
     Ok(())
@@ -442,83 +502,145 @@ const SAMPLE: Parts = &[HITS, MAIN, RUN];
 const WRITE: &str = "refused: write, 5";
 
 // What is told by a sink with this room.
-fn told_within(alloc: Global, room: usize) -> Result<String, Fail> {
-    told_into(
-        alloc,
-        Command::Trial,
-        SAMPLE,
-        &mut CutSink::new(alloc, Some(room)),
-    )
+fn told_within<R: Threads + Wait + Sync>(
+    rt: &R,
+    alloc: Global,
+    room: usize,
+) -> Result<String, Fail> {
+    let mut sink = CutSink::new(alloc, Some(room));
+    told_into(rt, alloc, TRIAL, SAMPLE, &mut sink)
 }
 
 #[test]
 fn a_writer_that_fails_has_a_prefix(rt: HostRuntime) -> Result<(), Fail> {
     for room in 0..OUTPUT.len() {
-        let told = told_within(rt.alloc(), room)?;
+        let told = told_within(&rt, rt.alloc(), room)?;
         assert_equal(&rt, told.strip_suffix(WRITE), OUTPUT.get(..room));
     }
     Ok(())
 }
 
 // What is told by a sink that can not be flushed.
-fn told_unflushed(alloc: Global, command: Command, parts: Parts) -> Result<String, Fail> {
-    told_into(
-        alloc,
-        command,
-        parts,
-        &mut CutSink::new(alloc, None).with_failing_flush(),
-    )
+fn told_unflushed<R: Threads + Wait + Sync>(
+    rt: &R,
+    alloc: Global,
+    line: Line,
+    parts: Parts,
+) -> Result<String, Fail> {
+    let mut sink = CutSink::new(alloc, None).with_failing_flush();
+    told_into(rt, alloc, line, parts, &mut sink)
 }
+
+// Each command, with an input and what it writes.
+const WRITTEN: &[(Line, Parts, &str)] = &[
+    (TRIAL, SAMPLE, OUTPUT),
+    (Line::Show, &[SHOWN, SHOWN_VIEWS], SHOWN_OUTPUT),
+    (Line::Check, &[BUDGETED, READERS, CERTIFICATE], "accepted\n"),
+    (Line::Make, &[BUDGETED, READERS], MADE),
+    (FOUR_EACH, COUNTED, COUNTED_FOUR_TIMES),
+];
 
 #[test]
 fn a_flush_that_fails_is_a_write(rt: HostRuntime) -> Result<(), Fail> {
-    for (command, parts, written) in [
-        (Command::Trial, SAMPLE, OUTPUT),
-        (Command::Show, &[SHOWN, SHOWN_VIEWS], SHOWN_OUTPUT),
-    ] {
-        let told = told_unflushed(rt.alloc(), command, parts)?;
-        assert_equal(&rt, told.strip_suffix(WRITE), Some(written));
+    for (line, parts, written) in WRITTEN {
+        let told = told_unflushed(&rt, rt.alloc(), *line, parts)?;
+        assert_equal(&rt, told.strip_suffix(WRITE), Some(*written));
     }
     Ok(())
 }
 
 // What is told where this read fails.
-fn told_up_to(alloc: Global, command: Command, failing: u64) -> Result<String, Fail> {
+fn told_up_to<R: Threads + Wait + Sync>(
+    rt: &R,
+    alloc: Global,
+    line: Line,
+    failing: u64,
+) -> Result<String, Fail> {
     let input = SAMPLE.concat(alloc)?;
     let mut source = CutSource::new(input.as_bytes(), Some(failing)).in_pieces(50);
-    told(alloc, command, &mut source, &mut CutSink::new(alloc, None))
+    let mut sink = CutSink::new(alloc, None);
+    told(rt, alloc, Ok(line), &mut source, &mut sink)
 }
 
 // The first failing read after which anything else than a failed read is told.
-fn first_untold(alloc: Global, command: Command) -> Result<Option<u64>, Fail> {
+fn first_untold<R: Threads + Wait + Sync>(
+    rt: &R,
+    alloc: Global,
+    line: Line,
+) -> Result<Option<u64>, Fail> {
     for failing in 1..10 {
-        if told_up_to(alloc, command, failing)?.as_str() != "refused: input, 3" {
+        if told_up_to(rt, alloc, line, failing)?.as_str() != "refused: input, 3" {
             return Ok(Some(failing));
         }
     }
     Ok(None)
 }
 
-const COMMANDS: &[Command] = &[
-    Command::Trial,
-    Command::Replay,
-    Command::Check,
-    Command::Make,
-    Command::Show,
-];
-
 #[test]
 fn a_reader_that_fails_writes_nothing(rt: HostRuntime) -> Result<(), Fail> {
-    for command in COMMANDS {
-        assert_equal(&rt, first_untold(rt.alloc(), *command)?, None);
+    for line in [
+        TRIAL,
+        REPLAY,
+        Line::Check,
+        Line::Make,
+        Line::Show,
+        FOUR_EACH,
+    ] {
+        assert_equal(&rt, first_untold(&rt, rt.alloc(), line)?, None);
     }
     Ok(())
 }
 
+// Faults that no input of these tests brings about, each with its line and its status.
+const STOPS: &[(KitFault, &str)] = &[
+    (KitFault::Memory, "refused: memory, 4"),
+    (
+        KitFault::Finish(FinishFault::RecorderMissing),
+        "refused: finish 1 RecorderMissing, 1",
+    ),
+    (
+        KitFault::Finish(FinishFault::Stranger),
+        "refused: finish 2 Stranger, 1",
+    ),
+    (
+        KitFault::Finish(FinishFault::AuditMismatch),
+        "refused: finish 3 AuditMismatch, 1",
+    ),
+];
+
 #[test]
-fn want_of_memory_has_a_line_and_a_status(rt: HostRuntime) -> Result<(), Fail> {
-    let mut out = String::new(rt.alloc());
-    write_fault(&mut out, rt.alloc(), KitFault::Memory)?;
-    assert_equal(&rt, out.as_str(), "refused: memory, 4");
+fn each_other_fault_has_a_line_and_a_status(rt: HostRuntime) -> Result<(), Fail> {
+    for (fault, wanted) in STOPS {
+        let told = format!(in rt.alloc(); "{}, {}", fault.line(rt.alloc())?, fault.status())?;
+        assert_equal(&rt, told.as_str(), *wanted);
+    }
+    Ok(())
+}
+
+// What is told where the words of the command line name no command.
+fn told_without<R: Threads + Wait + Sync>(
+    rt: &R,
+    alloc: Global,
+    fault: LineFault,
+) -> Result<String, Fail> {
+    let mut source = CutSource::new(b"", None);
+    told(
+        rt,
+        alloc,
+        Err(fault),
+        &mut source,
+        &mut CutSink::new(alloc, None),
+    )
+}
+
+#[test]
+fn words_without_a_command_are_told(rt: HostRuntime) -> Result<(), Fail> {
+    for (fault, wanted) in [
+        (LineFault::Usage, "refused: usage, 2"),
+        (LineFault::Memory, "refused: memory, 4"),
+    ] {
+        let told = told_without(&rt, rt.alloc(), fault)?;
+        assert_equal(&rt, told.as_str(), wanted);
+    }
     Ok(())
 }

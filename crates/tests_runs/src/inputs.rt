@@ -371,6 +371,15 @@ point {} start=0 time=1 value=8
 refused 8 Closed
 ",
     ),
+    // Without an instrument there is none to record on.
+    (
+        &[
+            "%% catalogue\nformat = 1\n",
+            MAIN,
+            "%% script\nstart 0\nrecord 0 0 1\n",
+        ],
+        "refused 1 UnknownInstrument\n",
+    ),
     // A sum past the greatest number is refused.
     (
         &[
