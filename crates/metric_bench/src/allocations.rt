@@ -1,9 +1,9 @@
 //! Recordings between marks, by which `tools/watch-allocations` counts the allocations that each asks for.
-use crate::cells::{Recording, recordings};
+use crate::cells::recordings;
 use crate::inputs::{Cycle, Found, one_of, plan_of};
-use crate::seats::{Keyed, started};
+use crate::seats::{Keyed, LIST, started};
 use anyhow::Context;
-use metric_sdk::{MeterProvider, Recorder, Refusal};
+use metric_sdk::{Measurement, MeterProvider, Recorder, Refusal};
 use std::alloc::{AllocError, Global};
 use std::sync::Wait;
 
@@ -35,16 +35,19 @@ const INSTRUMENTS: &[(&str, u32, Found)] = &[
 enum How {
     // One, with its attributes.
     ByAttributes,
-    // One of each series, with their set keys in hand.
+    // Sixteen of as many series, one by one with their set keys in hand.
     BySets,
+    // The same under one lock.
+    ByList,
 }
 
 // What is recorded one after the other, and whether its series are held.
 const STEPS: &[(&str, How, bool)] = &[
     ("a new series", How::ByAttributes, false),
-    ("new series, by set keys", How::BySets, false),
+    ("new series, sixteen under one lock", How::ByList, false),
     ("held", How::ByAttributes, true),
-    ("held, by set keys", How::BySets, true),
+    ("held, sixteen by set keys", How::BySets, true),
+    ("held, sixteen under one lock", How::ByList, true),
 ];
 
 /// Starts a provider of an instrument of each kind, makes recordings between marks, and prints what each is answered.
@@ -65,12 +68,12 @@ fn print_instrument<R: Print + Wait>(
     let plan = plan_of(alloc, &one_of(kind, SERIES, found), STREAMS)?;
     let mut seats = started(rt, alloc, plan)?;
     let recorder = seats.recorders.last_mut().context("no recorder")?;
-    let all = recordings(alloc, SERIES)?;
+    let sixteen = recordings(alloc, LIST, SERIES)?;
     for (what, how, are_held) in STEPS {
         if *are_held {
-            recorded(rt, &seats.provider, recorder, &all, How::BySets)?;
+            recorded(rt, &seats.provider, recorder, &sixteen, How::ByList)?;
         }
-        let answer = answer_between(rt, alloc, &seats.provider, recorder, &all, *how)?;
+        let answer = answer_between(rt, alloc, &seats.provider, recorder, &sixteen, *how)?;
         println!(rt; "{name}, {}: {answer}", *what)?;
     }
     Ok(())
@@ -82,11 +85,11 @@ fn answer_between<R: Wait>(
     alloc: Global,
     provider: &MeterProvider,
     recorder: &mut Recorder,
-    all: &[Recording],
+    sixteen: &[Measurement],
     how: How,
 ) -> anyhow::Result<&'static str> {
     mark(alloc)?;
-    let answer = recorded(rt, provider, recorder, all, how);
+    let answer = recorded(rt, provider, recorder, sixteen, how);
     mark(alloc)?;
     Ok(match answer {
         Ok(()) => "accepted",
@@ -98,7 +101,7 @@ fn recorded<R: Wait>(
     rt: &R,
     provider: &MeterProvider,
     recorder: &mut Recorder,
-    all: &[Recording],
+    sixteen: &[Measurement],
     how: How,
 ) -> Result<(), Refusal> {
     if matches!(how, How::ByAttributes) {
@@ -107,7 +110,8 @@ fn recorded<R: Wait>(
     }
     let keyed = Keyed {
         instrument: 0,
-        recordings: all,
+        recordings: sixteen,
+        are_listed: matches!(how, How::ByList),
     };
     keyed.repeat(rt, provider, recorder, 1)?;
     Ok(())

@@ -6,24 +6,22 @@ ghost use Rattle.metric_facts.specs.Facts.{in_bounds, is_entry, is_full_set};
 use crate::inputs::{set_of, value_of, values_for};
 use metric_core::Cell;
 use metric_facts::{Facts, KeyFacts};
-use metric_sdk::{Batch, Marked, Plan, SetKey};
+use metric_sdk::{Batch, Marked, Measurement, Plan};
 use std::alloc::{AllocError, Global};
 
-/// A recording with its set key.
-#[derive(Clone, Copy, Drop)]
-pub(crate) struct Recording {
-    pub set: SetKey,
-    pub value: i64,
-}
-
-/// A recording for each of so many series, with different values.
-pub(crate) fn recordings(alloc: Global, count: u32) -> Result<Vec<Recording>, AllocError> {
-    let values = values_for(count);
+/// So many recordings of series, one after the other and over again, with different values.
+pub(crate) fn recordings(
+    alloc: Global,
+    count: u32,
+    series: u32,
+) -> Result<Vec<Measurement>, AllocError> {
+    let values = values_for(series);
+    let series = series.max(1);
     let mut recordings = Vec::with_capacity(alloc, count as usize)?;
     for number in 0..count {
-        let set = set_of(number, values);
+        let set = set_of(number % series, values);
         let value = value_of(number);
-        recordings.push(Recording { set, value })?;
+        recordings.push(Measurement { set, value })?;
     }
     Ok(recordings)
 }
@@ -32,7 +30,7 @@ pub(crate) fn recordings(alloc: Global, count: u32) -> Result<Vec<Recording>, Al
 #[derive(Drop)]
 pub(crate) struct Instrument {
     cell: Cell<Marked>,
-    recordings: Vec<Recording>,
+    recordings: Vec<Measurement>,
     ghost recorder: { 0 < length cell.facts.budgets },
     ghost sets: { All (λ r. is_full_set cell.facts.keys r.set ≡ true) recordings.items },
     ghost values: { All (λ r. in_bounds cell.facts r.value ≡ true) recordings.items },
@@ -43,7 +41,7 @@ impl Instrument {
     pub(crate) fn new(
         alloc: Global,
         plan: &Plan,
-        recordings: Vec<Recording>,
+        recordings: Vec<Measurement>,
     ) -> anyhow::Result<Instrument> {
         if plan.all_facts().len() == 0 {
             anyhow::bail!("no instrument");
@@ -77,7 +75,7 @@ impl Instrument {
 }
 
 // Makes each recording once by the first recorder. How many were accepted.
-fn record_all(cell: &mut Cell<Marked>, recordings: &[Recording]) -> u64
+fn record_all(cell: &mut Cell<Marked>, recordings: &[Measurement]) -> u64
     requires recorder { 0 < length cell.old.facts.budgets }
     requires sets { All (λ r. is_full_set cell.old.facts.keys r.set ≡ true) recordings.now }
     requires values { All (λ r. in_bounds cell.old.facts r.value ≡ true) recordings.now }
@@ -93,7 +91,7 @@ fn record_all(cell: &mut Cell<Marked>, recordings: &[Recording]) -> u64
 }
 
 // Whether each recording has a full set key and a value in range.
-fn are_sound(facts: &Facts, recordings: &[Recording]) -> bool
+fn are_sound(facts: &Facts, recordings: &[Measurement]) -> bool
     ensures sets { IsTrue result →
         All (λ r. is_full_set facts.now.keys r.set ≡ true) recordings.now }
     ensures values { IsTrue result → All (λ r. in_bounds facts.now r.value ≡ true) recordings.now }

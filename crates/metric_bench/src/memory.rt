@@ -75,7 +75,7 @@ fn bytes_of_series<R: Files + AllocGlobal>(
     kept: &mut Vec<Instrument>,
 ) -> anyhow::Result<u64> {
     let plan = plan_of(alloc, &one_of(kind, SERIES, found), 1)?;
-    let recordings = recordings(alloc, SERIES)?;
+    let recordings = recordings(alloc, SERIES, SERIES)?;
     let before = in_use(rt)?;
     let mut instrument = Instrument::new(alloc, &plan, recordings)?;
     instrument.repeat(1)?;

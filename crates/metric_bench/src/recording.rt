@@ -6,7 +6,7 @@ use crate::floors::{Floor, at_place, by_texts, look_up};
 use crate::inputs::{Found, one_of, plan_of};
 use crate::lists;
 use crate::points::number_of;
-use crate::seats::{Keyed, Rounds, record_by_last, started};
+use crate::seats::{Keyed, LIST, Rounds, record_by_last, started};
 use crate::watch::Watch;
 use crate::words::Words;
 use crate::works::Work;
@@ -32,6 +32,8 @@ pub(crate) enum Act {
     HeldBySeat,
     /// The same, with their set keys in hand.
     HeldBySet,
+    /// The same, each list of them under one lock.
+    HeldByLists,
     /// A collection.
     Collect,
 }
@@ -88,7 +90,10 @@ const BY_SEAT: &[Group] = &[
     },
     Group {
         beside: Beside::Place,
-        lines: &[("sum, held, set key in hand", 0, Act::HeldBySet)],
+        lines: &[
+            ("sum, held, set key in hand", 0, Act::HeldBySet),
+            ("sum, held, sixteen under one lock", 0, Act::HeldByLists),
+        ],
     },
 ];
 
@@ -278,6 +283,8 @@ pub(crate) struct Case {
     found: Found,
     streams: u32,
     series: u32,
+    // How many recordings or points there are in a round.
+    count: u32,
     // How many rounds there are before.
     before: u32,
     // How many rounds there are.
@@ -287,7 +294,11 @@ pub(crate) struct Case {
 impl Case {
     // About as many recordings as there are events, where series are held.
     fn new(part: &Part, kind: u32, act: Act, series: u32, events: u32) -> Case {
-        let rounds = (events / series.max(1)).max(1);
+        let count = match act {
+            Act::HeldByLists => series.div_ceil(LIST).saturating_mul(LIST),
+            _ => series,
+        };
+        let rounds = (events / count.max(1)).max(1);
         let (before, rounds) = match act {
             Act::New | Act::NewBySeat => (0, 1),
             Act::Collect => (1, 1),
@@ -299,6 +310,7 @@ impl Case {
             found: part.found,
             streams: part.streams,
             series,
+            count,
             before,
             rounds,
         }
@@ -306,8 +318,8 @@ impl Case {
 
     // A collection is one operation, however many points it has.
     fn row(&self, name: &'static str) -> Row {
-        let size = u64::from(self.series);
-        let operations = u64::from(self.rounds) * size;
+        let count = u64::from(self.count);
+        let operations = u64::from(self.rounds) * count;
         let unit = if matches!(self.act, Act::Collect) {
             "ns a point, timed once"
         } else if operations == 1 {
@@ -317,7 +329,7 @@ impl Case {
         };
         Row {
             name,
-            size,
+            size: u64::from(self.series),
             operations,
             unit: Unit::each(unit),
         }
@@ -339,7 +351,8 @@ pub(crate) fn case_done<R: Wait + Clock>(
     match case.act {
         Act::New | Act::Held => record_in_cell(rt, alloc, case, watch),
         Act::NewBySeat | Act::HeldBySeat => record_by_seat(rt, alloc, case, watch),
-        Act::HeldBySet => record_keyed(rt, alloc, case, watch),
+        Act::HeldBySet => record_keyed(rt, alloc, case, false, watch),
+        Act::HeldByLists => record_keyed(rt, alloc, case, true, watch),
         Act::Collect => collect_once(rt, alloc, case, watch),
     }
 }
@@ -347,7 +360,7 @@ pub(crate) fn case_done<R: Wait + Clock>(
 // The instrument after the rounds before.
 fn instrument_of(alloc: Global, case: &Case) -> anyhow::Result<Instrument> {
     let plan = case.plan(alloc)?;
-    let recordings = recordings(alloc, case.series)?;
+    let recordings = recordings(alloc, case.count, case.series)?;
     let mut instrument = Instrument::new(alloc, &plan, recordings)?;
     instrument.repeat(case.before)?;
     Ok(instrument)
@@ -401,14 +414,16 @@ fn record_keyed<R: Wait + Clock>(
     rt: &R,
     alloc: Global,
     case: &Case,
+    are_listed: bool,
     watch: &mut Watch,
 ) -> anyhow::Result<u64> {
     let mut seats = started(rt, alloc, case.plan(alloc)?)?;
-    let recordings = recordings(alloc, case.series)?;
+    let recordings = recordings(alloc, case.count, case.series)?;
     let recorder = seats.recorders.last_mut().context("no recorder")?;
     let keyed = Keyed {
         instrument: 0,
         recordings: &recordings,
+        are_listed,
     };
     keyed.repeat(rt, &seats.provider, recorder, case.before)?;
     watch.start(rt);

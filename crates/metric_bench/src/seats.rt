@@ -1,8 +1,7 @@
 //! A provider of a certified plan with its seats, and what a seat records.
-use crate::cells::Recording;
 use crate::inputs::Cycle;
 use anyhow::Context;
-use metric_sdk::{Collector, MeterProvider, NoGate, Plan, Recorder, Refusal, start};
+use metric_sdk::{Collector, Measurement, MeterProvider, NoGate, Plan, Recorder, Refusal, start};
 use std::alloc::Global;
 use std::sync::Wait;
 use std::sync::atomic::{AtomicBool, Ordering};
@@ -89,10 +88,21 @@ pub(crate) fn record_by_last<R: Wait>(
 #[derive(Clone, Copy)]
 pub(crate) struct Keyed<'a> {
     pub instrument: u32,
-    pub recordings: &'a [Recording],
+    pub recordings: &'a [Measurement],
+    /// Whether each list of [`LIST`] is made under one lock.
+    pub are_listed: bool,
 }
 
+/// How many recordings are made under one lock.
+pub(crate) const LIST: u32 = 16;
+
 impl Keyed<'_> {
+    /// How often each recording is made, where so many are asked for: once at least.
+    pub(crate) fn times(self, events: u32) -> u32 {
+        let count = u32::try_from(self.recordings.len()).unwrap_or(u32::MAX);
+        (events / count.max(1)).max(1)
+    }
+
     /// Makes each recording so many times. How many there were.
     pub(crate) fn repeat<R: Wait>(
         self,
@@ -102,7 +112,11 @@ impl Keyed<'_> {
         times: u32,
     ) -> Result<u64, Refusal> {
         for _ in 0..times {
-            self.record_each(rt, provider, recorder)?;
+            if self.are_listed {
+                self.record_lists(rt, provider, recorder)?;
+            } else {
+                self.record_each(rt, provider, recorder)?;
+            }
         }
         Ok(u64::from(times).wrapping_mul(self.recordings.len() as u64))
     }
@@ -117,5 +131,30 @@ impl Keyed<'_> {
             recorder.record_set(rt, provider, self.instrument, one.set, one.value)?;
         }
         Ok(())
+    }
+
+    fn record_lists<R: Wait>(
+        self,
+        rt: &R,
+        provider: &MeterProvider,
+        recorder: &mut Recorder,
+    ) -> Result<(), Refusal> {
+        for list in self.recordings.chunks(LIST as usize) {
+            record_list(rt, provider, recorder, self.instrument, list)?;
+        }
+        Ok(())
+    }
+}
+
+fn record_list<R: Wait>(
+    rt: &R,
+    provider: &MeterProvider,
+    recorder: &mut Recorder,
+    instrument: u32,
+    list: &[Measurement],
+) -> Result<(), Refusal> {
+    match recorder.record_sets(rt, provider, instrument, list) {
+        Ok(()) => Ok(()),
+        Err(fault) => Err(fault.refusal),
     }
 }

@@ -1,7 +1,7 @@
 //! What several threads do at once.
 use crate::floors::add_all;
 use crate::points::number_of;
-use crate::seats::Rounds;
+use crate::seats::{Keyed, Rounds};
 use crate::watch::{Measured, Spread, Watch};
 use anyhow::Context;
 use metric_sdk::{Batch, Collector, MeterProvider, Recorder};
@@ -18,12 +18,13 @@ const REPETITIONS: u32 = 9;
 // How often a thread looks whether the others have started.
 const TURNS: u32 = 1_000_000;
 
-/// A seat that records one series after the other.
+/// A seat, and what it records: one series after the other by attributes, or lists of set keys.
 #[derive(Drop)]
 pub(crate) struct Caller<'a> {
     pub provider: &'a MeterProvider,
     pub recorder: Recorder,
     pub rounds: Rounds,
+    pub keyed: Keyed<'a>,
 }
 
 impl Caller<'_> {
@@ -32,6 +33,15 @@ impl Caller<'_> {
         let made = self
             .rounds
             .repeat(rt, self.provider, &mut self.recorder, events, is_over);
+        made.ok()
+    }
+
+    // Makes so many recordings by lists, in whole rounds.
+    fn repeat_lists<R: Wait>(&mut self, rt: &R, events: u32) -> Option<u64> {
+        let times = self.keyed.times(events);
+        let made = self
+            .keyed
+            .repeat(rt, self.provider, &mut self.recorder, times);
         made.ok()
     }
 }
@@ -48,6 +58,8 @@ pub(crate) struct Collections<'a> {
 pub(crate) enum Task<'a> {
     /// Recordings.
     Record(Caller<'a>),
+    /// Recordings by lists, each under one lock.
+    RecordLists(Caller<'a>),
     /// Recordings until it is over, whose time is not measured.
     RecordUntil(Caller<'a>),
     /// Collections, after which it is over.
@@ -111,6 +123,7 @@ impl Task<'_> {
     fn work<R: Wait>(&mut self, rt: &R, race: &Race) -> Option<u64> {
         match self {
             Task::Record(caller) => caller.repeat(rt, race.events, &race.is_over),
+            Task::RecordLists(caller) => caller.repeat_lists(rt, race.events),
             Task::RecordUntil(caller) => caller.repeat(rt, u32::MAX, &race.is_over),
             Task::Collect(collections) => collections.collect(rt, race),
             Task::Add(sum) => Some(add_all(rt, sum, race.events)),

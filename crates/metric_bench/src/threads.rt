@@ -1,13 +1,14 @@
 //! What recordings cost that several threads make at once, and a collection beside them.
 use crate::bench::{Bench, Row, Unit, each};
+use crate::cells::recordings;
 use crate::floors::{Floor, look_up};
 use crate::inputs::{BUDGET, Shape, WIDE_KEYS, plan_of, values_for};
-use crate::seats::{Rounds, Seats, record_by_last, started};
+use crate::seats::{Keyed, Rounds, Seats, record_by_last, started};
 use crate::tasks::{Caller, Collections, Runner, Task, times_together};
 use crate::watch::Spread;
 use crate::words::Words;
 use crossbeam_utils::CachePadded;
-use metric_sdk::{Collector, MeterProvider, Recorder};
+use metric_sdk::{Collector, Measurement, MeterProvider, Recorder};
 use std::alloc::{AllocError, Global};
 use std::sync::{Mutex, Wait};
 use std::thread::Threads;
@@ -25,25 +26,39 @@ const COLLECTIONS: u32 = 50;
 // How many series threads record.
 const SERIES: u32 = 1_000;
 
+// How many recordings there are in a round of lists: whole lists.
+const LISTED: u32 = 1_008;
+
 // How often as much a bare lock is taken as recordings are made.
 const MORE: u32 = 4;
 
 // What a bare lock costs.
 const LOCK: &str = "a lock with an addition, as many threads";
 
-// What threads record: one instrument, an instrument each, or one instrument until all have been collected.
+// What threads record: one instrument, an instrument each, each recording by itself or lists under one lock; or one
+// instrument until all have been collected.
 #[derive(Clone, Copy)]
 enum Sharing {
     One,
+    OneByLists,
     Each,
+    EachByLists,
     Beside,
 }
+
+// In which order they are measured.
+const SHARINGS: &[Sharing] = &[
+    Sharing::One,
+    Sharing::OneByLists,
+    Sharing::Each,
+    Sharing::EachByLists,
+];
 
 impl Sharing {
     // Which one the thread of this number has.
     fn number(self, thread: u32) -> u32 {
         match self {
-            Sharing::Each => thread,
+            Sharing::Each | Sharing::EachByLists => thread,
             _ => 0,
         }
     }
@@ -52,23 +67,52 @@ impl Sharing {
     fn names(self) -> (&'static str, &'static str) {
         match self {
             Sharing::Each => ("an instrument each", "an instrument each, throughput"),
+            Sharing::EachByLists => (
+                "an instrument each, lists of 16",
+                "an instrument each, lists, throughput",
+            ),
+            Sharing::OneByLists => (
+                "one instrument, lists of 16",
+                "one instrument, lists, throughput",
+            ),
             _ => ("one instrument", "one instrument, throughput"),
         }
     }
 
-    fn task<'a>(self, provider: &'a MeterProvider, recorder: Recorder) -> Task<'a> {
-        let rounds = Rounds {
-            instrument: self.number(recorder.number()),
-            series: SERIES,
-        };
+    fn task<'a>(
+        self,
+        provider: &'a MeterProvider,
+        recorder: Recorder,
+        recordings: &'a [Measurement],
+    ) -> Task<'a> {
+        let instrument = self.number(recorder.number());
         let caller = Caller {
             provider,
             recorder,
-            rounds,
+            rounds: Rounds {
+                instrument,
+                series: SERIES,
+            },
+            keyed: Keyed {
+                instrument,
+                recordings,
+                are_listed: true,
+            },
         };
         match self {
             Sharing::Beside => Task::RecordUntil(caller),
+            Sharing::OneByLists | Sharing::EachByLists => Task::RecordLists(caller),
             _ => Task::Record(caller),
+        }
+    }
+
+    // How many recordings each thread makes, where so many are asked for.
+    fn made(self, events: u32) -> u32 {
+        match self {
+            Sharing::OneByLists | Sharing::EachByLists => {
+                (events / LISTED).max(1).saturating_mul(LISTED)
+            }
+            _ => events,
         }
     }
 }
@@ -80,8 +124,9 @@ pub(crate) fn measure<R: Threads + Wait + Clock + Sync>(
     words: &Words<'_>,
 ) -> anyhow::Result<()> {
     bench.begin("threads, 3 attributes, 1000 series", "threads")?;
-    measure_sharing(rt, bench, words, Sharing::One)?;
-    measure_sharing(rt, bench, words, Sharing::Each)?;
+    for sharing in SHARINGS {
+        measure_sharing(rt, bench, words, *sharing)?;
+    }
     let floor = look_up(rt, bench.alloc, SERIES)?;
     bench.floor = floor.shared(u64::from(SERIES), 1);
     bench.begin("collect_all of 1000 series, all read", "threads")?;
@@ -194,7 +239,7 @@ fn figures_of<R: Threads + Wait + Clock + Sync>(
     bench.count(lock.number);
     Ok(Figures {
         threads,
-        made: u64::from(events),
+        made: u64::from(sharing.made(events)),
         recording,
         lock: each(lock.median, u64::from(more)),
     })
@@ -214,11 +259,13 @@ fn seats_measured<R: Threads + Wait + Clock + Sync>(
         series: SERIES,
     };
     record_by_last(rt, &mut seats, rounds, 1)?;
+    let recordings = recordings(alloc, LISTED, SERIES)?;
     let mut runners = runners_of(
         alloc,
         &seats.provider,
         &mut seats.recorders,
         &mut seats.collectors,
+        &recordings,
         sharing,
         threads,
     )?;
@@ -244,13 +291,14 @@ fn runners_of<'a>(
     provider: &'a MeterProvider,
     recorders: &mut Vec<Recorder>,
     collectors: &mut Vec<Collector>,
+    recordings: &'a [Measurement],
     sharing: Sharing,
     threads: u32,
 ) -> Result<Vec<Runner<'a>>, AllocError> {
     let mut runners = Vec::new(alloc);
     for _ in 0..threads {
         if let Some(recorder) = recorders.pop() {
-            runners.push(Runner::new(sharing.task(provider, recorder)))?;
+            runners.push(Runner::new(sharing.task(provider, recorder, recordings)))?;
         }
     }
     if let (Sharing::Beside, Some(collector)) = (sharing, collectors.pop()) {
