@@ -2,8 +2,8 @@
 //!
 //! Without words it does nothing. `metric_bench all` measures everything; `record`, `histogram`, `collect`,
 //! `threads`, `check`, `replay` and `memory` a part. `--series`, `--attributes`, `--threads` and `--events` set sizes.
-//! Each figure is the least of several repetitions, and names its unit. `allocations` measures nothing: it makes
-//! recordings between marks, for `tools/watch-allocations`.
+//! Each figure names its unit, and is the least of several repetitions; of what threads do at once it is the median.
+//! `allocations` measures nothing: it makes recordings between marks, for `tools/watch-allocations`.
 #![tactic(auto)]
 
 mod allocations;
