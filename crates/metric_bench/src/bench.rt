@@ -1,6 +1,6 @@
 //! Works measured one after the other, and the table that tells of them.
 use crate::floors::Floor;
-use crate::watch::Measured;
+use crate::watch::{Measured, Spread};
 use crate::works::{Work, least};
 use std::alloc::{AllocError, Global};
 use std::sync::Wait;
@@ -14,9 +14,9 @@ pub(crate) struct Unit {
     is_speed: bool,
 }
 
-/// Megabytes in a second, where each operation is a byte.
+/// Megabytes in a second, where each operation is a byte and all are one work.
 pub(crate) const SPEED: Unit = Unit {
-    name: "MB/s",
+    name: "MB/s, timed once",
     is_speed: true,
 };
 
@@ -69,14 +69,8 @@ impl Bench {
         }
     }
 
-    /// Begins a part of the table: its title, what a size counts in it, and beside what its lines stand.
-    pub(crate) fn begin(
-        &mut self,
-        title: &str,
-        size: &str,
-        floor: Floor,
-    ) -> Result<(), AllocError> {
-        self.floor = floor;
+    /// Begins a part of the table: its title, and what a size counts in it.
+    pub(crate) fn begin(&mut self, title: &str, size: &str) -> Result<(), AllocError> {
         push_title(&mut self.text, title, size)
     }
 
@@ -103,9 +97,20 @@ impl Bench {
         self.tally = self.tally.wrapping_add(number);
     }
 
+    /// Adds the line of work that was measured several times: the median, and between what the others lie.
+    pub(crate) fn tell_spread(&mut self, row: &Row, spread: &Spread) -> Result<(), AllocError> {
+        self.count(spread.number);
+        let least = each(spread.least, row.operations);
+        let median = each(spread.median, row.operations);
+        let most = each(spread.most, row.operations);
+        push_row(&mut self.text, row, self.floor, median)?;
+        push_spread(&mut self.text, row.unit, least, most)
+    }
+
     /// Adds a line: of nanoseconds for all operations, of their bytes, or of as many times.
     pub(crate) fn add(&mut self, row: &Row, all: u64) -> Result<(), AllocError> {
-        push_row(&mut self.text, row, self.floor, each(all, row.operations))
+        push_row(&mut self.text, row, self.floor, each(all, row.operations))?;
+        self.text.push_str("\n")
     }
 
     /// Ends the table by a line with the number in which the results of all works are.
@@ -129,7 +134,7 @@ pub(crate) fn each(all: u64, operations: u64) -> u64 {
 const COLUMNS: &str = "      figure  unit                             floor    times  beside\n";
 
 fn push_title(out: &mut String, title: &str, size: &str) -> Result<(), AllocError> {
-    write!(out, "\n{title:<36}{size:>12}")?;
+    write!(out, "\n{title:<42}{size:>12}")?;
     out.push_str(COLUMNS)
 }
 
@@ -144,12 +149,12 @@ enum Cell {
     Hundredths(u64, usize),
 }
 
-// A line, by what one operation takes, in thousandths: what was measured, its size, the figure and its unit, that of the
-// floor, how many times the floor it is, and what the floor is.
+// A line without its end, by what one operation takes, in thousandths: what was measured, its size, the figure and its
+// unit, that of the floor, how many times the floor it is, and what the floor is.
 fn push_row(out: &mut String, row: &Row, floor: Floor, each: u64) -> Result<(), AllocError> {
     let times = each.saturating_mul(100) / floor.each.max(1);
     let cells = [
-        Cell::Text(row.name, 34),
+        Cell::Text(row.name, 40),
         Cell::Whole(row.size, 12),
         Cell::Hundredths(row.unit.figure(each), 9),
         Cell::Text(row.unit.name, 28),
@@ -164,6 +169,15 @@ fn push_cells(out: &mut String, cells: &[Cell]) -> Result<(), AllocError> {
     for cell in cells {
         push_cell(out, *cell)?;
     }
+    Ok(())
+}
+
+// The end of a line: between what its figure lies.
+fn push_spread(out: &mut String, unit: Unit, least: u64, most: u64) -> Result<(), AllocError> {
+    out.push_str("  from ")?;
+    push_hundredths(out, unit.figure(least), 0)?;
+    out.push_str(" to ")?;
+    push_hundredths(out, unit.figure(most), 0)?;
     out.push_str("\n")
 }
 

@@ -3,26 +3,25 @@ ghost use Rattle.std.specs.Prelude.{◌≡◌, ◌<◌, ◌==◌, true, length, 
 ghost use Rattle.std.specs.List.{list_all};
 ghost use Rattle.metric_facts.specs.Facts.{in_bounds, is_entry, is_full_set};
 
-use crate::inputs::{set_of, value_of};
+use crate::inputs::{set_of, value_of, values_for};
 use metric_core::Cell;
 use metric_facts::{Facts, KeyFacts};
-use metric_sdk::{Marked, Plan, SetKey};
+use metric_sdk::{Batch, Marked, Measurement, Plan};
 use std::alloc::{AllocError, Global};
 
-/// A recording with its set key.
-#[derive(Clone, Copy, Drop)]
-pub(crate) struct Recording {
-    pub set: SetKey,
-    pub value: i64,
-}
-
-/// A recording for each of so many series, with different values.
-pub(crate) fn recordings(alloc: Global, count: u32) -> Result<Vec<Recording>, AllocError> {
+/// So many recordings of series, one after the other and over again, with different values.
+pub(crate) fn recordings(
+    alloc: Global,
+    count: u32,
+    series: u32,
+) -> Result<Vec<Measurement>, AllocError> {
+    let values = values_for(series);
+    let series = series.max(1);
     let mut recordings = Vec::with_capacity(alloc, count as usize)?;
     for number in 0..count {
-        let set = set_of(number);
+        let set = set_of(number % series, values);
         let value = value_of(number);
-        recordings.push(Recording { set, value })?;
+        recordings.push(Measurement { set, value })?;
     }
     Ok(recordings)
 }
@@ -31,52 +30,52 @@ pub(crate) fn recordings(alloc: Global, count: u32) -> Result<Vec<Recording>, Al
 #[derive(Drop)]
 pub(crate) struct Instrument {
     cell: Cell<Marked>,
-    recordings: Vec<Recording>,
+    recordings: Vec<Measurement>,
     ghost recorder: { 0 < length cell.facts.budgets },
     ghost sets: { All (λ r. is_full_set cell.facts.keys r.set ≡ true) recordings.items },
     ghost values: { All (λ r. in_bounds cell.facts r.value ≡ true) recordings.items },
 }
 
 impl Instrument {
-    /// The instrument of this number, which has recorded nothing, and a recording for each of so many series.
+    /// The first instrument of a plan, which has recorded nothing, and recordings for it.
     pub(crate) fn new(
         alloc: Global,
         plan: &Plan,
-        instrument: u32,
-        series: u32,
+        recordings: Vec<Measurement>,
     ) -> anyhow::Result<Instrument> {
-        if instrument as usize >= plan.all_facts().len() {
-            anyhow::bail!("no such instrument");
+        if plan.all_facts().len() == 0 {
+            anyhow::bail!("no instrument");
         }
-        let recordings = recordings(alloc, series)?;
-        let cell = Cell::new(alloc, plan, instrument, 0)?;
+        let cell = Cell::new(alloc, plan, 0, 0)?;
         if cell.facts().budgets.len() == 0 || !are_sound(cell.facts(), &recordings) {
             anyhow::bail!("a recording that the instrument refuses");
         }
         Ok(Instrument { cell, recordings })
     }
 
-    /// Makes each recording so many times. How many were accepted.
-    pub(crate) fn repeat(&mut self, rounds: u32) -> u64 {
+    /// Makes each recording so many times. How many there were.
+    pub(crate) fn repeat(&mut self, rounds: u32) -> anyhow::Result<u64> {
         let mut accepted: u64 = 0;
         for _ in 0..rounds {
             accepted = accepted.wrapping_add(record_all(&mut self.cell, &self.recordings));
         }
-        accepted
+        if accepted != u64::from(rounds).wrapping_mul(self.recordings.len() as u64) {
+            anyhow::bail!("a recording was refused");
+        }
+        Ok(accepted)
     }
 
-    /// How many streams the first reader collects.
-    pub(crate) fn collect(&mut self, alloc: Global) -> anyhow::Result<u64> {
+    /// What the first reader collects.
+    pub(crate) fn collect(&mut self, alloc: Global) -> anyhow::Result<Batch> {
         if self.cell.facts().delta.len() == 0 {
             anyhow::bail!("no reader");
         }
-        let batch = self.cell.collect(alloc, 0, 0)?;
-        Ok(batch.streams.as_slice().len() as u64)
+        Ok(self.cell.collect(alloc, 0, 0)?)
     }
 }
 
-// Makes each recording once by the first recorder.
-fn record_all(cell: &mut Cell<Marked>, recordings: &[Recording]) -> u64
+// Makes each recording once by the first recorder. How many were accepted.
+fn record_all(cell: &mut Cell<Marked>, recordings: &[Measurement]) -> u64
     requires recorder { 0 < length cell.old.facts.budgets }
     requires sets { All (λ r. is_full_set cell.old.facts.keys r.set ≡ true) recordings.now }
     requires values { All (λ r. in_bounds cell.old.facts r.value ≡ true) recordings.now }
@@ -91,8 +90,8 @@ fn record_all(cell: &mut Cell<Marked>, recordings: &[Recording]) -> u64
     accepted
 }
 
-/// Whether each recording has a full set key and a value in range.
-pub(crate) fn are_sound(facts: &Facts, recordings: &[Recording]) -> bool
+// Whether each recording has a full set key and a value in range.
+fn are_sound(facts: &Facts, recordings: &[Measurement]) -> bool
     ensures sets { IsTrue result →
         All (λ r. is_full_set facts.now.keys r.set ≡ true) recordings.now }
     ensures values { IsTrue result → All (λ r. in_bounds facts.now r.value ≡ true) recordings.now }

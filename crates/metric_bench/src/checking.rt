@@ -2,7 +2,7 @@
 //! start what they certify.
 use crate::bench::{Bench, Row, SPEED, Unit};
 use crate::floors::{Floor, copy};
-use crate::inputs::{RECORDERS, SOME_VALUES, Shape, catalogue, config};
+use crate::inputs::{BUDGET, RECORDERS, SOME_VALUES, Shape, catalogue, config};
 use crate::seats::started;
 use crate::watch::Watch;
 use crate::works::Work;
@@ -72,7 +72,7 @@ const PARTS: &[Part] = &[
 pub(crate) fn measure<R: Wait + Clock>(rt: &R, bench: &mut Bench) -> anyhow::Result<()> {
     let floor = copy(rt, bench.alloc)?;
     for part in PARTS {
-        bench.begin(part.title, part.size, floor)?;
+        bench.begin(part.title, part.size)?;
         measure_part(rt, bench, part, floor)?;
     }
     Ok(())
@@ -129,10 +129,11 @@ impl Drop for Texts {
 fn texts_of(alloc: Global, instruments: u32, views: u32) -> anyhow::Result<Texts> {
     let shape = Shape {
         instruments,
-        differ: false,
+        kind: 0,
         keys: KEYS,
         values: SOME_VALUES,
         recorders: RECORDERS,
+        budget: BUDGET,
     };
     let mut texts = Texts {
         catalogue: catalogue(alloc, &shape)?,
@@ -165,7 +166,7 @@ impl Texts {
     fn row_of(&self, step: Step, name: &'static str) -> Row {
         let (size, unit) = match step.is_reading() {
             true => (self.bytes_of(step), SPEED),
-            false => (self.pairs, Unit::each("ns a pair")),
+            false => (self.pairs, Unit::each("ns a pair, timed once")),
         };
         Row {
             name,

@@ -1,5 +1,6 @@
 //! What the machine takes at least: the floors beside which the other figures stand.
 use crate::bench::each;
+use crate::by_hand::Hash;
 use crate::inputs::sets;
 use crate::walk::Walk;
 use crate::watch::Watch;
@@ -34,8 +35,8 @@ impl Floor {
 // How many bytes are copied.
 const BYTES: usize = 1_048_576;
 
-// How often an operation is done in one measurement.
-const EVENTS: u32 = 200_000;
+/// How often an operation is done in one measurement.
+pub(crate) const EVENTS: u32 = 200_000;
 
 // The floor of work with so many operations.
 fn floor_of<R: Wait + Clock>(
@@ -64,31 +65,39 @@ pub(crate) fn look_up<R: Wait + Clock>(rt: &R, alloc: Global, count: u32) -> any
     )
 }
 
-/// What a recording takes at least that has to look up each of its series under a lock.
-pub(crate) fn locked<R: Wait + Clock>(
+/// An addition at a place of a list of so many under a lock.
+pub(crate) fn at_place<R: Wait + Clock>(
     rt: &R,
     alloc: Global,
-    series: u32,
-    streams: u32,
+    count: u32,
 ) -> anyhow::Result<Floor> {
-    let name = "a lock, a look-up for each stream, an addition";
-    let addition = floor_of(rt, alloc, name, u64::from(EVENTS), &Work::Additions)?;
-    let look_ups = look_up(rt, alloc, series)?.shared(u64::from(streams), 1);
-    Ok(Floor {
+    let name = "a lock, an index, an addition";
+    floor_of(rt, alloc, name, u64::from(EVENTS), &Work::Places(count))
+}
+
+/// An addition by three texts in a map of so many under a lock.
+pub(crate) fn by_texts<R: Wait + Clock>(
+    rt: &R,
+    alloc: Global,
+    hash: Hash,
+    count: u32,
+) -> anyhow::Result<Floor> {
+    let name = match hash {
+        Hash::Std => "a lock, a map of three texts, std's hash",
+        Hash::Fast => "a lock, a map of three texts, a fast hash",
+    };
+    floor_of(
+        rt,
+        alloc,
         name,
-        each: addition.each.saturating_add(look_ups.each),
-    })
+        u64::from(EVENTS),
+        &Work::Texts(hash, count),
+    )
 }
 
 /// A copy of a byte.
 pub(crate) fn copy<R: Wait + Clock>(rt: &R, alloc: Global) -> anyhow::Result<Floor> {
     floor_of(rt, alloc, "a copy of the bytes", BYTES as u64, &Work::Copy)
-}
-
-/// Makes additions under a lock that nobody else takes. The sum.
-pub(crate) fn add_events<R: Wait>(rt: &R) -> u64 {
-    let sum = Mutex::new(0);
-    add_all(rt, &sum, EVENTS)
 }
 
 /// Makes so many additions under a lock. The sum.

@@ -1,7 +1,8 @@
 //! What it costs to find the bucket of a value.
 use crate::bench::{Bench, Row, Unit};
 use crate::floors::look_up;
-use crate::inputs::{kinds, plan_of, value_of};
+use crate::inputs::{Found, one_of, plan_of, value_of};
+use crate::points::number_of_value;
 use crate::works::Work;
 use metric_aggregate::{Aggregate, BucketAgg};
 use metric_base::{Boundaries, Shared};
@@ -11,16 +12,22 @@ use std::alloc::Global;
 use std::sync::Wait;
 use std::time::Clock;
 
+// The numbers of the kinds of histograms.
+const HISTOGRAMS: &[u32] = &[2, 3];
+
 /// Measures histograms.
 pub(crate) fn measure<R: Wait + Clock>(
     rt: &R,
     bench: &mut Bench,
     events: u32,
 ) -> anyhow::Result<()> {
-    let floor = look_up(rt, bench.alloc, 1)?;
-    bench.begin("values of one histogram", "boundaries", floor)?;
-    let plan = plan_of(bench.alloc, &kinds(0), 1)?;
-    measure_plan(rt, bench, &plan, events)
+    bench.floor = look_up(rt, bench.alloc, 1)?;
+    bench.begin("values of one histogram", "boundaries")?;
+    for kind in HISTOGRAMS {
+        let plan = plan_of(bench.alloc, &one_of(*kind, 1, Found::Dense), 1)?;
+        measure_plan(rt, bench, &plan, events)?;
+    }
+    Ok(())
 }
 
 fn measure_plan<R: Wait + Clock>(
@@ -47,20 +54,22 @@ fn row_of(boundaries: &Boundaries, events: u32) -> Row {
     }
 }
 
-/// Adds so many values to a histogram. How many fitted.
+/// Adds so many values to a histogram, and reads it. A number that depends on what is read.
 pub(crate) fn add_values(
     alloc: Global,
     boundaries: &Shared<Boundaries>,
     events: u32,
 ) -> anyhow::Result<u64> {
     let mut histogram = BucketAgg::new(alloc, boundaries, true)?;
-    let mut added: u64 = 0;
     for event in 0..events {
         let value = value_of(event);
-        if histogram.fits(value) {
-            histogram.add(value);
-            added = added.wrapping_add(1);
+        if !histogram.fits(value) {
+            anyhow::bail!("a value that does not fit");
         }
+        histogram.add(value);
     }
-    Ok(added)
+    if histogram.is_empty() {
+        anyhow::bail!("no value");
+    }
+    Ok(number_of_value(&histogram.read(alloc)?))
 }

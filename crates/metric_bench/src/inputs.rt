@@ -9,19 +9,26 @@ pub(crate) const MOST_SETS: u32 = 262_144;
 /// How many threads may record.
 pub(crate) const MOST_THREADS: u32 = 64;
 
-/// How many recorders there are, where no threads record.
+/// How many recorders there are in a catalogue that is read and checked.
 pub(crate) const RECORDERS: u32 = 4;
 
 /// How many keys have more than one value.
 pub(crate) const WIDE_KEYS: u32 = 3;
 
-/// How many values a key has whose values are to tell many series apart.
+/// How many values a key has at most, and how many the first keys of lists of attributes have.
 pub(crate) const MANY_VALUES: u32 = 64;
 
 /// How many values a key has in a catalogue that is read and checked.
 pub(crate) const SOME_VALUES: u32 = 8;
 
-/// The kinds of instruments: a counter, a gauge, and histograms of 15 and of 128 boundaries.
+// With how many values of each of three keys there can be more series than the highest limit.
+const MORE_VALUES: u32 = 101;
+
+/// How often an operation is repeated at most. With what comes before, no recorder records more often than the highest
+/// limit of series.
+pub(crate) const MOST_EVENTS: u32 = 700_000;
+
+/// The kinds of instruments: a counter, a gauge, histograms of 15 and of 128 boundaries, and an up-down counter.
 pub(crate) const KINDS: &[&str] = &[
     "kind = 'counter'\nrange = [0, 9999]\n",
     "kind = 'gauge'\nrange = [0, 9999]\n",
@@ -35,6 +42,7 @@ pub(crate) const KINDS: &[&str] = &[
      6630, 6708, 6786, 6864, 6942, 7020, 7098, 7176, 7254, 7332, 7410, 7488, 7566, 7644, 7722, \
      7800, 7878, 7956, 8034, 8112, 8190, 8268, 8346, 8424, 8502, 8580, 8658, 8736, 8814, 8892, \
      8970, 9048, 9126, 9204, 9282, 9360, 9438, 9516, 9594, 9672, 9750, 9828, 9906]\n",
+    "kind = 'up_down_counter'\nrange = [-9999, 9999]\n",
 ];
 
 // The names of the keys.
@@ -55,23 +63,29 @@ const VALUES: &[&str] = &[
 ];
 
 // The texts round the numbers of a catalogue and a config.
-const BUDGET: &str = "\namount = 1000000000000\n";
+const BY_HASH: &str = "\namount = 1000000\n";
 
-const LIMIT: &str = "'\nlimit = { counter = 1000000, gauge = 1000000, histogram = 1000000 }\n";
+/// The amount of a recorder that records as often as it likes.
+pub(crate) const BUDGET: &str = "\namount = 1000000000000\n";
+
+const LIMIT: &str = "'\nlimit = { counter = 1000000, up_down_counter = 1000000, gauge = 1000000, \
+     histogram = 1000000 }\n";
 
 /// The instruments, keys and recorders of a catalogue. Each recorder has a budget for each instrument.
 #[derive(Clone, Copy)]
 pub(crate) struct Shape {
     /// How many instruments there are.
     pub instruments: u32,
-    /// Whether they are of the [`KINDS`] one after the other; else they are counters.
-    pub differ: bool,
+    /// The number of their kind among the [`KINDS`].
+    pub kind: u32,
     /// How many keys each has.
     pub keys: u32,
     /// How many values each of the first keys has.
     pub values: u32,
     /// How many recorders there are.
     pub recorders: u32,
+    /// What each recorder may record on each instrument.
+    pub budget: &'static str,
 }
 
 /// A catalogue of a shape.
@@ -85,7 +99,7 @@ pub(crate) fn catalogue(alloc: Global, shape: &Shape) -> Result<String, AllocErr
 fn push_instruments(out: &mut String, shape: &Shape) -> Result<(), AllocError> {
     for number in 0..shape.instruments {
         writeln!(out, "[[meter.instrument]]\nname = 'hits.{number}'")?;
-        out.push_str(kind_of(if shape.differ { number } else { 0 }))?;
+        out.push_str(kind_of(shape.kind))?;
         push_keys(out, shape)?;
     }
     Ok(())
@@ -118,7 +132,7 @@ fn push_recorders(out: &mut String, shape: &Shape) -> Result<(), AllocError> {
             out,
             0..shape.instruments,
             "[[recorder.budget]]\ninstrument = ",
-            BUDGET,
+            shape.budget,
         )?;
     }
     Ok(())
@@ -151,14 +165,28 @@ pub(crate) fn config(alloc: Global, readers: u32, views: u32) -> Result<String, 
     Ok(out)
 }
 
-/// The shape of a catalogue with an instrument of each kind, each with so many keys.
-pub(crate) fn kinds(keys: u32) -> Shape {
+/// How the series of an instrument are found.
+#[derive(Clone, Copy)]
+pub(crate) enum Found {
+    /// By the hash of their set keys: there can be more of them than the limit, but not so many recordings.
+    ByHash,
+    /// By their rank among all that there can be, which have their places from the start.
+    Dense,
+}
+
+/// The shape of a catalogue with an instrument of this kind, whose three keys tell so many series apart.
+pub(crate) fn one_of(kind: u32, series: u32, found: Found) -> Shape {
+    let (values, budget) = match found {
+        Found::ByHash => (MORE_VALUES, BY_HASH),
+        Found::Dense => (values_for(series), BUDGET),
+    };
     Shape {
-        instruments: KINDS.len() as u32,
-        differ: true,
-        keys,
-        values: MANY_VALUES,
-        recorders: RECORDERS,
+        instruments: 1,
+        kind,
+        keys: WIDE_KEYS,
+        values,
+        recorders: 1,
+        budget,
     }
 }
 
@@ -171,20 +199,36 @@ pub(crate) fn plan_of(alloc: Global, shape: &Shape, readers: u32) -> anyhow::Res
 
 /// So many different set keys of three keys.
 pub(crate) fn sets(alloc: Global, count: u32) -> Result<Vec<SetKey>, AllocError> {
+    let values = values_for(count);
     let mut sets = Vec::new(alloc);
     for number in 0..count {
-        sets.push(set_of(number))?;
+        sets.push(set_of(number, values))?;
     }
     Ok(sets)
 }
 
-/// The set key whose first three entries are the number's digits, one more each, where a digit is below
-/// [`MANY_VALUES`].
-pub(crate) fn set_of(number: u32) -> SetKey {
-    let first = (number % MANY_VALUES + 1) as u16;
-    let second = (number / MANY_VALUES % MANY_VALUES + 1) as u16;
-    let third = (number / MANY_VALUES / MANY_VALUES % MANY_VALUES + 1) as u16;
+/// The least number of values with which three keys tell so many series apart, [`MANY_VALUES`] at most.
+pub(crate) fn values_for(series: u32) -> u32 {
+    for values in 1..MANY_VALUES {
+        if values.saturating_mul(values).saturating_mul(values) >= series {
+            return values;
+        }
+    }
+    MANY_VALUES
+}
+
+/// The set key whose first three entries are the number's digits, one more each, where each key has so many values. The
+/// last digit changes first, so that the series of numbers that follow one another are neighbours.
+pub(crate) fn set_of(number: u32, values: u32) -> SetKey {
+    let base = values.max(1);
+    let first = entry_of(number / base / base % base);
+    let second = entry_of(number / base % base);
+    let third = entry_of(number % base);
     [first, second, third, 0, 0, 0, 0, 0]
+}
+
+fn entry_of(digit: u32) -> u16 {
+    (digit.min(MANY_VALUES - 1) + 1) as u16
 }
 
 /// A value of the ranges, another one for each of the numbers that follow one another.
@@ -192,38 +236,94 @@ pub(crate) fn value_of(number: u32) -> i64 {
     i64::from(number.wrapping_mul(7919) % 10_000)
 }
 
-// The name of the value whose number is the last digit.
-fn value_name(number: u32) -> ValueRef<'static> {
-    match VALUES.get((number % MANY_VALUES) as usize) {
-        Some(name) => ValueRef::Text(*name),
-        None => ValueRef::Whole(0),
+// The name of the value of this number.
+fn value_name(number: u32) -> &'static str {
+    VALUES.get(number as usize).copied().unwrap_or("")
+}
+
+// The attribute of a key whose value has this number.
+fn attribute(key: &'static str, number: u32) -> Attr<'static> {
+    let value = ValueRef::Text(value_name(number));
+    Attr { key, value }
+}
+
+/// The names of three values.
+pub(crate) type Texts = (&'static str, &'static str, &'static str);
+
+/// Goes through series, over and over. A step is no division, so that it costs little.
+#[derive(Clone, Copy)]
+pub(crate) struct Cycle {
+    count: u32,
+    // With how many values of each of three keys they are told apart.
+    values: u32,
+    number: u32,
+    digits: [u32; 3],
+}
+
+impl Cycle {
+    /// The first of so many.
+    pub(crate) fn new(count: u32) -> Cycle {
+        Cycle {
+            count,
+            values: values_for(count),
+            number: 0,
+            digits: [0; 3],
+        }
+    }
+
+    /// Its three attributes.
+    pub(crate) fn attributes(&self) -> [Attr<'static>; 3] {
+        [
+            attribute("key.0", self.digits[0]),
+            attribute("key.1", self.digits[1]),
+            attribute("key.2", self.digits[2]),
+        ]
+    }
+
+    /// Their values.
+    pub(crate) fn texts(&self) -> Texts {
+        (
+            value_name(self.digits[0]),
+            value_name(self.digits[1]),
+            value_name(self.digits[2]),
+        )
+    }
+
+    /// What is recorded of it.
+    pub(crate) fn value(&self) -> i64 {
+        value_of(self.number)
+    }
+
+    /// Goes on to the next one, after the last one to the first.
+    pub(crate) fn step(&mut self) {
+        self.number = self.number.wrapping_add(1);
+        self.digits = next_digits(self.digits, self.values);
+        if self.number >= self.count {
+            self.number = 0;
+            self.digits = [0; 3];
+        }
     }
 }
 
-/// The attributes of the first three keys, whose values are the digits of a number.
-pub(crate) fn three_attributes(number: u32) -> [Attr<'static>; 3] {
-    [
-        Attr {
-            key: "key.0",
-            value: value_name(number),
-        },
-        Attr {
-            key: "key.1",
-            value: value_name(number / MANY_VALUES),
-        },
-        Attr {
-            key: "key.2",
-            value: value_name(number / MANY_VALUES / MANY_VALUES),
-        },
-    ]
+// The digits of the number after that of these digits, where each key has so many values.
+fn next_digits(digits: [u32; 3], values: u32) -> [u32; 3] {
+    let last = values.saturating_sub(1);
+    if digits[2] < last {
+        [digits[0], digits[1], digits[2].wrapping_add(1)]
+    } else if digits[1] < last {
+        [digits[0], digits[1].wrapping_add(1), 0]
+    } else {
+        [digits[0].wrapping_add(1), 0, 0]
+    }
 }
 
-// So many attributes, one for each key, of which the first has the value of this number.
+// So many attributes, one for each key, of which the last one with many values has that of this number.
 fn attributes(alloc: Global, count: u32, number: u32) -> Result<Vec<Attr<'static>>, AllocError> {
+    let last = count.min(WIDE_KEYS).saturating_sub(1) as usize;
     let mut attributes = Vec::new(alloc);
     for key in KEYS.iter().take(count as usize) {
-        let value = value_name(if attributes.is_empty() { number } else { 0 });
-        attributes.push(Attr { key: *key, value })?;
+        let value = if attributes.len() == last { number } else { 0 };
+        attributes.push(attribute(*key, value))?;
     }
     Ok(attributes)
 }

@@ -2,20 +2,24 @@
 //!
 //! Without words it does nothing. `metric_bench all` measures everything; `record`, `histogram`, `collect`,
 //! `threads`, `check`, `replay` and `memory` a part. `--series`, `--attributes`, `--threads` and `--events` set sizes.
-//! Each figure is the least of several repetitions, and names its unit.
+//! Each figure names its unit, and is the least of several repetitions; of what threads do at once it is the median.
+//! `allocations` measures nothing: it makes recordings between marks, for `tools/watch-allocations`.
 #![tactic(auto)]
 
+mod allocations;
 mod bench;
+mod by_hand;
 mod cells;
 mod checking;
 mod floors;
 mod histograms;
 mod inputs;
+mod lists;
 mod memory;
+mod points;
 mod recording;
 mod replaying;
 mod seats;
-mod slots;
 mod tasks;
 mod threads;
 mod walk;
@@ -48,6 +52,10 @@ fn print_table<R: Files + Print + AllocGlobal + Threads + Wait + Clock + Sync>(
     words: &Words<'_>,
 ) -> anyhow::Result<ExitCode> {
     if words.are_none() {
+        return Ok(ExitCode::SUCCESS);
+    }
+    if words.name("allocations") {
+        allocations::print_answers(rt, rt.alloc())?;
         return Ok(ExitCode::SUCCESS);
     }
     let mut bench = Bench::new(rt.alloc());

@@ -1,10 +1,11 @@
 //! How much memory a series takes.
 use crate::bench::{Bench, Row, Unit, each};
-use crate::cells::Instrument;
+use crate::cells::{Instrument, recordings};
 use crate::floors::{Floor, map_of};
-use crate::inputs::{WIDE_KEYS, kinds, plan_of, sets};
-use metric_sdk::{Plan, SetKey};
-use std::alloc::Global;
+use crate::inputs::{Found, one_of, plan_of, sets};
+use indexmap::IndexMap;
+use metric_sdk::SetKey;
+use std::alloc::{AllocError, Global};
 use std::fs;
 use std::rt::Files;
 
@@ -22,26 +23,39 @@ const KINDS: &[(u32, &str)] = &[
     (3, "histogram of 128"),
 ];
 
+// How series are found, dense ones first: their memory comes at once, so none is left over from smaller tables.
+const PARTS: &[(&str, Found)] = &[
+    ("memory, dense", Found::Dense),
+    ("memory, by hash", Found::ByHash),
+];
+
 /// Measures the memory of series: of each kind, and beside it that of a map of as many set keys to numbers. It is
-/// the memory that the process has in use, before and after the series came, so this is measured first.
+/// the memory that the process has in use, before there was an instrument and after its series came, so this is
+/// measured first, and all that is measured is kept to the end, since memory that is given back may stay in use.
 pub(crate) fn measure<R: Files + AllocGlobal>(rt: &R, bench: &mut Bench) -> anyhow::Result<()> {
-    let plan = plan_of(bench.alloc, &kinds(WIDE_KEYS), 1)?;
-    let bytes = bytes_of_map(rt, bench.alloc)?;
-    let floor = Floor {
+    let sets = sets(bench.alloc, SERIES)?;
+    let before = in_use(rt)?;
+    let _map: IndexMap<SetKey, u64> = map_of(bench.alloc, &sets)?;
+    bench.floor = Floor {
         name: "a map of set keys",
-        each: each(bytes, u64::from(SERIES)),
+        each: each(in_use(rt)?.saturating_sub(before), u64::from(SERIES)),
     };
-    bench.begin("memory", "series", floor)?;
-    measure_plan(rt, bench, &plan)
+    let mut kept = Vec::new(bench.alloc);
+    for (title, found) in PARTS {
+        bench.begin(*title, "series")?;
+        measure_part(rt, bench, *found, &mut kept)?;
+    }
+    Ok(())
 }
 
-fn measure_plan<R: Files + AllocGlobal>(
+fn measure_part<R: Files + AllocGlobal>(
     rt: &R,
     bench: &mut Bench,
-    plan: &Plan,
+    found: Found,
+    kept: &mut Vec<Instrument>,
 ) -> anyhow::Result<()> {
     for (kind, name) in KINDS {
-        let bytes = bytes_of_series(rt, bench.alloc, plan, *kind)?;
+        let bytes = bytes_of_series(rt, bench.alloc, *kind, found, kept)?;
         let row = Row {
             name: *name,
             size: u64::from(SERIES),
@@ -56,29 +70,18 @@ fn measure_plan<R: Files + AllocGlobal>(
 fn bytes_of_series<R: Files + AllocGlobal>(
     rt: &R,
     alloc: Global,
-    plan: &Plan,
     kind: u32,
+    found: Found,
+    kept: &mut Vec<Instrument>,
 ) -> anyhow::Result<u64> {
-    let mut instrument = Instrument::new(alloc, plan, kind, SERIES)?;
+    let plan = plan_of(alloc, &one_of(kind, SERIES, found), 1)?;
+    let recordings = recordings(alloc, SERIES, SERIES)?;
     let before = in_use(rt)?;
-    instrument.repeat(1);
-    Ok(in_use(rt)?.saturating_sub(before))
-}
-
-// The memory of a map of set keys.
-fn bytes_of_map<R: Files + AllocGlobal>(rt: &R, alloc: Global) -> anyhow::Result<u64> {
-    let sets = sets(alloc, SERIES)?;
-    more_by_map(rt, alloc, &sets)
-}
-
-fn more_by_map<R: Files + AllocGlobal>(
-    rt: &R,
-    alloc: Global,
-    sets: &[SetKey],
-) -> anyhow::Result<u64> {
-    let before = in_use(rt)?;
-    let _map = map_of(alloc, sets)?;
-    Ok(in_use(rt)?.saturating_sub(before))
+    let mut instrument = Instrument::new(alloc, &plan, recordings)?;
+    instrument.repeat(1)?;
+    let after = in_use(rt)?;
+    kept.push(instrument).map_err(AllocError::from)?;
+    Ok(after.saturating_sub(before))
 }
 
 // How many bytes the process has in use.

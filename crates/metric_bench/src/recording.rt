@@ -1,26 +1,23 @@
-//! What recordings and collections cost: with set keys in hand, and by a seat with attributes at the call.
+//! What recordings and collections cost: with set keys in hand, and by a seat.
 use crate::bench::{Bench, Row, Unit};
-use crate::cells::Instrument;
-use crate::floors::{Floor, locked, look_up};
-use crate::inputs;
-use crate::inputs::{MANY_VALUES, WIDE_KEYS, catalogue, kinds, plan_of};
-use crate::seats::{Rounds, record_by_last, seats_of_kinds};
-use crate::slots::InSlot;
-use crate::walk::Walk;
+use crate::by_hand::Hash;
+use crate::cells::{Instrument, recordings};
+use crate::floors::{Floor, at_place, by_texts, look_up};
+use crate::inputs::{Found, one_of, plan_of};
+use crate::lists;
+use crate::points::number_of;
+use crate::seats::{Keyed, LIST, Rounds, record_by_last, started};
 use crate::watch::Watch;
 use crate::words::Words;
 use crate::works::Work;
 use anyhow::Context;
-use metric_sdk::{Attr, Catalogue, MeterProvider, Plan, Recorder};
+use metric_sdk::Plan;
 use std::alloc::Global;
 use std::sync::Wait;
 use std::time::Clock;
 
 // How many series there are, where no word says it.
 const SERIES: &[u32] = &[1, 1_000, 100_000];
-
-// How many attributes a recording has, where no word says it.
-const ATTRIBUTES: &[u32] = &[0, 1, 3, 8];
 
 /// What is done with an instrument.
 #[derive(Clone, Copy)]
@@ -29,192 +26,164 @@ pub(crate) enum Act {
     New,
     /// Recordings whose series are held.
     Held,
-    /// The same, as the instrument stands behind a lock.
-    HeldInSlot,
     /// The first recordings of their series, by a seat.
     NewBySeat,
     /// Recordings whose series are held, by a seat.
     HeldBySeat,
+    /// The same, with their set keys in hand.
+    HeldBySet,
+    /// The same, each list of them under one lock.
+    HeldByLists,
     /// A collection.
     Collect,
 }
 
-// A line: its name, the number of its kind of instruments, and what is done.
+// Beside what lines stand.
 #[derive(Clone, Copy)]
-struct Line {
-    name: &'static str,
-    kind: u32,
-    act: Act,
+enum Beside {
+    // A look-up by a set key.
+    LookUp,
+    // An addition at a place, under a lock.
+    Place,
+    // An addition by three texts, under a lock.
+    Texts(Hash),
 }
 
-const IN_HAND: &[Line] = &[
-    Line {
-        name: "sum, new series",
-        kind: 0,
-        act: Act::New,
+// Lines beside one floor: their names, the numbers of their kinds of instruments, and what is done.
+#[derive(Clone, Copy)]
+struct Group {
+    beside: Beside,
+    lines: &'static [(&'static str, u32, Act)],
+}
+
+const IN_HAND: &[Group] = &[Group {
+    beside: Beside::LookUp,
+    lines: &[
+        ("sum, new series", 0, Act::New),
+        ("sum, held", 0, Act::Held),
+        ("last value, new series", 1, Act::New),
+        ("last value, held", 1, Act::Held),
+        ("histogram of 15, new series", 2, Act::New),
+        ("histogram of 15, held", 2, Act::Held),
+        ("histogram of 128, new series", 3, Act::New),
+        ("histogram of 128, held", 3, Act::Held),
+    ],
+}];
+
+const BY_SEAT: &[Group] = &[
+    Group {
+        beside: Beside::Texts(Hash::Std),
+        lines: &[
+            ("sum, held", 0, Act::HeldBySeat),
+            ("sum, new series", 0, Act::NewBySeat),
+            ("last value, new series", 1, Act::NewBySeat),
+            ("last value, held", 1, Act::HeldBySeat),
+            ("histogram of 15, new series", 2, Act::NewBySeat),
+            ("histogram of 15, held", 2, Act::HeldBySeat),
+            ("histogram of 128, new series", 3, Act::NewBySeat),
+            ("histogram of 128, held", 3, Act::HeldBySeat),
+        ],
     },
-    Line {
-        name: "sum, held",
-        kind: 0,
-        act: Act::Held,
+    Group {
+        beside: Beside::Texts(Hash::Fast),
+        lines: &[("sum, held", 0, Act::HeldBySeat)],
     },
-    Line {
-        name: "last value, new series",
-        kind: 1,
-        act: Act::New,
-    },
-    Line {
-        name: "last value, held",
-        kind: 1,
-        act: Act::Held,
-    },
-    Line {
-        name: "histogram of 15, new series",
-        kind: 2,
-        act: Act::New,
-    },
-    Line {
-        name: "histogram of 15, held",
-        kind: 2,
-        act: Act::Held,
-    },
-    Line {
-        name: "histogram of 128, new series",
-        kind: 3,
-        act: Act::New,
-    },
-    Line {
-        name: "histogram of 128, held",
-        kind: 3,
-        act: Act::Held,
-    },
-    Line {
-        name: "sum, held, in a slot",
-        kind: 0,
-        act: Act::HeldInSlot,
+    Group {
+        beside: Beside::Place,
+        lines: &[
+            ("sum, held, set key in hand", 0, Act::HeldBySet),
+            ("sum, held, sixteen under one lock", 0, Act::HeldByLists),
+        ],
     },
 ];
 
-const BY_SEAT: &[Line] = &[
-    Line {
-        name: "sum, new series",
-        kind: 0,
-        act: Act::NewBySeat,
-    },
-    Line {
-        name: "sum, held",
-        kind: 0,
-        act: Act::HeldBySeat,
-    },
-    Line {
-        name: "last value, new series",
-        kind: 1,
-        act: Act::NewBySeat,
-    },
-    Line {
-        name: "last value, held",
-        kind: 1,
-        act: Act::HeldBySeat,
-    },
-    Line {
-        name: "histogram of 15, new series",
-        kind: 2,
-        act: Act::NewBySeat,
-    },
-    Line {
-        name: "histogram of 15, held",
-        kind: 2,
-        act: Act::HeldBySeat,
-    },
-    Line {
-        name: "histogram of 128, new series",
-        kind: 3,
-        act: Act::NewBySeat,
-    },
-    Line {
-        name: "histogram of 128, held",
-        kind: 3,
-        act: Act::HeldBySeat,
-    },
-];
+const COLLECTED: &[Group] = &[Group {
+    beside: Beside::LookUp,
+    lines: &[
+        ("sum", 0, Act::Collect),
+        ("last value", 1, Act::Collect),
+        ("histogram of 15", 2, Act::Collect),
+        ("histogram of 128", 3, Act::Collect),
+    ],
+}];
 
-const COLLECTED: &[Line] = &[
-    Line {
-        name: "sum",
-        kind: 0,
-        act: Act::Collect,
-    },
-    Line {
-        name: "last value",
-        kind: 1,
-        act: Act::Collect,
-    },
-    Line {
-        name: "histogram of 15",
-        kind: 2,
-        act: Act::Collect,
-    },
-    Line {
-        name: "histogram of 128",
-        kind: 3,
-        act: Act::Collect,
-    },
-];
-
-// Lines for one number of series, of instruments with so many streams.
+// Groups for one number of series, of instruments with so many streams whose series are found so.
 #[derive(Clone, Copy)]
 struct Part {
     title: &'static str,
+    found: Found,
     streams: u32,
-    lines: &'static [Line],
-    unit: &'static str,
-    // Whether they stand beside a look-up under a lock.
-    is_locked: bool,
+    groups: &'static [Group],
 }
-
-const RECORDING: &str = "ns a recording";
 
 const PARTS_IN_HAND: &[Part] = &[
     Part {
-        title: "set key in hand, 1 stream",
+        title: "set key in hand, by hash, 1 stream",
+        found: Found::ByHash,
         streams: 1,
-        lines: IN_HAND,
-        unit: RECORDING,
-        is_locked: false,
+        groups: IN_HAND,
     },
     Part {
-        title: "set key in hand, 3 streams",
+        title: "set key in hand, dense, 1 stream",
+        found: Found::Dense,
+        streams: 1,
+        groups: IN_HAND,
+    },
+    Part {
+        title: "set key in hand, by hash, 3 streams",
+        found: Found::ByHash,
         streams: 3,
-        lines: IN_HAND,
-        unit: RECORDING,
-        is_locked: false,
+        groups: IN_HAND,
+    },
+    Part {
+        title: "set key in hand, dense, 3 streams",
+        found: Found::Dense,
+        streams: 3,
+        groups: IN_HAND,
     },
 ];
 
 const PARTS_BY_SEAT: &[Part] = &[
     Part {
-        title: "a seat, 3 attributes, 1 stream",
+        title: "a seat, 3 attributes, by hash, 1 stream",
+        found: Found::ByHash,
         streams: 1,
-        lines: BY_SEAT,
-        unit: RECORDING,
-        is_locked: true,
+        groups: BY_SEAT,
     },
     Part {
-        title: "a seat, 3 attributes, 3 streams",
+        title: "a seat, 3 attributes, dense, 1 stream",
+        found: Found::Dense,
+        streams: 1,
+        groups: BY_SEAT,
+    },
+    Part {
+        title: "a seat, 3 attributes, by hash, 3 streams",
+        found: Found::ByHash,
         streams: 3,
-        lines: BY_SEAT,
-        unit: RECORDING,
-        is_locked: true,
+        groups: BY_SEAT,
+    },
+    Part {
+        title: "a seat, 3 attributes, dense, 3 streams",
+        found: Found::Dense,
+        streams: 3,
+        groups: BY_SEAT,
     },
 ];
 
-const COLLECTIONS: &[Part] = &[Part {
-    title: "a collection",
-    streams: 1,
-    lines: COLLECTED,
-    unit: "ns a point",
-    is_locked: false,
-}];
+const COLLECTIONS: &[Part] = &[
+    Part {
+        title: "a collection, by hash",
+        found: Found::ByHash,
+        streams: 1,
+        groups: COLLECTED,
+    },
+    Part {
+        title: "a collection, dense",
+        found: Found::Dense,
+        streams: 1,
+        groups: COLLECTED,
+    },
+];
 
 /// Measures recordings.
 pub(crate) fn measure<R: Wait + Clock>(
@@ -222,9 +191,9 @@ pub(crate) fn measure<R: Wait + Clock>(
     bench: &mut Bench,
     words: &Words<'_>,
 ) -> anyhow::Result<()> {
-    measure_lists(rt, bench, words, false)?;
+    lists::measure(rt, bench, words, false)?;
     measure_parts(rt, bench, words, PARTS_IN_HAND)?;
-    measure_lists(rt, bench, words, true)?;
+    lists::measure(rt, bench, words, true)?;
     measure_parts(rt, bench, words, PARTS_BY_SEAT)
 }
 
@@ -257,24 +226,10 @@ fn measure_series<R: Wait + Clock>(
     events: u32,
 ) -> anyhow::Result<()> {
     for part in parts {
-        let floor = floor_of(rt, bench.alloc, part, series)?;
-        bench.begin(part.title, "series", floor)?;
+        bench.begin(part.title, "series")?;
         measure_part(rt, bench, part, series, events)?;
     }
     Ok(())
-}
-
-fn floor_of<R: Wait + Clock>(
-    rt: &R,
-    alloc: Global,
-    part: &Part,
-    series: u32,
-) -> anyhow::Result<Floor> {
-    if part.is_locked {
-        return locked(rt, alloc, series, part.streams);
-    }
-    let floor = look_up(rt, alloc, series)?;
-    Ok(floor.shared(u64::from(part.streams), 1))
 }
 
 fn measure_part<R: Wait + Clock>(
@@ -284,251 +239,195 @@ fn measure_part<R: Wait + Clock>(
     series: u32,
     events: u32,
 ) -> anyhow::Result<()> {
-    let plan = plan_of(bench.alloc, &kinds(WIDE_KEYS), part.streams)?;
-    for line in part.lines {
-        let case = Case::new(&plan, part, line, series, events);
-        bench.measure(rt, &case.row(line.name, part.unit), &Work::Case(case))?;
+    for group in part.groups {
+        let floor = floor_of(rt, bench.alloc, group.beside, series)?;
+        bench.floor = floor.shared(u64::from(part.streams), 1);
+        measure_lines(rt, bench, part, group.lines, series, events)?;
     }
     Ok(())
 }
 
-/// What is done with so many series of an instrument of a plan.
+fn measure_lines<R: Wait + Clock>(
+    rt: &R,
+    bench: &mut Bench,
+    part: &Part,
+    lines: &[(&'static str, u32, Act)],
+    series: u32,
+    events: u32,
+) -> anyhow::Result<()> {
+    for (name, kind, act) in lines {
+        let case = Case::new(part, *kind, *act, series, events);
+        bench.measure(rt, &case.row(*name), &Work::Case(case))?;
+    }
+    Ok(())
+}
+
+fn floor_of<R: Wait + Clock>(
+    rt: &R,
+    alloc: Global,
+    beside: Beside,
+    series: u32,
+) -> anyhow::Result<Floor> {
+    match beside {
+        Beside::LookUp => look_up(rt, alloc, series),
+        Beside::Place => at_place(rt, alloc, series),
+        Beside::Texts(hash) => by_texts(rt, alloc, hash, series),
+    }
+}
+
+/// What is done with so many series of an instrument.
 #[derive(Clone, Copy)]
-pub(crate) struct Case<'a> {
-    plan: &'a Plan,
-    instrument: u32,
+pub(crate) struct Case {
+    kind: u32,
     act: Act,
+    found: Found,
     streams: u32,
     series: u32,
-    // How often the series are gone through before.
+    // How many recordings or points there are in a round.
+    count: u32,
+    // How many rounds there are before.
     before: u32,
-    // How often they are gone through.
+    // How many rounds there are.
     rounds: u32,
 }
 
-impl<'a> Case<'a> {
+impl Case {
     // About as many recordings as there are events, where series are held.
-    fn new(plan: &'a Plan, part: &Part, line: &Line, series: u32, events: u32) -> Case<'a> {
-        let rounds = (events / series.max(1)).max(1);
-        let (before, rounds) = match line.act {
+    fn new(part: &Part, kind: u32, act: Act, series: u32, events: u32) -> Case {
+        let count = match act {
+            Act::HeldByLists => series.div_ceil(LIST).saturating_mul(LIST),
+            _ => series,
+        };
+        let rounds = (events / count.max(1)).max(1);
+        let (before, rounds) = match act {
             Act::New | Act::NewBySeat => (0, 1),
             Act::Collect => (1, 1),
             _ => (1, rounds),
         };
         Case {
-            plan,
-            instrument: line.kind,
-            act: line.act,
+            kind,
+            act,
+            found: part.found,
             streams: part.streams,
             series,
+            count,
             before,
             rounds,
         }
     }
 
-    fn row(&self, name: &'static str, unit: &'static str) -> Row {
-        let size = u64::from(self.series);
+    // A collection is one operation, however many points it has.
+    fn row(&self, name: &'static str) -> Row {
+        let count = u64::from(self.count);
+        let operations = u64::from(self.rounds) * count;
+        let unit = if matches!(self.act, Act::Collect) {
+            "ns a point, timed once"
+        } else if operations == 1 {
+            "ns a recording, timed once"
+        } else {
+            "ns a recording"
+        };
         Row {
             name,
-            size,
-            operations: u64::from(self.rounds) * size,
+            size: u64::from(self.series),
+            operations,
             unit: Unit::each(unit),
         }
     }
-}
 
-/// Does what a case says. How many recordings were accepted, or how many streams were collected.
-pub(crate) fn case_done<R: Wait + Clock>(
-    rt: &R,
-    alloc: Global,
-    case: &Case<'_>,
-    watch: &mut Watch,
-) -> anyhow::Result<u64> {
-    match case.act {
-        Act::HeldInSlot => record_in_slot(rt, alloc, case, watch),
-        Act::NewBySeat | Act::HeldBySeat => record_by_seat(rt, alloc, case, watch),
-        _ => record_or_collect(rt, alloc, case, watch),
+    fn plan(&self, alloc: Global) -> anyhow::Result<Plan> {
+        let shape = one_of(self.kind, self.series, self.found);
+        plan_of(alloc, &shape, self.streams)
     }
 }
 
-fn record_or_collect<R: Clock>(
+/// Does what a case says. A number that depends on all of it.
+pub(crate) fn case_done<R: Wait + Clock>(
     rt: &R,
     alloc: Global,
-    case: &Case<'_>,
+    case: &Case,
     watch: &mut Watch,
 ) -> anyhow::Result<u64> {
-    let mut instrument = Instrument::new(alloc, case.plan, case.instrument, case.series)?;
-    instrument.repeat(case.before);
-    watch.start(rt);
-    let number = match case.act {
-        Act::Collect => instrument.collect(alloc),
-        _ => Ok(instrument.repeat(case.rounds)),
-    };
-    watch.stop(rt);
-    number
+    match case.act {
+        Act::New | Act::Held => record_in_cell(rt, alloc, case, watch),
+        Act::NewBySeat | Act::HeldBySeat => record_by_seat(rt, alloc, case, watch),
+        Act::HeldBySet => record_keyed(rt, alloc, case, false, watch),
+        Act::HeldByLists => record_keyed(rt, alloc, case, true, watch),
+        Act::Collect => collect_once(rt, alloc, case, watch),
+    }
 }
 
-fn record_in_slot<R: Clock>(
+// The instrument after the rounds before.
+fn instrument_of(alloc: Global, case: &Case) -> anyhow::Result<Instrument> {
+    let plan = case.plan(alloc)?;
+    let recordings = recordings(alloc, case.count, case.series)?;
+    let mut instrument = Instrument::new(alloc, &plan, recordings)?;
+    instrument.repeat(case.before)?;
+    Ok(instrument)
+}
+
+fn record_in_cell<R: Clock>(
     rt: &R,
     alloc: Global,
-    case: &Case<'_>,
+    case: &Case,
     watch: &mut Watch,
 ) -> anyhow::Result<u64> {
-    let mut in_slot = InSlot::new(alloc, case.plan, case.instrument, case.series)?;
-    in_slot.repeat(case.before)?;
+    let mut instrument = instrument_of(alloc, case)?;
     watch.start(rt);
-    let accepted = in_slot.repeat(case.rounds);
+    let made = instrument.repeat(case.rounds);
     watch.stop(rt);
-    accepted
+    made
+}
+
+fn collect_once<R: Clock>(
+    rt: &R,
+    alloc: Global,
+    case: &Case,
+    watch: &mut Watch,
+) -> anyhow::Result<u64> {
+    let mut instrument = instrument_of(alloc, case)?;
+    watch.start(rt);
+    let batch = instrument.collect(alloc);
+    watch.stop(rt);
+    Ok(number_of(&batch?))
 }
 
 fn record_by_seat<R: Wait + Clock>(
     rt: &R,
     alloc: Global,
-    case: &Case<'_>,
+    case: &Case,
     watch: &mut Watch,
 ) -> anyhow::Result<u64> {
-    let mut seats = seats_of_kinds(rt, alloc, WIDE_KEYS, case.streams)?;
+    let mut seats = started(rt, alloc, case.plan(alloc)?)?;
     let rounds = Rounds {
-        instrument: case.instrument,
+        instrument: 0,
         series: case.series,
     };
     record_by_last(rt, &mut seats, rounds, case.before)?;
     watch.start(rt);
-    let accepted = record_by_last(rt, &mut seats, rounds, case.rounds);
+    let made = record_by_last(rt, &mut seats, rounds, case.rounds);
     watch.stop(rt);
-    accepted
+    made
 }
 
-/// Lists of so many attributes, one after the other, made set keys or recorded by a seat.
-#[derive(Clone, Copy)]
-pub(crate) struct Lists {
-    count: u32,
-    events: u32,
-    is_by_seat: bool,
-}
-
-fn measure_lists<R: Wait + Clock>(
-    rt: &R,
-    bench: &mut Bench,
-    words: &Words<'_>,
-    is_by_seat: bool,
-) -> anyhow::Result<()> {
-    begin_lists(rt, bench, is_by_seat)?;
-    for count in words.attributes_or(ATTRIBUTES) {
-        let lists = Lists {
-            count: *count,
-            events: words.events,
-            is_by_seat,
-        };
-        bench.measure(rt, &lists.row(), &Work::Lists(lists))?;
-    }
-    Ok(())
-}
-
-fn begin_lists<R: Wait + Clock>(rt: &R, bench: &mut Bench, is_by_seat: bool) -> anyhow::Result<()> {
-    if is_by_seat {
-        let floor = locked(rt, bench.alloc, MANY_VALUES, 1)?;
-        bench.begin("a seat, one stream", "attributes", floor)?;
-    } else {
-        let floor = look_up(rt, bench.alloc, 1)?;
-        bench.begin("attributes at the call", "attributes", floor)?;
-    }
-    Ok(())
-}
-
-impl Lists {
-    fn row(&self) -> Row {
-        let (name, unit) = match self.is_by_seat {
-            true => ("sum, held", RECORDING),
-            false => ("set key of attributes", "ns a set key"),
-        };
-        Row {
-            name,
-            size: u64::from(self.count),
-            operations: u64::from(self.events),
-            unit: Unit::each(unit),
-        }
-    }
-}
-
-/// Takes lists of attributes, one after the other. A number that depends on all.
-pub(crate) fn lists_done<R: Wait + Clock>(
+fn record_keyed<R: Wait + Clock>(
     rt: &R,
     alloc: Global,
-    lists: &Lists,
+    case: &Case,
+    are_listed: bool,
     watch: &mut Watch,
 ) -> anyhow::Result<u64> {
-    let all = inputs::lists(alloc, lists.count)?;
-    if lists.is_by_seat {
-        record_lists(rt, alloc, lists, &all, watch)
-    } else {
-        encode_lists(rt, alloc, lists, &all, watch)
-    }
-}
-
-fn encode_lists<R: Clock>(
-    rt: &R,
-    alloc: Global,
-    lists: &Lists,
-    all: &[Vec<Attr<'_>>],
-    watch: &mut Watch,
-) -> anyhow::Result<u64> {
-    let text = catalogue(alloc, &kinds(lists.count))?;
-    let catalogue = Catalogue::read(alloc, &text)?;
-    watch.start(rt);
-    let sum = encode_all(&catalogue, all, lists.events);
-    watch.stop(rt);
-    sum
-}
-
-// The set keys of one list of attributes after the other. The sum of their first entries.
-fn encode_all(catalogue: &Catalogue, all: &[Vec<Attr<'_>>], events: u32) -> anyhow::Result<u64> {
-    let walk = Walk::new();
-    let mut sum: u64 = 0;
-    let mut at = 0;
-    for _ in 0..events {
-        at = walk.after(at, all.len());
-        if let Some(attributes) = all.get(at) {
-            let set = catalogue.encode(0, attributes)?;
-            sum = sum.wrapping_add(u64::from(set[0]));
-        }
-    }
-    Ok(sum)
-}
-
-fn record_lists<R: Wait + Clock>(
-    rt: &R,
-    alloc: Global,
-    lists: &Lists,
-    all: &[Vec<Attr<'_>>],
-    watch: &mut Watch,
-) -> anyhow::Result<u64> {
-    let mut seats = seats_of_kinds(rt, alloc, lists.count, 1)?;
+    let mut seats = started(rt, alloc, case.plan(alloc)?)?;
+    let recordings = recordings(alloc, case.count, case.series)?;
     let recorder = seats.recorders.last_mut().context("no recorder")?;
+    let keyed = Keyed {
+        instrument: 0,
+        recordings: &recordings,
+        are_listed,
+    };
+    keyed.repeat(rt, &seats.provider, recorder, case.before)?;
     watch.start(rt);
-    let accepted = record_all(rt, &seats.provider, recorder, all, lists.events);
+    let made = keyed.repeat(rt, &seats.provider, recorder, case.rounds);
     watch.stop(rt);
-    accepted
-}
-
-// Recordings with one list of attributes after the other. How many there were.
-fn record_all<R: Wait>(
-    rt: &R,
-    provider: &MeterProvider,
-    recorder: &mut Recorder,
-    all: &[Vec<Attr<'_>>],
-    events: u32,
-) -> anyhow::Result<u64> {
-    let walk = Walk::new();
-    let mut accepted: u64 = 0;
-    let mut at = 0;
-    for _ in 0..events {
-        at = walk.after(at, all.len());
-        if let Some(attributes) = all.get(at) {
-            recorder.record(rt, provider, 0, attributes, 1)?;
-            accepted = accepted.wrapping_add(1);
-        }
-    }
-    Ok(accepted)
+    Ok(made?)
 }

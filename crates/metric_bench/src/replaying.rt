@@ -1,7 +1,7 @@
 //! What it costs to replay a script.
 use crate::bench::{Bench, Row, SPEED};
 use crate::floors::copy;
-use crate::inputs::{RECORDERS, SOME_VALUES, Shape, catalogue, config};
+use crate::inputs::{BUDGET, RECORDERS, SOME_VALUES, Shape, catalogue, config};
 use crate::works::Work;
 use metric_commands::{ReplayOptions, replay};
 use metric_sdk::{CutSink, CutSource};
@@ -22,18 +22,19 @@ const BETWEEN: u32 = 100;
 // What is declared: four counters of three keys.
 const SHAPE: Shape = Shape {
     instruments: 4,
-    differ: false,
+    kind: 0,
     keys: 3,
     values: SOME_VALUES,
     recorders: RECORDERS,
+    budget: BUDGET,
 };
 
 const ATTRIBUTES: &str = " \"key.0\"=\"value.0\" \"key.1\"=\"value.1\" \"key.2\"=\"value.7\"\n";
 
 /// Measures replays.
 pub(crate) fn measure<R: Wait + Clock>(rt: &R, bench: &mut Bench) -> anyhow::Result<()> {
-    let floor = copy(rt, bench.alloc)?;
-    bench.begin("replays, by the bytes read", "bytes", floor)?;
+    bench.floor = copy(rt, bench.alloc)?;
+    bench.begin("replays, by the bytes read", "bytes")?;
     for (count, name) in EVENTS {
         let input = input(bench.alloc, *count)?;
         let bytes = input.len() as u64;

@@ -1,7 +1,7 @@
 //! A provider of a certified plan with its seats, and what a seat records.
-use crate::inputs::{kinds, plan_of, three_attributes, value_of};
+use crate::inputs::Cycle;
 use anyhow::Context;
-use metric_sdk::{Collector, MeterProvider, NoGate, Plan, Recorder, start};
+use metric_sdk::{Collector, Measurement, MeterProvider, NoGate, Plan, Recorder, Refusal, start};
 use std::alloc::Global;
 use std::sync::Wait;
 use std::sync::atomic::{AtomicBool, Ordering};
@@ -39,16 +39,6 @@ pub(crate) fn started<R: Wait>(rt: &R, alloc: Global, plan: Plan) -> anyhow::Res
     }
 }
 
-/// A provider of an instrument of each kind with so many keys and streams, with its seats.
-pub(crate) fn seats_of_kinds<R: Wait>(
-    rt: &R,
-    alloc: Global,
-    keys: u32,
-    streams: u32,
-) -> anyhow::Result<Seats> {
-    started(rt, alloc, plan_of(alloc, &kinds(keys), streams)?)
-}
-
 /// One series after the other of an instrument, with three attributes each.
 #[derive(Clone, Copy)]
 pub(crate) struct Rounds {
@@ -57,21 +47,7 @@ pub(crate) struct Rounds {
 }
 
 impl Rounds {
-    // Makes a recording of the series of this number. Whether it was accepted.
-    fn record<R: Wait>(
-        self,
-        rt: &R,
-        provider: &MeterProvider,
-        recorder: &mut Recorder,
-        number: u32,
-    ) -> bool {
-        let attributes = three_attributes(number);
-        let value = value_of(number);
-        let answer = recorder.record(rt, provider, self.instrument, &attributes, value);
-        answer.is_ok()
-    }
-
-    /// Makes so many recordings, or fewer where it is over before. How many were accepted.
+    /// Makes so many recordings, or fewer where it is over before. How many there were.
     pub(crate) fn repeat<R: Wait>(
         self,
         rt: &R,
@@ -79,24 +55,23 @@ impl Rounds {
         recorder: &mut Recorder,
         events: u32,
         is_over: &AtomicBool,
-    ) -> u64 {
-        let mut accepted: u64 = 0;
-        let mut number: u32 = 0;
+    ) -> Result<u64, Refusal> {
+        let mut cycle = Cycle::new(self.series);
+        let mut made: u64 = 0;
         for _ in 0..events {
             if is_over.load(Ordering::SeqCst) {
                 break;
             }
-            if self.record(rt, provider, recorder, number) {
-                accepted = accepted.wrapping_add(1);
-            }
-            let next = number.wrapping_add(1);
-            number = if next < self.series { next } else { 0 };
+            let attributes = cycle.attributes();
+            recorder.record(rt, provider, self.instrument, &attributes, cycle.value())?;
+            made = made.wrapping_add(1);
+            cycle.step();
         }
-        accepted
+        Ok(made)
     }
 }
 
-/// Goes through the series so many times by the last recorder. How many recordings were accepted.
+/// Goes through the series so many times by the last recorder. How many recordings there were.
 pub(crate) fn record_by_last<R: Wait>(
     rt: &R,
     seats: &mut Seats,
@@ -106,5 +81,80 @@ pub(crate) fn record_by_last<R: Wait>(
     let recorder = seats.recorders.last_mut().context("no recorder")?;
     let events = times.saturating_mul(rounds.series);
     let never = AtomicBool::new(false);
-    Ok(rounds.repeat(rt, &seats.provider, recorder, events, &never))
+    Ok(rounds.repeat(rt, &seats.provider, recorder, events, &never)?)
+}
+
+/// Recordings on an instrument with their set keys in hand.
+#[derive(Clone, Copy)]
+pub(crate) struct Keyed<'a> {
+    pub instrument: u32,
+    pub recordings: &'a [Measurement],
+    /// Whether each list of [`LIST`] is made under one lock.
+    pub are_listed: bool,
+}
+
+/// How many recordings are made under one lock.
+pub(crate) const LIST: u32 = 16;
+
+impl Keyed<'_> {
+    /// How often each recording is made, where so many are asked for: once at least.
+    pub(crate) fn times(self, events: u32) -> u32 {
+        let count = u32::try_from(self.recordings.len()).unwrap_or(u32::MAX);
+        (events / count.max(1)).max(1)
+    }
+
+    /// Makes each recording so many times. How many there were.
+    pub(crate) fn repeat<R: Wait>(
+        self,
+        rt: &R,
+        provider: &MeterProvider,
+        recorder: &mut Recorder,
+        times: u32,
+    ) -> Result<u64, Refusal> {
+        for _ in 0..times {
+            if self.are_listed {
+                self.record_lists(rt, provider, recorder)?;
+            } else {
+                self.record_each(rt, provider, recorder)?;
+            }
+        }
+        Ok(u64::from(times).wrapping_mul(self.recordings.len() as u64))
+    }
+
+    fn record_each<R: Wait>(
+        self,
+        rt: &R,
+        provider: &MeterProvider,
+        recorder: &mut Recorder,
+    ) -> Result<(), Refusal> {
+        for one in self.recordings {
+            recorder.record_set(rt, provider, self.instrument, one.set, one.value)?;
+        }
+        Ok(())
+    }
+
+    fn record_lists<R: Wait>(
+        self,
+        rt: &R,
+        provider: &MeterProvider,
+        recorder: &mut Recorder,
+    ) -> Result<(), Refusal> {
+        for list in self.recordings.chunks(LIST as usize) {
+            record_list(rt, provider, recorder, self.instrument, list)?;
+        }
+        Ok(())
+    }
+}
+
+fn record_list<R: Wait>(
+    rt: &R,
+    provider: &MeterProvider,
+    recorder: &mut Recorder,
+    instrument: u32,
+    list: &[Measurement],
+) -> Result<(), Refusal> {
+    match recorder.record_sets(rt, provider, instrument, list) {
+        Ok(()) => Ok(()),
+        Err(fault) => Err(fault.refusal),
+    }
 }

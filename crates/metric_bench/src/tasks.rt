@@ -1,9 +1,10 @@
 //! What several threads do at once.
 use crate::floors::add_all;
-use crate::seats::Rounds;
-use crate::watch::{Measured, Watch};
+use crate::points::number_of;
+use crate::seats::{Keyed, Rounds};
+use crate::watch::{Measured, Spread, Watch};
 use anyhow::Context;
-use metric_sdk::{Collector, MeterProvider, Recorder};
+use metric_sdk::{Batch, Collector, MeterProvider, Recorder};
 use std::alloc::Global;
 use std::sync::atomic::{AtomicBool, AtomicU64, Ordering};
 use std::sync::{Mutex, Wait};
@@ -11,25 +12,37 @@ use std::thread;
 use std::thread::Threads;
 use std::time::Clock;
 
-// How often threads do their tasks together. The least of the times counts.
-const REPETITIONS: u32 = 5;
+// How often threads do their tasks together. The middle one of the times counts.
+const REPETITIONS: u32 = 9;
 
 // How often a thread looks whether the others have started.
 const TURNS: u32 = 1_000_000;
 
-/// A seat that records one series after the other.
+/// A seat, and what it records: one series after the other by attributes, or lists of set keys.
 #[derive(Drop)]
 pub(crate) struct Caller<'a> {
     pub provider: &'a MeterProvider,
     pub recorder: Recorder,
     pub rounds: Rounds,
+    pub keyed: Keyed<'a>,
 }
 
 impl Caller<'_> {
-    // Makes so many recordings, or fewer where it is over before.
-    fn repeat<R: Wait>(&mut self, rt: &R, events: u32, is_over: &AtomicBool) -> u64 {
-        self.rounds
-            .repeat(rt, self.provider, &mut self.recorder, events, is_over)
+    // Makes so many recordings, or fewer where it is over before. How many there were; nothing where one was refused.
+    fn repeat<R: Wait>(&mut self, rt: &R, events: u32, is_over: &AtomicBool) -> Option<u64> {
+        let made = self
+            .rounds
+            .repeat(rt, self.provider, &mut self.recorder, events, is_over);
+        made.ok()
+    }
+
+    // Makes so many recordings by lists, in whole rounds.
+    fn repeat_lists<R: Wait>(&mut self, rt: &R, events: u32) -> Option<u64> {
+        let times = self.keyed.times(events);
+        let made = self
+            .keyed
+            .repeat(rt, self.provider, &mut self.recorder, times);
+        made.ok()
     }
 }
 
@@ -45,6 +58,8 @@ pub(crate) struct Collections<'a> {
 pub(crate) enum Task<'a> {
     /// Recordings.
     Record(Caller<'a>),
+    /// Recordings by lists, each under one lock.
+    RecordLists(Caller<'a>),
     /// Recordings until it is over, whose time is not measured.
     RecordUntil(Caller<'a>),
     /// Collections, after which it is over.
@@ -104,11 +119,12 @@ impl<'a> Runner<'a> {
 }
 
 impl Task<'_> {
-    // Does it. A number that depends on all of it, or nothing where a collection failed.
+    // Does it. A number that depends on all of it, or nothing where a recording or a collection failed.
     fn work<R: Wait>(&mut self, rt: &R, race: &Race) -> Option<u64> {
         match self {
-            Task::Record(caller) => Some(caller.repeat(rt, race.events, &race.is_over)),
-            Task::RecordUntil(caller) => Some(caller.repeat(rt, u32::MAX, &race.is_over)),
+            Task::Record(caller) => caller.repeat(rt, race.events, &race.is_over),
+            Task::RecordLists(caller) => caller.repeat_lists(rt, race.events),
+            Task::RecordUntil(caller) => caller.repeat(rt, u32::MAX, &race.is_over),
             Task::Collect(collections) => collections.collect(rt, race),
             Task::Add(sum) => Some(add_all(rt, sum, race.events)),
         }
@@ -128,22 +144,31 @@ impl Task<'_> {
 }
 
 impl Collections<'_> {
-    // Collects. How many batches there were, or nothing where a collection failed.
+    // Collects. A number that depends on all points, or nothing where a collection failed.
     fn repeat<R: Wait>(&mut self, rt: &R, race: &Race) -> Option<u64> {
-        let mut batches: u64 = 0;
+        let mut number: u64 = 0;
         for _ in 0..race.events {
             let answer = self.collector.collect_all(rt, race.alloc, self.provider, 0);
-            batches = batches.wrapping_add(answer.ok()?.len() as u64);
+            let batches = answer.ok()?;
+            number = number.wrapping_add(number_of_all(&batches));
         }
-        Some(batches)
+        Some(number)
     }
 
     // Collects, and then tells the others that it is over, also where a collection failed.
     fn collect<R: Wait>(&mut self, rt: &R, race: &Race) -> Option<u64> {
-        let batches = self.repeat(rt, race);
+        let number = self.repeat(rt, race);
         race.is_over.store(true, Ordering::SeqCst);
-        batches
+        number
     }
+}
+
+fn number_of_all(batches: &[Batch]) -> u64 {
+    let mut number: u64 = 0;
+    for batch in batches {
+        number = number.wrapping_add(number_of(batch));
+    }
+    number
 }
 
 // Lets each runner do its task in a thread of its own.
@@ -173,24 +198,33 @@ fn run_all<R: Threads + Wait + Clock + Sync>(
     );
 }
 
-/// The least time that the tasks take together, so many times each: that of the thread that takes longest.
-pub(crate) fn least_together<R: Threads + Wait + Clock + Sync>(
+/// The times that the tasks take together, so many times each: those of the threads that take longest.
+pub(crate) fn times_together<R: Threads + Wait + Clock + Sync>(
     rt: &R,
     alloc: Global,
     runners: &mut Vec<Runner<'_>>,
     events: u32,
-) -> anyhow::Result<Measured> {
-    let mut least = Measured {
-        nanoseconds: u64::MAX,
-        number: 0,
-    };
+) -> anyhow::Result<Spread> {
+    let mut times = Vec::new(alloc);
+    let mut number: u64 = 0;
     for _ in 0..REPETITIONS {
         run_all(rt, alloc, runners, events);
-        let all = together(runners).context("a collection or the clock failed")?;
-        least.nanoseconds = least.nanoseconds.min(all.nanoseconds);
-        least.number = least.number.wrapping_add(all.number);
+        let all = together(runners).context("a recording, a collection or the clock failed")?;
+        times.push(all.nanoseconds)?;
+        number = number.wrapping_add(all.number);
     }
-    Ok(least)
+    times.sort_unstable();
+    Ok(spread_of(&times, number))
+}
+
+// Of times that rise.
+fn spread_of(times: &[u64], number: u64) -> Spread {
+    Spread {
+        least: times.first().copied().unwrap_or(0),
+        median: times.get(times.len() / 2).copied().unwrap_or(0),
+        most: times.last().copied().unwrap_or(0),
+        number,
+    }
 }
 
 // The time of the thread that took longest, and what came of all, or nothing where one failed.

@@ -1,13 +1,14 @@
 //! What recordings cost that several threads make at once, and a collection beside them.
 use crate::bench::{Bench, Row, Unit, each};
+use crate::cells::recordings;
 use crate::floors::{Floor, look_up};
-use crate::inputs::{MANY_VALUES, Shape, WIDE_KEYS, plan_of};
-use crate::seats::{Rounds, Seats, record_by_last, started};
-use crate::tasks::{Caller, Collections, Runner, Task, least_together};
-use crate::watch::Measured;
+use crate::inputs::{BUDGET, Shape, WIDE_KEYS, plan_of, values_for};
+use crate::seats::{Keyed, Rounds, Seats, record_by_last, started};
+use crate::tasks::{Caller, Collections, Runner, Task, times_together};
+use crate::watch::Spread;
 use crate::words::Words;
 use crossbeam_utils::CachePadded;
-use metric_sdk::{Collector, MeterProvider, Recorder};
+use metric_sdk::{Collector, Measurement, MeterProvider, Recorder};
 use std::alloc::{AllocError, Global};
 use std::sync::{Mutex, Wait};
 use std::thread::Threads;
@@ -25,25 +26,39 @@ const COLLECTIONS: u32 = 50;
 // How many series threads record.
 const SERIES: u32 = 1_000;
 
+// How many recordings there are in a round of lists: whole lists.
+const LISTED: u32 = 1_008;
+
 // How often as much a bare lock is taken as recordings are made.
-const MORE: u32 = 8;
+const MORE: u32 = 4;
 
 // What a bare lock costs.
 const LOCK: &str = "a lock with an addition, as many threads";
 
-// What threads record: one instrument, an instrument each, or one instrument until all have been collected.
+// What threads record: one instrument, an instrument each, each recording by itself or lists under one lock; or one
+// instrument until all have been collected.
 #[derive(Clone, Copy)]
 enum Sharing {
     One,
+    OneByLists,
     Each,
+    EachByLists,
     Beside,
 }
+
+// In which order they are measured.
+const SHARINGS: &[Sharing] = &[
+    Sharing::One,
+    Sharing::OneByLists,
+    Sharing::Each,
+    Sharing::EachByLists,
+];
 
 impl Sharing {
     // Which one the thread of this number has.
     fn number(self, thread: u32) -> u32 {
         match self {
-            Sharing::Each => thread,
+            Sharing::Each | Sharing::EachByLists => thread,
             _ => 0,
         }
     }
@@ -52,25 +67,52 @@ impl Sharing {
     fn names(self) -> (&'static str, &'static str) {
         match self {
             Sharing::Each => ("an instrument each", "an instrument each, throughput"),
+            Sharing::EachByLists => (
+                "an instrument each, lists of 16",
+                "an instrument each, lists, throughput",
+            ),
+            Sharing::OneByLists => (
+                "one instrument, lists of 16",
+                "one instrument, lists, throughput",
+            ),
             _ => ("one instrument", "one instrument, throughput"),
         }
     }
 
-    fn caller<'a>(self, provider: &'a MeterProvider, recorder: Recorder) -> Caller<'a> {
-        Caller {
+    fn task<'a>(
+        self,
+        provider: &'a MeterProvider,
+        recorder: Recorder,
+        recordings: &'a [Measurement],
+    ) -> Task<'a> {
+        let instrument = self.number(recorder.number());
+        let caller = Caller {
             provider,
+            recorder,
             rounds: Rounds {
-                instrument: self.number(recorder.number()),
+                instrument,
                 series: SERIES,
             },
-            recorder,
+            keyed: Keyed {
+                instrument,
+                recordings,
+                are_listed: true,
+            },
+        };
+        match self {
+            Sharing::Beside => Task::RecordUntil(caller),
+            Sharing::OneByLists | Sharing::EachByLists => Task::RecordLists(caller),
+            _ => Task::Record(caller),
         }
     }
 
-    fn task<'a>(self, caller: Caller<'a>) -> Task<'a> {
+    // How many recordings each thread makes, where so many are asked for.
+    fn made(self, events: u32) -> u32 {
         match self {
-            Sharing::Beside => Task::RecordUntil(caller),
-            _ => Task::Record(caller),
+            Sharing::OneByLists | Sharing::EachByLists => {
+                (events / LISTED).max(1).saturating_mul(LISTED)
+            }
+            _ => events,
         }
     }
 }
@@ -81,12 +123,13 @@ pub(crate) fn measure<R: Threads + Wait + Clock + Sync>(
     bench: &mut Bench,
     words: &Words<'_>,
 ) -> anyhow::Result<()> {
+    bench.begin("threads, 3 attributes, 1000 series", "threads")?;
+    for sharing in SHARINGS {
+        measure_sharing(rt, bench, words, *sharing)?;
+    }
     let floor = look_up(rt, bench.alloc, SERIES)?;
-    bench.begin("threads, 3 attributes, 1000 series", "threads", floor)?;
-    measure_sharing(rt, bench, words, Sharing::One)?;
-    measure_sharing(rt, bench, words, Sharing::Each)?;
-    let floor = floor.shared(u64::from(SERIES), 1);
-    bench.begin("collect_all of 1000 series beside", "threads", floor)?;
+    bench.floor = floor.shared(u64::from(SERIES), 1);
+    bench.begin("collect_all of 1000 series, all read", "threads")?;
     measure_collections(rt, bench)
 }
 
@@ -95,24 +138,34 @@ fn measure_collections<R: Threads + Wait + Clock + Sync>(
     bench: &mut Bench,
 ) -> anyhow::Result<()> {
     for threads in BESIDE {
-        let measured = seats_measured(rt, bench.alloc, COLLECTIONS, Sharing::Beside, *threads)?;
+        let spread = seats_measured(rt, bench.alloc, COLLECTIONS, Sharing::Beside, *threads)?;
         let row = Row {
-            name: "recordings on its instrument",
+            name: "beside recordings on its instrument",
             size: u64::from(*threads),
             operations: u64::from(COLLECTIONS),
             unit: Unit::each("ns a collection"),
         };
-        bench.tell(&row, measured)?;
+        bench.tell_spread(&row, &spread)?;
     }
     Ok(())
 }
 
-// What one operation costs each of so many threads, in thousandths of a nanosecond.
+// What so many threads did at once.
 #[derive(Clone, Copy)]
 struct Figures {
     threads: u32,
-    recording: u64,
+    // How many recordings each made, and how long that took.
+    made: u64,
+    recording: Spread,
+    // The thousandths of what an addition under a bare lock took.
     lock: u64,
+}
+
+impl Figures {
+    // The thousandths of what a recording took.
+    fn each(&self) -> u64 {
+        each(self.recording.median, self.made)
+    }
 }
 
 fn measure_sharing<R: Threads + Wait + Clock + Sync>(
@@ -127,7 +180,7 @@ fn measure_sharing<R: Threads + Wait + Clock + Sync>(
             1 => one,
             threads => figures_of(rt, bench, words.events, sharing, threads)?,
         };
-        add_figures(bench, sharing, one, several)?;
+        add_figures(bench, sharing, &one, &several)?;
     }
     Ok(())
 }
@@ -136,34 +189,32 @@ fn measure_sharing<R: Threads + Wait + Clock + Sync>(
 fn add_figures(
     bench: &mut Bench,
     sharing: Sharing,
-    one: Figures,
-    several: Figures,
+    one: &Figures,
+    several: &Figures,
 ) -> Result<(), AllocError> {
     let (time, throughput) = sharing.names();
     let row = Row {
         name: time,
         size: u64::from(several.threads),
-        operations: 1000,
+        operations: several.made,
         unit: Unit::each("ns a recording of each thread"),
     };
     bench.floor = Floor {
         name: LOCK,
         each: several.lock,
     };
-    bench.add(&row, several.recording)?;
+    bench.tell_spread(&row, &several.recording)?;
     let row = Row {
         name: throughput,
         unit: Unit::each("times one thread"),
+        operations: 1000,
         ..row
     };
     bench.floor = Floor {
         name: LOCK,
         each: times(one.lock, several.lock, several.threads),
     };
-    bench.add(
-        &row,
-        times(one.recording, several.recording, several.threads),
-    )
+    bench.add(&row, times(one.each(), several.each(), several.threads))
 }
 
 // How many times as much so many threads do as one, in thousandths, by what one operation takes each of them.
@@ -185,12 +236,12 @@ fn figures_of<R: Threads + Wait + Clock + Sync>(
     let more = events.saturating_mul(MORE);
     let recording = seats_measured(rt, bench.alloc, events, sharing, threads)?;
     let lock = lock_measured(rt, bench.alloc, more, sharing, threads)?;
-    bench.count(recording.number);
     bench.count(lock.number);
     Ok(Figures {
         threads,
-        recording: each(recording.nanoseconds, u64::from(events)),
-        lock: each(lock.nanoseconds, u64::from(more)),
+        made: u64::from(sharing.made(events)),
+        recording,
+        lock: each(lock.median, u64::from(more)),
     })
 }
 
@@ -201,32 +252,35 @@ fn seats_measured<R: Threads + Wait + Clock + Sync>(
     events: u32,
     sharing: Sharing,
     threads: u32,
-) -> anyhow::Result<Measured> {
+) -> anyhow::Result<Spread> {
     let mut seats = seats_of(rt, alloc, threads.saturating_add(1))?;
     let rounds = Rounds {
         instrument: 0,
         series: SERIES,
     };
     record_by_last(rt, &mut seats, rounds, 1)?;
+    let recordings = recordings(alloc, LISTED, SERIES)?;
     let mut runners = runners_of(
         alloc,
         &seats.provider,
         &mut seats.recorders,
         &mut seats.collectors,
+        &recordings,
         sharing,
         threads,
     )?;
-    least_together(rt, alloc, &mut runners, events)
+    times_together(rt, alloc, &mut runners, events)
 }
 
 // A provider with so many recorders and instruments.
 fn seats_of<R: Wait>(rt: &R, alloc: Global, count: u32) -> anyhow::Result<Seats> {
     let shape = Shape {
         instruments: count,
-        differ: false,
+        kind: 0,
         keys: WIDE_KEYS,
-        values: MANY_VALUES,
+        values: values_for(SERIES),
         recorders: count,
+        budget: BUDGET,
     };
     started(rt, alloc, plan_of(alloc, &shape, 1)?)
 }
@@ -237,14 +291,14 @@ fn runners_of<'a>(
     provider: &'a MeterProvider,
     recorders: &mut Vec<Recorder>,
     collectors: &mut Vec<Collector>,
+    recordings: &'a [Measurement],
     sharing: Sharing,
     threads: u32,
 ) -> Result<Vec<Runner<'a>>, AllocError> {
     let mut runners = Vec::new(alloc);
     for _ in 0..threads {
         if let Some(recorder) = recorders.pop() {
-            let caller = sharing.caller(provider, recorder);
-            runners.push(Runner::new(sharing.task(caller)))?;
+            runners.push(Runner::new(sharing.task(provider, recorder, recordings)))?;
         }
     }
     if let (Sharing::Beside, Some(collector)) = (sharing, collectors.pop()) {
@@ -263,10 +317,10 @@ fn lock_measured<R: Threads + Wait + Clock + Sync>(
     events: u32,
     sharing: Sharing,
     threads: u32,
-) -> anyhow::Result<Measured> {
+) -> anyhow::Result<Spread> {
     let sums = sums(alloc, threads)?;
     let mut runners = adders_of(alloc, &sums, threads, sharing)?;
-    least_together(rt, alloc, &mut runners, events)
+    times_together(rt, alloc, &mut runners, events)
 }
 
 // So many sums, each behind a lock.

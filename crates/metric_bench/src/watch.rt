@@ -42,6 +42,17 @@ fn nanoseconds_since<R: Clock>(rt: &R, start: Option<Instant>) -> Option<u64> {
     u64::try_from(took.as_nanos()).ok()
 }
 
+/// What came of work that was measured several times.
+#[derive(Clone, Copy)]
+pub(crate) struct Spread {
+    /// The least, the middle and the greatest of the times, in nanoseconds.
+    pub least: u64,
+    pub median: u64,
+    pub most: u64,
+    /// A number that depends on all of the work.
+    pub number: u64,
+}
+
 /// What came of measured work.
 #[derive(Clone, Copy)]
 pub(crate) struct Measured {

@@ -1,5 +1,5 @@
 //! The words of the command line.
-use crate::inputs::{MOST_SETS, MOST_THREADS};
+use crate::inputs::{MOST_EVENTS, MOST_SETS, MOST_THREADS};
 use clap::builder::ValueParser;
 use clap::{Arg, ArgAction, ArgMatches, Command, Error};
 use std::alloc::{AllocError, Global};
@@ -23,8 +23,13 @@ pub(crate) struct Words<'a> {
 impl Words<'_> {
     /// Whether a part is measured.
     pub(crate) fn ask_for(&self, part: &str) -> bool {
+        self.name("all") || self.name(part)
+    }
+
+    /// Whether the words name a part, which `all` does not.
+    pub(crate) fn name(&self, part: &str) -> bool {
         match self.part {
-            Some(word) => word == "all" || word == part,
+            Some(word) => word == part,
             None => false,
         }
     }
@@ -67,6 +72,7 @@ const PARTS: &[&str] = &[
     "check",
     "replay",
     "memory",
+    "allocations",
 ];
 
 // How often an operation is repeated, where no word says it.
@@ -97,7 +103,7 @@ fn command<'a>(alloc: Global) -> Result<Command<'a>, AllocError> {
         number(alloc, "series", 1, u64::from(MOST_SETS)),
         number(alloc, "attributes", 0, 8),
         number(alloc, "threads", 1, u64::from(MOST_THREADS)),
-        number(alloc, "events", 1, 100_000_000),
+        number(alloc, "events", 1, u64::from(MOST_EVENTS)),
     ]?;
     Command::new(alloc, "metric_bench").args(arguments)
 }

@@ -1,8 +1,10 @@
 //! The works that are measured, and the least time that each takes.
+use crate::by_hand::{Hash, add_at_places, add_by_texts};
 use crate::checking::{Step, Texts, step_done};
-use crate::floors::{add_events, copy_bytes, look_up_sets};
+use crate::floors::{copy_bytes, look_up_sets};
 use crate::histograms::add_values;
-use crate::recording::{Case, Lists, case_done, lists_done};
+use crate::lists::{Lists, lists_done};
+use crate::recording::{Case, case_done};
 use crate::replaying::replayed;
 use crate::watch::{Measured, Watch};
 use anyhow::Context;
@@ -14,16 +16,18 @@ use std::time::Clock;
 /// What is done while the clock runs. Each work makes ready what it needs.
 #[derive(Clone, Copy)]
 pub(crate) enum Work<'a> {
-    /// Additions under a lock.
-    Additions,
     /// Look-ups in a map of so many set keys.
     LookUps(u32),
+    /// Additions at so many places, each under a lock.
+    Places(u32),
+    /// Additions in a map of so many series, each by three texts under a lock.
+    Texts(Hash, u32),
     /// A copy of bytes.
     Copy,
     /// Lists of attributes, one after the other.
     Lists(Lists),
     /// Recordings or a collection of an instrument.
-    Case(Case<'a>),
+    Case(Case),
     /// So many values added to a histogram.
     Values(&'a Shared<Boundaries>, u32),
     /// A step with a catalogue, a config and their certificate.
@@ -41,8 +45,9 @@ impl Work<'_> {
         watch: &mut Watch,
     ) -> anyhow::Result<u64> {
         match self {
-            Work::Additions => Ok(add_events(rt)),
             Work::LookUps(count) => look_up_sets(rt, alloc, *count, watch),
+            Work::Places(count) => add_at_places(rt, alloc, *count, watch),
+            Work::Texts(hash, count) => add_by_texts(rt, alloc, *hash, *count, watch),
             Work::Copy => copy_bytes(rt, alloc, watch),
             Work::Lists(lists) => lists_done(rt, alloc, lists, watch),
             Work::Case(case) => case_done(rt, alloc, case, watch),
