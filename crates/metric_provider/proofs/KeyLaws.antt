@@ -1,8 +1,8 @@
 -- Recordings of set keys, one after the other.
-use Rattle.std.proofs.Common.{◌≡◌, ◌<◌, ◌≤◌, ℕ, zero, suc, ◌+◌, ℤ, Bool, true, ◌&&◌, List, [], ◌∷◌, ◌++◌, Option, Some, None, Result, Ok, Err, All, get_or, length, pos, take, refl, sym, ap, subst, ◌∙◌, arith}
+use Rattle.std.proofs.Common.{◌≡◌, ◌<◌, ◌≤◌, ℕ, ◌+◌, ℤ, Bool, ◌&&◌, List, [], ◌∷◌, ◌++◌, Option, Some, None, Result, Ok, Err, All, get_or, length, pos, take, refl, sym, ap, subst, ◌∙◌, arith}
 use Rattle.std.specs.Prelude.{IfSome, slice_get, slice_set, ◌==◌, nat_lt}
 use Rattle.std.specs.Option.{option_map_or}
-use Rattle.std.proofs.lemmas.List.{get_or-set_same, get_or_read, length-set, set-get_or, set-set, take-take, take_all, take_more}
+use Rattle.std.proofs.lemmas.List.{get_or-set_same, get_or_read, length-set, set-get_or, set-set, take_all, take_more}
 use Rattle.std.proofs.lemmas.List.Elements.{All-more, All-take}
 use Rattle.std.proofs.lemmas.Option.{get_or_from_slice_get, same_Some, slice_get-get_or, slice_get_within}
 use Rattle.metric_base.specs.StepLaws.{after_ok, ok_is, require_ok}
@@ -15,26 +15,11 @@ use Rattle.metric_plan.specs.Plans.{PlanValue}
 use Rattle.metric_provider.proofs.AdmitLaws.{IsDeclared, knows, of_key, told_there}
 use Rattle.metric_provider.specs.declared.fault.SetsFault.{SetsFault}
 use Rattle.metric_provider.specs.declared.keys.Measurement.{Measurement}
-use Rattle.metric_provider.specs.KeyRecordings.{AnswersKey, AreAccepted, AreAdmitted, IsAdmitted, IsRecordable, IsRefusedAfter, IsRefusedUnder, IsUnadmittedAfter, KnowsEach, admitted_key, declared_key, told_each, told_of, told_of_all}
-use Rattle.metric_provider.specs.Providers.{KnowsRecording}
+use Rattle.metric_provider.specs.KeyRecordings.{AreAccepted, AreAdmitted, IsAdmitted, IsRecordable, IsRefusedAfter, IsRefusedUnder, IsUnadmittedAfter, KnowsEach, admitted_key, declared_key, told_each, told_of, told_of_all}
 use Rattle.metric_provider.specs.Recordings.{AnswersSeat, RefusesRecording, told_at, with_recording}
 use Rattle.metric_provider.specs.Seats.{ProviderValue, RecorderValue, is_recorder_of, nothing_told}
 use Rattle.metric_slot.specs.declared.told.Told.{Told}
 use Rattle.metric_slot.specs.Tellings.{told_more}
-
--- ---- lists
-
-at_take : {A : Type 0} (n i : ℕ) (all : List A) (x : A) → slice_get (take n all) i ≡ Some x → slice_get all i ≡ Some x
-at_take zero i all x found = absurd cc
-at_take (suc n) i [] x found = found
-at_take (suc n) zero (y ∷ all) x found = found
-at_take (suc n) (suc i) (y ∷ all) x found = at_take n i all x found
-
-below_take : {A : Type 0} (n i : ℕ) (all : List A) (x : A) → slice_get (take n all) i ≡ Some x → i < n
-below_take zero i all x found = absurd cc
-below_take (suc n) i [] x found = absurd cc
-below_take (suc n) zero (y ∷ all) x found = omega arith
-below_take (suc n) (suc i) (y ∷ all) x found = omega (arith, below_take n i all x found)
 
 -- ---- what a recorder was told
 
@@ -260,21 +245,3 @@ told_before_in spares p inside seat i all old last fault is admitted some lent u
     ap (λ (s : RecorderValue). record s { told = slice_set s.told i last }) is
     ∙ told_under p.plan of.own i (take fault.place all) seat last of.found long
     (here.told ∙ ap (λ (t : Told). told_each t of.own.lo (take fault.place all)) (lent_is inside seat i old is long lent))
-
--- ---- of the first of a list
-
-pub made_same : (plan : PlanValue) (seat : RecorderValue) (i place n : ℕ) (all : List Measurement) (one : Measurement) → slice_get (take n all) place ≡ Some one
-    → told_of_all plan seat i (take place (take n all)) ≡ told_of_all plan seat i (take place all)
-made_same plan seat i place n all one found =
-    ap (λ (some : List Measurement). told_of_all plan seat i some) (take-take place n all (omega (arith, below_take n place all one found)))
-
-pub refused_first : (spares : Facts → Type 0) (p : ProviderValue) (seat : RecorderValue) (i n : ℕ) (all : List Measurement) (fault : SetsFault) → IsRefusedAfter spares p seat i (take n all) fault
-    → IsRefusedAfter spares p seat i all fault
-refused_first spares p seat i n all fault of =
-    let same : take fault.place (take n all) ≡ take fault.place all = take-take fault.place n all (omega (arith, below_take n fault.place all of.one of.found)) in
-    record {
-      before = subst (λ (some : List Measurement). AreAccepted spares p seat i some) same of.before;
-      one = of.one;
-      found = at_take n fault.place all of.one of.found;
-      answer = subst (λ (some : List Measurement). AnswersKey spares p (told_of_all p.plan seat i some) i of.one (Err fault.refusal)) same of.answer;
-    }

@@ -1,5 +1,5 @@
 -- one more that the seat may make, and the first that it may not
-use Rattle.std.proofs.Common.{sym, arith}
+use Rattle.std.proofs.Common.{sym}
 use Rattle.metric_provider.specs.Seats.{ProviderValue, provider_of}
 use Rattle.metric_provider.proofs.KeyLaws.{admitted_end, admitted_more, unadmitted}
 use Rattle.metric_provider.proofs.recorder.Recorder.admit_each.Goals as goal
