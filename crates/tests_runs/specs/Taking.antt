@@ -1,9 +1,17 @@
--- A table whose series are found by hash has a place for any set.
-use Rattle.std.specs.Prelude.{ℕ, List}
+-- Which sets a table has a place for.
+use Rattle.std.specs.Prelude.{◌≡◌, true, ℕ, List}
+use Rattle.metric_dense.specs.DenseTables.{DenseTableValue, dense_tables}
+use Rattle.metric_facts.specs.Facts.{is_full_set}
+use Rattle.metric_facts.specs.declared.facts.KeyFacts.{KeyFacts}
 use Rattle.metric_series.specs.SeriesTables.{SeriesValue, series_tables}
 use Rattle.metric_series.specs.declared.series_table.ByAggregation.TheVariants.{Sum, LastValue, Histogram}
 
+-- one whose series are found by hash has a place for any set
 pub takes_any : (t : SeriesValue) (set : List ℕ) → series_tables.takes t set
 takes_any (Sum t) set = tt
 takes_any (LastValue t) set = tt
 takes_any (Histogram t) set = tt
+
+-- a dense one for each full set of some keys
+abbrev pub TakesFullSets : DenseTableValue → List KeyFacts → Type 0
+TakesFullSets t keys = (set : List ℕ) → is_full_set keys set ≡ true → dense_tables.takes t set

@@ -13,9 +13,10 @@ const INPUTS: u64 = 24;
 
 const EVENTS: u64 = 160;
 
-type Lines = &'static [&'static str];
+pub(crate) type Lines = &'static [&'static str];
 
-const BOUNDARIES: Lines = &[
+/// The boundaries of an instrument or a view.
+pub(crate) const BOUNDARIES: Lines = &[
     "",
     "boundaries = []\n",
     "boundaries = [0]\n",
@@ -42,14 +43,16 @@ const GAUGE: Lines = &[
     "kind = 'gauge'\nrange = [-9, 9]\n",
 ];
 
-const KEYS: Lines = &[
+/// The keys of an instrument.
+pub(crate) const KEYS: Lines = &[
     "key = [{ name = 'k0', values = ['a', 'b', 'c \"d'] }]\n",
     "key = [{ name = 'k0', values = ['a', 'b', 'c \"d'], optional = true }]\n",
     "key = [{ name = 'k0', values = ['a', 'b'] }, { name = 'k1', values = [true, -2], optional = true }]\n",
     "key = [{ name = 'k0', values = ['a', 'b'], optional = true }, { name = 'k1', values = [-2], optional = true }]\n",
 ];
 
-const SMALL: Lines = &["0", "2", "9", "1000"];
+/// Small budgets.
+pub(crate) const SMALL: Lines = &["0", "2", "9", "1000"];
 
 // The first recorder alone may have a very large budget, since the sum of budgets is a u64.
 const LARGE: Lines = &["0", "2", "9", "1000", "9223372036854775807"];
@@ -238,8 +241,8 @@ const SEEN: Lines = &[
     "otel.metric.overflow",
 ];
 
-// Puts one line of each list last.
-fn push_lines(out: &mut String, dice: &mut Dice, lists: &[Lines]) -> Result<(), Fail> {
+/// Puts one line of each list last.
+pub(crate) fn push_lines(out: &mut String, dice: &mut Dice, lists: &[Lines]) -> Result<(), Fail> {
     for lines in lists {
         out.push_str(dice.word(lines))?;
     }
@@ -270,7 +273,8 @@ fn push_event(out: &mut String, dice: &mut Dice) -> Result<(), Fail> {
     }
 }
 
-fn push_script(out: &mut String, dice: &mut Dice) -> Result<(), Fail> {
+/// Puts a script last, for five instruments, three recorders and sixteen readers.
+pub(crate) fn push_script(out: &mut String, dice: &mut Dice) -> Result<(), Fail> {
     out.push_str("%% script\nstart 300\n")?;
     for _ in 0..EVENTS {
         push_event(out, dice)?;

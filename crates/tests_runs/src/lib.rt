@@ -17,6 +17,8 @@ mod commands;
 #[cfg(test)]
 mod cores;
 #[cfg(test)]
+mod dense;
+#[cfg(test)]
 mod dice;
 #[cfg(test)]
 mod equal;

@@ -1,5 +1,8 @@
-//! Plans of trials, read from texts.
+//! Plans, read from texts.
 use metric_catalogue::Catalogue;
+use metric_cert::{Certificate, make};
+use metric_check::check;
+use metric_facts::Facts;
 use metric_plan::{CheckFault, Plan};
 use metric_views::Config;
 use std::alloc::Global;
@@ -17,4 +20,38 @@ pub(crate) fn plan_of(alloc: Global, catalogue: &str, config: &str) -> Result<Pl
     let catalogue = Catalogue::read(alloc, catalogue)?;
     let config = Config::read(alloc, config)?;
     Ok(trial_plan(alloc, catalogue, config)?)
+}
+
+fn checked_plan(
+    alloc: Global,
+    catalogue: Catalogue,
+    config: Config,
+    certificate: &Certificate,
+) -> Result<Plan, CheckFault> {
+    match check(alloc, catalogue, config, certificate) {
+        Ok(plan) => Ok(plan),
+        Err((_, _, fault)) => Err(fault),
+    }
+}
+
+// The plan of the certificate that is made.
+fn certified_plan(alloc: Global, catalogue: &str, config: &str) -> Result<Plan, Fail> {
+    let catalogue = Catalogue::read(alloc, catalogue)?;
+    let config = Config::read(alloc, config)?;
+    let certificate = make(alloc, &catalogue, &config)?;
+    Ok(checked_plan(alloc, catalogue, config, &certificate)?)
+}
+
+fn is_dense(facts: &Facts) -> bool {
+    facts.streams.as_slice().iter().all(|s| s.by_product)
+}
+
+/// The certified plan, whose streams are all by product.
+pub(crate) fn dense_plan_of(alloc: Global, catalogue: &str, config: &str) -> Result<Plan, Fail> {
+    let plan = certified_plan(alloc, catalogue, config)?;
+    if plan.all_facts().iter().all(|facts| is_dense(facts)) {
+        Ok(plan)
+    } else {
+        Err("a stream that is not by product".into())
+    }
 }

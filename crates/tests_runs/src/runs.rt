@@ -1,5 +1,5 @@
 //! Runs of an input's script on a core, and the text of the replies, which is what a replay writes.
-use crate::plans::plan_of;
+use crate::plans::{dense_plan_of, plan_of};
 use metric_book::Book;
 use metric_catalogue::Refusal;
 use metric_core::Core;
@@ -58,8 +58,27 @@ fn push_pieces<B: Book>(
     Ok(())
 }
 
-fn core_of<B: Book>(alloc: Global, parts: &Parts<'_>, start: u64) -> Result<Core<B>, Fail> {
-    let plan = plan_of(alloc, parts.catalogue.as_str(), parts.config.as_str())?;
+/// How the plan of a run is made.
+#[derive(Clone, Copy)]
+pub(crate) enum Made {
+    /// As a trial.
+    Tried,
+    /// By a certificate that has each stream by product.
+    Dense,
+}
+
+impl Made {
+    fn plan_of(self, alloc: Global, parts: &Parts<'_>) -> Result<Plan, Fail> {
+        let catalogue = parts.catalogue.as_str();
+        let config = parts.config.as_str();
+        match self {
+            Made::Tried => plan_of(alloc, catalogue, config),
+            Made::Dense => dense_plan_of(alloc, catalogue, config),
+        }
+    }
+}
+
+fn core_of<B: Book>(alloc: Global, plan: Plan, start: u64) -> Result<Core<B>, Fail> {
     match Core::new(alloc, plan, start) {
         Ok(core) => Ok(core),
         Err((_, refused)) => Err(Fail::from(refused)),
@@ -77,10 +96,12 @@ fn push_run<B: Book>(
     out: &mut Vec<u8>,
     alloc: Global,
     parts: &Parts<'_>,
+    made: Made,
     size: usize,
 ) -> Result<(), Fail> {
     let script = script_of(alloc, parts)?;
-    let mut core: Core<B> = core_of(alloc, parts, script.start)?;
+    let plan = made.plan_of(alloc, parts)?;
+    let mut core: Core<B> = core_of(alloc, plan, script.start)?;
     push_pieces(out, alloc, &mut core, script.events.as_slice(), size)
 }
 
@@ -89,20 +110,31 @@ const TRIAL: Needs = Needs {
     script: true,
 };
 
-fn push_trial<B: Book>(
+fn push_input<B: Book>(
     out: &mut Vec<u8>,
     alloc: Global,
     input: &[u8],
+    made: Made,
     size: usize,
 ) -> Result<(), Fail> {
     let lines = lines(alloc, input)?;
     let parts = parts_of(alloc, &lines, TRIAL)?;
-    push_run::<B>(out, alloc, &parts, size)
+    push_run::<B>(out, alloc, &parts, made, size)
 }
 
 /// The replies of a new core to the script of an input, where each run has at most so many events.
 pub(crate) fn told<B: Book>(alloc: Global, input: &str, size: usize) -> Result<String, Fail> {
+    told_by::<B>(alloc, input, Made::Tried, size)
+}
+
+/// The same, where the plan is made in this way.
+pub(crate) fn told_by<B: Book>(
+    alloc: Global,
+    input: &str,
+    made: Made,
+    size: usize,
+) -> Result<String, Fail> {
     let mut out = Vec::new(alloc);
-    push_trial::<B>(&mut out, alloc, input.as_bytes(), size)?;
+    push_input::<B>(&mut out, alloc, input.as_bytes(), made, size)?;
     Ok(String::from_utf8(out)?)
 }

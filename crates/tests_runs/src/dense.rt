@@ -1,0 +1,285 @@
+//! Dense tables: the ranks of sets, the points after them, and scripts over plans whose streams are all by product.
+ghost use Rattle.std.specs.Prelude.{◌≡◌, ◌==◌, true, OnOk};
+ghost use Rattle.std.specs.List.{list_all};
+ghost use Rattle.metric_facts.specs.Facts.{is_entry, is_full_set};
+ghost use Rattle.metric_facts.specs.Products.{AreDense};
+ghost use Rattle.tests_runs.specs.Taking.{TakesFullSets};
+
+use crate::agreement::{BOUNDARIES, KEYS, Lines, SMALL, push_lines, push_script};
+use crate::dice::Dice;
+use crate::equal::assert_equal;
+use crate::plans::dense_plan_of;
+use crate::runs::{Made, told, told_by};
+use metric_catalogue::SetKey;
+use metric_dense::{DenseTable, dense_table};
+use metric_facts::{Facts, KeyFacts};
+use metric_journal::JournalBook;
+use metric_marked::Marked;
+use metric_plan::Plan;
+use metric_series::Table;
+use std::alloc::Global;
+use std::test::Fail;
+
+const CATALOGUE: &str = "format = 1
+[[meter]]
+name = 'm'
+[[meter.instrument]]
+name = 'hits'
+kind = 'counter'
+range = [0, 100]
+key = [{ name = 'route', values = ['/a', '/b'] }]
+[[meter.instrument]]
+name = 'heat'
+kind = 'gauge'
+range = [-9, 9]
+key = [{ name = 'a', values = [1, 2] }, { name = 'b', values = [1, 2, 3], optional = true }]
+";
+
+const CONFIG: &str = "format = 1
+[[reader]]
+name = 'main'
+";
+
+// Instruments, each with the first two entries of set keys and values.
+const ADDED: &[(u32, &[(u16, u16, i64)])] = &[
+    (0, &[(2, 0, 5), (1, 0, 1), (2, 0, 2)]),
+    (1, &[(1, 3, 4), (2, 0, -6), (2, 3, 3), (1, 0, 8), (1, 3, 9)]),
+];
+
+// The place of each value, the points after them, and how many are left once the table is emptied.
+const TOLD: &str = "\
+Held(1);Held(0);Held(1);
+Some([1, 0, 0, 0, 0, 0, 0, 0]) Sum(1)
+Some([2, 0, 0, 0, 0, 0, 0, 0]) Sum(7)
+0
+Held(3);Held(4);Held(7);Held(0);Held(3);
+Some([1, 0, 0, 0, 0, 0, 0, 0]) Last(8)
+Some([1, 3, 0, 0, 0, 0, 0, 0]) Last(9)
+Some([2, 0, 0, 0, 0, 0, 0, 0]) Last(-6)
+Some([2, 3, 0, 0, 0, 0, 0, 0]) Last(3)
+0
+";
+
+// Whether an entry names a value of the key, or is 0 where the key may be left out.
+fn is_entry(key: &KeyFacts, entry: u16) -> bool
+    ensures { result ≡ is_entry key.now entry }
+{
+    if entry == 0 {
+        key.optional
+    } else {
+        entry <= key.values
+    }
+}
+
+// Whether each entry is 0.
+fn are_zero(entries: &[u16]) -> bool
+    ensures { result ≡ list_all (λ entry. entry == 0) entries.now }
+{
+    entries.iter().all(|entry| *entry == 0)
+}
+
+// Whether the entries are a full set of the keys.
+fn is_full(keys: &[KeyFacts], entries: &[u16]) -> bool
+    ensures { result ≡ is_full_set keys.now entries.now }
+{
+    match (keys.split_first(), entries.split_first()) {
+        (None, _) => are_zero(entries),
+        (Some(_), None) => false,
+        (Some((key, keys)), Some((entry, rest))) => is_entry(key, *entry) && is_full(keys, rest),
+    }
+}
+
+// Makes a table ready for a value. An even one is put there, an odd one is put back and then added by one call.
+fn write_added(
+    out: &mut String,
+    table: &mut DenseTable,
+    keys: &[KeyFacts],
+    set: &SetKey,
+    value: i64,
+) -> Result<(), Fail>
+    requires takes { TakesFullSets table.old keys.now }
+    requires full { is_full_set keys.now set.now ≡ true }
+    ensures { OnOk result (TakesFullSets table.new keys.now) }
+{
+    match table.ready(set, value) {
+        Ok(place) if value % 2 == 0 => {
+            table.put(place, value);
+            Ok(write!(out, "{place:?};")?)
+        }
+        Ok(place) => {
+            table.unready(place);
+            table.add(set, value)?;
+            Ok(write!(out, "{place:?};")?)
+        }
+        Err(fault) => Err(fault.into()),
+    }
+}
+
+fn write_all_added(
+    out: &mut String,
+    table: &mut DenseTable,
+    keys: &[KeyFacts],
+    added: &[(u16, u16, i64)],
+) -> Result<(), Fail>
+    requires { TakesFullSets table.old keys.now }
+{
+    for (first, second, value) in added {
+        let set = [*first, *second, 0, 0, 0, 0, 0, 0];
+        if !is_full(keys, &set) {
+            return Err("no set of the instrument".into());
+        }
+        write_added(out, table, keys, &set, *value)?;
+    }
+    Ok(out.push_str("\n")?)
+}
+
+// The points, and how many there are once the table is emptied.
+fn write_points(out: &mut String, alloc: Global, table: &mut DenseTable) -> Result<(), Fail> {
+    for point in table.points(alloc)? {
+        write!(out, "{:?} {:?}\n", point.set, point.value)?;
+    }
+    table.reset();
+    let left = table.points(alloc)?.len();
+    Ok(write!(out, "{left}\n")?)
+}
+
+// What the table of an instrument's first stream tells.
+fn write_table(
+    out: &mut String,
+    alloc: Global,
+    facts: &Facts,
+    added: &[(u16, u16, i64)],
+) -> Result<(), Fail>
+    requires { AreDense facts.now }
+{
+    let keys = facts.keys.as_slice();
+    let streams = facts.streams.as_slice();
+    let [numbered, ..] = streams else {
+        return Err("no stream".into());
+    };
+    if !numbered.by_product {
+        return Err("not by product".into());
+    }
+    let mut table = dense_table(alloc, keys, &numbered.stream)?;
+    write_all_added(out, &mut table, keys, added)?;
+    write_points(out, alloc, &mut table)
+}
+
+fn write_instrument(
+    out: &mut String,
+    alloc: Global,
+    plan: &Plan,
+    instrument: u32,
+    added: &[(u16, u16, i64)],
+) -> Result<(), Fail> {
+    if instrument as usize >= plan.all_facts().len() {
+        return Err("no such instrument".into());
+    }
+    // For the proof alone: the catalogue is sound.
+    let _sound = plan.catalogue().instruments();
+    write_table(out, alloc, plan.facts(instrument), added)
+}
+
+fn tables_told(alloc: Global) -> Result<String, Fail> {
+    let plan = dense_plan_of(alloc, CATALOGUE, CONFIG)?;
+    let mut out = String::new(alloc);
+    for (instrument, added) in ADDED {
+        write_instrument(&mut out, alloc, &plan, *instrument, added)?;
+    }
+    Ok(out)
+}
+
+#[test]
+fn a_dense_table_has_a_place_for_each_series(rt: HostRuntime) -> Result<(), Fail> {
+    assert_equal(&rt, tables_told(rt.alloc())?.as_str(), TOLD);
+    Ok(())
+}
+
+// How many inputs there are.
+const INPUTS: u64 = 12;
+
+const DECLARED: &[Lines] = &[
+    &["%% catalogue\nformat = 1\n[[meter]]\nname = 'm'\n"],
+    &["[[meter.instrument]]\nname = 'i0'\nkind = 'counter'\nrange = [0, 9]\n"],
+    BOUNDARIES,
+    KEYS,
+    &["[[meter.instrument]]\nname = 'i1'\nkind = 'up_down_counter'\nrange = [-9, 9]\n"],
+    BOUNDARIES,
+    KEYS,
+    &["[[meter.instrument]]\nname = 'i2'\nkind = 'histogram'\nrange = [0, 9]\n"],
+    BOUNDARIES,
+    KEYS,
+    &["[[meter.instrument]]\nname = 'i3'\nkind = 'gauge'\nrange = [-9, 9]\n"],
+    BOUNDARIES,
+    KEYS,
+    &["[[meter.instrument]]\nname = 'i4'\nkind = 'counter'\nrange = [0, 9]\n"],
+    BOUNDARIES,
+    KEYS,
+];
+
+const BUDGETS: &[Lines] = &[
+    &["budget = [{ instrument = 0, amount = "],
+    SMALL,
+    &[" }, { instrument = 1, amount = "],
+    SMALL,
+    &[" }, { instrument = 2, amount = "],
+    SMALL,
+    &[" }, { instrument = 3, amount = "],
+    SMALL,
+    &[" }, { instrument = 4, amount = "],
+    SMALL,
+    &[" }]\n"],
+];
+
+const READER: &[Lines] = &[
+    &[
+        "",
+        "temporality = { counter = 'delta', gauge = 'delta' }\n",
+        "temporality = { up_down_counter = 'delta', histogram = 'delta' }\n",
+    ],
+    &[
+        "",
+        "aggregation = { histogram = 'sum' }\n",
+        "aggregation = { counter = 'explicit_bucket_histogram', gauge = 'explicit_bucket_histogram' }\n",
+    ],
+];
+
+const VIEW: &[Lines] = &[&[
+    "",
+    "[[view]]\nkeep = []\n",
+    "[[view]]\nexclude = ['k0']\n",
+    "[[view]]\nkeep = ['k1', 'k2']\n",
+    "[[view]]\naggregation = 'sum'\n",
+]];
+
+fn push_input(out: &mut String, dice: &mut Dice) -> Result<(), Fail> {
+    push_lines(out, dice, DECLARED)?;
+    for number in 0..3 {
+        write!(out, "[[recorder]]\nname = 'p{number}'\n")?;
+        push_lines(out, dice, BUDGETS)?;
+    }
+    out.push_str("%% config\nformat = 1\n")?;
+    for number in 0..16 {
+        write!(out, "[[reader]]\nname = 'q{number}'\n")?;
+        push_lines(out, dice, READER)?;
+    }
+    push_lines(out, dice, VIEW)?;
+    push_script(out, dice)
+}
+
+// Whether dense tables give the replies of a book that keeps the whole journal.
+fn agrees(alloc: Global, seed: u64) -> Result<bool, Fail> {
+    let mut input = String::new(alloc);
+    push_input(&mut input, &mut Dice::new(seed))?;
+    let wanted = told::<JournalBook>(alloc, &input, usize::MAX)?;
+    let found = told_by::<Marked>(alloc, &input, Made::Dense, usize::MAX)?;
+    Ok(found.as_str() == wanted.as_str())
+}
+
+#[test]
+fn dense_tables_give_the_same_replies(rt: HostRuntime) -> Result<(), Fail> {
+    for seed in 0..INPUTS {
+        assert_equal(&rt, (seed, agrees(rt.alloc(), seed)?), (seed, true));
+    }
+    Ok(())
+}
