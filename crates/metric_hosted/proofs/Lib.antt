@@ -1,0 +1,4 @@
+pub mod PlanFacts
+pub mod AdmitLaws
+pub mod ListLaws
+pub mod SettleLaws

@@ -1,0 +1,5 @@
+pub mod Hosts
+pub mod Recordings
+pub mod Listings
+pub mod Collections
+pub mod Settlements
