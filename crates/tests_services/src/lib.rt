@@ -20,6 +20,8 @@ mod exporters;
 #[cfg(test)]
 mod gates;
 #[cfg(test)]
+mod hosted;
+#[cfg(test)]
 mod keys;
 #[cfg(test)]
 mod periods;

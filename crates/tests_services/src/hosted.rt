@@ -1,0 +1,226 @@
+//! Instruments that a host keeps behind locks of its own, and their seats.
+ghost use Rattle.std.specs.Prelude.{IsTrue};
+
+use crate::equal::assert_equal;
+use crate::samples::{MAIN, ROUTES};
+use crate::texts::{write_batch, write_refusal, write_reply};
+use metric_catalogue::{Attr, Refusal, SetKey};
+use metric_history::Reply;
+use metric_hosted::{Hosted, Prepared, ReaderSeat, RecorderSeat};
+use metric_plan::Plan;
+use metric_sdk::{ValueRef, certified_plan};
+use std::alloc::{AllocError, Global};
+use std::test::Fail;
+
+// What is done with one instrument, a seat of its recorder and one of its reader.
+enum Step {
+    // A recording with this value of the route.
+    Record(&'static str, i64),
+    // A recording with the first entry of the set key.
+    RecordSet(u16, i64),
+    RecordSets(&'static [(u16, i64)]),
+    Collect(u64),
+    Close,
+    Settle,
+}
+
+struct Case {
+    // The number of the run of the seats; that of the instrument is 1.
+    run: u64,
+    steps: &'static [Step],
+    told: &'static str,
+}
+
+const CASES: &[Case] = &[
+    Case {
+        run: 1,
+        steps: &[
+            Step::Record("/a", 5),
+            Step::Record("/c", 5),
+            Step::RecordSet(2, 10),
+            Step::RecordSet(3, 1),
+            Step::RecordSet(2, 9),
+            Step::Collect(10),
+            Step::RecordSets(&[(1, 2), (1, 1)]),
+            Step::Collect(9),
+            Step::Close,
+            Step::RecordSet(1, 1),
+            Step::Close,
+            Step::Settle,
+        ],
+        told: "accepted
+5 UnknownValue
+7 ValueRange
+5 UnknownValue
+accepted
+0 0, 0 to 2, 7 to 10: stream 0 [1 0] 5 [2 0] 9
+1 made, then 9 Budget
+0 0, 0 to 3, 7 to 10: stream 0 [1 0] 7 [2 0] 9
+done
+8 Closed
+8 Closed
+3 come to 16
+",
+    },
+    // Seats of another run.
+    Case {
+        run: 2,
+        steps: &[
+            Step::Record("/a", 5),
+            Step::RecordSets(&[(1, 2)]),
+            Step::RecordSets(&[]),
+            Step::Collect(10),
+            Step::Settle,
+        ],
+        told: "12 Stranger
+0 made, then 12 Stranger
+made
+12 Stranger
+a stranger's
+",
+    },
+];
+
+// An instrument with the seats of one recorder and one reader.
+#[derive(Drop)]
+struct Held<'a> {
+    plan: &'a Plan,
+    instrument: Hosted,
+    recorder: RecorderSeat,
+    reader: ReaderSeat,
+}
+
+fn held_of(alloc: Global, plan: &Plan, run: u64) -> Result<Held<'_>, Fail>
+    requires { IsTrue plan.now.is_certified }
+{
+    let instruments = plan.all_facts().len();
+    if instruments == 0 {
+        return Err(Fail::from("no instrument"));
+    }
+    Ok(Held {
+        plan,
+        instrument: Hosted::new(alloc, plan, 0, 7, 1)?,
+        recorder: RecorderSeat::new(alloc, run, 0, instruments)?,
+        reader: ReaderSeat::new(alloc, run, 0, instruments)?,
+    })
+}
+
+fn key_of(entry: u16) -> SetKey {
+    [entry, 0, 0, 0, 0, 0, 0, 0]
+}
+
+fn reply_of(answer: Result<(), Refusal>, done: Reply) -> Reply {
+    match answer {
+        Ok(()) => done,
+        Err(refusal) => Reply::Refused(refusal),
+    }
+}
+
+fn prepared(alloc: Global, list: &[(u16, i64)]) -> Result<Vec<Prepared>, AllocError> {
+    let mut all = Vec::new(alloc);
+    for (entry, value) in list {
+        let value = *value;
+        all.push(Prepared {
+            set: key_of(*entry),
+            value,
+        })?;
+    }
+    Ok(all)
+}
+
+fn write_list(
+    out: &mut String,
+    alloc: Global,
+    held: &mut Held<'_>,
+    list: &[(u16, i64)],
+) -> Result<(), AllocError> {
+    let all = prepared(alloc, list)?;
+    let answer = held
+        .recorder
+        .record_sets(held.plan, &mut held.instrument, all.as_slice());
+    match answer {
+        Ok(()) => out.push_str("made\n"),
+        Err(ended) => {
+            write!(out, "{} made, then ", ended.done)?;
+            write_refusal(out, ended.refusal)
+        }
+    }
+}
+
+fn write_collected(
+    out: &mut String,
+    alloc: Global,
+    held: &mut Held<'_>,
+    now: u64,
+) -> Result<(), AllocError> {
+    let answer = held
+        .reader
+        .collect(alloc, held.plan, &mut held.instrument, now);
+    match answer {
+        Ok(batch) => write_batch(out, &batch),
+        Err(refusal) => write_refusal(out, refusal),
+    }
+}
+
+fn write_settled(out: &mut String, held: &Held<'_>) -> Result<(), AllocError> {
+    let Ok(told) = held.recorder.told_of(held.plan, &held.instrument) else {
+        return out.push_str("a stranger's\n");
+    };
+    match held.instrument.settle(&[told]) {
+        Ok(total) => writeln!(out, "{} come to {}", total.count, total.sum),
+        Err(fault) => writeln!(out, "{fault}"),
+    }
+}
+
+fn write_step(
+    out: &mut String,
+    alloc: Global,
+    held: &mut Held<'_>,
+    step: &Step,
+) -> Result<(), AllocError> {
+    match step {
+        Step::Record(route, value) => {
+            let route = Attr {
+                key: "route",
+                value: ValueRef::Text(route),
+            };
+            let answer = held
+                .recorder
+                .record(held.plan, &mut held.instrument, &[route], *value);
+            write_reply(out, &reply_of(answer, Reply::Accepted))
+        }
+        Step::RecordSet(entry, value) => {
+            let set = key_of(*entry);
+            let answer = held
+                .recorder
+                .record_set(held.plan, &mut held.instrument, set, *value);
+            write_reply(out, &reply_of(answer, Reply::Accepted))
+        }
+        Step::RecordSets(list) => write_list(out, alloc, held, list),
+        Step::Collect(now) => write_collected(out, alloc, held, *now),
+        Step::Close => {
+            let answer = held.instrument.close();
+            write_reply(out, &reply_of(answer, Reply::Done))
+        }
+        Step::Settle => write_settled(out, held),
+    }
+}
+
+fn told_of(alloc: Global, case: &Case) -> Result<String, Fail> {
+    let plan = certified_plan(alloc, ROUTES, MAIN)?;
+    let mut held = held_of(alloc, &plan, case.run)?;
+    let mut out = String::new(alloc);
+    for step in case.steps {
+        write_step(&mut out, alloc, &mut held, step)?;
+    }
+    Ok(out)
+}
+
+#[test]
+fn a_held_instrument_answers_its_seats(rt: HostRuntime) -> Result<(), Fail> {
+    for case in CASES {
+        let told = told_of(rt.alloc(), case)?;
+        assert_equal(&rt, told.as_str(), case.told);
+    }
+    Ok(())
+}
