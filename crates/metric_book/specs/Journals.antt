@@ -53,6 +53,11 @@ JudgesRecording stands entry result =
     (facts : Facts) (journal : List Entry) (marks : List ℕ) → stands facts journal marks
     → MayAnswer (fits_all facts (slice_index marks) journal entry) result
 
+-- whether it keeps each series in range
+abbrev pub JudgesEntry : Standing → Entry → Bool → Type 0
+JudgesEntry stands entry fits =
+    (facts : Facts) (journal : List Entry) (marks : List ℕ) → stands facts journal marks → fits_all facts (slice_index marks) journal entry ≡ fits
+
 -- the new book stands for one recording more
 abbrev pub TakesRecording : Standing → Standing → Entry → Type 0
 TakesRecording old new entry =
@@ -75,3 +80,12 @@ abbrev pub MovesMark : Standing → Standing → ℕ → Type 0
 MovesMark old new reader =
     (facts : Facts) (journal : List Entry) (marks : List ℕ) → old facts journal marks
     → new facts journal (slice_set marks reader (length journal))
+
+-- what is kept of a journal: all of it, or nothing
+abbrev pub kept_of : Bool → List Entry → List Entry
+kept_of keeps journal = if keeps then journal else []
+
+-- that is what a book has, for every journal for which it stands
+abbrev pub KeepsAllOrNothing : Standing → Bool → List Entry → Type 0
+KeepsAllOrNothing stands keeps entries =
+    (facts : Facts) (journal : List Entry) (marks : List ℕ) → stands facts journal marks → entries ≡ kept_of keeps journal

@@ -1,6 +1,6 @@
 //! What each book does.
-ghost use Rattle.std.specs.Prelude.{◌≡◌, ◌<◌, ℕ, List, length, IfOk, OnOk, OnErr};
-ghost use Rattle.metric_book.specs.Journals.{AsksForMemory, BeginsJournal, HasReader, JudgesRecording, MayTake, MovesMark, ReportsWindow, TakesRecording};
+ghost use Rattle.std.specs.Prelude.{◌≡◌, ◌<◌, ℕ, Bool, List, length, IfOk, OnOk, OnErr};
+ghost use Rattle.metric_book.specs.Journals.{AsksForMemory, BeginsJournal, HasReader, JudgesRecording, KeepsAllOrNothing, MayTake, MovesMark, ReportsWindow, TakesRecording};
 ghost use Rattle.metric_history.specs.declared.entry.Entry.{Entry as entries};
 ghost use Rattle.metric_facts.specs.declared.facts.Facts.{Facts as facts};
 
@@ -33,6 +33,14 @@ pub trait Book: Drop {
     // Recordings on an instrument with these facts take no memory.
     ghost spares_memory: { facts → Type 0 };
 
+    // The recordings that the book keeps, oldest first.
+    ghost kept: { Self → List entries };
+
+    ghost KEEPS_ENTRIES: { Bool };
+
+    /// Whether the book keeps its recordings, so that they can be told one by one.
+    const KEEPS_ENTRIES: bool;
+
     /// The book of an instrument without recordings. Where set keys are hashed, the seed keeps strangers from
     /// choosing sets that collide. Fails only where memory is refused.
     fn new(alloc: Global, plan: &Plan, instrument: u32, seed: u64) -> Result<Self, AllocError>
@@ -58,4 +66,11 @@ pub trait Book: Drop {
         ensures window { IfOk result (λ window. ReportsWindow (stands self.old) reader window) }
         ensures stands { OnOk result (MovesMark (stands self.old) (stands self.new) reader) }
         ensures err { OnErr result (self.new ≡ self.old) };
+
+    /// The accepted recordings, oldest first, where the book keeps them; else none.
+    fn entries(&self) -> &[Entry]
+        ensures { result.now ≡ kept self.now };
+
+    // A book keeps each journal for which it stands, or nothing.
+    ghost keeps_all_or_nothing: { (book : Self) → KeepsAllOrNothing (stands book) KEEPS_ENTRIES (kept book) };
 }

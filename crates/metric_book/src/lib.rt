@@ -4,5 +4,7 @@
 #![tactic(auto)]
 
 mod book;
+mod slip;
 
 pub use book::{Book, Window};
+pub use slip::Slip;

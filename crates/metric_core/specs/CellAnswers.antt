@@ -1,6 +1,6 @@
 -- What the calls of a cell answer, and what they make of it.
 use Rattle.std.specs.Prelude.{◌≡◌, ◌<◌, ◌≤◌, ◌+◌, ◌+ℤ◌, ℕ, ℤ, Bool, true, false, List, [], ◌∷◌, ◌++◌, Result, Ok, Err, slice_index, slice_set}
-use Rattle.metric_book.specs.Journals.{Standing}
+use Rattle.metric_book.specs.Journals.{Standing, kept_of}
 use Rattle.metric_catalogue.specs.declared.refusal.Refusal.{Refusal}
 use Rattle.metric_catalogue.specs.declared.refusal.Refusal.TheVariants.{Closed, Budget, SumRange, Memory}
 use Rattle.metric_history.specs.declared.batch.Batch.{Batch}
@@ -66,3 +66,7 @@ KeepsJournal stands old new = (journal : List Entry) → CellStands stands old j
 abbrev pub AnswersClose : {B : Type 0} → CellValue B → Result (Unit {0}) Refusal → Type 0
 AnswersClose c (Ok done) = c.is_closed ≡ false
 AnswersClose c (Err refusal) = (refusal ≡ Closed) × (c.is_closed ≡ true)
+
+-- the entries are what is kept of each journal for which the cell stands: all of it, or nothing
+abbrev pub TellsEntries : {B : Type 0} → (B → Standing) → Bool → CellValue B → List Entry → Type 0
+TellsEntries stands keeps c entries = (journal : List Entry) → CellStands stands c journal → entries ≡ kept_of keeps journal

@@ -1,10 +1,11 @@
 -- For which history a core stands.
-use Rattle.std.specs.Prelude.{◌≡◌, ℕ, List, Some, length, slice_get, slice_index, slice_index_or}
-use Rattle.metric_book.specs.Journals.{Standing}
+use Rattle.std.specs.Prelude.{◌≡◌, ℕ, Bool, List, Some, length, slice_get, slice_index, slice_index_or}
+use Rattle.metric_book.specs.Journals.{Standing, kept_of}
+use Rattle.metric_history.specs.declared.entry.Entry.{Entry}
 use Rattle.metric_facts.specs.declared.facts.Facts.{Facts}
 use Rattle.metric_facts.specs.Facts.{RunFacts}
 use Rattle.metric_history.specs.Answers.{Told}
-use Rattle.metric_history.specs.History.{History, told_of}
+use Rattle.metric_history.specs.History.{History, accepted, told_of}
 use Rattle.metric_core.specs.Cells.{CellValue, CellStands}
 use Rattle.metric_plan.specs.Plans.{PlanValue}
 
@@ -37,3 +38,8 @@ pub record CoreValue (B : Type 0) : Type 0 where
 -- a core has what the history says of each instrument
 abbrev pub CoreStands : {B : Type 0} → (B → Standing) → CoreValue B → History → Type 0
 CoreStands stands core h = CellsStand stands core.plan.facts core.start core.cells h
+
+-- the entries are what is kept of the instrument's accepted recordings in each history for which the core stands: all of them, or nothing
+abbrev pub TellsAccepted : {B : Type 0} → (B → Standing) → Bool → CoreValue B → ℕ → List Entry → Type 0
+TellsAccepted stands keeps core instrument entries =
+    (h : History) → CoreStands stands core h → entries ≡ kept_of keeps (accepted core.plan.facts h instrument)

@@ -1,7 +1,7 @@
 //! The state of one instrument.
 ghost use Rattle.std.specs.Prelude.{◌≡◌, ◌≢◌, ◌≤◌, ◌<◌, ◌-◌, ◌^◌, pos, neg_ℤ, ◌+ℤ◌, ◌≤ℤ◌, Some, [], true, length, slice_get, slice_index, sum, IfOk, IfErr, OnOk, OnErr};
 ghost use Rattle.metric_core.specs.Cells.{CellKept, CellStands, new_cell};
-ghost use Rattle.metric_core.specs.CellAnswers.{AnswersClose, AnswersRecording, GainsEntry, KeepsJournal, ReportsBatch, entry_of, with_batch, with_entry};
+ghost use Rattle.metric_core.specs.CellAnswers.{AnswersClose, AnswersRecording, GainsEntry, KeepsJournal, ReportsBatch, TellsEntries, entry_of, with_batch, with_entry};
 ghost use Rattle.metric_facts.specs.Facts.{in_bounds, is_full_set};
 
 use crate::budgets::Budgets;
@@ -216,6 +216,14 @@ impl<B: Book> Cell<B> {
         ensures kept { CellKept B.stands self.now }
     {
         &self.facts
+    }
+
+    /// The accepted recordings, oldest first, where the book keeps them (`B::KEEPS_ENTRIES`); else none.
+    pub fn entries(&self) -> &[Entry]
+        ensures entries { result.now ≡ B.kept self.now.book }
+        ensures journal { TellsEntries B.stands B.KEEPS_ENTRIES self.now result.now }
+    {
+        self.book.entries()
     }
 
     /// The number of the instrument.

@@ -1,7 +1,7 @@
 //! All instruments of a plan.
-ghost use Rattle.std.specs.Prelude.{◌≡◌, ℕ, ◌≤◌, List, [], length, vec_capacity, All, IfOk, IfErr, OnErr};
+ghost use Rattle.std.specs.Prelude.{◌≡◌, ℕ, ◌<◌, ◌≤◌, List, [], length, vec_capacity, All, IfOk, IfErr, OnErr};
 ghost use Rattle.metric_core.specs.CertifiedRuns.{StaysSafe};
-ghost use Rattle.metric_core.specs.CoreStands.{AreCellsOf, CellsStand, CoreStands};
+ghost use Rattle.metric_core.specs.CoreStands.{AreCellsOf, CellsStand, CoreStands, TellsAccepted};
 ghost use Rattle.metric_history.specs.declared.event.Event.{Event as events_of};
 ghost use Rattle.metric_history.specs.declared.event.Reply.{Reply as replies_of};
 ghost use Rattle.metric_history.specs.Events.{attr_count};
@@ -12,7 +12,7 @@ use crate::cell::Cell;
 use crate::steps::step;
 use metric_book::Book;
 use metric_history::laws::runs_keep_histories_legal;
-use metric_history::{Event, Reply};
+use metric_history::{Entry, Event, Reply};
 use metric_plan::Plan;
 use metric_safety::laws::safe_plans_have_safe_histories;
 use std::alloc::{AllocError, Global};
@@ -156,6 +156,15 @@ impl<B: Book> Core<B> {
         );
         runs_stay_safe(&self.plan);
         Ok(replies)
+    }
+
+    /// The accepted recordings of an instrument, oldest first, where the book keeps them (`B::KEEPS_ENTRIES`); else
+    /// none.
+    pub fn entries(&self, instrument: u32) -> &[Entry]
+        requires { instrument < length self.now.plan.facts.instruments }
+        ensures { TellsAccepted B.stands B.KEEPS_ENTRIES self.now instrument result.now }
+    {
+        self.cells[instrument as usize].entries()
     }
 
     /// The plan.

@@ -157,12 +157,21 @@ fn put(numbers: &mut [u64], reader: u32, number: u64)
 }
 
 impl Book for JournalBook {
+    ghost use Rattle.std.specs.Prelude.{[], false, refl};
     ghost use Rattle.metric_journal.specs.JournalStands.{StandsForList};
 
     ghost stands = { StandsForList };
 
     // Each recording makes the list longer.
     ghost spares_memory = { λ _. ⊥ };
+
+    ghost kept = { λ _. [] };
+
+    ghost KEEPS_ENTRIES = { false };
+
+    ghost keeps_all_or_nothing = { λ book facts journal marks stand. refl };
+
+    const KEEPS_ENTRIES: bool = false;
 
     fn new(
         alloc: Global,
@@ -188,5 +197,10 @@ impl Book for JournalBook {
         let told = self.report(alloc, reader)?;
         self.move_mark(reader);
         Ok(told)
+    }
+
+    // Its list is for its own answers alone.
+    fn entries(&self) -> &[Entry] {
+        &[]
     }
 }

@@ -1,11 +1,11 @@
 //! A book of running tables with a mark for each reader.
 ghost use Rattle.std.specs.Prelude.{◌≡◌, [], length, slice_index_or, false, IfOk, if◌then◌else◌};
-ghost use Rattle.metric_book.specs.Journals.{no_marks};
+ghost use Rattle.metric_book.specs.Journals.{JudgesEntry, MayTake, no_marks};
 ghost use Rattle.metric_facts.specs.Products.{AreDense};
 ghost use Rattle.metric_marked.specs.Marks.{ClosesWindow, StandsMarked};
 
 use crate::stream_table::StreamTable;
-use crate::tables::{empty, empty_tables, points_of, push_all};
+use crate::tables::{all_fit, empty, empty_tables, points_of, push_all};
 use metric_base::Items;
 use metric_book::{Book, Window};
 use metric_catalogue::Refusal;
@@ -53,8 +53,9 @@ impl Model for Marked {
 }
 
 impl Marked {
-    // The book of an instrument with these facts, without recordings.
-    fn with_facts(alloc: Global, facts: &Facts, seed: u64) -> Result<Marked, AllocError>
+    /// The book of an instrument with these facts, without recordings, of which no plan need be there. Set keys are
+    /// hashed with the seed. Fails only where memory is refused.
+    pub fn with_facts(alloc: Global, facts: &Facts, seed: u64) -> Result<Marked, AllocError>
         requires { AreDense facts.now }
         ensures { IfOk result (λ book. StandsMarked book facts.now [] (no_marks facts.now)) }
     {
@@ -66,15 +67,32 @@ impl Marked {
             count: 0,
         })
     }
+
+    /// Whether each series into which a recording falls stays in range with it. Takes no memory.
+    pub fn fits(&self, entry: &Entry) -> bool
+        requires { MayTake (StandsMarked self.now) entry.now }
+        ensures { JudgesEntry (StandsMarked self.now) entry.now result }
+    {
+        all_fit(&self.tables, entry)
+    }
 }
 
 impl Book for Marked {
+    ghost use Rattle.std.specs.Prelude.{[], false, refl};
     ghost use Rattle.metric_facts.specs.Products.{AreAllByProduct};
     ghost use Rattle.metric_marked.specs.Marks.{StandsMarked};
 
     ghost stands = { StandsMarked };
 
     ghost spares_memory = { AreAllByProduct };
+
+    ghost kept = { λ _. [] };
+
+    ghost KEEPS_ENTRIES = { false };
+
+    ghost keeps_all_or_nothing = { λ book facts journal marks stand. refl };
+
+    const KEEPS_ENTRIES: bool = false;
 
     fn new(alloc: Global, plan: &Plan, instrument: u32, seed: u64) -> Result<Marked, AllocError> {
         // For the proof alone: the catalogue is sound.
@@ -99,6 +117,10 @@ impl Book for Marked {
             mark: self.count,
             streams: Items::from_vec(streams),
         })
+    }
+
+    fn entries(&self) -> &[Entry] {
+        &[]
     }
 }
 

@@ -41,8 +41,8 @@ pub(crate) fn empty_tables(
     Ok(tables)
 }
 
-// Whether each series into which a recording falls stays in range with it.
-fn all_fit(tables: &[StreamTable], entry: &Entry) -> bool
+/// Whether each series into which a recording falls stays in range with it.
+pub(crate) fn all_fit(tables: &[StreamTable], entry: &Entry) -> bool
     requires { TakeAll tables.now entry.now.set }
     ensures { JudgesAll tables.now entry.now result }
 {

@@ -31,11 +31,20 @@ impl Model for Refusing {
 }
 
 impl Book for Refusing {
+    ghost use Rattle.std.specs.Prelude.{[], false, refl};
     ghost use Rattle.tests_runs.specs.Refusing.{StandsRefusing};
 
     ghost stands = { StandsRefusing };
 
     ghost spares_memory = { λ _. ⊥ };
+
+    ghost kept = { λ _. [] };
+
+    ghost KEEPS_ENTRIES = { false };
+
+    ghost keeps_all_or_nothing = { λ book facts journal marks stand. refl };
+
+    const KEEPS_ENTRIES: bool = false;
 
     fn new(alloc: Global, plan: &Plan, instrument: u32, seed: u64) -> Result<Refusing, AllocError> {
         Ok(Refusing {
@@ -62,6 +71,10 @@ impl Book for Refusing {
             return Err(AllocError);
         }
         self.book.window(alloc, reader)
+    }
+
+    fn entries(&self) -> &[Entry] {
+        &[]
     }
 }
 

@@ -1,0 +1,5 @@
+pub mod SlipLaws
+pub mod SameLaws
+pub mod ReplayLaws
+pub mod BatchLaws
+pub mod PlanLaws

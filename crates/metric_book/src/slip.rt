@@ -1,0 +1,11 @@
+//! What a recorder keeps of its recordings.
+use metric_catalogue::SetKey;
+
+/// An accepted recording, as its recorder keeps it.
+#[derive(Clone, Copy, Debug, PartialEq, Eq, Drop)]
+pub struct Slip {
+    /// The set key of its attributes.
+    pub set: SetKey,
+    /// The value.
+    pub value: i64,
+}
