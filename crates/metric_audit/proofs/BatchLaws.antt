@@ -4,7 +4,7 @@ use Rattle.std.specs.Prelude.{◌==◌, MatchBool, filter, fold, slice_get, slic
 use Rattle.std.specs.List.{list_all, list_any}
 use Rattle.std.proofs.lemmas.Bool.{cases_eq, cases_lt, eqb-true, false≢true}
 use Rattle.std.proofs.lemmas.Bool.Decides.{nat_tests}
-use Rattle.std.proofs.lemmas.List.{length-take, take-take, take_more}
+use Rattle.std.proofs.lemmas.List.{append-nil, length-take, take-take, take_more}
 use Rattle.std.proofs.lemmas.List.Elements.{All-filter}
 use Rattle.std.proofs.lemmas.List.Folds.{list_any_at}
 use Rattle.std.proofs.lemmas.List.Sums.{fold-append}
@@ -37,21 +37,22 @@ slice_get-take (x ∷ xs) (suc n) (suc i) below = slice_get-take xs n i (omega a
 -- of a reader's streams all are the reader's
 filter-twice : (r : ℕ) (streams : List NumberedStream) → filter (is_of_reader r) (filter (is_of_reader r) streams) ≡ filter (is_of_reader r) streams
 filter-twice r [] = refl
-filter-twice r (s ∷ streams) = at (is_of_reader r s) refl
+filter-twice r (s ∷ streams) = at (is_of_reader r s) refl (filter-twice r streams)
   where
-    at : (b : Bool) → is_of_reader r s ≡ b → filter (is_of_reader r) (cond b (s ∷ filter (is_of_reader r) streams) (filter (is_of_reader r) streams)) ≡ cond b (s ∷ filter (is_of_reader r) streams) (filter (is_of_reader r) streams)
-    at true e =
+    at : (b : Bool) → is_of_reader r s ≡ b → filter (is_of_reader r) (filter (is_of_reader r) streams) ≡ filter (is_of_reader r) streams
+        → filter (is_of_reader r) (cond b (s ∷ filter (is_of_reader r) streams) (filter (is_of_reader r) streams)) ≡ cond b (s ∷ filter (is_of_reader r) streams) (filter (is_of_reader r) streams)
+    at true e rest =
         ap (λ (b : Bool). cond b (s ∷ filter (is_of_reader r) (filter (is_of_reader r) streams)) (filter (is_of_reader r) (filter (is_of_reader r) streams))) e
-        ∙ ap (λ (ss : List NumberedStream). s ∷ ss) (filter-twice r streams)
-    at false e = filter-twice r streams
+        ∙ ap (λ (ss : List NumberedStream). s ∷ ss) rest
+    at false e rest = rest
 
 all-own : (r : ℕ) (streams : List NumberedStream) → list_all (is_of_reader r) (filter (is_of_reader r) streams) ≡ true
 all-own r [] = refl
-all-own r (s ∷ streams) = at (is_of_reader r s) refl
+all-own r (s ∷ streams) = at (is_of_reader r s) refl (all-own r streams)
   where
-    at : (b : Bool) → is_of_reader r s ≡ b → list_all (is_of_reader r) (cond b (s ∷ filter (is_of_reader r) streams) (filter (is_of_reader r) streams)) ≡ true
-    at true e = ap (λ (b : Bool). b && list_all (is_of_reader r) (filter (is_of_reader r) streams)) e ∙ all-own r streams
-    at false e = all-own r streams
+    at : (b : Bool) → is_of_reader r s ≡ b → list_all (is_of_reader r) (filter (is_of_reader r) streams) ≡ true → list_all (is_of_reader r) (cond b (s ∷ filter (is_of_reader r) streams) (filter (is_of_reader r) streams)) ≡ true
+    at true e rest = ap (λ (b : Bool). b && list_all (is_of_reader r) (filter (is_of_reader r) streams)) e ∙ rest
+    at false e rest = rest
 
 pub own-streams-alone : (facts : Facts) (reader : ℕ) → are_of_reader (facts_of_reader facts reader) reader ≡ true
 own-streams-alone facts reader = all-own reader facts.streams
@@ -68,10 +69,6 @@ pub streams-step : (reader : ℕ) (streams : List NumberedStream) (s : NumberedS
     → with_stream_of reader streams s ≡ streams ++ cond b (s ∷ []) []
 streams-step reader streams s true e = ap (λ (b : Bool). cond b (streams ++ s ∷ []) streams) e
 streams-step reader streams s false e = ap (λ (b : Bool). cond b (streams ++ s ∷ []) streams) e ∙ sym (append-nil streams)
-  where
-    append-nil : (xs : List NumberedStream) → xs ++ [] ≡ xs
-    append-nil [] = refl
-    append-nil (x ∷ xs) = ap (λ (ys : List NumberedStream). x ∷ ys) (append-nil xs)
 
 each-own : (facts : Facts) (reader r mark : ℕ) → r ≡ reader → (entries journal : List Entry)
     → each_may_follow (facts_of_reader facts reader) r mark journal entries ≡ each_may_follow facts r mark journal entries

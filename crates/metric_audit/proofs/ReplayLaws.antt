@@ -138,23 +138,24 @@ fits-streams : (facts : Facts) (marks : List ℕ) (reader mark : ℕ) (journal :
     → list_all (λ (s : NumberedStream). fits_stream s.stream (window (is_delta facts s.stream.reader) (slice_index marks s.stream.reader) journal) entry) streams
     ≡ list_all (λ (s : NumberedStream). fits_stream s.stream (window (is_delta facts reader) mark journal) entry) (filter (is_of_reader reader) streams)
 fits-streams facts marks reader mark journal entry own [] all = refl
-fits-streams facts marks reader mark journal entry own (s ∷ streams) all = at (is_of_reader reader s) refl all
+fits-streams facts marks reader mark journal entry own (s ∷ streams) all =
+    at (is_of_reader reader s) refl all (λ (rest : list_all (is_of_reader reader) streams ≡ true). fits-streams facts marks reader mark journal entry own streams rest)
   where
-    one : ℕ → ℕ → Bool
-    one r m = fits_stream s.stream (window (is_delta facts r) m journal) entry
-
     at : (b : Bool) → is_of_reader reader s ≡ b → (b && list_all (is_of_reader reader) streams) ≡ true
+        → (list_all (is_of_reader reader) streams ≡ true
+        → list_all (λ (s : NumberedStream). fits_stream s.stream (window (is_delta facts s.stream.reader) (slice_index marks s.stream.reader) journal) entry) streams
+        ≡ list_all (λ (s : NumberedStream). fits_stream s.stream (window (is_delta facts reader) mark journal) entry) (filter (is_of_reader reader) streams))
         → (fits_stream s.stream (window (is_delta facts s.stream.reader) (slice_index marks s.stream.reader) journal) entry
         && list_all (λ (s : NumberedStream). fits_stream s.stream (window (is_delta facts s.stream.reader) (slice_index marks s.stream.reader) journal) entry) streams)
         ≡ list_all (λ (s : NumberedStream). fits_stream s.stream (window (is_delta facts reader) mark journal) entry) (cond b (s ∷ filter (is_of_reader reader) streams) (filter (is_of_reader reader) streams))
-    at true e rest =
+    at true e rest later =
         let same : s.stream.reader ≡ reader = eqb-true s.stream.reader reader e in
         let here : fits_stream s.stream (window (is_delta facts s.stream.reader) (slice_index marks s.stream.reader) journal) entry ≡ fits_stream s.stream (window (is_delta facts reader) mark journal) entry =
         ap (λ (r : ℕ). fits_stream s.stream (window (is_delta facts r) (slice_index marks r) journal) entry) same
         ∙ ap (λ (m : ℕ). fits_stream s.stream (window (is_delta facts reader) m journal) entry) own in
         ap (λ (b : Bool). b && list_all (λ (s : NumberedStream). fits_stream s.stream (window (is_delta facts s.stream.reader) (slice_index marks s.stream.reader) journal) entry) streams) here
-        ∙ ap (λ (b : Bool). fits_stream s.stream (window (is_delta facts reader) mark journal) entry && b) (fits-streams facts marks reader mark journal entry own streams rest)
-    at false e rest = absurd (false≢true rest)
+        ∙ ap (λ (b : Bool). fits_stream s.stream (window (is_delta facts reader) mark journal) entry && b) (later rest)
+    at false e rest later = absurd (false≢true rest)
 
 pub takes-follows : (facts : Facts) (marks : List ℕ) (reader mark : ℕ) (entries journal : List Entry) → slice_index marks reader ≡ mark → are_of_reader facts reader ≡ true
     → may_take_each facts marks journal entries ≡ each_may_follow facts reader mark journal entries
@@ -182,7 +183,8 @@ head-says facts instrument start count mark time b e =
 -- a batch with another head
 pub judged-headless : (new : Standing) (facts : Facts) (instrument start : ℕ) (entries : List Entry) (mark time : ℕ) (b : Batch)
     → is_headed facts instrument start (length entries) mark time b ≡ false → JudgesBatch new facts instrument start entries mark time b false
-judged-headless new facts instrument start entries mark time b e follows = false≢true (sym e ∙ follows.headed)
+judged-headless new facts instrument start entries mark time b e =
+    λ (follows : FollowsRightly facts instrument start entries mark time b). false≢true (sym e ∙ follows.headed)
 
 -- the recordings up to the mark of a batch
 cut-at : (entries : List Entry) (mark next : ℕ) → mark ≤ next → take mark entries ++ slice_range entries mark next ≡ take next entries
@@ -202,7 +204,7 @@ room-for-range stands facts reader entries mark next small up within r = (
 pub judged-impossible : (old mid : Standing) (facts : Facts) (instrument start : ℕ) (entries : List Entry) (mark time : ℕ) (b : Batch) → are_of_reader facts b.reader ≡ true
     → IsReplayed old facts b.reader entries mark → TakesWhereIt old mid facts (slice_range entries mark b.mark) false
     → JudgesBatch mid facts instrument start entries mark time b false
-judged-impossible old mid facts instrument start entries mark time b own r taken follows =
+judged-impossible old mid facts instrument start entries mark time b own r taken = λ (follows : FollowsRightly facts instrument start entries mark time b).
     let verdict : false ≡ may_take_each facts r.marks (take mark entries) (slice_range entries mark b.mark) = (taken (take mark entries) r.marks r.known).0 in
     false≢true (verdict ∙ takes-follows facts r.marks b.reader mark (slice_range entries mark b.mark) (take mark entries) r.own own ∙ follows.possible)
 

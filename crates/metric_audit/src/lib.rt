@@ -4,8 +4,8 @@
 //! the batches can show by `audit` that they agree.
 #![tactic(auto)]
 
-mod audit;
 mod audited;
+mod auditing;
 mod batches;
 mod fault;
 mod full_sets;
@@ -14,6 +14,6 @@ mod replay;
 mod same;
 mod slips;
 
-pub use audit::audit;
 pub use audited::Audited;
+pub use auditing::audit;
 pub use fault::AuditFault;
