@@ -1,6 +1,6 @@
 -- How the slips that are still to come follow the entries of a journal.
 use Rattle.std.proofs.Common.{◌≡◌, ◌≢◌, ℕ, zero, suc, ◌+◌, ◌<◌, ◌≤◌, Bool, true, false, cond, ◌⊎◌, List, [], ◌∷◌, ◌++◌, Option, Some, None, length, drop, get_or, map, min, take, refl, sym, ap, subst, ◌∙◌, arith, ⊎_elim, inl, inr}
-use Rattle.std.specs.Prelude.{◌==◌, ◌↔◌, filter, nat_lt, replicate, slice_index_or, slice_set}
+use Rattle.std.specs.Prelude.{◌==◌, ◌↔◌, IsTrue, filter, nat_le, nat_lt, replicate, slice_index_or, slice_set}
 use Rattle.std.proofs.lemmas.Bool.{cases_lt, eqb-true}
 use Rattle.std.proofs.lemmas.Bool.Decides.{nat_tests}
 use Rattle.std.proofs.lemmas.List.{append-nil, drop_all, drop_more, get_or_past, get_or-replicate, get_or-set_other, get_or-set_same, length-set, map-append, take_more}
@@ -52,6 +52,17 @@ pub goes-on-at : (slips : List Slip) (at : ℕ) → [] ≡ drop at slips → len
 goes-on-at [] at e = omega arith
 goes-on-at (x ∷ slips) zero e = absurd (nothing-cons x slips (sym e))
 goes-on-at (x ∷ slips) (suc at) e = let rest = goes-on-at slips at e in omega arith
+
+pub end-says : (slips : List Slip) (place : Option ℕ) (at : ℕ) → place ≡ Some at → IsTrue (nat_le (length slips) at) ↔ Awaits place slips []
+end-says slips place at is =
+    subst (λ (p : Option ℕ). IsTrue (nat_le (length slips) at) ↔ Awaits p slips []) (sym is)
+    (λ (past : IsTrue (nat_le (length slips) at)). ends-at slips at (past-end past), λ (e : [] ≡ drop at slips). test-past (goes-on-at slips at e))
+  where
+    past-end : IsTrue (nat_le (length slips) at) → length slips ≤ at
+    past-end e = grind (arith, nat_tests)
+
+    test-past : length slips ≤ at → IsTrue (nat_le (length slips) at)
+    test-past h = grind (arith, nat_tests)
 
 -- a place moves, and no other
 pub advanced : (old : List (Option ℕ)) (slips : List (List Slip)) (entry : Entry) (next : Option ℕ) → length old ≡ length slips → entry.recorder < length slips
