@@ -1,6 +1,6 @@
 -- What a book takes of a journal, recording after recording, and what its batches are.
 use Rattle.std.proofs.Common.{◌≡◌, ℕ, zero, suc, ◌+◌, ◌-◌, ◌^◌, ◌<◌, ◌≤◌, Bool, true, false, ◌&&◌, cond, List, [], ◌∷◌, ◌++◌, Ok, Err, length, take, drop, get_or, refl, sym, ap, subst, ◌∙◌, arith, append_assoc}
-use Rattle.std.specs.Prelude.{◌==◌, ◌↔◌, IsTrue, MatchBool, filter, nat_le, slice_index, slice_range, slice_set, if◌then◌else◌}
+use Rattle.std.specs.Prelude.{◌==◌, ◌↔◌, IfOk, IsTrue, MatchBool, OnOk, Result, filter, nat_le, slice_index, slice_range, slice_set, if◌then◌else◌}
 use Rattle.std.specs.List.{list_all}
 use Rattle.std.proofs.Math.Seq.{take-add}
 use Rattle.std.proofs.lemmas.Bool.{eqb-true, false≢true}
@@ -251,3 +251,13 @@ judged-told old mid new facts instrument start entries mark time b same own head
     at : (v : Bool) → IsTrue v ↔ (b.streams ≡ reported facts b.reader (window (is_delta facts b.reader) mark (take b.mark entries))) → JudgesBatch new facts instrument start entries mark time b v
     at true t = (record { headed = headed; possible = possible; points = t.0 refl }, replayed)
     at false t = λ (follows : FollowsRightly facts instrument start entries mark time b). false≢true (t.1 follows.points)
+
+-- the same where the answer may fail
+pub told-result : {F : Type 0} (old mid new : Standing) (facts : Facts) (instrument start : ℕ) (entries : List Entry) (mark time : ℕ) (b : Batch) (streams : List StreamPoints) (result : Result Bool F)
+    → streams ≡ b.streams → are_of_reader facts b.reader ≡ true → true ≡ is_headed facts instrument start (length entries) mark time b
+    → IsReplayed old facts b.reader entries mark → TakesWhereIt old mid facts (slice_range entries mark b.mark) true
+    → IfOk result (λ same. ReportsPoints mid b.reader streams same) → OnOk result (MovesMark mid new b.reader)
+    → IfOk result (λ right. JudgesBatch new facts instrument start entries mark time b right)
+told-result old mid new facts instrument start entries mark time b streams (Ok same) is own headed r taken reports moves =
+    judged-told old mid new facts instrument start entries mark time b same own (sym headed) r taken (subst (λ (ss : List StreamPoints). ReportsPoints mid b.reader ss same) is reports) moves
+told-result old mid new facts instrument start entries mark time b streams (Err e) is own headed r taken reports moves = tt
