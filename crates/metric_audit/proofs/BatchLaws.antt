@@ -1,6 +1,6 @@
 -- Which batches are right, reader by reader.
-use Rattle.std.proofs.Common.{◌≡◌, ℕ, zero, suc, ◌+◌, ◌<◌, ◌≤◌, Bool, true, false, ◌&&◌, cond, ◌⊎◌, List, [], ◌∷◌, ◌++◌, Option, Some, None, All, length, take, get_or, map, min, refl, sym, ap, subst, ◌∙◌, arith, ⊎_elim, IsTrue}
-use Rattle.std.specs.Prelude.{◌==◌, MatchBool, filter, fold, slice_get, slice_range, if◌then◌else◌}
+use Rattle.std.proofs.Common.{◌≡◌, ℕ, zero, suc, ◌+◌, ◌<◌, ◌≤◌, Bool, true, false, ◌&&◌, cond, ◌⊎◌, List, [], ◌∷◌, ◌++◌, Err, Ok, Option, Some, None, All, length, take, get_or, map, min, refl, sym, ap, subst, ◌∙◌, arith, ⊎_elim, IsTrue}
+use Rattle.std.specs.Prelude.{◌==◌, IfOk, MatchBool, Result, filter, fold, slice_get, slice_range, if◌then◌else◌}
 use Rattle.std.specs.List.{list_all, list_any}
 use Rattle.std.proofs.lemmas.Bool.{cases_eq, cases_lt, eqb-true, false≢true}
 use Rattle.std.proofs.lemmas.Bool.Decides.{nat_tests}
@@ -123,6 +123,13 @@ first-whole facts instrument start entries batches reader at f = record {
         follows = follows-own facts reader instrument start entries (mark_after w.batch.reader (take at batches)) (time_after start w.batch.reader (take at batches)) w.batch w.own r.follows;
       });
     }
+
+-- the same where the answer may fail
+pub whole-result : {F : Type 0} (facts own : Facts) (instrument start : ℕ) (entries : List Entry) (batches : List Batch) (reader : ℕ) (result : Result ℕ F) → own ≡ facts_of_reader facts reader
+    → IfOk result (λ at. IsFirstWrongOf own instrument start entries batches reader at) → IfOk result (λ at. IsFirstWrongOf facts instrument start entries batches reader at)
+whole-result facts own instrument start entries batches reader (Ok at) is found =
+    first-whole facts instrument start entries batches reader at (subst (λ (f : Facts). IsFirstWrongOf f instrument start entries batches reader at) is found)
+whole-result facts own instrument start entries batches reader (Err e) is found = tt
 
 -- no batch of the reader
 pub first-none : (facts : Facts) (instrument start : ℕ) (entries : List Entry) (batches : List Batch) (reader : ℕ) → list_any (is_batch_of reader) batches ≡ false
