@@ -1,15 +1,15 @@
 -- Which batches are right, reader by reader.
-use Rattle.std.proofs.Common.{◌≡◌, ℕ, zero, suc, ◌+◌, ◌<◌, ◌≤◌, Bool, true, false, ◌&&◌, cond, ◌⊎◌, List, [], ◌∷◌, ◌++◌, Err, Ok, Option, Some, None, All, length, take, get_or, map, min, refl, sym, ap, subst, ◌∙◌, arith, ⊎_elim, IsTrue}
-use Rattle.std.specs.Prelude.{◌==◌, IfOk, MatchBool, Result, filter, fold, slice_get, slice_range, if◌then◌else◌}
+use Rattle.std.proofs.Common.{◌≡◌, ℕ, zero, suc, ◌+◌, ◌<◌, ◌≤◌, Bool, true, false, ◌&&◌, cond, List, [], ◌∷◌, ◌++◌, Err, Ok, Some, length, take, get_or, map, refl, sym, ap, subst, ◌∙◌, arith, ⊎_elim, IsTrue}
+use Rattle.std.specs.Prelude.{◌==◌, IfOk, Result, filter, slice_get, slice_range}
 use Rattle.std.specs.List.{list_all, list_any}
-use Rattle.std.proofs.lemmas.Bool.{cases_eq, cases_lt, eqb-true, false≢true}
+use Rattle.std.proofs.lemmas.Bool.{cases_lt, eqb-true, false≢true}
 use Rattle.std.proofs.lemmas.Bool.Decides.{nat_tests}
 use Rattle.std.proofs.lemmas.List.{append-nil, length-take, take-take, take_more}
 use Rattle.std.proofs.lemmas.List.Elements.{All-filter}
 use Rattle.std.proofs.lemmas.List.Folds.{list_any_at}
 use Rattle.std.proofs.lemmas.List.Sums.{fold-append}
-use Rattle.std.proofs.lemmas.Option.{get_or_from_slice_get, same_Some, slice_get-get_or, slice_get_within}
-use Rattle.metric_audit.specs.Batches.{AreAllRight, FollowsRightly, IsFirstWrong, IsRight, IsRightAt, each_may_follow, is_headed, mark_after, may_follow, time_after}
+use Rattle.std.proofs.lemmas.Option.{get_or_from_slice_get, slice_get-get_or, slice_get_within}
+use Rattle.metric_audit.specs.Batches.{AreAllRight, FollowsRightly, IsFirstWrong, IsRight, IsRightAt, each_may_follow, mark_after, may_follow, time_after}
 use Rattle.metric_audit.specs.Replays.{FindsWrong, GoesOn, IsFirstStrange, IsFirstWrongOf, IsReplayed, IsWrongOf, JudgesBatch, are_of_reader, facts_of_reader, is_batch_of, with_stream_of}
 use Rattle.metric_book.specs.Journals.{Standing, no_marks}
 use Rattle.metric_facts.specs.declared.facts.FactsFields.{FactsFields as Facts}
@@ -17,7 +17,6 @@ use Rattle.metric_facts.specs.declared.facts.NumberedStream.{NumberedStream}
 use Rattle.metric_facts.specs.Facts.{in_bounds, is_delta, is_full_set, is_of_reader}
 use Rattle.metric_facts.specs.Products.{AreDense, IsDense}
 use Rattle.metric_history.specs.declared.batch.Batch.{Batch}
-use Rattle.metric_history.specs.declared.batch.StreamPoints.{StreamPoints}
 use Rattle.metric_history.specs.declared.entry.Entry.{Entry}
 use Rattle.metric_history.specs.Points.{stream_points}
 use Rattle.metric_history.specs.Windows.{fits_stream, window}

@@ -1,16 +1,15 @@
 -- What a book takes of a journal, recording after recording, and what its batches are.
-use Rattle.std.proofs.Common.{◌≡◌, ℕ, zero, suc, ◌+◌, ◌-◌, ◌^◌, ◌<◌, ◌≤◌, Bool, true, false, ◌&&◌, cond, List, [], ◌∷◌, ◌++◌, Ok, Err, length, take, drop, get_or, refl, sym, ap, subst, ◌∙◌, arith, append_assoc}
-use Rattle.std.specs.Prelude.{◌==◌, ◌↔◌, IfOk, IsTrue, MatchBool, OnOk, Result, filter, nat_le, slice_index, slice_range, slice_set, if◌then◌else◌}
+use Rattle.std.proofs.Common.{◌≡◌, ℕ, ◌+◌, ◌-◌, ◌^◌, ◌<◌, ◌≤◌, Bool, true, false, ◌&&◌, cond, List, [], ◌∷◌, ◌++◌, Ok, Err, length, take, drop, get_or, refl, sym, ap, subst, ◌∙◌, arith, append_assoc}
+use Rattle.std.specs.Prelude.{◌==◌, ◌↔◌, IfOk, IsTrue, OnOk, Result, filter, nat_le, slice_index, slice_range, slice_set, if◌then◌else◌}
 use Rattle.std.specs.List.{list_all}
 use Rattle.std.proofs.Math.Seq.{take-add}
 use Rattle.std.proofs.lemmas.Bool.{eqb-true, false≢true}
 use Rattle.std.proofs.lemmas.Bool.Decides.{nat_tests}
 use Rattle.std.proofs.lemmas.List.{append-nil, drop_all, drop_more, get_or-set_same, length-append, length-drop, length-set, length-take, length-take-le, take_all, take_more}
-use Rattle.metric_audit.specs.Batches.{FollowsRightly, each_may_follow, fits_reader, is_headed, may_follow}
-use Rattle.metric_audit.specs.Replays.{GoesOn, HasRoomFor, IsReplayed, JudgesBatch, ReportsPoints, TakesWhereIt, are_of_reader, may_take, may_take_each}
+use Rattle.metric_audit.specs.Batches.{FollowsRightly, each_may_follow, is_headed, may_follow}
+use Rattle.metric_audit.specs.Replays.{HasRoomFor, IsReplayed, JudgesBatch, ReportsPoints, TakesWhereIt, are_of_reader, may_take, may_take_each}
 use Rattle.metric_book.specs.Journals.{HasReader, MayAnswer, MayTake, MovesMark, Standing}
-use Rattle.metric_catalogue.specs.declared.refusal.Refusal.{Refusal}
-use Rattle.metric_catalogue.specs.declared.refusal.Refusal.TheVariants.{Memory, SumRange}
+use Rattle.metric_catalogue.specs.declared.refusal.Refusal.TheVariants.{SumRange}
 use Rattle.metric_facts.specs.declared.facts.FactsFields.{FactsFields as Facts}
 use Rattle.metric_facts.specs.declared.facts.NumberedStream.{NumberedStream}
 use Rattle.metric_facts.specs.Facts.{in_bounds, is_delta, is_full_set, is_of_reader}

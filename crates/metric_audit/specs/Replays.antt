@@ -1,5 +1,5 @@
 -- How the journal of one reader is read again.
-use Rattle.std.specs.Prelude.{◌≡◌, ◌<◌, ◌≤◌, ◌+◌, ◌^◌, ℕ, Bool, true, false, ◌&&◌, ◌==◌, List, [], ◌∷◌, ◌++◌, Some, MatchBool, length, take, filter, slice_get, slice_index, if◌then◌else◌, ◌↔◌, IsTrue}
+use Rattle.std.specs.Prelude.{◌≡◌, ◌<◌, ◌≤◌, ◌+◌, ◌^◌, ℕ, Bool, true, ◌&&◌, ◌==◌, List, [], ◌∷◌, ◌++◌, Some, MatchBool, length, take, filter, slice_get, slice_index, if◌then◌else◌, ◌↔◌, IsTrue}
 use Rattle.std.specs.List.{list_all}
 use Rattle.metric_audit.specs.Batches.{FollowsRightly, IsRight, IsRightAt}
 use Rattle.metric_book.specs.Journals.{Standing, window_of}

@@ -1,5 +1,5 @@
 -- one reader more
-use Rattle.std.proofs.Common.{List, ap, length, ◌∙◌}
+use Rattle.std.proofs.Common.{ap, length, ◌∙◌}
 use Rattle.metric_facts.specs.declared.facts.FactsFields.{FactsFields as Facts}
 use Rattle.metric_audit.proofs.BatchLaws.{narrowed-first, narrowed-next}
 use Rattle.metric_audit.proofs.batches.first_wrong.Goals as goal

@@ -1,5 +1,5 @@
 -- the facts with the reader's streams alone tell what all facts tell
-use Rattle.std.proofs.Common.{Bool, ap, subst, sym, ◌∙◌}
+use Rattle.std.proofs.Common.{ap, subst, sym, ◌∙◌}
 use Rattle.metric_facts.specs.declared.facts.FactsFields.{FactsFields as Facts}
 use Rattle.metric_facts.specs.Products.{AreDense}
 use Rattle.metric_audit.specs.Replays.{are_of_reader}
