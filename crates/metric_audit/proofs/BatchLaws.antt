@@ -2,16 +2,16 @@
 use Rattle.std.proofs.Common.{◌≡◌, ℕ, zero, suc, ◌+◌, ◌<◌, ◌≤◌, Bool, true, false, ◌&&◌, cond, List, [], ◌∷◌, ◌++◌, Err, Ok, Some, length, take, get_or, map, refl, sym, ap, subst, ◌∙◌, arith, ⊎_elim, IsTrue}
 use Rattle.std.specs.Prelude.{◌==◌, IfOk, Result, filter, slice_get, slice_range}
 use Rattle.std.specs.List.{list_all, list_any}
-use Rattle.std.proofs.lemmas.Bool.{cases_lt, eqb-true, false≢true}
+use Rattle.std.proofs.lemmas.Bool.{cases_lt, false≢true}
 use Rattle.std.proofs.lemmas.Bool.Decides.{nat_tests}
-use Rattle.std.proofs.lemmas.List.{append-nil, length-take, take-take, take_more}
+use Rattle.std.proofs.lemmas.List.{length-take, take-take, take_more}
 use Rattle.std.proofs.lemmas.List.Elements.{All-filter}
 use Rattle.std.proofs.lemmas.List.Folds.{list_any_at}
 use Rattle.std.proofs.lemmas.List.Sums.{fold-append}
-use Rattle.std.proofs.lemmas.Option.{get_or_from_slice_get, slice_get-get_or, slice_get_within}
+use Rattle.std.proofs.lemmas.Option.{get_or_from_slice_get, slice_get_within}
 use Rattle.metric_audit.specs.Batches.{AreAllRight, FollowsRightly, IsFirstWrong, IsRight, IsRightAt, each_may_follow, mark_after, may_follow, time_after}
-use Rattle.metric_audit.specs.Replays.{FindsWrong, GoesOn, IsFirstStrange, IsFirstWrongOf, IsReplayed, IsWrongOf, JudgesBatch, are_of_reader, facts_of_reader, is_batch_of, with_stream_of}
-use Rattle.metric_book.specs.Journals.{Standing, no_marks}
+use Rattle.metric_audit.specs.Replays.{FindsWrong, GoesOn, IsFirstStrange, IsFirstWrongOf, IsWrongOf, are_of_reader, facts_of_reader, is_batch_of}
+use Rattle.metric_book.specs.Journals.{Standing}
 use Rattle.metric_facts.specs.declared.facts.FactsFields.{FactsFields as Facts}
 use Rattle.metric_facts.specs.declared.facts.NumberedStream.{NumberedStream}
 use Rattle.metric_facts.specs.Facts.{in_bounds, is_delta, is_full_set, is_of_reader}
@@ -62,12 +62,6 @@ own-streams facts reader r same =
 
 pub own-dense : (facts : Facts) (reader : ℕ) → AreDense facts → AreDense (facts_of_reader facts reader)
 own-dense facts reader dense = All-filter (is_of_reader reader) (λ (s : NumberedStream). IsTrue s.by_product → IsDense facts.keys s.stream) facts.streams dense
-
--- one stream more, where it is the reader's
-pub streams-step : (reader : ℕ) (streams : List NumberedStream) (s : NumberedStream) (b : Bool) → is_of_reader reader s ≡ b
-    → with_stream_of reader streams s ≡ streams ++ cond b (s ∷ []) []
-streams-step reader streams s true e = ap (λ (b : Bool). cond b (streams ++ s ∷ []) streams) e
-streams-step reader streams s false e = ap (λ (b : Bool). cond b (streams ++ s ∷ []) streams) e ∙ sym (append-nil streams)
 
 each-own : (facts : Facts) (reader r mark : ℕ) → r ≡ reader → (entries journal : List Entry)
     → each_may_follow (facts_of_reader facts reader) r mark journal entries ≡ each_may_follow facts r mark journal entries
@@ -148,57 +142,11 @@ first-none facts instrument start entries batches reader none = record {
         itself : (n : ℕ) → (n == n) ≡ true
         itself n = grind (arith, nat_tests)
 
--- a batch of another reader
-pub goes-other : (stands : Standing) (facts : Facts) (instrument start : ℕ) (entries : List Entry) (reader mark time : ℕ) (b : Batch) → (b.reader ≡ reader → ⊥)
-    → IsReplayed stands facts reader entries mark → GoesOn stands facts instrument start entries reader mark time b true mark time
-goes-other stands facts instrument start entries reader mark time b other r =
-    let differ : (b.reader == reader) ≡ false = unlike (b.reader == reader) refl in (
-      λ (same : b.reader ≡ reader). absurd (other same),
-      r,
-      ap (λ (v : Bool). cond v b.mark mark) (sym differ),
-      ap (λ (v : Bool). cond v b.time time) (sym differ),
-    )
-  where
-    unlike : (v : Bool) → (b.reader == reader) ≡ v → (b.reader == reader) ≡ false
-    unlike true e = absurd (other (eqb-true b.reader reader e))
-    unlike false e = e
-
--- one of the reader's own
-pub goes-right : (stands : Standing) (facts : Facts) (instrument start : ℕ) (entries : List Entry) (reader mark time : ℕ) (b : Batch) → b.reader ≡ reader
-    → JudgesBatch stands facts instrument start entries mark time b true → GoesOn stands facts instrument start entries reader mark time b true b.mark b.time
-goes-right stands facts instrument start entries reader mark time b same j =
-    let own : (b.reader == reader) ≡ true = ap (λ (r : ℕ). r == reader) same ∙ itself reader in (
-      λ (e : b.reader ≡ reader). j.0,
-      subst (λ (r : ℕ). IsReplayed stands facts r entries b.mark) same j.1,
-      ap (λ (v : Bool). cond v b.mark mark) (sym own),
-      ap (λ (v : Bool). cond v b.time time) (sym own),
-    )
-  where
-    itself : (n : ℕ) → (n == n) ≡ true
-    itself n = grind (arith, nat_tests)
-
-pub goes-wrong : (stands : Standing) (facts : Facts) (instrument start : ℕ) (entries : List Entry) (reader mark time next_mark next_time : ℕ) (b : Batch) → b.reader ≡ reader
-    → JudgesBatch stands facts instrument start entries mark time b false → GoesOn stands facts instrument start entries reader mark time b false next_mark next_time
-goes-wrong stands facts instrument start entries reader mark time next_mark next_time b same j = (same, j)
-
 -- the batches so far of a reader are right, and its last one had this mark and this time
 pub record RightSoFar (facts : Facts) (instrument start : ℕ) (entries : List Entry) (batches : List Batch) (reader at mark time : ℕ) : Type 0 where
   pub mark_is : mark ≡ mark_after reader (take at batches)
   pub time_is : time ≡ time_after start reader (take at batches)
   pub right : (other : ℕ) (b : Batch) → other < at → slice_get batches other ≡ Some b → b.reader ≡ reader → IsRight facts instrument start entries (take other batches) b
-
-pub right-none : (facts : Facts) (instrument start : ℕ) (entries : List Entry) (batches : List Batch) (reader : ℕ) → RightSoFar facts instrument start entries batches reader 0 0 start
-right-none facts instrument start entries batches reader = record { mark_is = refl; time_is = refl; right = λ other b less here same. absurd (omega arith) }
-
-pub replayed-none : (stands : Standing) (facts : Facts) (reader : ℕ) (entries : List Entry) → reader < length facts.delta → length (no_marks facts) ≡ length facts.delta
-    → get_or (no_marks facts) reader 0 ≡ 0 → stands facts [] (no_marks facts) → IsReplayed stands facts reader entries 0
-replayed-none stands facts reader entries below long zeros begins = record {
-  marks = no_marks facts;
-  long = omega (arith, long);
-  own = zeros;
-  low = omega arith;
-  known = begins;
-}
 
 cut-next : (batches : List Batch) (at : ℕ) (b : Batch) → at < length batches → b ≡ get_or batches at b → take (at + 1) batches ≡ take at batches ++ b ∷ []
 cut-next batches at b below here = take_more batches at b below ∙ ap (λ (x : Batch). take at batches ++ x ∷ []) (sym here)
@@ -213,13 +161,6 @@ right-after facts instrument start entries before reader mark time b below same 
       known = omega (arith, same);
       follows = subst (λ (m : ℕ). FollowsRightly facts instrument start entries m (time_after start b.reader before) b) own_mark (subst (λ (t : ℕ). FollowsRightly facts instrument start entries mark t b) own_time f);
     }
-
-follows-after : (facts : Facts) (instrument start : ℕ) (entries : List Entry) (before : List Batch) (reader mark time : ℕ) (b : Batch) → b.reader ≡ reader
-    → mark ≡ mark_after reader before → time ≡ time_after start reader before → IsRight facts instrument start entries before b → FollowsRightly facts instrument start entries mark time b
-follows-after facts instrument start entries before reader mark time b same mark_is time_is r =
-    let own_mark : mark_after b.reader before ≡ mark = sym (mark_is ∙ ap (λ (n : ℕ). mark_after n before) (sym same)) in
-    let own_time : time_after start b.reader before ≡ time = sym (time_is ∙ ap (λ (n : ℕ). time_after start n before) (sym same)) in
-    subst (λ (m : ℕ). FollowsRightly facts instrument start entries m time b) own_mark (subst (λ (t : ℕ). FollowsRightly facts instrument start entries (mark_after b.reader before) t b) own_time r.follows)
 
 pub right-next : (stands : Standing) (facts : Facts) (instrument start : ℕ) (entries : List Entry) (batches : List Batch) (reader at mark time next_mark next_time : ℕ) (b : Batch)
     → reader < length facts.delta → at < length batches → b ≡ get_or batches at b → RightSoFar facts instrument start entries batches reader at mark time
@@ -246,28 +187,6 @@ right-next stands facts instrument start entries batches reader at mark time nex
         subst (λ (n : ℕ). IsRight facts instrument start entries (take n batches) c) (sym is)
         (subst (λ (x : Batch). IsRight facts instrument start entries (take at batches) x) b_is
         (right-after facts instrument start entries (take at batches) reader mark time b known own so_far.mark_is so_far.time_is (on.0 own)))
-
-pub right-stop : (stands : Standing) (facts : Facts) (instrument start : ℕ) (entries : List Entry) (batches : List Batch) (reader at mark time next_mark next_time : ℕ) (b : Batch)
-    → at < length batches → b ≡ get_or batches at b → RightSoFar facts instrument start entries batches reader at mark time
-    → GoesOn stands facts instrument start entries reader mark time b false next_mark next_time → IsFirstWrongOf facts instrument start entries batches reader at
-right-stop stands facts instrument start entries batches reader at mark time next_mark next_time b below here so_far stop = record {
-  within = omega arith;
-  wrong = λ (less : at < length batches). record {
-    batch = b;
-    here = slice_get-get_or batches at b below ∙ ap (λ (x : Batch). Some x) (sym here);
-    own = stop.0;
-    wrong = λ (r : IsRight facts instrument start entries (take at batches) b). stop.1 (follows-after facts instrument start entries (take at batches) reader mark time b stop.0 so_far.mark_is so_far.time_is r);
-  };
-  earlier = so_far.right;
-}
-
-pub right-end : (facts : Facts) (instrument start : ℕ) (entries : List Entry) (batches : List Batch) (reader at mark time : ℕ) → length batches ≤ at
-    → RightSoFar facts instrument start entries batches reader at mark time → IsFirstWrongOf facts instrument start entries batches reader (length batches)
-right-end facts instrument start entries batches reader at mark time past so_far = record {
-  within = omega arith;
-  wrong = λ below. absurd (omega arith);
-  earlier = λ other b less here same. so_far.right other b (omega arith) here same;
-}
 
 -- Up to a place all batches are of readers, those of the first readers are right, and the batch at the place is wrong.
 pub record NarrowedTo (facts : Facts) (instrument start : ℕ) (entries : List Entry) (batches : List Batch) (readers reader first : ℕ) : Type 0 where
@@ -317,14 +236,6 @@ narrowed-next facts instrument start entries batches readers reader first at n f
     own-right other b less here same =
         subst (λ (bs : List Batch). IsRight facts instrument start entries bs b) (cut other (omega (arith, low)))
         (f.earlier other b less (slice_get-take batches first other (omega (arith, low)) ∙ here) same)
-
-pub narrowed-all : (facts : Facts) (instrument start : ℕ) (entries : List Entry) (batches : List Batch) (readers reader first : ℕ) → readers ≤ reader
-    → NarrowedTo facts instrument start entries batches readers reader first → FindsWrong facts instrument start entries batches first
-narrowed-all facts instrument start entries batches readers reader first past n = record {
-  within = n.within;
-  wrong = n.wrong;
-  earlier = λ other less b here. n.earlier other b less here (omega (arith, n.known other b less here));
-}
 
 -- what was found, as it is answered
 pub found-wrong : (facts : Facts) (instrument start : ℕ) (entries : List Entry) (batches : List Batch) (at : ℕ) → at < length batches → FindsWrong facts instrument start entries batches at

@@ -1,15 +1,14 @@
 -- What a book takes of a journal, recording after recording, and what its batches are.
-use Rattle.std.proofs.Common.{◌≡◌, ℕ, ◌+◌, ◌-◌, ◌^◌, ◌<◌, ◌≤◌, Bool, true, false, ◌&&◌, cond, List, [], ◌∷◌, ◌++◌, Ok, Err, length, take, drop, get_or, refl, sym, ap, subst, ◌∙◌, arith, append_assoc}
+use Rattle.std.proofs.Common.{◌≡◌, ℕ, ◌+◌, ◌-◌, ◌≤◌, Bool, true, false, ◌&&◌, cond, List, [], ◌∷◌, ◌++◌, Ok, Err, length, take, drop, refl, sym, ap, subst, ◌∙◌, arith}
 use Rattle.std.specs.Prelude.{◌==◌, ◌↔◌, IfOk, IsTrue, OnOk, Result, filter, nat_le, slice_index, slice_range, slice_set, if◌then◌else◌}
 use Rattle.std.specs.List.{list_all}
 use Rattle.std.proofs.Math.Seq.{take-add}
 use Rattle.std.proofs.lemmas.Bool.{eqb-true, false≢true}
 use Rattle.std.proofs.lemmas.Bool.Decides.{nat_tests}
-use Rattle.std.proofs.lemmas.List.{append-nil, drop_all, drop_more, get_or-set_same, length-append, length-drop, length-set, length-take, length-take-le, take_all, take_more}
+use Rattle.std.proofs.lemmas.List.{get_or-set_same, length-set, length-take-le}
 use Rattle.metric_audit.specs.Batches.{FollowsRightly, each_may_follow, is_headed, may_follow}
-use Rattle.metric_audit.specs.Replays.{HasRoomFor, IsReplayed, JudgesBatch, ReportsPoints, TakesWhereIt, are_of_reader, may_take, may_take_each}
-use Rattle.metric_book.specs.Journals.{HasReader, MayAnswer, MayTake, MovesMark, Standing}
-use Rattle.metric_catalogue.specs.declared.refusal.Refusal.TheVariants.{SumRange}
+use Rattle.metric_audit.specs.Replays.{IsReplayed, JudgesBatch, ReportsPoints, TakesWhereIt, are_of_reader, may_take_each}
+use Rattle.metric_book.specs.Journals.{MovesMark, Standing}
 use Rattle.metric_facts.specs.declared.facts.FactsFields.{FactsFields as Facts}
 use Rattle.metric_facts.specs.declared.facts.NumberedStream.{NumberedStream}
 use Rattle.metric_facts.specs.Facts.{in_bounds, is_delta, is_full_set, is_of_reader}
@@ -17,19 +16,7 @@ use Rattle.metric_history.specs.declared.batch.Batch.{Batch}
 use Rattle.metric_history.specs.declared.batch.StreamPoints.{StreamPoints}
 use Rattle.metric_history.specs.declared.entry.Entry.{Entry}
 use Rattle.metric_history.specs.Points.{reported}
-use Rattle.metric_history.specs.Windows.{fits_all, fits_stream, window}
-
--- the three tests of a recording, one after the other
-pub not-admitted : (full value fits : Bool) → (full && value) ≡ false → false ≡ ((full && (value && fits)) && true)
-not-admitted true true fits e = absurd (false≢true (sym e))
-not-admitted true false fits e = refl
-not-admitted false value fits e = refl
-
-pub admitted-with : (full value fits : Bool) → (full && value) ≡ true → fits ≡ ((full && (value && fits)) && true)
-admitted-with true true true e = refl
-admitted-with true true false e = refl
-admitted-with true false fits e = absurd (false≢true e)
-admitted-with false value fits e = absurd (false≢true e)
+use Rattle.metric_history.specs.Windows.{fits_stream, window}
 
 pub both-left : (a b : Bool) → (a && b) ≡ true → a ≡ true
 both-left true b e = refl
@@ -39,97 +26,11 @@ pub both-right : (a b : Bool) → (a && b) ≡ true → b ≡ true
 both-right true b e = e
 both-right false b e = absurd (false≢true e)
 
-pub answer-ok : (fits : Bool) → MayAnswer fits (Ok tt) → fits ≡ true
-answer-ok true a = refl
-answer-ok false a = absurd a
-
-pub answer-range : (fits : Bool) → MayAnswer fits (Err SumRange) → fits ≡ false
-answer-range true a = absurd cc
-answer-range false a = refl
-
--- a recording that may be the next
-pub may-push : (stands : Standing) (facts : Facts) (entry : Entry) → HasRoomFor stands facts 1 → is_full_set facts.keys entry.set ≡ true → in_bounds facts entry.value ≡ true
-    → MayTake stands entry
-may-push stands facts entry room full value = (facts, room.0, room.1, (room.2.0, record { full = full; value = value; counted = room.2.1 }))
-
--- a recording that was not admitted, one that was taken, and one that was out of range
-pub refuses : (old new : Standing) (facts : Facts) (entry : Entry) → (is_full_set facts.keys entry.set && in_bounds facts entry.value) ≡ false
-    → TakesWhereIt old new facts (entry ∷ []) false
-refuses old new facts entry e journal marks s =
-    (not-admitted (is_full_set facts.keys entry.set) (in_bounds facts entry.value) (fits_all facts (slice_index marks) journal entry) e, λ (t : false ≡ true). absurd (false≢true t))
-
-pub takes : (old new : Standing) (facts : Facts) (entry : Entry) → (is_full_set facts.keys entry.set && in_bounds facts entry.value) ≡ true
-    → ((journal : List Entry) (marks : List ℕ) → old facts journal marks → fits_all facts (slice_index marks) journal entry ≡ true)
-    → ((journal : List Entry) (marks : List ℕ) → old facts journal marks → new facts (journal ++ entry ∷ []) marks)
-    → TakesWhereIt old new facts (entry ∷ []) true
-takes old new facts entry e fits taken journal marks s =
-    (sym (fits journal marks s) ∙ admitted-with (is_full_set facts.keys entry.set) (in_bounds facts entry.value) (fits_all facts (slice_index marks) journal entry) e, λ (t : true ≡ true). taken journal marks s)
-
-pub out-of-range : (old new : Standing) (facts : Facts) (entry : Entry) → (is_full_set facts.keys entry.set && in_bounds facts entry.value) ≡ true
-    → ((journal : List Entry) (marks : List ℕ) → old facts journal marks → fits_all facts (slice_index marks) journal entry ≡ false)
-    → TakesWhereIt old new facts (entry ∷ []) false
-out-of-range old new facts entry e unfit journal marks s =
-    (sym (unfit journal marks s) ∙ admitted-with (is_full_set facts.keys entry.set) (in_bounds facts entry.value) (fits_all facts (slice_index marks) journal entry) e, λ (t : false ≡ true). absurd (false≢true t))
-
 -- of recordings the first ones were taken, and the rest decides
 abbrev pub HasTaken : Standing → Standing → Facts → List Entry → ℕ → Type 0
 HasTaken old now facts entries i =
     (journal : List Entry) (marks : List ℕ) → old facts journal marks
     → (may_take_each facts marks journal entries ≡ may_take_each facts marks (journal ++ take i entries) (drop i entries)) × now facts (journal ++ take i entries) marks
-
-pub taken-none : (stands : Standing) (facts : Facts) (entries : List Entry) → HasTaken stands stands facts entries 0
-taken-none stands facts entries journal marks s =
-    (ap (λ (j : List Entry). may_take_each facts marks j entries) (sym (append-nil journal)), subst (λ (j : List Entry). stands facts j marks) (sym (append-nil journal)) s)
-
--- room for one more
-pub taken-room : (old now : Standing) (facts : Facts) (entries : List Entry) (i : ℕ) → i < length entries → HasRoomFor old facts (length entries) → HasTaken old now facts entries i
-    → HasRoomFor now facts 1
-taken-room old now facts entries i below room taken = (
-  room.0 ++ take i entries,
-  room.1,
-  ((taken room.0 room.1 room.2.0).1, omega (arith, room.2.1, length-append room.0 (take i entries), length-take i entries)),
-)
-
-pub taken-next : (old now new : Standing) (facts : Facts) (entries : List Entry) (i : ℕ) (entry : Entry) → i < length entries → entry ≡ get_or entries i entry
-    → HasTaken old now facts entries i → TakesWhereIt now new facts (entry ∷ []) true → HasTaken old new facts entries (i + 1)
-taken-next old now new facts entries i entry below here before step journal marks s =
-    let known = before journal marks s in
-    let one = step (journal ++ take i entries) marks known.1 in
-    let rest : drop i entries ≡ entry ∷ drop (i + 1) entries = drop_more entries i entry below ∙ ap (λ (e : Entry). e ∷ drop (i + 1) entries) (sym here) in
-    let first : take (i + 1) entries ≡ take i entries ++ entry ∷ [] = take_more entries i entry below ∙ ap (λ (e : Entry). take i entries ++ e ∷ []) (sym here) in
-    let longer : (journal ++ take i entries) ++ entry ∷ [] ≡ journal ++ take (i + 1) entries = append_assoc journal (take i entries) (entry ∷ []) ∙ ap (λ (es : List Entry). journal ++ es) (sym first) in
-    let fits : may_take facts marks (journal ++ take i entries) entry ≡ true = both-left (may_take facts marks (journal ++ take i entries) entry) true (sym one.0) in (
-      known.0
-          ∙ ap (may_take_each facts marks (journal ++ take i entries)) rest
-          ∙ ap (λ (b : Bool). b && may_take_each facts marks ((journal ++ take i entries) ++ entry ∷ []) (drop (i + 1) entries)) fits
-          ∙ ap (λ (j : List Entry). may_take_each facts marks j (drop (i + 1) entries)) longer,
-      subst (λ (j : List Entry). new facts j marks) longer (one.1 refl),
-    )
-
-pub taken-stop : (old now new : Standing) (facts : Facts) (entries : List Entry) (i : ℕ) (entry : Entry) → i < length entries → entry ≡ get_or entries i entry
-    → HasTaken old now facts entries i → TakesWhereIt now new facts (entry ∷ []) false → TakesWhereIt old new facts entries false
-taken-stop old now new facts entries i entry below here before step journal marks s =
-    let known = before journal marks s in
-    let one = step (journal ++ take i entries) marks known.1 in
-    let rest : drop i entries ≡ entry ∷ drop (i + 1) entries = drop_more entries i entry below ∙ ap (λ (e : Entry). e ∷ drop (i + 1) entries) (sym here) in
-    let unfit : may_take facts marks (journal ++ take i entries) entry ≡ false = with-true (may_take facts marks (journal ++ take i entries) entry) (sym one.0) in (
-      sym
-          (known.0
-          ∙ ap (may_take_each facts marks (journal ++ take i entries)) rest
-          ∙ ap (λ (b : Bool). b && may_take_each facts marks ((journal ++ take i entries) ++ entry ∷ []) (drop (i + 1) entries)) unfit),
-      λ (t : false ≡ true). absurd (false≢true t),
-    )
-  where
-    with-true : (b : Bool) → (b && true) ≡ false → b ≡ false
-    with-true true e = e
-    with-true false e = refl
-
-pub taken-all : (old now : Standing) (facts : Facts) (entries : List Entry) (i : ℕ) → length entries ≤ i → HasTaken old now facts entries i → TakesWhereIt old now facts entries true
-taken-all old now facts entries i past before journal marks s =
-    let known = before journal marks s in (
-      sym (known.0 ∙ ap (may_take_each facts marks (journal ++ take i entries)) (drop_all i entries past)),
-      λ (t : true ≡ true). subst (λ (es : List Entry). now facts (journal ++ es) marks) (take_all i entries past) known.1,
-    )
 
 -- Where all streams are one reader's, only its mark counts.
 fits-streams : (facts : Facts) (marks : List ℕ) (reader mark : ℕ) (journal : List Entry) (entry : Entry) → slice_index marks reader ≡ mark
@@ -179,25 +80,11 @@ head-says facts instrument start count mark time b e =
     let within : nat_le b.mark count ≡ true = both-left (nat_le b.mark count) _ after_up in
     record { up = grind (arith, nat_tests); within = grind (arith, nat_tests) }
 
--- a batch with another head
-pub judged-headless : (new : Standing) (facts : Facts) (instrument start : ℕ) (entries : List Entry) (mark time : ℕ) (b : Batch)
-    → is_headed facts instrument start (length entries) mark time b ≡ false → JudgesBatch new facts instrument start entries mark time b false
-judged-headless new facts instrument start entries mark time b e =
-    λ (follows : FollowsRightly facts instrument start entries mark time b). false≢true (sym e ∙ follows.headed)
-
 -- the recordings up to the mark of a batch
 cut-at : (entries : List Entry) (mark next : ℕ) → mark ≤ next → take mark entries ++ slice_range entries mark next ≡ take next entries
 cut-at entries mark next up =
     let whole : mark + (next - mark) ≡ next = omega arith in
     sym (take-add mark (next - mark) entries) ∙ ap (λ (n : ℕ). take n entries) whole
-
-pub room-for-range : (stands : Standing) (facts : Facts) (reader : ℕ) (entries : List Entry) (mark next : ℕ) → length entries < 2 ^ 64 → mark ≤ next → next ≤ length entries
-    → IsReplayed stands facts reader entries mark → HasRoomFor stands facts (length (slice_range entries mark next))
-room-for-range stands facts reader entries mark next small up within r = (
-  take mark entries,
-  r.marks,
-  (r.known, omega (arith, length-take mark entries, length-take (next - mark) (drop mark entries), length-drop mark entries)),
-)
 
 -- a batch that adds a recording which may not follow
 pub judged-impossible : (old mid : Standing) (facts : Facts) (instrument start : ℕ) (entries : List Entry) (mark time : ℕ) (b : Batch) → are_of_reader facts b.reader ≡ true
@@ -212,9 +99,6 @@ pub after-range : (old mid : Standing) (facts : Facts) (reader : ℕ) (entries :
     → (r : IsReplayed old facts reader entries mark) → TakesWhereIt old mid facts (slice_range entries mark next) true → mid facts (take next entries) r.marks
 after-range old mid facts reader entries mark next up r taken =
     subst (λ (j : List Entry). mid facts j r.marks) (cut-at entries mark next up) ((taken (take mark entries) r.marks r.known).1 refl)
-
-pub has-reader : (mid : Standing) (facts : Facts) (reader : ℕ) (entries : List Entry) (marks : List ℕ) (next : ℕ) → mid facts (take next entries) marks → reader < length facts.delta → HasReader mid reader
-has-reader mid facts reader entries marks next known below = (facts, take next entries, marks, (known, below))
 
 -- a batch whose points were compared
 pub judged-told : (old mid new : Standing) (facts : Facts) (instrument start : ℕ) (entries : List Entry) (mark time : ℕ) (b : Batch) (same : Bool) → are_of_reader facts b.reader ≡ true
