@@ -2,6 +2,7 @@
 use crate::dice::Dice;
 use crate::equal::assert_equal;
 use crate::runs::told;
+use metric_audit::Audited;
 use metric_book::Book;
 use metric_journal::JournalBook;
 use metric_marked::Marked;
@@ -301,8 +302,8 @@ fn is_told<B: Book>(alloc: Global, input: &str, size: usize, wanted: &str) -> Re
     Ok(found.as_str() == wanted)
 }
 
-// Whether both books, whole and in pieces, give the replies of the plain one to the whole script.
-fn agreement(seen: &mut String, alloc: Global, seed: u64) -> Result<[bool; 3], Fail> {
+// Whether each book, whole and in pieces, give the replies of the plain one to the whole script.
+fn agreement(seen: &mut String, alloc: Global, seed: u64) -> Result<[bool; 4], Fail> {
     let input = input_of(alloc, seed)?;
     let wanted = told::<JournalBook>(alloc, &input, usize::MAX)?;
     seen.push_str(&wanted)?;
@@ -311,6 +312,7 @@ fn agreement(seen: &mut String, alloc: Global, seed: u64) -> Result<[bool; 3], F
         is_told::<Marked>(alloc, &input, usize::MAX, &wanted)?,
         is_told::<Marked>(alloc, &input, size, &wanted)?,
         is_told::<JournalBook>(alloc, &input, size, &wanted)?,
+        is_told::<Audited>(alloc, &input, size, &wanted)?,
     ])
 }
 
@@ -328,7 +330,7 @@ fn books_and_pieces_give_the_same_replies(rt: HostRuntime) -> Result<(), Fail> {
     let mut seen = String::new(rt.alloc());
     for seed in 0..INPUTS {
         let found = agreement(&mut seen, rt.alloc(), seed)?;
-        assert_equal(&rt, (seed, found), (seed, [true, true, true]));
+        assert_equal(&rt, (seed, found), (seed, [true, true, true, true]));
     }
     assert_equal(&rt, first_unseen(&seen), None);
     Ok(())

@@ -2,6 +2,7 @@
 use crate::equal::assert_equal;
 use crate::inputs::RUNS;
 use crate::runs::told;
+use metric_audit::Audited;
 use metric_journal::JournalBook;
 use metric_marked::Marked;
 use std::test::Fail;
@@ -14,6 +15,8 @@ fn events_are_replied_to(rt: HostRuntime) -> Result<(), Fail> {
         assert_equal(&rt, listed.as_str(), *wanted);
         let running = told::<Marked>(rt.alloc(), &input, usize::MAX)?;
         assert_equal(&rt, running.as_str(), *wanted);
+        let kept = told::<Audited>(rt.alloc(), &input, usize::MAX)?;
+        assert_equal(&rt, kept.as_str(), *wanted);
     }
     Ok(())
 }

@@ -11,6 +11,8 @@ mod aggregates;
 #[cfg(test)]
 mod agreement;
 #[cfg(test)]
+mod audits;
+#[cfg(test)]
 mod cells;
 #[cfg(test)]
 mod commands;

@@ -1,0 +1,4 @@
+pub mod SlipLaws
+pub mod ReplayLaws
+pub mod BatchLaws
+pub mod PlanLaws

@@ -1,0 +1,29 @@
+-- What an audit answers.
+use Rattle.std.specs.Prelude.{◌≡◌, ℕ, List, Some, Result, Ok, Err, slice_get}
+use Rattle.metric_audit.specs.declared.fault.AuditFault.{AuditFault}
+use Rattle.metric_audit.specs.declared.fault.AuditFault.TheVariants.{Slips, Batch, Memory}
+use Rattle.metric_audit.specs.Batches.{AreAllRight, IsFirstWrong}
+use Rattle.metric_audit.specs.Slips.{AreEntriesOf, IsFirstUnlike}
+use Rattle.metric_book.specs.declared.slip.Slip.{Slip}
+use Rattle.metric_facts.specs.declared.facts.FactsFields.{FactsFields as Facts}
+use Rattle.metric_facts.specs.Facts.{RunFacts}
+use Rattle.metric_history.specs.declared.batch.Batch as batches
+use Rattle.metric_history.specs.declared.entry.Entry.{Entry}
+
+-- each recorder's entries are its slips
+abbrev pub AgreesWithSlips : List Entry → List (List Slip) → Type 0
+AgreesWithSlips entries slips = (recorder : ℕ) → AreEntriesOf entries slips recorder
+
+-- Done where slips and batches are those of the journal; else the least recorder whose slips are not; else the first batch that is not.
+abbrev pub Audits : Facts → ℕ → ℕ → List Entry → List (List Slip) → List batches.Batch → Result (Unit {0}) AuditFault → Type 0
+Audits facts instrument start entries slips told (Ok done) =
+    AgreesWithSlips entries slips × AreAllRight facts instrument start entries told
+Audits facts instrument start entries slips told (Err (Slips recorder)) = IsFirstUnlike entries slips recorder
+Audits facts instrument start entries slips told (Err (Batch at)) =
+    AgreesWithSlips entries slips × IsFirstWrong facts instrument start entries told at
+Audits facts instrument start entries slips told (Err Memory) = Unit {0}
+
+-- the same of the instrument of this number
+abbrev pub AuditsInstrument : RunFacts → ℕ → ℕ → List Entry → List (List Slip) → List batches.Batch → Result (Unit {0}) AuditFault → Type 0
+AuditsInstrument run instrument start entries slips told result =
+    (facts : Facts) → slice_get run.instruments instrument ≡ Some facts → Audits facts instrument start entries slips told result

@@ -1,0 +1,5 @@
+pub mod AuditedStands
+pub mod Slips
+pub mod Batches
+pub mod Replays
+pub mod Audits

@@ -1,0 +1,36 @@
+//! Whether a set key is a full set.
+ghost use Rattle.std.specs.Prelude.{◌≡◌, ◌==◌};
+ghost use Rattle.std.specs.List.{list_all};
+ghost use Rattle.metric_facts.specs.Facts.{is_entry, is_full_set};
+
+use metric_facts::KeyFacts;
+
+/// Whether the entries are a full set of the keys: one for each key, and 0 after them.
+pub(crate) fn is_full_set(keys: &[KeyFacts], entries: &[u16]) -> bool
+    ensures { result ≡ is_full_set keys.now entries.now }
+{
+    match (keys.split_first(), entries.split_first()) {
+        (None, _) => are_zero(entries),
+        (Some(_), None) => false,
+        (Some((key, keys)), Some((entry, rest))) => is_entry(key, *entry)
+            && is_full_set(keys, rest),
+    }
+}
+
+// Whether each entry is 0.
+fn are_zero(entries: &[u16]) -> bool
+    ensures { result ≡ list_all (λ entry. entry == 0) entries.now }
+{
+    entries.iter().all(|entry| *entry == 0)
+}
+
+// Whether an entry names a value of the key, or is 0 where the key may be left out.
+fn is_entry(key: &KeyFacts, entry: u16) -> bool
+    ensures { result ≡ is_entry key.now entry }
+{
+    if entry == 0 {
+        key.optional
+    } else {
+        entry <= key.values
+    }
+}
