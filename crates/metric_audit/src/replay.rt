@@ -100,7 +100,8 @@ fn reports<B: Book>(
     streams: &[StreamPoints],
 ) -> Result<bool, AllocError>
     requires { HasReader (B.stands book.old) reader }
-    ensures reports { IfOk result (λ same. ReportsPoints (B.stands book.old) reader streams.now same) }
+    ensures reports { IfOk result (λ same.
+        ReportsPoints (B.stands book.old) reader streams.now same) }
     ensures moves { OnOk result (MovesMark (B.stands book.old) (B.stands book.new) reader) }
 {
     let window = book.window(alloc, reader)?;

@@ -39,7 +39,8 @@ impl RecorderSeat {
         instrument: &mut Hosted,
         recordings: &[Prepared],
     ) -> Result<(), ListRefusal>
-        ensures { AnswersList plan.now instrument.old instrument.new self.old self.new recordings.now result }
+        ensures { AnswersList plan.now
+            instrument.old instrument.new self.old self.new recordings.now result }
     {
         for (done, one) in recordings.iter().enumerate() {
             match self.record_one(plan, instrument, one) {
@@ -62,7 +63,8 @@ impl RecorderSeat {
             AnswersHosted admission plan.now instrument.old self.old one.now.value result }
         ensures new { let set = one.now.set in
             let admission = admission_of_key plan.now instrument.old self.old set one.now.value in
-            OnOk result (RecordsHosted admission plan.now instrument.old instrument.new self.old self.new one.now.value) }
+            OnOk result (RecordsHosted
+            admission plan.now instrument.old instrument.new self.old self.new one.now.value) }
         ensures err { OnErr result (self.new ≡ self.old) }
         ensures instrument_err { OnErr result (instrument.new ≡ instrument.old) }
     {

@@ -85,7 +85,8 @@ impl RecorderSeat {
             AnswersHosted admission plan.now instrument.old self.old value result }
         ensures new { let given = map given_by attrs.now in
             let admission = admission_of plan.now instrument.old self.old given value in
-            OnOk result (RecordsHosted admission plan.now instrument.old instrument.new self.old self.new value) }
+            OnOk result (RecordsHosted
+            admission plan.now instrument.old instrument.new self.old self.new value) }
         ensures err { OnErr result (self.new ≡ self.old) }
         ensures instrument_err { OnErr result (instrument.new ≡ instrument.old) }
     {
@@ -106,10 +107,13 @@ impl RecorderSeat {
         set: SetKey,
         value: i64,
     ) -> Result<(), Refusal>
-        ensures answer { let admission = admission_of_key plan.now instrument.old self.old set value in
-            AnswersHosted admission plan.now instrument.old self.old value result }
-        ensures new { let admission = admission_of_key plan.now instrument.old self.old set value in
-            OnOk result (RecordsHosted admission plan.now instrument.old instrument.new self.old self.new value) }
+        ensures answer { let held = instrument.old in
+            let admission = admission_of_key plan.now held self.old set value in
+            AnswersHosted admission plan.now held self.old value result }
+        ensures new { let held = instrument.old in
+            let admission = admission_of_key plan.now held self.old set value in
+            OnOk result (RecordsHosted
+            admission plan.now held instrument.new self.old self.new value) }
         ensures err { OnErr result (self.new ≡ self.old) }
         ensures instrument_err { OnErr result (instrument.new ≡ instrument.old) }
     {
@@ -125,7 +129,8 @@ impl RecorderSeat {
         instrument: u32,
         attrs: &[Attr<'_>],
     ) -> Result<SetKey, Refusal>
-        ensures { result ≡ encode_of plan.now.facts.contents.instruments instrument (map given_by attrs.now) }
+        ensures { let given = map given_by attrs.now in
+            result ≡ encode_of plan.now.facts.contents.instruments instrument given }
     {
         plan.catalogue().encode(instrument, attrs)
     }
