@@ -8,7 +8,6 @@ mod audited;
 mod auditing;
 mod batches;
 mod fault;
-mod full_sets;
 mod reader_facts;
 mod replay;
 mod same;

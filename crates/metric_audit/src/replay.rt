@@ -5,11 +5,10 @@ ghost use Rattle.metric_facts.specs.Facts.{in_bounds, is_full_set};
 ghost use Rattle.metric_audit.specs.Replays.{GoesOn, HasRoomFor, IsFirstWrongOf, IsReplayed, JudgesBatch, ReportsPoints, TakesWhereIt, are_of_reader};
 ghost use Rattle.metric_book.specs.Journals.{HasReader, MovesMark, no_marks};
 
-use crate::full_sets::is_full_set;
 use crate::same::are_same_streams;
 use metric_book::Book;
 use metric_catalogue::Refusal;
-use metric_facts::Facts;
+use metric_facts::{Facts, is_full_set};
 use metric_history::{Batch, Entry, StreamPoints};
 use std::alloc::{AllocError, Global};
 

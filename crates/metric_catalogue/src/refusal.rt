@@ -7,7 +7,8 @@ use std::fmt;
 /// Why an event is refused, in the order in which the refusals are tried.
 #[derive(Clone, Copy, Debug, PartialEq, Eq, Drop)]
 pub enum Refusal {
-    /// The seat is of another provider, or does not agree with the instrument's state.
+    /// The seat's run is of another number, the seat was made for another number of instruments, or the plan has no
+    /// recorder or reader of its number; or the facts and numbers that it brings are not those of the instrument's state.
     Stranger,
     /// The catalogue has no instrument of this number.
     UnknownInstrument,

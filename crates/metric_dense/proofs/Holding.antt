@@ -17,8 +17,9 @@ use Rattle.metric_history.specs.Series.{all_series, belongs, distinct, found_wit
 use Rattle.metric_history.specs.SeriesLaws.{has-distinct, has_own_series, key_is_same, same_key}
 use Rattle.metric_views.specs.declared.stream.Stream.{Stream}
 use Rattle.metric_facts.specs.Products.{product_of}
-use Rattle.metric_dense.specs.Ranks.{rank, series_of, IsRanked, IsTaken}
-use Rattle.metric_dense.proofs.Ranking.{rank_below, rank_unrank, unrank_rank}
+use Rattle.metric_facts.specs.Ranks.{rank, rank_below}
+use Rattle.metric_dense.specs.Ranks.{series_of, IsRanked, IsTaken}
+use Rattle.metric_dense.proofs.Ranking.{rank_unrank, unrank_rank}
 
 -- ---- no series stands twice among the distinct ones
 

@@ -13,29 +13,9 @@ use Rattle.std.proofs.Math.Nat.{mul_comm, mul-le-mul_left, mod-lt, mod-eq_of_lt,
 use Rattle.metric_facts.specs.declared.facts.KeyFacts.{KeyFacts}
 use Rattle.metric_facts.specs.Facts.{is_entry, is_full_set, key_facts}
 use Rattle.metric_facts.specs.Products.{radix, product_of}
-use Rattle.metric_dense.specs.Ranks.{digit_if, entry_if, rank, unrank}
-use Rattle.metric_dense.specs.RankLaws.{GivesBack, IsBelow, KeepsOrder, RanksBack}
-
-entry_below : (values : ℕ) (optional : Bool) (entry : ℕ) → cond (entry == 0) optional (nat_le entry values) ≡ true
-    → cond optional entry (entry - 1) < values + cond optional 1 0
-entry_below values true zero e = omega arith
-entry_below values false zero e = absurd (true≢false (sym e))
-entry_below values true (suc n) e = grind (arith, nat_tests, e)
-entry_below values false (suc n) e = grind (arith, nat_tests, e)
-
-digit_below : (flag : Bool) (key : KeyFacts) (entry : ℕ) → is_entry key entry ≡ true → digit_if flag key entry < radix flag key
-digit_below true key entry e = entry_below key.values key.optional entry e
-digit_below false key entry e = omega arith
-
--- the rank of a full set is below the product
-pub rank_below : (kept : List Bool) (keys : List KeyFacts) (set : List ℕ) → IsBelow kept keys set
-rank_below [] keys set full = omega arith
-rank_below (flag ∷ kept) [] set full = omega arith
-rank_below (flag ∷ kept) (key ∷ keys) [] full = absurd (true≢false (sym full))
-rank_below (flag ∷ kept) (key ∷ keys) (entry ∷ set) full =
-    let parts = and_parts (is_entry key entry) (is_full_set keys set) full in
-    let rest = rank_below kept keys set parts.1 in
-    omega (arith, mul-add-lt (digit_if flag key entry) (product_of kept keys) (rank kept keys set) (radix flag key) (digit_below flag key entry parts.0) rest, mul_comm (radix flag key) (product_of kept keys))
+use Rattle.metric_facts.specs.Ranks.{IsBelow, digit_if, rank}
+use Rattle.metric_dense.specs.Ranks.{entry_if, unrank}
+use Rattle.metric_dense.specs.RankLaws.{GivesBack, KeepsOrder, RanksBack}
 
 -- ---- from a set to its rank and back
 

@@ -28,7 +28,8 @@ use Rattle.metric_history.specs.SeriesLaws.{has_all_series, key_is_same, same_ke
 use Rattle.metric_series.specs.Tables.{HasRows}
 use Rattle.metric_views.specs.declared.stream.Stream.{Stream}
 use Rattle.metric_facts.specs.Products.{product_of}
-use Rattle.metric_dense.specs.Ranks.{rank, series_of}
+use Rattle.metric_facts.specs.Ranks.{rank}
+use Rattle.metric_dense.specs.Ranks.{series_of}
 use Rattle.metric_dense.specs.DenseTables.{DenseValue, StandsDense}
 use Rattle.metric_dense.proofs.Holding.{all_held, all_placed, distinct_once, has_held, none_over, or_later, IsPlaced}
 use Rattle.metric_dense.proofs.Ranking.{list_itself, unrank_ordered}

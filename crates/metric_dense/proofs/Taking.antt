@@ -24,9 +24,9 @@ use Rattle.metric_series.specs.Tables.{HasRows}
 use Rattle.metric_series.proofs.LongerWindow.{fits_where_found, place_found_is, rows-other, values_where_found}
 use Rattle.metric_views.specs.declared.stream.Stream.{Stream}
 use Rattle.metric_facts.specs.Products.{product_of}
-use Rattle.metric_dense.specs.Ranks.{rank, series_of, IsTaken}
+use Rattle.metric_facts.specs.Ranks.{rank, rank_below}
+use Rattle.metric_dense.specs.Ranks.{series_of, IsTaken}
 use Rattle.metric_dense.specs.DenseTables.{AddsAt, DenseValue, IsReadyDense, JudgesAt, StandsDense}
-use Rattle.metric_dense.proofs.Ranking.{rank_below}
 use Rattle.metric_dense.proofs.Holding.{has_held, or_later, own_rank, own_series}
 
 has_last : (keys : List (List ℕ)) (key : List ℕ) → has (keys ++ key ∷ []) key ≡ true

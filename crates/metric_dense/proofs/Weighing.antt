@@ -7,7 +7,7 @@ use Rattle.std.proofs.Math.Nat.{mul_comm}
 use Rattle.metric_facts.specs.declared.facts.KeyFacts.{KeyFacts}
 use Rattle.metric_facts.specs.Facts.{is_entry, is_full_set}
 use Rattle.metric_facts.specs.Products.{product_of}
-use Rattle.metric_dense.specs.Ranks.{digit_if, rank}
+use Rattle.metric_facts.specs.Ranks.{digit_if, rank}
 use Rattle.metric_dense.specs.Weights.{IsTable, weighted, weights_of, offsets_of}
 
 -- the first place apart

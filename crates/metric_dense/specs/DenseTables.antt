@@ -19,7 +19,8 @@ use Rattle.metric_series.specs.declared.series_table.ByAggregation.{ByAggregatio
 use Rattle.metric_series.specs.declared.table.Table as table
 use Rattle.metric_views.specs.declared.stream.Stream.{Stream}
 use Rattle.metric_facts.specs.Products.{product_of}
-use Rattle.metric_dense.specs.Ranks.{rank, series_of, IsRanked, IsTaken}
+use Rattle.metric_facts.specs.Ranks.{rank}
+use Rattle.metric_dense.specs.Ranks.{series_of, IsRanked, IsTaken}
 
 -- a table whose values are aggregated by `A`
 pub record DenseValue (A : Type 0) : Type 0 where

@@ -6,11 +6,8 @@ use Rattle.metric_facts.specs.declared.facts.KeyFacts.{KeyFacts}
 use Rattle.metric_facts.specs.Facts.{is_full_set, key_facts}
 use Rattle.metric_history.specs.Series.{restricted}
 use Rattle.metric_facts.specs.Products.{product_of}
-use Rattle.metric_dense.specs.Ranks.{rank, unrank}
-
--- the rank of a full set is below the product
-abbrev pub IsBelow : List Bool → List KeyFacts → List ℕ → Type 0
-IsBelow kept keys set = is_full_set keys set ≡ true → rank kept keys set < product_of kept keys
+use Rattle.metric_facts.specs.Ranks.{rank}
+use Rattle.metric_dense.specs.Ranks.{unrank}
 
 -- the set of the rank of a full set is its series
 abbrev pub GivesBack : ℕ → List Bool → List KeyFacts → List ℕ → Type 0

@@ -1,28 +1,15 @@
--- The rank of a full set among those of a stream: its place in the mixed radix that the choices of each kept key make.
+-- The series of a rank, and the keys whose sets have one.
 use Rattle.std.specs.Prelude.{◌≡◌, ℕ, ◌+◌, ◌-◌, ◌*◌, ◌/◌, ◌%◌, ◌≤◌, ◌<◌, ◌^◌, Bool, true, if◌then◌else◌, List, [], ◌∷◌, length, replicate}
 use Rattle.metric_facts.specs.declared.facts.KeyFacts.{KeyFacts}
 use Rattle.metric_facts.specs.Facts.{is_full_set}
 use Rattle.metric_facts.specs.Products.{key_choices, product_of}
 
--- an entry of a key as a digit: where the key may be left out, that is the first of its choices
-abbrev pub digit : KeyFacts → ℕ → ℕ
-digit key entry = if key.optional then entry else entry - 1
-
-abbrev pub digit_if : Bool → KeyFacts → ℕ → ℕ
-digit_if kept key entry = if kept then digit key entry else 0
-
+-- the entry of a digit
 abbrev pub entry_of : KeyFacts → ℕ → ℕ
 entry_of key digit = if key.optional then digit else digit + 1
 
 abbrev pub entry_if : Bool → KeyFacts → ℕ → ℕ
 entry_if kept key digit = if kept then entry_of key digit else 0
-
--- the rank of a set: its digits in declared order, the first of them the most significant
-abbrev pub rank : List Bool → List KeyFacts → List ℕ → ℕ
-rank [] keys set = 0
-rank (flag ∷ kept) [] set = 0
-rank (flag ∷ kept) (key ∷ keys) [] = 0
-rank (flag ∷ kept) (key ∷ keys) (entry ∷ set) = digit_if flag key entry * product_of kept keys + rank kept keys set
 
 -- the restricted set of a rank, with so many zeros after the declared keys
 abbrev pub unrank : ℕ → List Bool → List KeyFacts → ℕ → List ℕ

@@ -6,7 +6,8 @@ ghost use Rattle.metric_history.specs.Aggregations.{stream_aggregation};
 ghost use Rattle.metric_views.specs.declared.stream.Stream.{Stream};
 ghost use Rattle.metric_dense.specs.DenseTables.{AddsAt, IsMadeOf, IsEmptied, JudgesAt, StandsDense};
 ghost use Rattle.metric_facts.specs.Products.{product_of};
-ghost use Rattle.metric_dense.specs.Ranks.{rank as rank_of, series_of, IsRanked};
+ghost use Rattle.metric_facts.specs.Ranks.{rank as rank_of};
+ghost use Rattle.metric_dense.specs.Ranks.{series_of, IsRanked};
 
 use crate::ranks::Ranks;
 use metric_aggregate::Aggregate;

@@ -1,7 +1,8 @@
 //! What ranks are good for. The functions do nothing.
 ghost use Rattle.std.specs.Prelude.{ℕ, Bool, List};
 ghost use Rattle.metric_facts.specs.declared.facts.KeyFacts.{KeyFacts};
-ghost use Rattle.metric_dense.specs.RankLaws.{GivesBack, IsBelow, KeepsOrder, RanksBack};
+ghost use Rattle.metric_facts.specs.Ranks.{IsBelow};
+ghost use Rattle.metric_dense.specs.RankLaws.{GivesBack, KeepsOrder, RanksBack};
 
 /// The rank of a full set is below the product of the radices and gives back its series, so that full sets of one
 /// rank are of one series. The set of a rank has that rank, and the sets of ranks are ordered as the ranks are.

@@ -2,7 +2,8 @@
 ghost use Rattle.std.specs.Prelude.{◌≡◌, ◌<◌, true, IfOk};
 ghost use Rattle.metric_facts.specs.Facts.{is_full_set};
 ghost use Rattle.metric_facts.specs.Products.{product_of};
-ghost use Rattle.metric_dense.specs.Ranks.{rank as rank_of, series_of, IsRanked};
+ghost use Rattle.metric_facts.specs.Ranks.{rank as rank_of};
+ghost use Rattle.metric_dense.specs.Ranks.{series_of, IsRanked};
 
 use crate::weights::{fill_offsets, fill_weights, sets_of, unrank_into, weighted};
 use metric_base::{Few, Items, Shared};

@@ -2,3 +2,4 @@ pub mod Facts
 pub mod Flat
 pub mod Products
 pub mod NumberedLaws
+pub mod Ranks

@@ -5,8 +5,10 @@
 
 mod facts;
 mod flat;
+mod full_sets;
 mod instruments;
 pub mod laws;
 
 pub use facts::{Facts, FactsFields, KeyFacts, NumberedStream, is_by_product, same_facts};
+pub use full_sets::is_full_set;
 pub use instruments::all_facts;

@@ -1,11 +1,9 @@
 //! Set keys that a caller brings back.
-ghost use Rattle.std.specs.Prelude.{◌≡◌, ◌==◌};
-ghost use Rattle.std.specs.List.{list_all};
-ghost use Rattle.metric_facts.specs.Facts.{is_entry, is_full_set};
+ghost use Rattle.std.specs.Prelude.{◌≡◌};
 ghost use Rattle.metric_provider.specs.KeyRecordings.{declared_key};
 
 use metric_catalogue::{Refusal, SetKey};
-use metric_facts::KeyFacts;
+use metric_facts::is_full_set;
 use metric_plan::Plan;
 
 /// A recording by the set key of its attributes.
@@ -37,34 +35,4 @@ pub(crate) fn declared_key(
         return Err(Refusal::ValueRange);
     }
     Ok(set)
-}
-
-// Whether the entries are a full set of the keys: one for each key, and 0 after them.
-fn is_full_set(keys: &[KeyFacts], entries: &[u16]) -> bool
-    ensures { result ≡ is_full_set keys.now entries.now }
-{
-    match (keys.split_first(), entries.split_first()) {
-        (None, _) => are_zero(entries),
-        (Some(_), None) => false,
-        (Some((key, keys)), Some((entry, rest))) => is_entry(key, *entry)
-            && is_full_set(keys, rest),
-    }
-}
-
-// Whether each entry is 0.
-fn are_zero(entries: &[u16]) -> bool
-    ensures { result ≡ list_all (λ entry. entry == 0) entries.now }
-{
-    entries.iter().all(|entry| *entry == 0)
-}
-
-// Whether an entry names a value of the key, or is 0 where the key may be left out.
-fn is_entry(key: &KeyFacts, entry: u16) -> bool
-    ensures { result ≡ is_entry key.now entry }
-{
-    if entry == 0 {
-        key.optional
-    } else {
-        entry <= key.values
-    }
 }

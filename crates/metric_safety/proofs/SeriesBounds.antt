@@ -14,7 +14,8 @@ use Rattle.metric_facts.specs.Facts.{is_full_set}
 use Rattle.metric_history.specs.Series.{restricted, distinct, others}
 use Rattle.metric_history.specs.SeriesLaws.{key_is_same, distinct-cons}
 use Rattle.metric_facts.specs.Products.{product_of}
-use Rattle.metric_safety.proofs.Ranks.{rank, rank_below, rank_same, digit_if}
+use Rattle.metric_facts.specs.Ranks.{digit_if, rank, rank_below}
+use Rattle.metric_safety.proofs.Ranks.{rank_same}
 
 -- the rank of a series is that of each set of it
 rank-restricted : (kept : List Bool) (keys : List KeyFacts) (set : List ℕ) → rank kept keys (restricted kept set) ≡ rank kept keys set

@@ -1,4 +1,5 @@
-use Rattle.metric_dense.proofs.Ranking.{rank_below, rank_unrank, unrank_ordered, unrank_rank}
+use Rattle.metric_facts.specs.Ranks.{rank_below}
+use Rattle.metric_dense.proofs.Ranking.{rank_unrank, unrank_ordered, unrank_rank}
 use Rattle.metric_dense.proofs.laws.ranks_are_places_of_series.Goals as goal
 
 pub returns-clause-below : goal.returns-clause-below

@@ -1,7 +1,7 @@
 -- a full set weighs as much as its rank and the least entries
 use Rattle.std.proofs.Common.{◌≡◌, ◌-◌, true, sym, ap, subst, ◌∙◌, arith}
 use Rattle.metric_facts.specs.Facts.{is_full_set}
-use Rattle.metric_dense.specs.Ranks.{rank}
+use Rattle.metric_facts.specs.Ranks.{rank}
 use Rattle.metric_dense.proofs.Weighing.{table_ranks}
 use Rattle.metric_dense.proofs.ranks.Ranks.rank.Goals as goal
 

@@ -3,10 +3,10 @@ ghost use Rattle.std.specs.Prelude.{◌≡◌, ◌==◌};
 ghost use Rattle.std.specs.List.{list_all};
 ghost use Rattle.metric_facts.specs.Facts.{is_entry, is_full_set};
 
-use metric_facts::KeyFacts;
+use crate::facts::KeyFacts;
 
 /// Whether the entries are a full set of the keys: one for each key, and 0 after them.
-pub(crate) fn is_full_set(keys: &[KeyFacts], entries: &[u16]) -> bool
+pub fn is_full_set(keys: &[KeyFacts], entries: &[u16]) -> bool
     ensures { result ≡ is_full_set keys.now entries.now }
 {
     match (keys.split_first(), entries.split_first()) {
