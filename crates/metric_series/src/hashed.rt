@@ -13,6 +13,7 @@ ghost use Rattle.metric_series.specs.Ready.{AddsAt, AddsRest, FitsAt, FitsRest, 
 ghost use Rattle.metric_series.specs.Tables.{StandsTable};
 
 use crate::fault::SeriesFault;
+use crate::kept::KeptKeys;
 use crate::key::SeriesKey;
 use crate::place::Place;
 use crate::seeded::Seeded;
@@ -21,7 +22,7 @@ use indexmap::IndexMap;
 use metric_aggregate::Aggregate;
 use metric_base::{Few, Shared};
 use metric_catalogue::SetKey;
-use metric_history::{Point, restrict};
+use metric_history::Point;
 use std::alloc::{AllocError, Global};
 use std::marker::Model;
 
@@ -30,7 +31,7 @@ use std::marker::Model;
 /// first, and the aggregate of the overflow series.
 pub struct TableOf<A: Aggregate> {
     alloc: Global,
-    kept: Shared<Few<bool, 8>>,
+    kept: KeptKeys,
     limit: u32,
     parameters: A::Parameters,
     series: IndexMap<SeriesKey, A, Seeded>,
@@ -82,7 +83,7 @@ impl<A: Aggregate> TableOf<A> {
     {
         TableOf {
             alloc,
-            kept,
+            kept: KeptKeys::new(kept),
             limit,
             parameters,
             series: IndexMap::with_hasher(alloc, Seeded::new(seed)),
@@ -94,7 +95,7 @@ impl<A: Aggregate> TableOf<A> {
     fn key(&self, set: &SetKey) -> SeriesKey
         ensures { result ≡ restricted self.now.kept set.now }
     {
-        SeriesKey::new(restrict(self.kept.get().as_slice(), set))
+        SeriesKey::new(self.kept.restrict(set))
     }
 
     // Where a value of a series falls; none where the series there would leave its range with it.
