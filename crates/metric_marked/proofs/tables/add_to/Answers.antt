@@ -5,7 +5,6 @@ use Rattle.std.proofs.lemmas.Result.{on_err_weaker, on_ok_weaker}
 use Rattle.metric_series.specs.Calls.{JudgesRange, TakesRecording}
 use Rattle.metric_marked.specs.Marks.{TableStands}
 use Rattle.metric_marked.specs.StreamSeries.{stream_series}
-use Rattle.metric_marked.specs.declared.stream_table.StreamTable.{StreamTable}
 use Rattle.metric_marked.proofs.tables.add_to.Goals as goal
 
 pub returns : goal.returns
