@@ -1,8 +1,10 @@
 -- What is done to the first tables of an instrument, one after the other, while the rest stay as they are.
-use Rattle.std.specs.Prelude.{◌≡◌, true, List, [], ◌∷◌}
+use Rattle.std.specs.Prelude.{◌≡◌, ◌≢◌, true, List, [], ◌∷◌, Result, Err, OnOk, OnErr}
 use Rattle.metric_history.specs.declared.entry.Entry.{Entry}
-use Rattle.metric_series.specs.Calls.{JudgesValue, KeepsPlaces, TakesRecording}
+use Rattle.metric_series.specs.Calls.{JudgesRange, JudgesValue, KeepsPlaces, TakesRecording}
 use Rattle.metric_marked.specs.StreamSeries.{stream_series}
+use Rattle.metric_series.specs.declared.fault.SeriesFault.{SeriesFault}
+use Rattle.metric_series.specs.declared.fault.SeriesFault.TheVariants.{Memory}
 use Rattle.metric_series.specs.declared.place.Place.{Place}
 use Rattle.metric_marked.specs.Marks.{TableStands}
 use Rattle.metric_marked.specs.declared.stream_table.StreamTable.{StreamTable}
@@ -50,3 +52,12 @@ Puts entry old new place =
 abbrev pub AreInRange : Entry → List StreamTable → Type 0
 AreInRange entry [] = Unit {0}
 AreInRange entry (t ∷ tables) = JudgesValue (TableStands t) entry.set entry.value true × AreInRange entry tables
+
+-- What one call makes of a table: it takes a recording, or is what it was where the recording is refused. `SumRange` comes exactly
+-- where the recording does not fit, and `Memory` never where the table has room for all values.
+pub record AddsTo (entry : Entry) (old new : StreamTable) (result : Result (Unit {0}) SeriesFault) : Type 0 where
+  pub in_range : JudgesRange (TableStands old) entry.set entry.value result
+  pub memory : stream_series.has_room old.table → result ≢ Err Memory
+  pub same : IsSameStream old new
+  pub stands : OnOk result (TakesRecording (TableStands old) (TableStands new) entry.set entry.value)
+  pub err : OnErr result (new ≡ old)

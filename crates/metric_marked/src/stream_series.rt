@@ -51,6 +51,13 @@ impl<H: Table, R: Table> Table for Placed<H, R> {
         }
     }
 
+    fn add(&mut self, set: &SetKey, value: i64) -> Result<(), SeriesFault> {
+        match self {
+            Placed::Hashed(table) => table.add(set, value),
+            Placed::Ranked(table) => table.add(set, value),
+        }
+    }
+
     fn unready(&mut self, place: Place) {
         match self {
             Placed::Hashed(table) => table.unready(place),

@@ -4,7 +4,8 @@ ghost use Rattle.metric_facts.specs.Facts.{is_full_set};
 ghost use Rattle.metric_facts.specs.Products.{AreAllByProduct, AreDense};
 ghost use Rattle.metric_series.specs.Calls.{is_in_range};
 ghost use Rattle.metric_marked.specs.Marks.{AddsAllPoints, AddsPoints, EmptiesOne, EmptiesReader, HaveRoom, JudgesAll, KeepPlaces, StandAll, TakeAll, TakesAll, weightier as more_serious};
-ghost use Rattle.metric_marked.specs.Stepwise.{AreReady, EachAt, IsReadyFor, Puts, Restores};
+ghost use Rattle.metric_marked.specs.StreamSeries.{stream_series};
+ghost use Rattle.metric_marked.specs.Stepwise.{AddsTo, AreReady, EachAt, IsReadyFor, Puts, Restores};
 
 use crate::stream_series::StreamSeries;
 use crate::stream_table::StreamTable;
@@ -115,7 +116,16 @@ fn put_all(tables: &mut [StreamTable], places: &[Place], entry: &Entry)
     }
 }
 
-/// Adds a recording to each table, or to none where one of them refuses it. All memory is taken before the first
+// Adds a recording to a table.
+fn add_to(stream: &mut StreamTable, entry: &Entry) -> Result<(), SeriesFault>
+    requires { stream_series.takes stream.old.table entry.now.set }
+    ensures { AddsTo entry.now stream.old stream.new result }
+{
+    stream.table.add(&entry.set, entry.value)
+}
+
+/// Adds a recording to each table, or to none where one of them refuses it. An instrument with one stream, as most
+/// have, needs no places. All memory is taken before the first
 /// value is added, and none where each table has room for all values. There is room for a place of each table; what the list of places has held is lost.
 pub(crate) fn push_all(
     tables: &mut [StreamTable],
@@ -131,6 +141,9 @@ pub(crate) fn push_all(
     ensures stands { OnOk result (TakesAll tables.old tables.new entry.now) }
     ensures err { OnErr result (tables.new ≡ tables.old) }
 {
+    if tables.len() == 1 {
+        return add_to(&mut tables[0], entry);
+    }
     places.clear();
     if let Err(fault) = ready_all(tables, places, entry) {
         unready_all(tables, places);

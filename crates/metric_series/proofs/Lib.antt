@@ -5,3 +5,4 @@ pub mod LongerWindow
 pub mod Adding
 pub mod Sorting
 pub mod Reading
+mod Keeping

@@ -13,6 +13,7 @@ ghost use Rattle.metric_series.specs.Ready.{AddsAt, AddsRest, FitsAt, FitsRest, 
 ghost use Rattle.metric_series.specs.Tables.{StandsTable};
 
 use crate::fault::SeriesFault;
+use crate::kept::KeptKeys;
 use crate::key::SeriesKey;
 use crate::place::Place;
 use crate::seeded::Seeded;
@@ -21,7 +22,7 @@ use indexmap::IndexMap;
 use metric_aggregate::Aggregate;
 use metric_base::{Few, Shared};
 use metric_catalogue::SetKey;
-use metric_history::{Point, restrict};
+use metric_history::Point;
 use std::alloc::{AllocError, Global};
 use std::marker::Model;
 
@@ -30,7 +31,7 @@ use std::marker::Model;
 /// first, and the aggregate of the overflow series.
 pub struct TableOf<A: Aggregate> {
     alloc: Global,
-    kept: Shared<Few<bool, 8>>,
+    kept: KeptKeys,
     limit: u32,
     parameters: A::Parameters,
     series: IndexMap<SeriesKey, A, Seeded>,
@@ -82,7 +83,7 @@ impl<A: Aggregate> TableOf<A> {
     {
         TableOf {
             alloc,
-            kept,
+            kept: KeptKeys::new(kept),
             limit,
             parameters,
             series: IndexMap::with_hasher(alloc, Seeded::new(seed)),
@@ -91,13 +92,15 @@ impl<A: Aggregate> TableOf<A> {
     }
 
     // The key of the series of a set.
+    #[inline(always)]
     fn key(&self, set: &SetKey) -> SeriesKey
         ensures { result ≡ restricted self.now.kept set.now }
     {
-        SeriesKey::new(restrict(self.kept.get().as_slice(), set))
+        SeriesKey::new(self.kept.restrict(set))
     }
 
     // Where a value of a series falls; none where the series there would leave its range with it.
+    #[inline(always)]
     fn find(&self, key: &SeriesKey, value: i64) -> Option<Place>
         ensures in_range { JudgesSeries (StandsTable A.Aggregate self.now) key.now value
             (is_some result) }
@@ -117,6 +120,7 @@ impl<A: Aggregate> TableOf<A> {
     }
 
     // Puts in what a value at a place needs.
+    #[inline(always)]
     fn prepare(&mut self, key: SeriesKey, place: Place) -> Result<(), AllocError>
         requires { (value : ℤ) × IsPlace A.Aggregate self.old key value place }
         ensures ok { OnOk result (Prepares A.Aggregate self.old self.new key place) }
@@ -134,6 +138,7 @@ impl<A: Aggregate> TableOf<A> {
     }
 
     // The point of a held series; none where its aggregate is empty.
+    #[inline(always)]
     fn point(&self, alloc: Global, key: &SeriesKey) -> Result<Option<Point>, AllocError>
         requires { has (keys_of self.now.series) key.now ≡ true }
         ensures { IfOk result (ReportsPoint (StandsTable A.Aggregate self.now) key.now) }
@@ -171,6 +176,7 @@ impl<A: Aggregate> Table for TableOf<A> {
         self.find(&self.key(set), value).is_some()
     }
 
+    #[inline(always)]
     fn ready(&mut self, set: &SetKey, value: i64) -> Result<Place, SeriesFault> {
         let key = self.key(set);
         let place = self.find(&key, value).ok_or(SeriesFault::SumRange)?;
@@ -178,6 +184,7 @@ impl<A: Aggregate> Table for TableOf<A> {
         Ok(place)
     }
 
+    #[inline(always)]
     fn put(&mut self, place: Place, value: i64) {
         match place {
             Place::Held(index) => add_at(&mut self.series, index, value),
@@ -226,6 +233,7 @@ fn ascending<A: Aggregate>(
 }
 
 // The point that an aggregate gives; none where it is empty.
+#[inline(always)]
 fn point_of<A: Aggregate>(
     alloc: Global,
     set: Option<SetKey>,
@@ -242,6 +250,7 @@ fn point_of<A: Aggregate>(
 }
 
 // Puts a point last, where there is one.
+#[inline(always)]
 fn push_point(points: &mut Vec<Point>, point: Option<Point>) -> Result<(), AllocError>
     ensures { OnOk result (points.new.items ≡ points.old.items ++ option_to_list point) }
 {
@@ -263,7 +272,8 @@ fn fitting<A: Aggregate>(aggregate: &A, value: i64, place: Place) -> Option<Plac
     }
 }
 
-// Puts an empty aggregate last, of a series that is not there.
+// Puts an empty aggregate last, of a series that is not there. Few recordings come here, so it stands apart from what all do.
+#[inline(never)]
 fn put_empty<A: Aggregate>(
     series: &mut IndexMap<SeriesKey, A, Seeded>,
     key: SeriesKey,

@@ -8,6 +8,7 @@
 
 mod fault;
 mod hashed;
+mod kept;
 mod key;
 mod place;
 mod seeded;

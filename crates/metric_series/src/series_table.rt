@@ -58,6 +58,14 @@ impl<S: Table, L: Table, H: Table> Table for ByAggregation<S, L, H> {
         }
     }
 
+    fn add(&mut self, set: &SetKey, value: i64) -> Result<(), SeriesFault> {
+        match self {
+            ByAggregation::Sum(table) => table.add(set, value),
+            ByAggregation::LastValue(table) => table.add(set, value),
+            ByAggregation::Histogram(table) => table.add(set, value),
+        }
+    }
+
     fn unready(&mut self, place: Place) {
         match self {
             ByAggregation::Sum(table) => table.unready(place),

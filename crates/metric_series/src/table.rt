@@ -63,7 +63,7 @@ pub trait Table: Drop {
     /// is left, else to the overflow series. `SumRange` comes exactly where that series would leave its
     /// range. A refused value changes nothing. A value of a held series takes no memory, nor does any where the table
     /// has room for all values.
-    final fn add(&mut self, set: &SetKey, value: i64) -> Result<(), SeriesFault>
+    fn add(&mut self, set: &SetKey, value: i64) -> Result<(), SeriesFault>
         requires { takes self.old set.now }
         ensures in_range { JudgesRange (stands self.old) set.now value result }
         ensures room { has_room self.old → result ≢ Err SeriesFault.Memory }

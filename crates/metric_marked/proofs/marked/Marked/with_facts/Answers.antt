@@ -1,7 +1,6 @@
 -- empty tables, and a mark of 0 for each reader
-use Rattle.std.proofs.Common.{◌≡◌, [], Bool, List, ℕ, sym, ap, subst, ◌∙◌, rules}
+use Rattle.std.proofs.Common.{◌≡◌, [], Bool, List, ℕ, sym, subst, rules}
 use Rattle.metric_book.specs.Journals.{no_marks}
-use Rattle.metric_facts.specs.declared.facts.Facts.{Facts}
 use Rattle.metric_marked.specs.Marks.{StandsMarked}
 use Rattle.metric_marked.proofs.MarkLaws.{marked_begins}
 use Rattle.metric_marked.proofs.marked.Marked.with_facts.Goals as goal
