@@ -1,5 +1,4 @@
 -- what is known is what the rows are
-use Rattle.std.proofs.Common.{ℕ, List}
 use Rattle.std.specs.BTreeSet.{contains}
 use Rattle.std.specs.Cmp.Lexicographic.{slice_cmp}
 use Rattle.std.specs.Ordering.{nat_cmp}

@@ -1,6 +1,5 @@
 -- each step leaves a way to the same end
-use Rattle.std.proofs.Common.{◌≡◌, ◌+◌, ◌<◌, length, get_or, take, Some, None, sym, ◌∙◌, arith}
-use Rattle.std.specs.List.{slice_get}
+use Rattle.std.proofs.Common.{◌<◌, length, take, sym, ◌∙◌, arith}
 use Rattle.metric_combinations.proofs.Finding.{end_some, end_none}
 use Rattle.metric_combinations.proofs.trie.Trie.end.Goals as goal
 
