@@ -1,6 +1,6 @@
 //! Allowed combinations: which sets are among the rows, which rows stand twice, and what is left where keys are not kept.
 use metric_base::{Copied, is_same};
-use metric_combinations::{CombinationRows, Combinations, restrict};
+use metric_combinations::{CombinationRows, Combinations, permits, restrict};
 use std::alloc::{AllocError, Global};
 use std::test::Fail;
 
@@ -44,7 +44,7 @@ fn row_of(shape: Shape, n: u16) -> [u16; 8] {
 
 // 32 numbers one after the other, and 32 that are 32 apart.
 fn ruler(n: u16) -> u16 {
-    if n < 32 { n } else { (n - 31) * 32 - 1 }
+    n.max(n.saturating_sub(31).saturating_mul(32).saturating_sub(1))
 }
 
 fn strewn(n: u16, by: u16) -> u16 {
@@ -212,5 +212,14 @@ fn restrictions_rise_and_are_listed_once(rt: HostRuntime) -> Result<(), Fail> {
     }
     let none = allowed(rt.alloc(), &[])?;
     assert!(rt; none.restrictions(rt.alloc(), &[])?.is_empty() && none != all);
+    Ok(())
+}
+
+#[test]
+fn sets_are_permitted_unless_rows_are_asked(rt: HostRuntime) -> Result<(), Fail> {
+    let set = [1, 2, 0, 0, 0, 0, 0, 0];
+    assert!(rt; permits(&None, &set));
+    assert!(rt; permits(&Some(allowed(rt.alloc(), &[set])?), &set));
+    assert!(rt; !permits(&Some(allowed(rt.alloc(), &[])?), &set));
     Ok(())
 }
