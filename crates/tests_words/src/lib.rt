@@ -7,6 +7,8 @@
 #[cfg(test)]
 mod base;
 #[cfg(test)]
+mod combinations;
+#[cfg(test)]
 mod command;
 #[cfg(test)]
 mod devices;

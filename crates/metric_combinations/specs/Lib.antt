@@ -1,0 +1,4 @@
+pub mod Combinations
+pub mod Restrictions
+pub mod RestrictionLaws
+pub mod Tries
