@@ -1,11 +1,10 @@
 //! Recordings into the cell of an instrument, with their set keys in hand.
-ghost use Rattle.std.specs.Prelude.{◌≡◌, ◌<◌, ◌==◌, true, length, All, IsTrue};
-ghost use Rattle.std.specs.List.{list_all};
-ghost use Rattle.metric_facts.specs.Facts.{in_bounds, is_entry, is_full_set};
+ghost use Rattle.std.specs.Prelude.{◌≡◌, ◌<◌, true, length, All, IsTrue};
+ghost use Rattle.metric_facts.specs.Facts.{in_bounds, is_full_set};
 
 use crate::inputs::{set_of, value_of, values_for};
 use metric_core::Cell;
-use metric_facts::{Facts, KeyFacts};
+use metric_facts::{Facts, is_full_set};
 use metric_sdk::{Batch, Marked, Measurement, Plan};
 use std::alloc::{AllocError, Global};
 
@@ -99,40 +98,8 @@ fn are_sound(facts: &Facts, recordings: &[Measurement]) -> bool
     let keys = facts.keys.as_slice();
     recordings
         .iter()
-        .all(|recording| is_full(keys, &recording.set))
+        .all(|recording| is_full_set(keys, &recording.set))
         && recordings
             .iter()
             .all(|recording| facts.admits(&recording.value))
-}
-
-fn is_entry(key: &KeyFacts, entry: u16) -> bool
-    ensures { result ≡ is_entry key.now entry }
-{
-    if entry == 0 {
-        key.optional
-    } else {
-        entry <= key.values
-    }
-}
-
-fn are_zero(entries: &[u16]) -> bool
-    ensures { result ≡ list_all (λ entry. entry == 0) entries.now }
-{
-    match entries.split_first() {
-        None => true,
-        Some((entry, rest)) => *entry == 0 && are_zero(rest),
-    }
-}
-
-// Whether a set key has for each key an entry, and 0 after them.
-fn is_full(keys: &[KeyFacts], set: &[u16]) -> bool
-    ensures { result ≡ is_full_set keys.now set.now }
-{
-    let Some((key, keys)) = keys.split_first() else {
-        return are_zero(set);
-    };
-    let Some((entry, set)) = set.split_first() else {
-        return false;
-    };
-    is_entry(key, *entry) && is_full(keys, set)
 }
