@@ -1,5 +1,5 @@
 //! The seat of a recorder.
-ghost use Rattle.std.specs.Prelude.{◌≡◌, ◌<◌, length, map, IfOk, OnOk, OnErr};
+ghost use Rattle.std.specs.Prelude.{◌≡◌, ◌<◌, false, length, map, IfOk, OnOk, OnErr};
 ghost use Rattle.metric_catalogue.specs.Attributes.{given_by};
 ghost use Rattle.metric_catalogue.specs.Encoding.{encode_of};
 ghost use Rattle.metric_hosted.specs.Hosts.{number_of, run_of};
@@ -32,11 +32,13 @@ pub struct RecorderSeat {
 }
 
 impl Model for RecorderSeat {
+    ghost use Rattle.std.specs.Prelude.{[]};
     ghost use Rattle.metric_provider.specs.Seats.{RecorderValue};
 
     ghost Value = { RecorderValue };
 
-    ghost view = { λ r. record { run = r.run; number = r.number; told = r.told.items } };
+    // Its instruments keep no entries, so it keeps no slips.
+    ghost view = { λ r. record { run = r.run; number = r.number; told = r.told.items; slips = [] } };
 }
 
 impl RecorderSeat {
@@ -48,7 +50,7 @@ impl RecorderSeat {
         number: u32,
         instruments: usize,
     ) -> Result<RecorderSeat, AllocError>
-        ensures { IfOk result (λ seat. seat ≡ new_recorder run instruments number) }
+        ensures { IfOk result (λ seat. seat ≡ new_recorder false run instruments number) }
     {
         let nothing = Told {
             count: 0,

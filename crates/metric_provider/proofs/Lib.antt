@@ -4,3 +4,6 @@ pub mod CollectLaws
 pub mod SettleLaws
 pub mod AdmitLaws
 pub mod KeyLaws
+pub mod NotingLaws
+pub mod EntryLaws
+pub mod JournalLaws

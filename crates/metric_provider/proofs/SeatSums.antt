@@ -90,7 +90,7 @@ sum_none : (xs : List ℕ) → ((k : ℕ) → k < length xs → slice_index xs k
 sum_none [] none = refl
 sum_none (x ∷ xs) none = omega (arith, sum_by-cons (λ n. n) x xs, none 0 (omega arith), sum_none xs (λ k below. none (suc k) (omega arith)))
 
-seat_of : (seats : List RecorderValue) (recorders k : ℕ) → has_each seats recorders ≡ true → k < recorders → has_seat seats k ≡ true
+pub seat_of : (seats : List RecorderValue) (recorders k : ℕ) → has_each seats recorders ≡ true → k < recorders → has_seat seats k ≡ true
 seat_of seats recorders k each below = at (has_seat seats k) refl
   where
     at : (b : Bool) → has_seat seats k ≡ b → has_seat seats k ≡ true

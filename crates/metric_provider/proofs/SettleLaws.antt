@@ -14,7 +14,7 @@ use Rattle.metric_provider.specs.declared.fault.FinishFault.TheVariants.{Recorde
 use Rattle.metric_provider.specs.declared.totals.Total.{Total}
 use Rattle.metric_provider.specs.Recordings.{told_at}
 use Rattle.metric_provider.specs.Seats.{ProviderValue, RecorderValue, is_recorder_of}
-use Rattle.metric_provider.specs.Totals.{AreAllSeats, AreOneEach, IsAsTold, are_distinct, has_each, seated, told_amount, told_count, told_sum, told_total, told_totals}
+use Rattle.metric_provider.specs.Totals.{AreAllSeats, AreOneEach, are_distinct, has_each, seated, told_amount, told_count, told_sum, told_total, told_totals}
 use Rattle.metric_provider.proofs.SeatSums.{sum_by_seats}
 
 -- what a test of each element gives where a weaker one is asked
@@ -91,19 +91,19 @@ totals_more seats number instruments done new all own total found is pushed befo
     ∙ ap (λ (rest : List Facts). done ++ told_totals seats number rest) (sym (drop_at instruments number own found))
     ∙ before
 
--- the cell of one instrument more is as told
-pub told_more_cells : {B : Type 0} (instruments : List Facts) (cells : List (CellValue B)) (seats : List RecorderValue) (number : ℕ) (own : Facts) (c : CellValue B)
-    → slice_get instruments number ≡ Some own → slice_get cells number ≡ Some c → IsAsTold own c seats number
-    → ((i : ℕ) (f : Facts) (d : CellValue B) → i < number → slice_get instruments i ≡ Some f → slice_get cells i ≡ Some d → IsAsTold f d seats i)
-    → (i : ℕ) (f : Facts) (d : CellValue B) → i < number + 1 → slice_get instruments i ≡ Some f → slice_get cells i ≡ Some d → IsAsTold f d seats i
-told_more_cells {B} instruments cells seats number own c found there told before i f d below at_i in_i = at (i == number) refl
+-- what holds of the cell of each instrument, and of one instrument more
+pub told_more_cells : {B : Type 0} (P : Facts → CellValue B → ℕ → Type 0) (instruments : List Facts) (cells : List (CellValue B)) (number : ℕ) (own : Facts) (c : CellValue B)
+    → slice_get instruments number ≡ Some own → slice_get cells number ≡ Some c → P own c number
+    → ((i : ℕ) (f : Facts) (d : CellValue B) → i < number → slice_get instruments i ≡ Some f → slice_get cells i ≡ Some d → P f d i)
+    → (i : ℕ) (f : Facts) (d : CellValue B) → i < number + 1 → slice_get instruments i ≡ Some f → slice_get cells i ≡ Some d → P f d i
+told_more_cells {B} P instruments cells number own c found there told before i f d below at_i in_i = at (i == number) refl
   where
-    at : (b : Bool) → (i == number) ≡ b → IsAsTold f d seats i
+    at : (b : Bool) → (i == number) ≡ b → P f d i
     at true e =
         let same : number ≡ i = grind (arith, nat_tests) in
         let facts : own ≡ f = same_Some own f (sym found ∙ ap (λ (n : ℕ). slice_get instruments n) same ∙ at_i) in
         let cell : c ≡ d = same_Some c d (sym there ∙ ap (λ (n : ℕ). slice_get cells n) same ∙ in_i) in
-        subst (λ (x : CellValue B). IsAsTold f x seats i) cell (subst (λ (x : Facts). IsAsTold x c seats i) facts (subst (λ (n : ℕ). IsAsTold own c seats n) same told))
+        subst (λ (x : CellValue B). P f x i) cell (subst (λ (x : Facts). P x c i) facts (subst (λ (n : ℕ). P own c n) same told))
     at false e =
         let earlier : i < number = grind (arith, nat_tests) in
         before i f d earlier at_i in_i

@@ -1,7 +1,8 @@
 -- What recordings of set keys are answered.
-use Rattle.std.specs.Prelude.{◌≡◌, ◌<◌, ℕ, ℤ, true, All, List, [], ◌∷◌, Result, Ok, Err, Some, length, slice_get, take}
+use Rattle.std.specs.Prelude.{◌≡◌, ◌<◌, ℕ, ℤ, Bool, true, All, List, [], ◌∷◌, Result, Ok, Err, Some, length, map, slice_get, take}
 use Rattle.std.specs.Option.{option_map_or}
 use Rattle.metric_base.specs.Steps.{◌>>=◌, require, require_some}
+use Rattle.metric_book.specs.declared.slip.Slip.{Slip}
 use Rattle.metric_catalogue.specs.declared.refusal.Refusal.{Refusal}
 use Rattle.metric_catalogue.specs.declared.refusal.Refusal.TheVariants.{Stranger, UnknownInstrument, UnknownValue, ValueRange}
 use Rattle.metric_facts.specs.declared.facts.Facts.{Facts}
@@ -12,7 +13,7 @@ use Rattle.metric_slot.specs.Tellings.{told_more}
 use Rattle.metric_provider.specs.declared.fault.SetsFault.{SetsFault}
 use Rattle.metric_provider.specs.declared.keys.Measurement.{Measurement}
 use Rattle.metric_provider.specs.Providers.{KnowsRecording}
-use Rattle.metric_provider.specs.Recordings.{AnswersSeat, RefusesRecording, with_recording}
+use Rattle.metric_provider.specs.Recordings.{AnswersSeat, RefusesRecording, with_recording, with_slips}
 use Rattle.metric_provider.specs.Seats.{ProviderValue, RecorderValue, is_recorder_of}
 
 -- the set key of a recording that the plan declares, if it is a full set of the instrument's keys, or the first refusal
@@ -40,6 +41,18 @@ told_of plan seat instrument value =
 abbrev pub told_of_all : PlanValue → RecorderValue → ℕ → List Measurement → RecorderValue
 told_of_all plan seat instrument [] = seat
 told_of_all plan seat instrument (one ∷ all) = told_of_all plan (told_of plan seat instrument one.value) instrument all
+
+-- the recording of a value by its set key
+abbrev pub measurement_of : List ℕ → ℤ → Measurement
+measurement_of set value = record { set = set; value = value }
+
+-- its slip
+abbrev pub slip_of_one : Measurement → Slip
+slip_of_one one = record { set = one.set; value = one.value }
+
+-- the seat that was told of these, with a slip of each
+abbrev pub noted_of_all : Bool → PlanValue → RecorderValue → ℕ → List Measurement → RecorderValue
+noted_of_all keeps plan seat instrument all = with_slips keeps (told_of_all plan seat instrument all) instrument (map slip_of_one all)
 
 -- what a recording of a set key is answered
 abbrev pub AnswersKey : (Facts → Type 0) → ProviderValue → RecorderValue → ℕ → Measurement → Result (Unit {0}) Refusal → Type 0

@@ -1,5 +1,6 @@
 -- What a recorder's calls answer.
-use Rattle.std.specs.Prelude.{◌≡◌, ◌≤◌, IfSome, ℕ, ℤ, List, Result, Ok, Err, slice_get, slice_index, slice_index_or, slice_set}
+use Rattle.std.specs.Prelude.{◌≡◌, ◌≤◌, IfSome, ℕ, ℤ, Bool, false, List, [], ◌∷◌, ◌++◌, Result, Ok, Err, slice_get, slice_index, slice_index_or, slice_set, if◌then◌else◌}
+use Rattle.metric_book.specs.declared.slip.Slip.{Slip}
 use Rattle.metric_base.specs.Steps.{◌>>=◌, require, require_some}
 use Rattle.metric_catalogue.specs.Encoding.{Given, encode_of}
 use Rattle.metric_catalogue.specs.declared.refusal.Refusal.{Refusal}
@@ -9,7 +10,7 @@ use Rattle.metric_facts.specs.Facts.{in_bounds}
 use Rattle.metric_plan.specs.Plans.{PlanValue}
 use Rattle.metric_slot.specs.declared.told.Told.{Told}
 use Rattle.metric_slot.specs.Tellings.{told_more}
-use Rattle.metric_provider.specs.Seats.{ProviderValue, RecorderValue, is_recorder_of, nothing_told}
+use Rattle.metric_provider.specs.Seats.{ProviderValue, RecorderValue, is_recorder_of, nothing_told, slips_at}
 
 -- the set key of a recording that the plan declares, or the first refusal
 abbrev pub declared_set : PlanValue → ℕ → List Given → ℤ → Result (List ℕ) Refusal
@@ -51,3 +52,31 @@ abbrev pub with_recording : RecorderValue → ℕ → Facts → ℤ → Recorder
 with_recording seat instrument own value = record seat {
   told = slice_set seat.told instrument (told_more (told_at seat instrument) own.lo value);
 }
+
+-- ---- slips
+
+-- recordings by a seat take no memory: none for the book, and none for slips, since it keeps no entries
+abbrev pub SeatSpares : Bool → (Facts → Type 0) → Facts → Type 0
+SeatSpares keeps spares_memory own = (keeps ≡ false) × spares_memory own
+
+-- the seat with these slips put last, where slips are kept
+abbrev pub with_slips : Bool → RecorderValue → ℕ → List Slip → RecorderValue
+with_slips keeps seat instrument more =
+    if keeps then (record seat { slips = slice_set seat.slips instrument (slips_at seat instrument ++ more) }) else seat
+
+-- the seat that was told of a recording of this set key and this value, with its slip
+abbrev pub with_slip : Bool → RecorderValue → ℕ → Facts → List ℕ → ℤ → RecorderValue
+with_slip keeps seat instrument own set value =
+    with_slips keeps (with_recording seat instrument own value) instrument (record { set = set; value = value } ∷ [])
+
+-- a seat after an accepted recording with this admission: it was told of it, and its slip has the set key and the value
+abbrev pub IsToldOf : Bool → Result (List ℕ) Refusal → PlanValue → RecorderValue → RecorderValue → ℕ → ℤ → Type 0
+IsToldOf keeps (Err first) plan old new instrument value = ⊥
+IsToldOf keeps (Ok set) plan old new instrument value =
+    IfSome (slice_get plan.facts.instruments instrument) (λ (own : Facts). new ≡ with_slip keeps old instrument own set value)
+
+-- what refuses a slip before the lock: the seat has no list for the instrument, or memory was refused
+abbrev pub RefusesSlip : Refusal → Type 0
+RefusesSlip Stranger = Unit {0}
+RefusesSlip Memory = Unit {0}
+RefusesSlip other = ⊥

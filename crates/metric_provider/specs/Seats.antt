@@ -1,5 +1,6 @@
 -- Providers and their seats.
-use Rattle.std.specs.Prelude.{ℕ, Bool, ◌&&◌, List, length, nat_lt, replicate, ◌==◌}
+use Rattle.std.specs.Prelude.{ℕ, Bool, ◌&&◌, List, [], length, nat_lt, replicate, slice_index_or, ◌==◌, if◌then◌else◌}
+use Rattle.metric_book.specs.declared.slip.Slip.{Slip}
 use Rattle.metric_plan.specs.Plans.{PlanValue}
 use Rattle.metric_slot.specs.declared.told.Told.{Told}
 
@@ -8,11 +9,12 @@ pub record ProviderValue : Type 0 where
   pub plan : PlanValue
   pub run : ℕ
 
--- the number of the run, that of the recorder, and what it was told of each instrument
+-- the number of the run, that of the recorder, what it was told of each instrument, and its slips of each, where its book keeps entries
 pub record RecorderValue : Type 0 where
   pub run : ℕ
   pub number : ℕ
   pub told : List Told
+  pub slips : List (List Slip)
 
 -- the number of the run, that of the reader, and how many recordings of each instrument its last batch counted
 pub record CollectorValue : Type 0 where
@@ -27,9 +29,22 @@ provider_of plan run = record { plan = plan; run = run }
 abbrev pub nothing_told : Told
 nothing_told = record { count = 0; amount = 0 }
 
--- the seat of a recorder that was told of nothing, of so many instruments
-abbrev pub new_recorder : ℕ → ℕ → ℕ → RecorderValue
-new_recorder run instruments number = record { run = run; number = number; told = replicate instruments nothing_told }
+-- a list without slips for each of so many instruments, where slips are kept
+abbrev pub no_slips : Bool → ℕ → List (List Slip)
+no_slips keeps instruments = if keeps then replicate instruments [] else []
+
+-- the seat of a recorder that was told of nothing, of so many instruments, and whether it keeps slips
+abbrev pub new_recorder : Bool → ℕ → ℕ → ℕ → RecorderValue
+new_recorder keeps run instruments number = record {
+  run = run;
+  number = number;
+  told = replicate instruments nothing_told;
+  slips = no_slips keeps instruments;
+}
+
+-- the slips of the instrument of a number: none without a list for it
+abbrev pub slips_at : RecorderValue → ℕ → List Slip
+slips_at seat instrument = slice_index_or seat.slips instrument []
 
 -- the seat of a reader that has seen nothing
 abbrev pub new_collector : ℕ → ℕ → ℕ → CollectorValue

@@ -1,16 +1,17 @@
 //! The end of a provider: its instruments leave their locks and are compared with what the recorders were told.
-ghost use Rattle.std.specs.Prelude.{◌≡◌, ◌≤◌, ◌+◌, [], Ok, true, length, vec_capacity, vec_len, IfOk, IfErr, OnErr, OnOk};
+ghost use Rattle.std.specs.Prelude.{◌≡◌, ◌≤◌, ◌+◌, Ok, true, length, map, vec_capacity, vec_len, IfOk, IfErr, OnErr, OnOk};
 ghost use Rattle.std.specs.List.{list_all};
 ghost use Rattle.metric_provider.specs.Providers.{IsProvider};
 ghost use Rattle.metric_provider.specs.Seats.{is_recorder_of, provider_of};
-ghost use Rattle.metric_provider.specs.Totals.{AreAllSeats, RefusesFinish, are_distinct, has_each, has_seat, seated, told_totals};
+ghost use Rattle.metric_provider.specs.Totals.{AreAllSeats, AreToldJournals, Finishes, RefusesFinish, are_distinct, entries_by, has_each, has_seat, seated, slips_of_seats, told_totals};
 
 use crate::fault::FinishFault;
 use crate::gate::Gate;
+use crate::journals::{journals_of, slips_of_seats};
 use crate::provider::{Locked, Provider};
 use crate::recorder::Recorder;
 use crate::settling::settle;
-use crate::totals::{Total, Totals};
+use crate::totals::Totals;
 use crossbeam_utils::CachePadded;
 use metric_book::Book;
 use metric_plan::Plan;
@@ -20,14 +21,17 @@ use std::sync::{Mutex, Wait};
 
 impl<B: Book, G: Gate> Provider<B, G> {
     /// Ends the provider, by the seats of all its recorders in any order. What its instruments come to is exactly what the
-    /// recorders were told. Where it is not ended, provider and seats are handed back.
+    /// recorders were told. Where its books keep their entries, the journals and the slips are copied, and the slips of each
+    /// recorder are exactly its entries in each journal, each once and in order. Where it is not ended, provider and seats
+    /// are handed back.
     ///
     /// # Errors
     ///
     /// - [`FinishFault::Stranger`] where a seat's run is of another number, a seat was made for another number of instruments,
     ///   the plan has no recorder of its number, or two seats are of one recorder.
     /// - [`FinishFault::RecorderMissing`] where a recorder has no seat among them.
-    /// - [`FinishFault::AuditMismatch`] where an instrument's facts, one of its spent budgets or its sum is another.
+    /// - [`FinishFault::AuditMismatch`] where an instrument's facts, one of its spent budgets, its sum or a recorder's entries
+    ///   are others.
     /// - [`FinishFault::Memory`], which may stand in the place of `AuditMismatch`.
     pub fn finish<R: Wait>(
         self,
@@ -37,8 +41,14 @@ impl<B: Book, G: Gate> Provider<B, G> {
     ) -> Result<Totals, (Provider<B, G>, Vec<Recorder>, FinishFault)>
         ensures totals { IfOk result (λ totals. totals.instruments.items
             ≡ told_totals recorders.items 0 self.plan.facts.instruments) }
-        ensures journals { IfOk result (λ totals. totals.journals.items ≡ []) }
-        ensures slips { IfOk result (λ totals. totals.slips.items ≡ []) }
+        ensures journals { IfOk result (λ totals. let instruments = self.plan.facts.instruments in
+            AreToldJournals B.KEEPS_ENTRIES instruments recorders.items totals.journals.items) }
+        ensures slips { IfOk result (λ totals. let count = length self.plan.facts.instruments in
+            let numbers = length self.plan.facts.contents.recorders in
+            totals.slips.items ≡ slips_of_seats recorders.items numbers count) }
+        ensures entries { IfOk result (λ totals.
+            let numbers = length self.plan.facts.contents.recorders in
+            totals.slips.items ≡ map (entries_by numbers) totals.journals.items) }
         ensures seated { OnOk result (seated self recorders.items ≡ Ok tt) }
         ensures refused { IfErr result (λ refused.
             RefusesFinish (seated self recorders.items) refused.2) }
@@ -47,11 +57,7 @@ impl<B: Book, G: Gate> Provider<B, G> {
     {
         let (plan, run, gate, mut slots) = self.into_slots();
         match settle_seated(alloc, &plan, run, &mut slots, recorders.as_slice()) {
-            Ok(instruments) => Ok(Totals {
-                instruments,
-                journals: Vec::new(alloc),
-                slips: Vec::new(alloc),
-            }),
+            Ok(totals) => Ok(totals),
             Err(fault) => {
                 let provider = Provider::from_slots(plan, run, gate, slots);
                 Err((provider, recorders, fault))
@@ -60,17 +66,18 @@ impl<B: Book, G: Gate> Provider<B, G> {
     }
 }
 
-// The totals of the instruments, where the seats are those of all recorders of this run of the plan.
+// What the provider comes to, where the seats are those of all recorders of this run of the plan.
 fn settle_seated<B: Book>(
     alloc: Global,
     plan: &Plan,
     run: u64,
     locked: &mut Vec<Locked<B>>,
     recorders: &[Recorder],
-) -> Result<Vec<Total>, FinishFault>
+) -> Result<Totals, FinishFault>
     requires { vec_len locked.old ≡ length plan.now.facts.instruments }
-    ensures totals { IfOk result (λ totals.
-        totals.items ≡ told_totals recorders.now 0 plan.now.facts.instruments) }
+    ensures totals { IfOk result (λ totals. let sums = totals.instruments.items in
+        Finishes B.KEEPS_ENTRIES
+        plan.now recorders.now sums totals.journals.items totals.slips.items) }
     ensures seated { OnOk result (seated (provider_of plan.now run) recorders.now ≡ Ok tt) }
     ensures refused { IfErr result (λ fault.
         RefusesFinish (seated (provider_of plan.now run) recorders.now) fault) }
@@ -82,30 +89,61 @@ fn settle_seated<B: Book>(
     }
 }
 
-// The totals of instruments that leave their locks; refused, they are locked again. All room is made first.
+// What instruments come to that leave their locks; refused, they are locked again. All room for that is made first.
 fn settle_locked<B: Book>(
     alloc: Global,
     plan: &Plan,
     locked: &mut Vec<Locked<B>>,
     recorders: &[Recorder],
-) -> Result<Vec<Total>, FinishFault>
+) -> Result<Totals, FinishFault>
     requires slots { vec_len locked.old ≡ length plan.now.facts.instruments }
     requires recorders { AreAllSeats plan.now recorders.now }
-    ensures totals { IfOk result (λ totals.
-        totals.items ≡ told_totals recorders.now 0 plan.now.facts.instruments) }
+    ensures totals { IfOk result (λ totals. let sums = totals.instruments.items in
+        Finishes B.KEEPS_ENTRIES
+        plan.now recorders.now sums totals.journals.items totals.slips.items) }
     ensures refused { IfErr result (λ fault. RefusesFinish (Ok tt) fault) }
     ensures back { OnErr result (vec_len locked.new ≡ vec_len locked.old) }
 {
     let mut slots = Vec::with_capacity(alloc, locked.len())?;
     take_out(locked, &mut slots);
     slots.as_mut_slice().reverse();
-    match settle(alloc, plan, slots.as_slice(), recorders) {
+    match totals_of(alloc, plan, slots.as_slice(), recorders) {
         Ok(totals) => Ok(totals),
         Err(fault) => {
             slots.as_mut_slice().reverse();
             put_back(&mut slots, locked);
             Err(fault)
         }
+    }
+}
+
+// The totals of the slots, their journals, and the slips of the seats.
+fn totals_of<B: Book>(
+    alloc: Global,
+    plan: &Plan,
+    slots: &[Slot<B>],
+    recorders: &[Recorder],
+) -> Result<Totals, FinishFault>
+    requires slots { length slots.now ≡ length plan.now.facts.instruments }
+    requires recorders { AreAllSeats plan.now recorders.now }
+    ensures totals { IfOk result (λ totals. let sums = totals.instruments.items in
+        Finishes B.KEEPS_ENTRIES
+        plan.now recorders.now sums totals.journals.items totals.slips.items) }
+    ensures refused { IfErr result (λ fault. RefusesFinish (Ok tt) fault) }
+{
+    match settle(alloc, plan, slots, recorders) {
+        Ok(instruments) => {
+            let numbers = plan.catalogue().recorders().len() as u32;
+            let count = plan.catalogue().instruments().len() as u32;
+            let journals = journals_of(alloc, slots)?;
+            let slips = slips_of_seats(alloc, recorders, numbers, count)?;
+            Ok(Totals {
+                instruments,
+                journals,
+                slips,
+            })
+        }
+        Err(fault) => Err(fault),
     }
 }
 

@@ -1,6 +1,6 @@
 //! Set keys that a caller brings back.
 ghost use Rattle.std.specs.Prelude.{◌≡◌};
-ghost use Rattle.metric_provider.specs.KeyRecordings.{declared_key};
+ghost use Rattle.metric_provider.specs.KeyRecordings.{declared_key, measurement_of};
 
 use metric_catalogue::{Refusal, SetKey};
 use metric_facts::is_full_set;
@@ -13,6 +13,13 @@ pub struct Measurement {
     pub set: SetKey,
     /// The value.
     pub value: i64,
+}
+
+// The recording of a value by its set key.
+pub(crate) fn recording_of(set: SetKey, value: &i64) -> Measurement
+    ensures { result ≡ measurement_of set value.now }
+{
+    Measurement { set, value: *value }
 }
 
 /// The set key of a recording that the plan declares, or the first refusal.

@@ -1,16 +1,17 @@
 //! The seat of a recorder.
-ghost use Rattle.std.specs.Prelude.{◌≡◌, ◌<◌, Some, None, length, map, take, slice_get, slice_set, IfOk, IfErr, IfSome, Ok, OnOk, OnErr};
+ghost use Rattle.std.specs.Prelude.{◌≡◌, ◌<◌, ◌-◌, Bool, true, Some, None, length, map, take, slice_get, slice_set, IfOk, IfErr, IfSome, Ok, OnOk, OnErr};
 ghost use Rattle.metric_catalogue.specs.Attributes.{given_by};
-ghost use Rattle.metric_provider.specs.KeyRecordings.{AreAccepted, AreAdmitted, IsRefusedAfter, IsUnadmittedAfter, admitted_key, told_of_all};
+ghost use Rattle.metric_provider.specs.KeyRecordings.{AreAccepted, AreAdmitted, IsRefusedAfter, IsUnadmittedAfter, admitted_key, noted_of_all, slip_of_one, told_of_all};
 ghost use Rattle.metric_provider.specs.Providers.{KnowsRecording};
-ghost use Rattle.metric_provider.specs.Recordings.{AnswersSeat, admitted, declared_set, told_at, with_recording};
-ghost use Rattle.metric_provider.specs.Seats.{is_recorder_of, new_recorder, provider_of};
+ghost use Rattle.metric_provider.specs.Recordings.{AnswersSeat, IsToldOf, RefusesSlip, SeatSpares, admitted, declared_set, told_at, with_recording, with_slips};
+ghost use Rattle.metric_provider.specs.Seats.{is_recorder_of, new_recorder, provider_of, slips_at};
 
 use crate::fault::SetsFault;
 use crate::gate::Gate;
-use crate::keys::{Measurement, declared_key};
+use crate::keys::{Measurement, declared_key, recording_of};
+use crate::notes::{Notes, no_notes};
 use crate::provider::Provider;
-use metric_book::Book;
+use metric_book::{Book, Slip};
 use metric_catalogue::{Attr, Refusal, SetKey};
 use metric_facts::laws::attributes_name_full_sets;
 use metric_plan::Plan;
@@ -24,12 +25,13 @@ use std::sync::Wait;
 const ROOM_BEHIND: usize = 8;
 
 /// The seat of one recorder: with it a thread records (Metrics API, synchronous instruments). It keeps what the
-/// recorder was told of its accepted recordings.
+/// recorder was told of its accepted recordings, and where the provider's books keep their entries, a slip of each.
 #[derive(Drop)]
 pub struct Recorder {
     run: u64,
     number: u32,
     told: Vec<Told>,
+    notes: Vec<Notes>,
 }
 
 impl Model for Recorder {
@@ -37,18 +39,24 @@ impl Model for Recorder {
 
     ghost Value = { RecorderValue };
 
-    ghost view = { λ r. record { run = r.run; number = r.number; told = r.told.items } };
+    ghost view = { λ r. record {
+      run = r.run;
+      number = r.number;
+      told = r.told.items;
+      slips = r.notes.items;
+    } };
 }
 
 impl Recorder {
-    // The seat of the recorder of this number, which was told of nothing.
+    // The seat of the recorder of this number, which was told of nothing, and whether it keeps slips.
     pub(crate) fn new(
         alloc: Global,
         run: u64,
         number: u32,
         instruments: usize,
+        keeps: bool,
     ) -> Result<Recorder, AllocError>
-        ensures { IfOk result (λ seat. seat ≡ new_recorder run instruments number) }
+        ensures { IfOk result (λ seat. seat ≡ new_recorder keeps run instruments number) }
     {
         let nothing = Told {
             count: 0,
@@ -56,7 +64,13 @@ impl Recorder {
         };
         let mut told = Vec::with_capacity(alloc, instruments.saturating_add(ROOM_BEHIND))?;
         told.resize(instruments, nothing)?;
-        Ok(Recorder { run, number, told })
+        let notes = no_notes(alloc, if keeps { instruments } else { 0 })?;
+        Ok(Recorder {
+            run,
+            number,
+            told,
+            notes,
+        })
     }
 
     /// The number of the recorder.
@@ -85,13 +99,15 @@ impl Recorder {
         self.admit(provider.plan(), provider.run(), instrument, attrs, &value)
     }
 
-    /// Makes a recording (Metrics API, synchronous instruments), and tells the seat of it.
+    /// Makes a recording (Metrics API, synchronous instruments), and tells the seat of it. Where the book keeps its entries
+    /// (`B::KEEPS_ENTRIES`), the seat keeps a slip of it: the set key that the attributes name, and the value.
     ///
     /// # Errors
     ///
-    /// Those of [`Recorder::admits`]. Then, under the instrument's lock, `Stranger` where what is found there is not what the
-    /// seat was told, `Closed`, `Budget`, and `Memory`, which never comes where the book says that recordings on the instrument
-    /// take none. No recording is refused for a sum.
+    /// Those of [`Recorder::admits`]. Where the book keeps its entries, `Stranger` where the seat was made to keep no slips, and
+    /// `Memory` where there is none for the slip. Then, under the instrument's lock, `Stranger` where what is found there is not
+    /// what the seat was told, `Closed`, `Budget`, and `Memory`, which never comes where the book says that recordings on the
+    /// instrument take none. No recording is refused for a sum.
     pub fn record<R: Wait, B: Book, G: Gate>(
         &mut self,
         rt: &R,
@@ -102,10 +118,13 @@ impl Recorder {
     ) -> Result<(), Refusal>
         ensures answer { let given = map given_by attrs.now in
             let admission = admitted provider.now self.old instrument given value in
-            AnswersSeat B.spares_memory admission provider.now.plan self.old instrument result }
-        ensures told { OnOk result (
-            IfSome (slice_get provider.now.plan.facts.instruments instrument) (λ own.
-            self.new ≡ with_recording self.old instrument own value)) }
+            let spares = SeatSpares B.KEEPS_ENTRIES B.spares_memory in
+            AnswersSeat spares admission provider.now.plan self.old instrument result }
+        ensures told { let given = map given_by attrs.now in
+            let admission = admitted provider.now self.old instrument given value in
+            let plan = provider.now.plan in
+            OnOk result (
+            IsToldOf B.KEEPS_ENTRIES admission plan self.old self.new instrument value) }
         ensures err { OnErr result (self.new ≡ self.old) }
     {
         let set = self.admit(provider.plan(), provider.run(), instrument, attrs, &value)?;
@@ -118,8 +137,8 @@ impl Recorder {
     /// # Errors
     ///
     /// `Stranger` and `UnknownInstrument` as of [`Recorder::admits`], `UnknownValue` where the set key is not one of the
-    /// instrument's: it names a value that a key does not declare, or none of a required key; then `ValueRange`. Then,
-    /// under the instrument's lock, those of [`Recorder::record`].
+    /// instrument's: it names a value that a key does not declare, or none of a required key; then `ValueRange`. Then those
+    /// that [`Recorder::record`] names after those of [`Recorder::admits`].
     pub fn record_set<R: Wait, B: Book, G: Gate>(
         &mut self,
         rt: &R,
@@ -129,10 +148,12 @@ impl Recorder {
         value: i64,
     ) -> Result<(), Refusal>
         ensures answer { let admission = admitted_key provider.now self.old instrument set value in
-            AnswersSeat B.spares_memory admission provider.now.plan self.old instrument result }
-        ensures told { OnOk result (
-            IfSome (slice_get provider.now.plan.facts.instruments instrument) (λ own.
-            self.new ≡ with_recording self.old instrument own value)) }
+            let spares = SeatSpares B.KEEPS_ENTRIES B.spares_memory in
+            AnswersSeat spares admission provider.now.plan self.old instrument result }
+        ensures told { let admission = admitted_key provider.now self.old instrument set value in
+            let plan = provider.now.plan in
+            OnOk result (
+            IsToldOf B.KEEPS_ENTRIES admission plan self.old self.new instrument value) }
         ensures err { OnErr result (self.new ≡ self.old) }
     {
         let set = self.admit_key(provider.plan(), provider.run(), instrument, set, &value)?;
@@ -141,12 +162,14 @@ impl Recorder {
 
     /// Makes recordings of one instrument by their set keys (Metrics API, synchronous instruments), in order and under one
     /// lock, up to the first that is refused: no other thread records on the instrument between them. The seat is told of
-    /// exactly those before the refused one. An empty list is accepted of any seat. Takes no memory of its own.
+    /// exactly those before the refused one, and has slips of them where it keeps any. An empty list is accepted of any
+    /// seat. Takes no memory of its own but for slips.
     ///
     /// # Errors
     ///
     /// The first refusal of [`Recorder::record_set`], as if they were made one by one, with its place in the list. What that
-    /// tests before the lock is tested of all of them before the lock.
+    /// tests before the lock is tested of all of them before the lock; where there is no memory for all slips, the first
+    /// recording is refused.
     pub fn record_sets<R: Wait, B: Book, G: Gate>(
         &mut self,
         rt: &R,
@@ -154,14 +177,16 @@ impl Recorder {
         instrument: u32,
         all: &[Measurement],
     ) -> Result<(), SetsFault>
-        ensures accepted { OnOk result (
-            AreAccepted B.spares_memory provider.now self.old instrument all.now) }
-        ensures told { OnOk result (
-            self.new ≡ told_of_all provider.now.plan self.old instrument all.now) }
-        ensures refused { IfErr result (λ fault.
-            IsRefusedAfter B.spares_memory provider.now self.old instrument all.now fault) }
+        ensures accepted { let spares = SeatSpares B.KEEPS_ENTRIES B.spares_memory in
+            OnOk result (AreAccepted spares provider.now self.old instrument all.now) }
+        ensures told { let plan = provider.now.plan in
+            OnOk result (
+            self.new ≡ noted_of_all B.KEEPS_ENTRIES plan self.old instrument all.now) }
+        ensures refused { let spares = SeatSpares B.KEEPS_ENTRIES B.spares_memory in
+            IfErr result (IsRefusedAfter spares provider.now self.old instrument all.now) }
         ensures told_before { IfErr result (λ fault. let made = take fault.place all.now in
-            self.new ≡ told_of_all provider.now.plan self.old instrument made) }
+            let plan = provider.now.plan in
+            self.new ≡ noted_of_all B.KEEPS_ENTRIES plan self.old instrument made) }
     {
         let admitted = self.admit_each(provider.plan(), provider.run(), instrument, all);
         let count = match admitted {
@@ -174,6 +199,62 @@ impl Recorder {
 
     // Makes recordings that the seat may make, and tells it of them, up to the first that is refused.
     fn record_each_known<R: Wait, B: Book, G: Gate>(
+        &mut self,
+        rt: &R,
+        provider: &Provider<B, G>,
+        instrument: u32,
+        all: &[Measurement],
+    ) -> Result<(), SetsFault>
+        requires { AreAdmitted provider.now self.old instrument all.now }
+        ensures told { let plan = provider.now.plan in
+            OnOk result (
+            self.new ≡ noted_of_all B.KEEPS_ENTRIES plan self.old instrument all.now) }
+        ensures refused { let spares = SeatSpares B.KEEPS_ENTRIES B.spares_memory in
+            IfErr result (IsRefusedAfter spares provider.now self.old instrument all.now) }
+        ensures told_before { IfErr result (λ fault. let made = take fault.place all.now in
+            let plan = provider.now.plan in
+            self.new ≡ noted_of_all B.KEEPS_ENTRIES plan self.old instrument made) }
+    {
+        if !B::KEEPS_ENTRIES {
+            return self.record_each_told(rt, provider, instrument, all);
+        }
+        self.record_each_noted(rt, provider, instrument, all)
+    }
+
+    // The same where slips are kept: each has its slip before the lock is taken, and those not told of lose theirs.
+    fn record_each_noted<R: Wait, B: Book, G: Gate>(
+        &mut self,
+        rt: &R,
+        provider: &Provider<B, G>,
+        instrument: u32,
+        all: &[Measurement],
+    ) -> Result<(), SetsFault>
+        requires { AreAdmitted provider.now self.old instrument all.now }
+        ensures told { OnOk result (
+            self.new ≡ noted_of_all true provider.now.plan self.old instrument all.now) }
+        ensures refused { let spares = SeatSpares true B.spares_memory in
+            IfErr result (IsRefusedAfter spares provider.now self.old instrument all.now) }
+        ensures told_before { IfErr result (λ fault. let made = take fault.place all.now in
+            self.new ≡ noted_of_all true provider.now.plan self.old instrument made) }
+    {
+        if all.is_empty() {
+            return Ok(());
+        }
+        match self.note_each(instrument, all) {
+            Ok(()) => {}
+            Err(refusal) => return Err(SetsFault { place: 0, refusal }),
+        }
+        match self.record_each_told(rt, provider, instrument, all) {
+            Ok(()) => Ok(()),
+            Err(fault) => {
+                self.strike_out(instrument, all.len().saturating_sub(fault.place));
+                Err(fault)
+            }
+        }
+    }
+
+    // Makes recordings that the seat may make, and tells it of them without slips, up to the first that is refused.
+    fn record_each_told<R: Wait, B: Book, G: Gate>(
         &mut self,
         rt: &R,
         provider: &Provider<B, G>,
@@ -209,6 +290,64 @@ impl Recorder {
             KnowsRecording provider.now.plan instrument by set value.now }
         requires long { instrument < length self.old.told }
         ensures answer { let plan = provider.now.plan in
+            let spares = SeatSpares B.KEEPS_ENTRIES B.spares_memory in
+            AnswersSeat spares (Ok set) plan self.old instrument result }
+        ensures told { let plan = provider.now.plan in
+            OnOk result (
+            IsToldOf B.KEEPS_ENTRIES (Ok set) plan self.old self.new instrument value.now) }
+        ensures err { OnErr result (self.new ≡ self.old) }
+    {
+        if !B::KEEPS_ENTRIES {
+            return self.record_told(rt, provider, instrument, set, value);
+        }
+        self.record_noted(rt, provider, instrument, set, value)
+    }
+
+    // The same where slips are kept: the slip is made before the lock is taken, and struck out where the recording is
+    // refused.
+    fn record_noted<R: Wait, B: Book, G: Gate>(
+        &mut self,
+        rt: &R,
+        provider: &Provider<B, G>,
+        instrument: u32,
+        set: SetKey,
+        value: &i64,
+    ) -> Result<(), Refusal>
+        requires known { let by = self.old.number in
+            KnowsRecording provider.now.plan instrument by set value.now }
+        requires long { instrument < length self.old.told }
+        ensures answer { let plan = provider.now.plan in
+            let spares = SeatSpares true B.spares_memory in
+            AnswersSeat spares (Ok set) plan self.old instrument result }
+        ensures told { let plan = provider.now.plan in
+            OnOk result (IsToldOf true (Ok set) plan self.old self.new instrument value.now) }
+        ensures err { OnErr result (self.new ≡ self.old) }
+    {
+        let one = recording_of(set, value);
+        match self.note_each(instrument, &[one]) {
+            Ok(()) => {}
+            Err(refusal) => return Err(refusal),
+        }
+        let answer = self.record_told(rt, provider, instrument, set, value);
+        if answer.is_err() {
+            self.strike_out(instrument, 1);
+        }
+        answer
+    }
+
+    // Makes a recording that the seat may make, and tells it of that without a slip.
+    fn record_told<R: Wait, B: Book, G: Gate>(
+        &mut self,
+        rt: &R,
+        provider: &Provider<B, G>,
+        instrument: u32,
+        set: SetKey,
+        value: &i64,
+    ) -> Result<(), Refusal>
+        requires known { let by = self.old.number in
+            KnowsRecording provider.now.plan instrument by set value.now }
+        requires long { instrument < length self.old.told }
+        ensures answer { let plan = provider.now.plan in
             AnswersSeat B.spares_memory (Ok set) plan self.old instrument result }
         ensures told { OnOk result (
             IfSome (slice_get provider.now.plan.facts.instruments instrument) (λ own.
@@ -218,6 +357,47 @@ impl Recorder {
         let number = self.number;
         let told = &mut self.told[instrument as usize];
         provider.record_inside(rt, instrument, told, number, set, value)
+    }
+
+    // A slip of each recording on an instrument, after those so far.
+    fn note_each(&mut self, instrument: u32, all: &[Measurement]) -> Result<(), Refusal>
+        ensures noted { let more = map slip_of_one all.now in
+            OnOk result (self.new ≡ with_slips true self.old instrument more) }
+        ensures within { OnOk result (instrument < length self.old.slips) }
+        ensures refused { IfErr result (λ refusal. RefusesSlip refusal) }
+        ensures err { OnErr result (self.new ≡ self.old) }
+    {
+        let at = instrument as usize;
+        if at >= self.notes.len() {
+            return Err(Refusal::Stranger);
+        }
+        let notes = &mut self.notes[at];
+        if notes.add_each(all).is_err() {
+            return Err(Refusal::Memory);
+        }
+        Ok(())
+    }
+
+    // Strikes out so many of the last slips of an instrument.
+    fn strike_out(&mut self, instrument: u32, count: usize)
+        requires { instrument < length self.old.slips }
+        ensures { let slips = slips_at self.old instrument in
+            let left = take (length slips - count) slips in
+            self.new ≡ record self.old { slips = slice_set self.old.slips instrument left } }
+    {
+        let notes = &mut self.notes[instrument as usize];
+        notes.strike_out(count);
+    }
+
+    /// The slips of the recorder's accepted recordings on an instrument, in order; none where its provider's books keep
+    /// no entries, and none for an unknown instrument.
+    pub fn slips(&self, instrument: u32) -> &[Slip]
+        ensures { result.now ≡ slips_at self.now instrument }
+    {
+        match self.notes.get(instrument as usize) {
+            Some(notes) => notes.as_slice(),
+            None => &[],
+        }
     }
 
     /// What the recorder was told of its accepted recordings on an instrument; nothing for an unknown one.

@@ -17,8 +17,8 @@ use std::sync::Wait;
 
 /// A provider of a certified plan without recordings, since a start in nanoseconds, with a seat for each recorder and
 /// each reader, in order. Seats serve the number of the run that they were made for: give each provider one of its own,
-/// since seats of one run and of plans of the same sizes are told apart by nothing else. The seed of books that hash is
-/// made of the start and the number of the run. Where memory is refused, the plan and the gate are handed back.
+/// since seats of one run and of plans of the same sizes are told apart by nothing else. Where the books keep their
+/// entries, the seats of the recorders keep slips. The seed of books that hash is made of the start and the number of the run. Where memory is refused, the plan and the gate are handed back.
 pub fn start<R: Wait, B: Book, G: Gate>(
     _rt: &R,
     alloc: Global,
@@ -30,7 +30,7 @@ pub fn start<R: Wait, B: Book, G: Gate>(
     requires { IsTrue plan.is_certified }
     ensures provider { IfOk result (λ made. made.0 ≡ provider_of plan run) }
     ensures recorders { IfOk result (λ made. made.1.items
-        ≡ map (new_recorder run (length plan.facts.instruments))
+        ≡ map (new_recorder B.KEEPS_ENTRIES run (length plan.facts.instruments))
         (range_with_len 0 (length plan.facts.contents.recorders))) }
     ensures collectors { IfOk result (λ made. made.2.items
         ≡ map (new_collector run (length plan.facts.instruments))
@@ -56,7 +56,7 @@ fn new_parts<B: Book>(
     requires { IsTrue plan.now.is_certified }
     ensures slots { IfOk result (λ made. vec_len made.0 ≡ length plan.now.facts.instruments) }
     ensures recorders { IfOk result (λ made. made.1.items
-        ≡ map (new_recorder run (length plan.now.facts.instruments))
+        ≡ map (new_recorder B.KEEPS_ENTRIES run (length plan.now.facts.instruments))
         (range_with_len 0 (length plan.now.facts.contents.recorders))) }
     ensures collectors { IfOk result (λ made. made.2.items
         ≡ map (new_collector run (length plan.now.facts.instruments))
@@ -64,7 +64,7 @@ fn new_parts<B: Book>(
 {
     let slots = new_slots(alloc, plan, start, seed_of(start, run))?;
     let slots = locked(alloc, slots)?;
-    let recorders = new_recorders(alloc, plan, run)?;
+    let recorders = new_recorders(alloc, plan, run, B::KEEPS_ENTRIES)?;
     let collectors = new_collectors(alloc, plan, run)?;
     Ok((slots, recorders, collectors))
 }
@@ -108,17 +108,22 @@ fn locked<B: Book>(alloc: Global, slots: Vec<Slot<B>>) -> Result<Vec<Locked<B>>,
     Ok(locked)
 }
 
-// The seat of each recorder, told of nothing.
-fn new_recorders(alloc: Global, plan: &Plan, run: u64) -> Result<Vec<Recorder>, AllocError>
+// The seat of each recorder, told of nothing, and whether it keeps slips.
+fn new_recorders(
+    alloc: Global,
+    plan: &Plan,
+    run: u64,
+    keeps: bool,
+) -> Result<Vec<Recorder>, AllocError>
     ensures { IfOk result (λ seats. seats.items
-        ≡ map (new_recorder run (length plan.now.facts.instruments))
+        ≡ map (new_recorder keeps run (length plan.now.facts.instruments))
         (range_with_len 0 (length plan.now.facts.contents.recorders))) }
 {
     let instruments = plan.all_facts().len();
     let count = plan.catalogue().recorders().len() as u32;
     let mut seats = Vec::new(alloc);
     for number in 0..count {
-        seats.push(Recorder::new(alloc, run, number, instruments)?)?;
+        seats.push(Recorder::new(alloc, run, number, instruments, keeps)?)?;
     }
     Ok(seats)
 }

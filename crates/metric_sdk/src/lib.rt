@@ -12,7 +12,9 @@
 //! 3. **Start.** [`start`] makes a [`Provider`] of a certified plan, with a seat for each recorder and each reader that
 //!    the files declare. A provider is generic over the book that keeps the recordings of an instrument, and over a
 //!    [`Gate`], by which a test holds threads inside a lock. Services take [`Marked`] and [`NoGate`]: a
-//!    [`MeterProvider`], of whose tables [`tables_are_bounded`] speaks.
+//!    [`MeterProvider`], of whose tables [`tables_are_bounded`] speaks. A service that has to prove its numbers to somebody,
+//!    for billing or after an incident, takes [`Audited`] in place of [`Marked`]: beside the tables it keeps each recording,
+//!    32 bytes in the list of its instrument and 24 in the seat of its recorder, so it takes memory as long as it runs.
 //! 4. **Recording.** A thread records with a [`Recorder`], by the number of the instrument, its [`Attr`]s, each a key
 //!    with a [`ValueRef`], and the value. What is not counted is answered by a [`Refusal`]. `Recorder::admits` answers
 //!    the [`SetKey`] that the attributes come to, `Recorder::accepted` what the seat was [`Told`] of. `Recorder::record_set`
@@ -28,7 +30,9 @@
 //! 7. **Devices.** A [`Sink`] takes bytes, a [`Source`] gives them: [`StdSink`] and [`StdSource`] are those of std,
 //!    [`CutSink`] and [`CutSource`] are of memory, for tests. [`read_all`] and [`write_all`] move a whole text.
 //! 8. **End.** `Provider::finish` takes the seats of all recorders back and gives the [`Totals`], a [`Total`] for each
-//!    instrument, or a [`FinishFault`].
+//!    instrument, or a [`FinishFault`]. Over [`Audited`] they have the journal of each instrument, its recordings as
+//!    [`Entry`], and the [`Slip`]s of each recorder; [`audit`] tells whether these and the batches agree, or an
+//!    [`AuditFault`].
 #![tactic(auto)]
 
 mod fault;
@@ -38,6 +42,7 @@ mod tables;
 
 pub use fault::SetupFault;
 pub use metric_aggregate::PointValue;
+pub use metric_audit::{AuditFault, Audited, audit};
 pub use metric_base::{Items, Text};
 pub use metric_catalogue::{
     Attr, Catalogue, CatalogueDefect, CatalogueFault, CataloguePlace, Instrument, Key, Kind, Meter,
@@ -49,7 +54,7 @@ pub use metric_export::{
     ClockTicker, ExportFault, ExporterState, ListTicker, MetricExporter, StopFlag, TextExporter,
     Tick, Ticker, write_batch,
 };
-pub use metric_history::{Batch, Point, StreamPoints};
+pub use metric_history::{Batch, Entry, Point, StreamPoints};
 pub use metric_io::{
     Broken, CutSink, CutSource, ReadFault, Sink, Source, SourceFault, StdSink, StdSource, read_all,
     write_all,
@@ -60,7 +65,7 @@ pub use metric_periodic::{Periodic, PeriodicEnd};
 pub use metric_plan::{CheckFault, Plan};
 pub use metric_provider::{
     AllFault, Collector, FinishFault, Gate, Measurement, NoGate, Provider, Recorder, SetsFault,
-    Told, Total, Totals, start,
+    Slip, Told, Total, Totals, start,
 };
 pub use metric_views::{Config, ConfigPlace, Stream, ViewDefect, ViewFault};
 pub use provider::MeterProvider;

@@ -3,6 +3,7 @@ use crate::equal::assert_equal;
 use crate::samples::{BOTH, CODES, HITS, MAIN};
 use crate::seats::{BookSeats, seats_of};
 use crate::texts::write_reply;
+use metric_audit::Audited;
 use metric_book::Book;
 use metric_core::Core;
 use metric_history::{Event, Reply};
@@ -258,13 +259,14 @@ fn told<R: Wait>(rt: &R, alloc: Global, sample: &Sample) -> Result<String, Fail>
     let mut out = String::new(alloc);
     write_both::<R, JournalBook>(&mut out, rt, alloc, sample)?;
     write_both::<R, Marked>(&mut out, rt, alloc, sample)?;
+    write_both::<R, Audited>(&mut out, rt, alloc, sample)?;
     Ok(out)
 }
 
 #[test]
 fn seats_answer_as_core(rt: HostRuntime) -> Result<(), Fail> {
     for sample in SAMPLES {
-        let wanted = sample.answers.repeat(rt.alloc(), 4)?;
+        let wanted = sample.answers.repeat(rt.alloc(), 6)?;
         assert_equal(
             &rt,
             told(&rt, rt.alloc(), sample)?.as_str(),

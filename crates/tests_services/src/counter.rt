@@ -24,7 +24,7 @@ done
 8 Closed
 8 Closed
 [Some(Told { count: 1, amount: 5 }), None] [Some(1), None]
-[Total { count: 1, sum: 5 }], 0 journals, 0 slips
+[Total { count: 1, sum: 5 }], 1 journals, 1 slips
 ";
 
 // Writes what the seats were told of the counter, and of an instrument that there is not.

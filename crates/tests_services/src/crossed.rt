@@ -73,7 +73,7 @@ accepted
 accepted
 accepted
 0 1, 0 to 2, 7 to 20: stream 1 [0 0] 80
-[Total { count: 2, sum: 7 }, Total { count: 2, sum: 80 }], 0 journals, 0 slips
+[Total { count: 2, sum: 7 }, Total { count: 2, sum: 80 }], 2 journals, 2 slips
 ";
 
 // Writes the answers to the events of a script.

@@ -8,6 +8,8 @@
 #[cfg(test)]
 mod agreement;
 #[cfg(test)]
+mod audited;
+#[cfg(test)]
 mod clocks;
 #[cfg(test)]
 mod counter;

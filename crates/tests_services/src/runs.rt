@@ -53,7 +53,7 @@ reader 0 [Some(3), Some(2), None]
 reader 1 [Some(3), Some(2), None]
 1 0, 3 to 3, 20 to 30: stream 2
 1 1, 2 to 2, 20 to 30: stream 3
-[Total { count: 3, sum: 6 }, Total { count: 2, sum: 2 }], 0 journals, 0 slips
+[Total { count: 3, sum: 6 }, Total { count: 2, sum: 2 }], 2 journals, 2 slips
 ",
     },
     Run {

@@ -106,7 +106,8 @@ impl<B: Book> BookSeats<B> {
         }
     }
 
-    fn answer<R: Wait>(
+    /// The answer of a seat or the provider to an event.
+    pub(crate) fn answer<R: Wait>(
         &mut self,
         rt: &R,
         alloc: Global,

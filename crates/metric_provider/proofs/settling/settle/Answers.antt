@@ -3,8 +3,9 @@ use Rattle.std.proofs.Common.{◌≡◌, ◌<◌, ◌≤◌, ◌++◌, ℕ, List
 use Rattle.std.specs.Prelude.{slice_get}
 use Rattle.std.proofs.lemmas.Option.{slice_get-get_or, slice_get_within}
 use Rattle.metric_core.specs.Cells.{CellValue}
+use Rattle.metric_facts.specs.declared.facts.Facts.{Facts}
 use Rattle.metric_provider.specs.declared.totals.Total.{Total}
-use Rattle.metric_provider.specs.Totals.{AreOneEach, told_totals}
+use Rattle.metric_provider.specs.Totals.{AreOneEach, IsAsTold, IsToldJournal, told_totals}
 use Rattle.metric_provider.proofs.PlanFacts.{budgets_each}
 use Rattle.metric_provider.proofs.SettleLaws.{told_more_cells, totals_end, totals_more}
 use Rattle.metric_provider.proofs.settling.settle.Goals as goal
@@ -15,6 +16,7 @@ loop-instrument-init g c = record {
   room = c.in_ok-totals.ensures.capacity;
   totals = ap (λ (totals : List Total). totals ++ told_totals c.args.recorders.now 0 c.args.plan.now.facts.instruments) c.in_ok-totals.ensures.items;
   told = λ i own cell below found there. absurd (omega (arith, below));
+  journals = λ i own cell below found there. absurd (omega (arith, below));
 }
 
 pub facts-facts-requires : goal.facts-facts-requires
@@ -63,8 +65,13 @@ loop-instrument-preserved g c =
       room = omega (arith, c.push_reserved.ensures.capacity, c.loop-instrument.invariant.room);
       totals = totals_more c.args.recorders.now number c.args.plan.now.facts.instruments c.loop-instrument.totals.items c.push_reserved.new.self.items _ c.facts-facts.result.now c.in-Some.total
           c.facts-facts.ensures.facts c.in-Some.ensures.total c.push_reserved.ensures.items c.loop-instrument.invariant.totals;
-      told = told_more_cells c.args.plan.now.facts.instruments c.args.slots.now c.args.recorders.now number c.facts-facts.result.now c.cell-cell.result.now
+      told = told_more_cells (λ (own : Facts) (cell : CellValue g.row.B.Denot) (i : ℕ). IsAsTold g.B.Book.kept own cell c.args.recorders.now i)
+          c.args.plan.now.facts.instruments c.args.slots.now number c.facts-facts.result.now c.cell-cell.result.now
           c.facts-facts.ensures.facts there c.in-Some.ensures.told c.loop-instrument.invariant.told;
+      journals = told_more_cells
+          (λ (own : Facts) (cell : CellValue g.row.B.Denot) (i : ℕ). IsToldJournal g.B.Book.KEEPS_ENTRIES own c.args.recorders.now i (g.B.Book.kept cell.book))
+          c.args.plan.now.facts.instruments c.args.slots.now number c.facts-facts.result.now c.cell-cell.result.now
+          c.facts-facts.ensures.facts there c.in-Some.ensures.journal c.loop-instrument.invariant.journals;
     }
 
 pub returns-clause-totals : goal.returns-clause-totals
@@ -78,3 +85,9 @@ returns-clause-told g c = λ i own cell found there.
     let all : length c.args.plan.now.facts.instruments ≤ c.loop-instrument.instrument =
     omega (arith, c.loop-instrument-test.false, c.catalogue.ensures.one_each, ap length c.instruments.ensures.instruments) in
     c.loop-instrument.invariant.told i own cell (omega (arith, all, slice_get_within c.args.plan.now.facts.instruments i own found)) found there
+
+pub returns-clause-journals : goal.returns-clause-journals
+returns-clause-journals g c = λ i own cell found there.
+    let all : length c.args.plan.now.facts.instruments ≤ c.loop-instrument.instrument =
+    omega (arith, c.loop-instrument-test.false, c.catalogue.ensures.one_each, ap length c.instruments.ensures.instruments) in
+    c.loop-instrument.invariant.journals i own cell (omega (arith, all, slice_get_within c.args.plan.now.facts.instruments i own found)) found there

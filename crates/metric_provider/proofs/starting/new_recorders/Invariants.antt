@@ -5,4 +5,4 @@ use Rattle.metric_provider.specs.Seats.{new_recorder}
 use Rattle.metric_provider.proofs.starting.new_recorders.Given as goal
 
 abbrev pub invariant-loop-number : goal.invariant-loop-number
-invariant-loop-number l = l.seats.items ≡ map (new_recorder l.run (length l.plan.facts.instruments)) (range_with_len 0 l.number)
+invariant-loop-number l = l.seats.items ≡ map (new_recorder l.keeps l.run (length l.plan.facts.instruments)) (range_with_len 0 l.number)

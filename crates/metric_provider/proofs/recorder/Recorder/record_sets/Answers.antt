@@ -3,6 +3,7 @@ use Rattle.std.proofs.Common.{◌≡◌, Result, OnOk, IfErr, sym, subst, ◌∙
 use Rattle.std.proofs.lemmas.Result.{IfErr-weaker, on_ok_weaker}
 use Rattle.metric_provider.specs.declared.fault.SetsFault.{SetsFault}
 use Rattle.metric_provider.specs.KeyRecordings.{AreAccepted, AreAdmitted, IsRefusedAfter, IsUnadmittedAfter}
+use Rattle.metric_provider.specs.Recordings.{SeatSpares}
 use Rattle.metric_provider.specs.Seats.{ProviderValue, provider_of}
 use Rattle.metric_provider.proofs.KeyLaws.{all_accepted, refused_before}
 use Rattle.metric_provider.proofs.recorder.Recorder.record_sets.Goals as goal
@@ -16,9 +17,9 @@ returns-clause-accepted g c =
     let same : provider_of c.plan.result.now c.run.result ≡ p = λ i. record { plan = c.plan.ensures i; run = c.run.ensures i } in
     let is : c.match-admitted.admitted ≡ c.admit_each-admitted.result =
     elim c.match-admitted.branch [ in-Ok w ↦ w.admitted-is | in-Err w ↦ w.admitted-is ∙ sym w.in-Err.is ] in
-    subst (λ (r : Result (Unit {0}) SetsFault). OnOk r (AreAccepted g.B.Book.spares_memory p seat c.args.instrument all)) (sym is)
+    subst (λ (r : Result (Unit {0}) SetsFault). OnOk r (AreAccepted (SeatSpares g.B.Book.KEEPS_ENTRIES g.B.Book.spares_memory) p seat c.args.instrument all)) (sym is)
     (on_ok_weaker c.admit_each-admitted.result
-    (λ admitted. all_accepted g.B.Book.spares_memory p seat c.args.instrument all (subst (λ (q : ProviderValue). AreAdmitted q seat c.args.instrument all) same admitted))
+    (λ admitted. all_accepted (SeatSpares g.B.Book.KEEPS_ENTRIES g.B.Book.spares_memory) p seat c.args.instrument all (subst (λ (q : ProviderValue). AreAdmitted q seat c.args.instrument all) same admitted))
     c.admit_each-admitted.ensures.admitted)
 
 pub returns-clause-refused : goal.returns-clause-refused
@@ -29,7 +30,7 @@ returns-clause-refused g c =
     let same : provider_of c.plan.result.now c.run.result ≡ p = λ i. record { plan = c.plan.ensures i; run = c.run.ensures i } in
     let is : c.match-admitted.admitted ≡ c.admit_each-admitted.result =
     elim c.match-admitted.branch [ in-Ok w ↦ w.admitted-is | in-Err w ↦ w.admitted-is ∙ sym w.in-Err.is ] in
-    subst (λ (r : Result (Unit {0}) SetsFault). IfErr r (IsRefusedAfter g.B.Book.spares_memory p seat c.args.instrument all)) (sym is)
-    (IfErr-weaker c.admit_each-admitted.result (IsUnadmittedAfter (provider_of c.plan.result.now c.run.result) seat c.args.instrument all) (IsRefusedAfter g.B.Book.spares_memory p seat c.args.instrument all)
-    (λ fault refused. refused_before g.B.Book.spares_memory p seat c.args.instrument all fault (subst (λ (q : ProviderValue). IsUnadmittedAfter q seat c.args.instrument all fault) same refused))
+    subst (λ (r : Result (Unit {0}) SetsFault). IfErr r (IsRefusedAfter (SeatSpares g.B.Book.KEEPS_ENTRIES g.B.Book.spares_memory) p seat c.args.instrument all)) (sym is)
+    (IfErr-weaker c.admit_each-admitted.result (IsUnadmittedAfter (provider_of c.plan.result.now c.run.result) seat c.args.instrument all) (IsRefusedAfter (SeatSpares g.B.Book.KEEPS_ENTRIES g.B.Book.spares_memory) p seat c.args.instrument all)
+    (λ fault refused. refused_before (SeatSpares g.B.Book.KEEPS_ENTRIES g.B.Book.spares_memory) p seat c.args.instrument all fault (subst (λ (q : ProviderValue). IsUnadmittedAfter q seat c.args.instrument all fault) same refused))
     c.admit_each-admitted.ensures.refused)
