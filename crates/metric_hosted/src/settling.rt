@@ -43,10 +43,14 @@ fn are_known(seats: &[SeatTold], recorders: usize) -> bool
 fn are_distinct(seats: &[SeatTold]) -> bool
     ensures { result ≡ are_distinct seats.now }
 {
-    match seats.split_first() {
-        None => true,
-        Some((seat, rest)) => !has_seat(rest, seat.number as usize) && are_distinct(rest),
+    let mut rest = seats;
+    while let Some((seat, others)) = rest.split_first() {
+        if has_seat(others, seat.number as usize) {
+            return false;
+        }
+        rest = others;
     }
+    true
 }
 
 // Whether there is a seat for each recorder of so many.

@@ -1,0 +1,9 @@
+pub mod InstrumentHandles
+pub mod RecorderHandles
+pub mod ReaderHandles
+pub mod ToldLaws
+pub mod PlaceLaws
+pub mod EachLaws
+pub mod AttributeLaws
+pub mod Utf8Laws
+pub mod HeldLaws

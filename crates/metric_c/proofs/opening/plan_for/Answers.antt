@@ -1,0 +1,12 @@
+-- one of the texts is no UTF-8
+use Rattle.metric_c.proofs.Utf8Laws.{and_first, and_second, not_utf8}
+use Rattle.std.specs.Str.{is_utf8}
+use Rattle.metric_c.proofs.opening.plan_for.Goals as goal
+
+pub returns-in_default-clause-why : goal.returns-in_default-clause-why
+returns-in_default-clause-why c =
+    and_first (is_utf8 c.args.catalogue.now) (is_utf8 c.args.config.now) (not_utf8 c.args.catalogue.now c.in_default.ensures.cases.0)
+
+pub returns-in_default-from_utf8-clause-why : goal.returns-in_default-from_utf8-clause-why
+returns-in_default-from_utf8-clause-why c =
+    and_second (is_utf8 c.args.catalogue.now) (is_utf8 c.args.config.now) (not_utf8 c.args.config.now c.in_default-from_utf8.ensures.cases.0)

@@ -1,0 +1,17 @@
+pub mod HeldInstrument
+pub mod HeldRecorder
+pub mod HeldReader
+pub mod Attributes
+pub mod Reading
+pub mod Codes
+pub mod Texts
+pub mod Names
+pub mod Refusing
+pub mod Opening
+pub mod Vouching
+pub mod Recordings
+pub mod Prepared
+pub mod Collections
+pub mod Walking
+pub mod Settlements
+pub mod Closing

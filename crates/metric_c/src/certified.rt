@@ -1,0 +1,92 @@
+//! The start with a certificate.
+ghost use Rattle.std.specs.Prelude.{◌≡◌, ◌≢◌, ◌&&◌, false, IsTrue, IfErr, IfOk};
+ghost use Rattle.std.specs.Str.{is_utf8};
+ghost use Rattle.metric_c.specs.Opening.{Counted, Opens, held_by};
+ghost use Rattle.metric_c.specs.Refusing.{IsWhy};
+ghost use Rattle.metric_c.specs.Vouching.{HasVouchFault, IsVouchedPlan};
+
+use crate::instrument_handle::InstrumentHandle;
+use crate::no_plan::{NoPlan, tell, told};
+use crate::opening::{Counts, open_plan};
+use crate::reader_handle::ReaderHandle;
+use crate::recorder_handle::RecorderHandle;
+use crate::vouching::{VouchFault, vouched_plan};
+use metric_plan::Plan;
+use std::alloc::Global;
+use std::str::from_utf8;
+
+/// Opens the instruments of a catalogue and a config as [`wormweekly_open`](crate::wormweekly_open) does, where a
+/// certificate shows that they are safe. It is checked, whoever made it.
+#[unsafe(no_mangle)]
+pub extern "C" fn wormweekly_open_certified(
+    alloc: Global,
+    catalogue: &[u8],
+    config: &[u8],
+    certificate: &[u8],
+    start: u64,
+    run: u64,
+    instruments: &mut [InstrumentHandle],
+    recorders: &mut [RecorderHandle],
+    readers: &mut [ReaderHandle],
+    counts: &mut Counts,
+    fault: &mut [u8],
+    fault_length: &mut usize,
+) -> u32
+    ensures opened { let old = held_by instruments.old recorders.old readers.old in
+        let new = held_by instruments.new recorders.new readers.new in
+        result ≡ 0 → Opens (IsVouchedPlan catalogue.now config.now certificate.now)
+        start run counts.new old new }
+    ensures short { result ≡ 102
+        → Counted (IsVouchedPlan catalogue.now config.now certificate.now) counts.new }
+    ensures no_text { result ≡ 101
+        → (is_utf8 catalogue.now && (is_utf8 config.now && is_utf8 certificate.now)) ≡ false }
+    ensures faulty { result ≡ 103 → HasVouchFault catalogue.now config.now certificate.now }
+    ensures fault { result ≢ 103 → (fault.new ≡ fault.old) × (fault_length.new ≡ 0) }
+    ensures instruments { result ≢ 0 → instruments.new ≡ instruments.old }
+    ensures recorders { result ≢ 0 → recorders.new ≡ recorders.old }
+    ensures readers { result ≢ 0 → readers.new ≡ readers.old }
+{
+    *fault_length = 0;
+    match plan_for(alloc, catalogue, config, certificate) {
+        Err(why) => tell(&why, fault, fault_length),
+        Ok(plan) => open_plan(
+            alloc,
+            plan,
+            start,
+            run,
+            instruments,
+            recorders,
+            readers,
+            counts,
+        ),
+    }
+}
+
+// The plan that a certificate shows to be safe.
+fn plan_for(
+    alloc: Global,
+    catalogue: &[u8],
+    config: &[u8],
+    certificate: &[u8],
+) -> Result<Plan, NoPlan>
+    ensures certified { IfOk result (λ plan. IsTrue plan.is_certified) }
+    ensures plan { IfOk result (IsVouchedPlan catalogue.now config.now certificate.now) }
+    ensures why { IfErr result (IsWhy
+        (is_utf8 catalogue.now && (is_utf8 config.now && is_utf8 certificate.now))
+        (HasVouchFault catalogue.now config.now certificate.now)) }
+{
+    let Ok(catalogue) = from_utf8(catalogue) else {
+        return Err(NoPlan::NoText);
+    };
+    let Ok(config) = from_utf8(config) else {
+        return Err(NoPlan::NoText);
+    };
+    let Ok(certificate) = from_utf8(certificate) else {
+        return Err(NoPlan::NoText);
+    };
+    match vouched_plan(alloc, catalogue, config, certificate) {
+        Ok(plan) => Ok(plan),
+        Err(VouchFault::Memory) => Err(NoPlan::Memory),
+        Err(found) => Err(told(format!(in alloc; "{found}"), alloc)),
+    }
+}

@@ -1,0 +1,67 @@
+//! The instruments of a certified plan, for a host that calls them by C.
+//!
+//! A host keeps a handle for each instrument, each recorder and each reader: a struct of one pointer, null before it is opened
+//! and after it is freed. Each call is total: a handle that is null, a buffer that is too short and bytes that are no UTF-8
+//! are answers. The host keeps a mutex for each instrument, and makes each call on it under that; a recorder or a reader
+//! belongs to one thread at a time.
+//!
+//! | Answer | What it says |
+//! |---|---|
+//! | 0 | done |
+//! | 1 to 12 | the number of a refusal |
+//! | 100 | a handle is null |
+//! | 101 | bytes are no UTF-8, a length leads past the texts, or an attribute is of no kind |
+//! | 102 | a buffer, or a list of handles, is too short |
+//! | 103 | the catalogue or the config is at fault |
+//! | 104 | the seat of some recorder is not there |
+//! | 105 | an instrument's state is not what its recorders were told |
+//! | 106 | there is nothing of this number |
+#![tactic(auto)]
+
+mod attributes;
+mod batch_numbers;
+mod batch_texts;
+mod batches;
+mod certified;
+mod codes;
+mod collections;
+mod ending;
+mod instrument_handle;
+mod names;
+mod no_plan;
+mod opening;
+mod parts;
+mod prepared;
+mod reader_handle;
+mod recorder_handle;
+mod recordings;
+mod settlements;
+mod texts;
+mod vouching;
+mod warnings;
+
+pub use attributes::Attribute;
+pub use batch_numbers::{wormweekly_boundaries, wormweekly_buckets};
+pub use batch_texts::{wormweekly_key, wormweekly_stream_text, wormweekly_value};
+pub use batches::{
+    BatchOut, PointOut, StreamOut, wormweekly_batch, wormweekly_point, wormweekly_stream,
+};
+pub use certified::wormweekly_open_certified;
+pub use collections::{wormweekly_collect, wormweekly_text};
+pub use ending::{
+    may_be_sent, wormweekly_close, wormweekly_free_instrument, wormweekly_free_reader,
+    wormweekly_free_recorder,
+};
+pub use instrument_handle::InstrumentHandle;
+pub use names::wormweekly_name;
+pub use opening::{Counts, wormweekly_open};
+pub use prepared::{wormweekly_prepare, wormweekly_record_list, wormweekly_record_prepared};
+pub use reader_handle::ReaderHandle;
+pub use recorder_handle::RecorderHandle;
+pub use recordings::wormweekly_record;
+pub use settlements::{TotalOut, wormweekly_settle};
+pub use vouching::VouchFault;
+pub use warnings::wormweekly_warnings;
+
+#[cfg(test)]
+mod tests;

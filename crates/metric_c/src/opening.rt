@@ -1,0 +1,241 @@
+//! The start.
+ghost use Rattle.std.specs.Prelude.{◌≡◌, ◌≢◌, ◌≤◌, ◌++◌, ◌&&◌, false, IsTrue, drop, length, IfErr, IfOk};
+ghost use Rattle.std.specs.Str.{is_utf8};
+ghost use Rattle.metric_c.specs.Opening.{AreNewInstruments, Begins, Counted, HasFault, Opens, counts_of, held_by, instruments_in, new_readers, new_recorders, readers_in, recorders_in};
+ghost use Rattle.metric_c.specs.Refusing.{IsWhy, code_of_no_plan};
+ghost use Rattle.metric_sdk.specs.Setups.{IsCertifiedPlan};
+
+use crate::codes::{DONE, MEMORY, TOO_SHORT};
+use crate::instrument_handle::InstrumentHandle;
+use crate::no_plan::{NoPlan, tell, told};
+use crate::reader_handle::ReaderHandle;
+use crate::recorder_handle::RecorderHandle;
+use metric_base::{Copied, Shared};
+use metric_hosted::{Hosted, HostedReader, HostedRecorder, ReaderSeat, RecorderSeat};
+use metric_plan::Plan;
+use metric_sdk::{SetupFault, certified_plan};
+use std::alloc::{AllocError, Global};
+use std::str::from_utf8;
+
+/// How many instruments, recorders and readers there are.
+#[repr(C)]
+#[derive(Clone, Copy, Drop)]
+pub struct Counts {
+    pub instruments: usize,
+    pub recorders: usize,
+    pub readers: usize,
+}
+
+/// Opens the instruments of the certified plan of a catalogue and a config, since a start in nanoseconds, in the run of a
+/// number, with a seat for each recorder and each reader, and writes how many there are. Where there are too few handles, or
+/// a fault, nothing is opened. A fault is written as far as there is room, with its whole length.
+#[unsafe(no_mangle)]
+pub extern "C" fn wormweekly_open(
+    alloc: Global,
+    catalogue: &[u8],
+    config: &[u8],
+    start: u64,
+    run: u64,
+    instruments: &mut [InstrumentHandle],
+    recorders: &mut [RecorderHandle],
+    readers: &mut [ReaderHandle],
+    counts: &mut Counts,
+    fault: &mut [u8],
+    fault_length: &mut usize,
+) -> u32
+    ensures opened { let old = held_by instruments.old recorders.old readers.old in
+        let new = held_by instruments.new recorders.new readers.new in
+        result ≡ 0 → Opens (IsCertifiedPlan catalogue.now config.now) start run counts.new old new }
+    ensures short { result ≡ 102
+        → Counted (IsCertifiedPlan catalogue.now config.now) counts.new }
+    ensures no_text { result ≡ 101 → (is_utf8 catalogue.now && is_utf8 config.now) ≡ false }
+    ensures faulty { result ≡ 103 → HasFault catalogue.now config.now }
+    ensures fault { result ≢ 103 → (fault.new ≡ fault.old) × (fault_length.new ≡ 0) }
+    ensures instruments { result ≢ 0 → instruments.new ≡ instruments.old }
+    ensures recorders { result ≢ 0 → recorders.new ≡ recorders.old }
+    ensures readers { result ≢ 0 → readers.new ≡ readers.old }
+{
+    *fault_length = 0;
+    match plan_for(alloc, catalogue, config) {
+        Err(why) => tell(&why, fault, fault_length),
+        Ok(plan) => open_plan(
+            alloc,
+            plan,
+            start,
+            run,
+            instruments,
+            recorders,
+            readers,
+            counts,
+        ),
+    }
+}
+
+// The certified plan of two texts.
+fn plan_for(alloc: Global, catalogue: &[u8], config: &[u8]) -> Result<Plan, NoPlan>
+    ensures certified { IfOk result (λ plan. IsTrue plan.is_certified) }
+    ensures plan { IfOk result (IsCertifiedPlan catalogue.now config.now) }
+    ensures why { IfErr result (IsWhy (is_utf8 catalogue.now && is_utf8 config.now)
+        (HasFault catalogue.now config.now)) }
+{
+    let Ok(catalogue) = from_utf8(catalogue) else {
+        return Err(NoPlan::NoText);
+    };
+    let Ok(config) = from_utf8(config) else {
+        return Err(NoPlan::NoText);
+    };
+    match certified_plan(alloc, catalogue, config) {
+        Ok(plan) => Ok(plan),
+        Err(SetupFault::Memory) => Err(NoPlan::Memory),
+        Err(found) => Err(told(format!(in alloc; "{found}"), alloc)),
+    }
+}
+
+/// Opens the instruments of a certified plan, and writes how many of each there are; where there are too few handles,
+/// nothing is opened.
+pub(crate) fn open_plan(
+    alloc: Global,
+    plan: Plan,
+    start: u64,
+    run: u64,
+    instruments: &mut [InstrumentHandle],
+    recorders: &mut [RecorderHandle],
+    readers: &mut [ReaderHandle],
+    counts: &mut Counts,
+) -> u32
+    requires { IsTrue plan.is_certified }
+    ensures counts { counts.new ≡ counts_of plan }
+    ensures opened { let old = held_by instruments.old recorders.old readers.old in
+        let new = held_by instruments.new recorders.new readers.new in
+        result ≡ 0 → Begins plan start run old new }
+    ensures code { (result ≢ 101) × (result ≢ 103) }
+    ensures instruments { result ≢ 0 → instruments.new ≡ instruments.old }
+    ensures recorders { result ≢ 0 → recorders.new ≡ recorders.old }
+    ensures readers { result ≢ 0 → readers.new ≡ readers.old }
+{
+    *counts = counts_of(&plan);
+    if instruments.len() < counts.instruments
+        || recorders.len() < counts.recorders
+        || readers.len() < counts.readers
+    {
+        return TOO_SHORT;
+    }
+    match new_run(alloc, plan, start, run) {
+        Err(_) => MEMORY,
+        Ok(made) => {
+            place(instruments, made.instruments);
+            place(recorders, made.recorders);
+            place(readers, made.readers);
+            DONE
+        }
+    }
+}
+
+fn counts_of(plan: &Plan) -> Counts
+    ensures { result ≡ counts_of plan.now }
+{
+    Counts {
+        instruments: plan.catalogue().instruments().len(),
+        recorders: plan.catalogue().recorders().len(),
+        readers: plan.config().readers().len(),
+    }
+}
+
+// Puts what was made into the first places.
+fn place<T: Drop>(places: &mut [T], made: Vec<T>)
+    requires { length made.items ≤ length places.old }
+    ensures { places.new ≡ made.items ++ drop (length made.items) places.old }
+{
+    let mut made = made;
+    while let Some(one) = made.pop() {
+        let at = made.len();
+        places[at] = one;
+    }
+}
+
+// What a run begins with.
+#[derive(Drop)]
+struct NewRun {
+    instruments: Vec<InstrumentHandle>,
+    recorders: Vec<RecorderHandle>,
+    readers: Vec<ReaderHandle>,
+}
+
+fn new_run(alloc: Global, plan: Plan, start: u64, run: u64) -> Result<NewRun, AllocError>
+    requires { IsTrue plan.is_certified }
+    ensures instruments { IfOk result (λ made.
+        AreNewInstruments plan start run (instruments_in made.instruments.items)) }
+    ensures recorders { IfOk result (λ made.
+        recorders_in made.recorders.items ≡ new_recorders plan run) }
+    ensures readers { IfOk result (λ made.
+        readers_in made.readers.items ≡ new_readers plan run) }
+{
+    let plan = Shared::new(alloc, plan)?;
+    let instruments = new_instruments(alloc, plan.get(), start, run)?;
+    let recorders = new_recorders(alloc, &plan, run)?;
+    let readers = new_readers(alloc, &plan, run)?;
+    Ok(NewRun {
+        instruments,
+        recorders,
+        readers,
+    })
+}
+
+fn new_instruments(
+    alloc: Global,
+    plan: &Plan,
+    start: u64,
+    run: u64,
+) -> Result<Vec<InstrumentHandle>, AllocError>
+    requires { IsTrue plan.now.is_certified }
+    ensures { IfOk result (λ all.
+        AreNewInstruments plan.now start run (instruments_in all.items)) }
+{
+    let count = plan.catalogue().instruments().len() as u32;
+    let mut all = Vec::new(alloc);
+    for number in 0..count {
+        let hosted = Hosted::new(alloc, plan, number, start, run)?;
+        let held = Box::new(alloc, hosted)?;
+        all.push(InstrumentHandle::of(held))?;
+    }
+    Ok(all)
+}
+
+fn new_recorders(
+    alloc: Global,
+    plan: &Shared<Plan>,
+    run: u64,
+) -> Result<Vec<RecorderHandle>, AllocError>
+    ensures { IfOk result (λ all. recorders_in all.items ≡ new_recorders plan.now run) }
+{
+    let instruments = plan.get().all_facts().len();
+    let count = plan.get().catalogue().recorders().len() as u32;
+    let mut all = Vec::new(alloc);
+    for number in 0..count {
+        let seat = RecorderSeat::new(alloc, run, number, instruments)?;
+        let plan = plan.copy(alloc)?;
+        let held = Box::new(alloc, HostedRecorder { plan, seat })?;
+        all.push(RecorderHandle::of(held))?;
+    }
+    Ok(all)
+}
+
+fn new_readers(
+    alloc: Global,
+    plan: &Shared<Plan>,
+    run: u64,
+) -> Result<Vec<ReaderHandle>, AllocError>
+    ensures { IfOk result (λ all. readers_in all.items ≡ new_readers plan.now run) }
+{
+    let instruments = plan.get().all_facts().len();
+    let count = plan.get().config().readers().len() as u32;
+    let mut all = Vec::new(alloc);
+    for number in 0..count {
+        let seat = ReaderSeat::new(alloc, run, number, instruments)?;
+        let plan = plan.copy(alloc)?;
+        let last = None;
+        let held = Box::new(alloc, HostedReader { plan, seat, last })?;
+        all.push(ReaderHandle::of(held))?;
+    }
+    Ok(all)
+}

@@ -1,0 +1,121 @@
+//! Recordings.
+ghost use Rattle.std.specs.Prelude.{◌≡◌, ◌≢◌, Some, IsSomeAnd, length, map};
+ghost use Rattle.metric_c.specs.Attributes.{attributes_from};
+ghost use Rattle.metric_c.specs.Codes.{Changes, IsCodeOf, IsCodeOfRead, WhereBoth};
+ghost use Rattle.metric_c.specs.Recordings.{AnswersGiven, RecordsGiven};
+ghost use Rattle.metric_catalogue.specs.Attributes.{given_by};
+
+use crate::attributes::{Attribute, Unread, all_attributes, few_attributes};
+use crate::codes::{MEMORY, NO_TEXT, NOT_OPEN, code_of};
+use crate::instrument_handle::InstrumentHandle;
+use crate::recorder_handle::RecorderHandle;
+use metric_catalogue::Attr;
+use metric_hosted::{Hosted, HostedRecorder};
+use std::alloc::Global;
+use std::mem::replace;
+
+/// Makes a recording of a recorder on an instrument (Metrics API, synchronous instruments).
+#[unsafe(no_mangle)]
+pub extern "C" fn wormweekly_record(
+    alloc: Global,
+    instrument: &mut InstrumentHandle,
+    recorder: &mut RecorderHandle,
+    texts: &[u8],
+    given: &[Attribute],
+    value: i64,
+) -> u32
+    ensures answer { let read = attributes_from given.now texts.now in
+        WhereBoth instrument.old.value recorder.old.value (result ≡ 100) (λ h own.
+        IsCodeOfRead (length given.now) read (λ attrs. AnswersGiven attrs value h own) result) }
+    ensures done { let held = instrument.new.value in let seat = recorder.new.value in
+        result ≡ 0 → IsSomeAnd (attributes_from given.now texts.now) (λ attrs.
+        Changes instrument.old.value held recorder.old.value seat (RecordsGiven attrs value)) }
+    ensures instrument { result ≢ 0 → instrument.new.value ≡ instrument.old.value }
+    ensures recorder { result ≢ 0 → recorder.new.value ≡ recorder.old.value }
+{
+    match replace(instrument, InstrumentHandle::empty(alloc)).into_box() {
+        None => NOT_OPEN,
+        Some(mut held) => {
+            let code = record_with(alloc, &mut held, recorder, texts, given, value);
+            *instrument = InstrumentHandle::of(held);
+            code
+        }
+    }
+}
+
+fn record_with(
+    alloc: Global,
+    held: &mut Hosted,
+    recorder: &mut RecorderHandle,
+    texts: &[u8],
+    given: &[Attribute],
+    value: i64,
+) -> u32
+    ensures answer { let read = attributes_from given.now texts.now in
+        WhereBoth (Some held.old) recorder.old.value (result ≡ 100) (λ h own.
+        IsCodeOfRead (length given.now) read (λ attrs. AnswersGiven attrs value h own) result) }
+    ensures done { let seat = recorder.new.value in
+        result ≡ 0 → IsSomeAnd (attributes_from given.now texts.now) (λ attrs.
+        Changes (Some held.old) (Some held.new) recorder.old.value seat
+        (RecordsGiven attrs value)) }
+    ensures instrument { result ≢ 0 → held.new ≡ held.old }
+    ensures recorder { result ≢ 0 → recorder.new.value ≡ recorder.old.value }
+{
+    match replace(recorder, RecorderHandle::empty(alloc)).into_box() {
+        None => NOT_OPEN,
+        Some(mut own) => {
+            let code = record_given(alloc, held, &mut own, texts, given, value);
+            *recorder = RecorderHandle::of(own);
+            code
+        }
+    }
+}
+
+// Reads the attributes, and makes the recording.
+fn record_given(
+    alloc: Global,
+    held: &mut Hosted,
+    own: &mut HostedRecorder,
+    texts: &[u8],
+    given: &[Attribute],
+    value: i64,
+) -> u32
+    ensures answer { IsCodeOfRead (length given.now) (attributes_from given.now texts.now)
+        (λ attrs. AnswersGiven attrs value held.old own.old) result }
+    ensures done { result ≡ 0 → IsSomeAnd (attributes_from given.now texts.now) (λ attrs.
+        RecordsGiven attrs value held.old held.new own.old own.new) }
+    ensures instrument { result ≢ 0 → held.new ≡ held.old }
+    ensures recorder { result ≢ 0 → own.new ≡ own.old }
+{
+    if given.len() <= 8 {
+        let few = few_attributes(texts, given);
+        if !few.are_read {
+            return NO_TEXT;
+        }
+        record_attributes(held, own, &few.all[..given.len()], value)
+    } else {
+        match all_attributes(alloc, texts, given) {
+            Err(Unread::NoText) => NO_TEXT,
+            Err(Unread::Memory) => MEMORY,
+            Ok(attrs) => record_attributes(held, own, attrs.as_slice(), value),
+        }
+    }
+}
+
+fn record_attributes(
+    held: &mut Hosted,
+    own: &mut HostedRecorder,
+    attrs: &[Attr<'_>],
+    value: i64,
+) -> u32
+    ensures answer { let attrs = map given_by attrs.now in
+        IsCodeOf (AnswersGiven attrs value held.old own.old) result }
+    ensures done { let attrs = map given_by attrs.now in
+        result ≡ 0 → RecordsGiven attrs value held.old held.new own.old own.new }
+    ensures instrument { result ≢ 0 → held.new ≡ held.old }
+    ensures recorder { result ≢ 0 → own.new ≡ own.old }
+{
+    let HostedRecorder { plan, seat } = own;
+    let answer = seat.record(plan.get(), held, attrs, value);
+    code_of(&answer)
+}

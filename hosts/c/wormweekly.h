@@ -1,0 +1,254 @@
+/* Wormweekly for C: the instruments of a certified plan.
+ *
+ * A catalogue declares what may ever be recorded, a config the readers and views (both as TOML; docs/FORMATS.md of the
+ * repository has their formats). wormweekly_open reads both, makes a certificate that nothing can overflow, checks it, and
+ * fills three lists of handles: one for each instrument, each recorder and each reader that they declare, in their order.
+ *
+ * HANDLES
+ *
+ * A handle is a struct of one pointer. It is null (WORMWEEKLY_NOTHING), or as a call of this header left it. Never copy one,
+ * never write one, and give it to one call at a time:
+ *
+ *   - an instrument is shared by threads: keep a mutex for each, and make each call with it under that mutex;
+ *   - a recorder belongs to the thread that records with it, a reader to the one that collects with it. They may be moved
+ *     to another thread, by what orders memory (a mutex, a thread's start or join).
+ *
+ * Each kind is freed by its own call, which leaves it null. Freeing null does nothing. No order is asked for.
+ *
+ * TEXTS AND LISTS
+ *
+ * A text is a pointer and a length in bytes, in UTF-8, without an end mark. A list is a pointer and how many elements it
+ * has. Where there are none, the pointer may be any that is aligned and not null; it is not read. Buffers do not overlap.
+ *
+ * ANSWERS
+ *
+ * Each call answers a number: 0 where it was done, else why not. What is refused has changed nothing that a handle holds,
+ * and no buffer, unless the call says so.
+ *
+ * ATTRIBUTES
+ *
+ * The keys and texts of all attributes of a call stand one after the other in one buffer, and beside it a list of
+ * wormweekly_attribute says how long each is. So {"country" = "de", "paid" = yes} is the text "countrydepaid" with the
+ * list { { 7, WORMWEEKLY_TEXT, 2, 0 }, { 4, WORMWEEKLY_YES, 0, 0 } }. Up to eight attributes take no memory. Who records one
+ * set of attributes often prepares its set key once.
+ *
+ * WHAT NOTHING CHECKS
+ *
+ * That handles are used as said above; that pointers and lengths are those of memory that the host owns; that malloc,
+ * realloc and free are of one allocator and align a block to each power of two up to 16 that divides its size; that no call
+ * is made from a signal handler, or from the forked child of a process with threads. The library keeps no state but what
+ * handles hold, starts no thread and takes no lock.
+ *
+ * LINK
+ *
+ *   cc host.c libwormweekly.a -lpthread
+ */
+#ifndef WORMWEEKLY_H
+#define WORMWEEKLY_H
+
+#include <stddef.h>
+#include <stdint.h>
+
+#ifdef __cplusplus
+extern "C" {
+#endif
+
+typedef struct { void *at; } wormweekly_instrument;
+typedef struct { void *at; } wormweekly_recorder;
+typedef struct { void *at; } wormweekly_reader;
+
+/* The null of each kind of handle, as an initializer. */
+#define WORMWEEKLY_NOTHING { NULL }
+
+enum wormweekly_answer {
+    WORMWEEKLY_DONE = 0,
+    /* The instrument is none of the recorder's or reader's plan. */
+    WORMWEEKLY_UNKNOWN_INSTRUMENT = 1,
+    /* An attribute's key stands twice; is not declared; has a value that is not declared; is missing. */
+    WORMWEEKLY_DUPLICATE_KEY = 3,
+    WORMWEEKLY_UNKNOWN_KEY = 4,
+    WORMWEEKLY_UNKNOWN_VALUE = 5,
+    WORMWEEKLY_MISSING_KEY = 6,
+    /* The value is outside the instrument's range. */
+    WORMWEEKLY_VALUE_RANGE = 7,
+    /* The instrument is closed. */
+    WORMWEEKLY_CLOSED = 8,
+    /* The recorder has made as many recordings on the instrument as its budget. */
+    WORMWEEKLY_BUDGET = 9,
+    /* Memory was refused. */
+    WORMWEEKLY_MEMORY = 11,
+    /* The recorder or reader is of another run, or does not agree with what the instrument has counted. */
+    WORMWEEKLY_STRANGER = 12,
+    /* A handle is null. */
+    WORMWEEKLY_NOT_OPEN = 100,
+    /* Bytes are no UTF-8, a length leads past the texts, or an attribute is of no kind. */
+    WORMWEEKLY_NO_TEXT = 101,
+    /* A buffer, or a list of handles, is too short. */
+    WORMWEEKLY_TOO_SHORT = 102,
+    /* The catalogue or the config is at fault, or the two are not safe together. */
+    WORMWEEKLY_FAULT = 103,
+    /* The seat of some recorder is not among those that were given. */
+    WORMWEEKLY_RECORDER_MISSING = 104,
+    /* An instrument's state is not what its recorders were told. */
+    WORMWEEKLY_AUDIT_MISMATCH = 105,
+    /* There is nothing of this number. */
+    WORMWEEKLY_UNKNOWN = 106
+};
+
+/* What kind of value an attribute has. */
+enum wormweekly_kind { WORMWEEKLY_TEXT = 0, WORMWEEKLY_WHOLE = 1, WORMWEEKLY_NO = 2, WORMWEEKLY_YES = 3 };
+
+/* An attribute: how long its key is; its kind; how long its text is (WORMWEEKLY_TEXT); its number (WORMWEEKLY_WHOLE). */
+typedef struct {
+    size_t key;
+    size_t kind;
+    size_t text;
+    int64_t whole;
+} wormweekly_attribute;
+
+/* A recording whose set key wormweekly_prepare wrote; the value is the host's to write. */
+typedef struct {
+    uint16_t set[8];
+    int64_t value;
+} wormweekly_prepared;
+
+typedef struct {
+    size_t instruments;
+    size_t recorders;
+    size_t readers;
+} wormweekly_counts;
+
+/* How many recordings, and their sum: high and low are the 128 bits of its size, negative is 1 where it is below 0. */
+typedef struct {
+    uint64_t count;
+    uint64_t negative;
+    uint64_t high;
+    uint64_t low;
+} wormweekly_total;
+
+/* A batch as a whole: the number of its instrument, how many streams it has, from when to when it is, in nanoseconds. */
+typedef struct {
+    uint64_t instrument;
+    uint64_t streams;
+    uint64_t start;
+    uint64_t time;
+} wormweekly_batch_out;
+
+/* A stream of it: its number in the plan; the kind of its instrument (0 counter, 1 up-down counter, 2 histogram, 3 gauge);
+ * how its points are made (0 sum, 1 last value, 2 histogram); 1 where it is delta, 0 where it is cumulative. */
+typedef struct {
+    uint64_t number;
+    uint64_t kind;
+    uint64_t aggregation;
+    uint64_t delta;
+    uint64_t boundaries;
+    uint64_t points;
+} wormweekly_stream_out;
+
+/* A point: its set key, as wormweekly_prepare writes one, and 1 where it is of a series, 0 where it is the overflow point;
+ * the sum or the last value, and 1 where there is one; of a histogram how many values, the least and the greatest. */
+typedef struct {
+    uint16_t set[8];
+    uint64_t is_series;
+    uint64_t count;
+    uint64_t has_value;
+    int64_t value;
+    int64_t least;
+    int64_t greatest;
+    uint64_t buckets;
+} wormweekly_point_out;
+
+/* Opens a run since `start`, in nanoseconds. `run` is its number: no two runs of a process may have the same. Writes how many
+ * handles of each kind there are to be; where a list has fewer (WORMWEEKLY_TOO_SHORT), nothing is opened, so ask with empty
+ * lists first. Handles after those stay as they are. A fault (WORMWEEKLY_FAULT) is told in `fault`, as far as there is room,
+ * with its whole length. */
+uint32_t wormweekly_open(const uint8_t *catalogue, size_t catalogue_length, const uint8_t *config, size_t config_length,
+                         uint64_t start, uint64_t run, wormweekly_instrument *instruments, size_t instruments_length,
+                         wormweekly_recorder *recorders, size_t recorders_length, wormweekly_reader *readers,
+                         size_t readers_length, wormweekly_counts *counts, uint8_t *fault, size_t fault_room,
+                         size_t *fault_length);
+
+/* The same of a certificate that somebody made (`metric_kit make` prints one), which is checked, whoever that was. */
+uint32_t wormweekly_open_certified(const uint8_t *catalogue, size_t catalogue_length, const uint8_t *config,
+                                   size_t config_length, const uint8_t *certificate, size_t certificate_length,
+                                   uint64_t start, uint64_t run, wormweekly_instrument *instruments,
+                                   size_t instruments_length, wormweekly_recorder *recorders, size_t recorders_length,
+                                   wormweekly_reader *readers, size_t readers_length, wormweekly_counts *counts,
+                                   uint8_t *fault, size_t fault_room, size_t *fault_length);
+
+/* Makes a recording (under the instrument's mutex). */
+uint32_t wormweekly_record(wormweekly_instrument *instrument, wormweekly_recorder *recorder, const uint8_t *texts,
+                           size_t texts_length, const wormweekly_attribute *attributes, size_t attributes_length,
+                           int64_t value);
+
+/* Finds the set key of attributes for the instrument of a number, counted from 0 as in the catalogue. Needs no mutex. */
+uint32_t wormweekly_prepare(wormweekly_recorder *recorder, uint32_t instrument, const uint8_t *texts, size_t texts_length,
+                            const wormweekly_attribute *attributes, size_t attributes_length,
+                            wormweekly_prepared *prepared);
+
+/* Makes the recording of a prepared set key (under the instrument's mutex). */
+uint32_t wormweekly_record_prepared(wormweekly_instrument *instrument, wormweekly_recorder *recorder,
+                                    const wormweekly_prepared *prepared);
+
+/* Makes several, one after the other, up to the first that is refused, and writes how many were made (under the
+ * instrument's mutex). The answer is that of the one after them. */
+uint32_t wormweekly_record_list(wormweekly_instrument *instrument, wormweekly_recorder *recorder,
+                                const wormweekly_prepared *list, size_t list_length, size_t *made);
+
+/* Collects an instrument at a time in nanoseconds (under its mutex). The reader keeps the batch. A delta reader gets what
+ * was recorded since its last batch, a cumulative one since the start. */
+uint32_t wormweekly_collect(wormweekly_instrument *instrument, wormweekly_reader *reader, uint64_t now);
+
+/* Writes the text of the batch that the reader keeps, and its length. Where there is too little room, only the length is
+ * written: ask again with more. The text is empty before a batch. Needs no mutex. */
+uint32_t wormweekly_text(wormweekly_reader *reader, uint8_t *out, size_t room, size_t *text_length);
+
+/* THE BATCH POINT BY POINT, for a host that writes a format of its own. Streams, points and keys are numbered from 0, the
+ * streams within the batch. WORMWEEKLY_UNKNOWN says that there is none of a number. None needs a mutex. */
+
+uint32_t wormweekly_batch(wormweekly_reader *reader, wormweekly_batch_out *batch);
+uint32_t wormweekly_stream(wormweekly_reader *reader, size_t stream, wormweekly_stream_out *out);
+uint32_t wormweekly_point(wormweekly_reader *reader, size_t stream, size_t point, wormweekly_point_out *out);
+
+/* A text of a stream: its name (0), unit (1), description (2); its meter's name (3), version (4), schema URL (5). */
+uint32_t wormweekly_stream_text(wormweekly_reader *reader, size_t stream, uint32_t kind, uint8_t *out, size_t room,
+                                size_t *text_length);
+
+/* The boundaries of a stream, and the counts of a point's buckets, where there is room for all of them. */
+uint32_t wormweekly_boundaries(wormweekly_reader *reader, size_t stream, int64_t *out, size_t room);
+uint32_t wormweekly_buckets(wormweekly_reader *reader, size_t stream, size_t point, uint64_t *out, size_t room);
+
+/* The attributes of a point: for each key that the instrument declares, up to 8, the point's set key has an entry; where it
+ * is not 0, the point has that key (wormweekly_key writes its name) with the value that the entry names
+ * (wormweekly_value writes its kind, number and length of text, and the text). */
+uint32_t wormweekly_key(wormweekly_reader *reader, size_t stream, size_t key, uint8_t *out, size_t room,
+                        size_t *text_length);
+uint32_t wormweekly_value(wormweekly_reader *reader, size_t stream, size_t key, uint16_t entry, wormweekly_attribute *value,
+                          uint8_t *out, size_t room);
+
+/* Writes a name and its length: of the instrument of a number (kind 0), of that one's meter (1), of a recorder (2), of a
+ * reader (3). Where there is too little room, only the length is written. Needs no mutex. */
+uint32_t wormweekly_name(wormweekly_recorder *recorder, uint32_t kind, uint32_t number, uint8_t *out, size_t room,
+                         size_t *text_length);
+
+/* Writes a line for each warning that the config gets: for each view that does not fit an instrument (streams that collide
+ * are a fault of the opening). Where there is too little room, only the length is written. Needs no mutex. */
+uint32_t wormweekly_warnings(wormweekly_recorder *recorder, uint8_t *out, size_t room, size_t *text_length);
+
+/* Ends the recordings of an instrument (under its mutex). It is collected and settled as before. */
+uint32_t wormweekly_close(wormweekly_instrument *instrument);
+
+/* Compares an instrument with what the recorders of its run were told, all of them in any order, and writes its total,
+ * which is exactly that (under the instrument's mutex, with no other call on these recorders). */
+uint32_t wormweekly_settle(wormweekly_instrument *instrument, wormweekly_recorder *recorders, size_t recorders_length,
+                           wormweekly_total *total);
+
+void wormweekly_free_instrument(wormweekly_instrument *instrument);
+void wormweekly_free_recorder(wormweekly_recorder *recorder);
+void wormweekly_free_reader(wormweekly_reader *reader);
+
+#ifdef __cplusplus
+}
+#endif
+
+#endif

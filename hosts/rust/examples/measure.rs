@@ -1,0 +1,202 @@
+//! What a recording through the library costs, beside a map behind a mutex.
+//!
+//!     cargo run --offline --release --example measure [RECORDINGS]     how many each thread makes
+use std::collections::HashMap;
+use std::env;
+use std::error::Error;
+use std::hint::black_box;
+use std::sync::Mutex;
+use std::thread;
+use std::time::Instant;
+use wormweekly::{Instrument, Opened, Prepared, Recorder, Value, open};
+
+const THREADS: usize = 4;
+const AT_ONCE: usize = 16;
+
+/// Three attributes, each with some values.
+const KEYS: [(&str, &[&str]); 3] = [
+    ("route", &["/", "/cart", "/pay", "/item"]),
+    ("method", &["get", "post"]),
+    ("region", &["north", "south"]),
+];
+
+const CONFIG: &str = "format = 1\n[[reader]]\nname = 'console'\n";
+
+fn main() -> Result<(), Box<dyn Error>> {
+    let each = match env::args().nth(1) {
+        Some(word) => word.parse()?,
+        None => 1_000_000,
+    };
+    println!("nanoseconds for a recording, of each thread; {each} recordings each");
+    for threads in [1, THREADS] {
+        for own in [false, true] {
+            if threads == 1 && own {
+                continue;
+            }
+            let on = if own {
+                "one instrument each"
+            } else {
+                "one instrument"
+            };
+            println!("{threads} threads, {on}");
+            through_the_library(threads, own, each)?;
+            through_maps(threads, own, each);
+        }
+    }
+    Ok(())
+}
+
+// A catalogue with an instrument and a recorder for each thread.
+fn catalogue() -> String {
+    let keys: Vec<String> = KEYS
+        .iter()
+        .map(|(name, values)| format!("{{ name = '{name}', values = {values:?} }}"))
+        .collect();
+    let mut text = String::from("format = 1\n[[meter]]\nname = 'measured'\n");
+    for number in 0..THREADS {
+        text += &format!(
+            "[[meter.instrument]]\nname = 'requests {number}'\nkind = 'counter'\nrange = [0, 100]\nkey = [{}]\n",
+            keys.join(", ")
+        );
+    }
+    for number in 0..THREADS {
+        let budgets: Vec<String> = (0..THREADS)
+            .map(|instrument| format!("{{ instrument = {instrument}, amount = 1000000000000 }}"))
+            .collect();
+        text += &format!(
+            "[[recorder]]\nname = 'worker {number}'\nbudget = [{}]\n",
+            budgets.join(", ")
+        );
+    }
+    text
+}
+
+// The values of the attributes of a recording.
+fn values_at(number: usize) -> [&'static str; 3] {
+    [
+        KEYS[0].1[number % 4],
+        KEYS[1].1[number / 4 % 2],
+        KEYS[2].1[number / 8 % 2],
+    ]
+}
+
+fn attributes_at(number: usize) -> [(&'static str, Value<'static>); 3] {
+    let values = values_at(number);
+    [
+        (KEYS[0].0, values[0].into()),
+        (KEYS[1].0, values[1].into()),
+        (KEYS[2].0, values[2].into()),
+    ]
+}
+
+fn tell(what: &str, nanoseconds: f64) {
+    println!("  {what:<44}{nanoseconds:>8.1}");
+}
+
+// How long each of so many calls takes that one thread for each recorder makes, in nanoseconds.
+fn time_for<S: Send>(each: usize, states: Vec<S>, work: impl Fn(&mut S, usize) + Sync) -> f64 {
+    let before = Instant::now();
+    thread::scope(|scope| {
+        for mut state in states {
+            let work = &work;
+            scope.spawn(move || {
+                for number in 0..each {
+                    work(&mut state, number);
+                }
+            });
+        }
+    });
+    before.elapsed().as_nanos() as f64 / each as f64
+}
+
+struct Seat<'a> {
+    recorder: &'a mut Recorder,
+    instrument: &'a Instrument,
+    prepared: Vec<Prepared>,
+}
+
+fn seats<'a>(
+    opened: &'a mut Opened,
+    threads: usize,
+    own: bool,
+) -> Result<Vec<Seat<'a>>, Box<dyn Error>> {
+    let Opened {
+        metrics, recorders, ..
+    } = opened;
+    let instruments = metrics.instruments();
+    let recorders = recorders.iter_mut().take(threads).enumerate();
+    recorders
+        .map(|(number, recorder)| {
+            let instrument = &instruments[if own { number } else { 0 }];
+            let prepared: Result<Vec<_>, _> = (0..AT_ONCE)
+                .map(|at| recorder.prepare(instrument, &attributes_at(at)))
+                .collect();
+            Ok(Seat {
+                recorder,
+                instrument,
+                prepared: prepared?,
+            })
+        })
+        .collect()
+}
+
+fn through_the_library(threads: usize, own: bool, each: usize) -> Result<(), Box<dyn Error>> {
+    let mut opened = open(&catalogue(), CONFIG, 0)?;
+    let time = time_for(each, seats(&mut opened, threads, own)?, |seat, number| {
+        let done = seat
+            .recorder
+            .record(seat.instrument, &attributes_at(number), 1);
+        done.expect("the recording is made");
+    });
+    tell("library, three attributes at the call", time);
+    let time = time_for(each, seats(&mut opened, threads, own)?, |seat, number| {
+        let done = seat
+            .recorder
+            .record_prepared(&seat.prepared[number % AT_ONCE], 1);
+        done.expect("the recording is made");
+    });
+    tell("library, prepared", time);
+    let time = time_for(
+        each / AT_ONCE,
+        seats(&mut opened, threads, own)?,
+        |seat, _| {
+            let list: [_; AT_ONCE] = std::array::from_fn(|at| (&seat.prepared[at], 1));
+            seat.recorder
+                .record_list(&list)
+                .expect("the recordings are made");
+        },
+    );
+    tell("library, prepared, sixteen at once", time / AT_ONCE as f64);
+    let all = each * 2 + each / AT_ONCE * AT_ONCE;
+    let totals = opened.metrics.settle(&mut opened.recorders)?;
+    let count: u64 = totals.iter().map(|total| total.count).sum();
+    assert_eq!(count, (all * threads) as u64);
+    Ok(())
+}
+
+fn through_maps(threads: usize, own: bool, each: usize) {
+    let count = if own { threads } else { 1 };
+    let owned: Vec<Mutex<HashMap<[String; 3], i64>>> =
+        (0..count).map(|_| Mutex::default()).collect();
+    let maps = |number: usize| number.min(count - 1);
+    let states: Vec<_> = (0..threads).map(|number| &owned[maps(number)]).collect();
+    let time = time_for(each, states, |map, number| {
+        let key = values_at(black_box(number)).map(str::to_owned);
+        *map.lock()
+            .expect("no thread panics")
+            .entry(key)
+            .or_default() += 1;
+    });
+    tell("a map of owned triples behind a mutex", time);
+    let borrowed: Vec<Mutex<HashMap<[&str; 3], i64>>> =
+        (0..count).map(|_| Mutex::default()).collect();
+    let states: Vec<_> = (0..threads).map(|number| &borrowed[maps(number)]).collect();
+    let time = time_for(each, states, |map, number| {
+        let key = values_at(black_box(number));
+        *map.lock()
+            .expect("no thread panics")
+            .entry(key)
+            .or_default() += 1;
+    });
+    tell("a map of borrowed triples behind a mutex", time);
+}

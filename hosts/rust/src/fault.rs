@@ -1,0 +1,168 @@
+//! Why calls are refused.
+use std::fmt;
+
+/// Why a recording, a collection or a close is refused. What is refused has changed nothing.
+#[derive(Clone, Copy, Debug, PartialEq, Eq)]
+#[non_exhaustive]
+pub enum Refusal {
+    /// The instrument is none of the recorder's or reader's plan.
+    UnknownInstrument,
+    /// A key stands twice among the attributes.
+    DuplicateKey,
+    /// The instrument does not declare a key.
+    UnknownKey,
+    /// A key does not declare its value.
+    UnknownValue,
+    /// A required key is missing.
+    MissingKey,
+    /// The value is outside the instrument's range.
+    ValueRange,
+    /// The instrument is closed.
+    Closed,
+    /// The recorder's budget for the instrument is spent.
+    Budget,
+    /// Memory was refused.
+    Memory,
+    /// The recorder or reader is of another run.
+    Stranger,
+    /// The library answered a number that this crate does not know.
+    Other(u32),
+}
+
+impl Refusal {
+    pub(crate) fn of(code: u32) -> Refusal {
+        match code {
+            1 => Refusal::UnknownInstrument,
+            3 => Refusal::DuplicateKey,
+            4 => Refusal::UnknownKey,
+            5 => Refusal::UnknownValue,
+            6 => Refusal::MissingKey,
+            7 => Refusal::ValueRange,
+            8 => Refusal::Closed,
+            9 => Refusal::Budget,
+            11 => Refusal::Memory,
+            12 => Refusal::Stranger,
+            other => Refusal::Other(other),
+        }
+    }
+}
+
+impl fmt::Display for Refusal {
+    fn fmt(&self, f: &mut fmt::Formatter<'_>) -> fmt::Result {
+        match self {
+            Refusal::UnknownInstrument => write!(f, "the plan has no such instrument"),
+            Refusal::DuplicateKey => write!(f, "a key stands twice among the attributes"),
+            Refusal::UnknownKey => write!(f, "the instrument does not declare a key"),
+            Refusal::UnknownValue => write!(f, "a key does not declare its value"),
+            Refusal::MissingKey => write!(f, "a required key is missing"),
+            Refusal::ValueRange => write!(f, "the value is outside the instrument's range"),
+            Refusal::Closed => write!(f, "the instrument is closed"),
+            Refusal::Budget => write!(f, "the recorder's budget is spent"),
+            Refusal::Memory => write!(f, "memory was refused"),
+            Refusal::Stranger => write!(f, "the recorder or reader is of another run"),
+            Refusal::Other(code) => write!(f, "the library answered {code}"),
+        }
+    }
+}
+
+impl std::error::Error for Refusal {}
+
+/// Where a list of recordings ended, and why. Those before it are made.
+#[derive(Clone, Copy, Debug, PartialEq, Eq)]
+pub struct ListRefusal {
+    /// How many were made.
+    pub made: usize,
+    /// What the next one was refused for.
+    pub refusal: Refusal,
+}
+
+impl fmt::Display for ListRefusal {
+    fn fmt(&self, f: &mut fmt::Formatter<'_>) -> fmt::Result {
+        write!(f, "after {} recordings: {}", self.made, self.refusal)
+    }
+}
+
+impl std::error::Error for ListRefusal {}
+
+/// Why nothing is opened.
+#[derive(Clone, Debug, PartialEq, Eq)]
+#[non_exhaustive]
+pub enum OpenFault {
+    /// The catalogue or the config is at fault, or the two are not safe together: the first fault, with its place.
+    Fault(String),
+    /// Memory was refused.
+    Memory,
+    /// The library answered a number that this crate does not know.
+    Other(u32),
+}
+
+impl fmt::Display for OpenFault {
+    fn fmt(&self, f: &mut fmt::Formatter<'_>) -> fmt::Result {
+        match self {
+            OpenFault::Fault(text) => write!(f, "{text}"),
+            OpenFault::Memory => write!(f, "memory was refused"),
+            OpenFault::Other(code) => write!(f, "the library answered {code}"),
+        }
+    }
+}
+
+impl std::error::Error for OpenFault {}
+
+/// Why totals are not settled.
+#[derive(Clone, Copy, Debug, PartialEq, Eq)]
+#[non_exhaustive]
+pub enum SettleFault {
+    /// A recorder is of another run, or stands twice.
+    Stranger,
+    /// Some recorder of the run is not among those that were given.
+    RecorderMissing,
+    /// An instrument's state is not what its recorders were told.
+    AuditMismatch,
+    /// Memory was refused.
+    Memory,
+    /// The library answered a number that this crate does not know.
+    Other(u32),
+}
+
+impl SettleFault {
+    pub(crate) fn of(code: u32) -> SettleFault {
+        match code {
+            11 => SettleFault::Memory,
+            12 => SettleFault::Stranger,
+            104 => SettleFault::RecorderMissing,
+            105 => SettleFault::AuditMismatch,
+            other => SettleFault::Other(other),
+        }
+    }
+}
+
+impl fmt::Display for SettleFault {
+    fn fmt(&self, f: &mut fmt::Formatter<'_>) -> fmt::Result {
+        match self {
+            SettleFault::Stranger => write!(f, "a recorder is of another run, or stands twice"),
+            SettleFault::RecorderMissing => write!(f, "some recorder is missing"),
+            SettleFault::AuditMismatch => {
+                write!(
+                    f,
+                    "an instrument's state is not what its recorders were told"
+                )
+            }
+            SettleFault::Memory => write!(f, "memory was refused"),
+            SettleFault::Other(code) => write!(f, "the library answered {code}"),
+        }
+    }
+}
+
+impl std::error::Error for SettleFault {}
+
+/// There is no instrument of this name, or more than one.
+#[derive(Clone, Debug, PartialEq, Eq)]
+pub struct UnknownName(pub String);
+
+impl fmt::Display for UnknownName {
+    fn fmt(&self, f: &mut fmt::Formatter<'_>) -> fmt::Result {
+        write!(f, "there is not one instrument named {:?}", self.0)
+    }
+}
+
+impl std::error::Error for UnknownName {}

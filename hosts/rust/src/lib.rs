@@ -1,0 +1,82 @@
+//! Metrics that are counted exactly, as it is proved of the library that this crate links.
+//!
+//! A *catalogue* declares what may ever be recorded: instruments with the values of their attributes, and recorders with
+//! their budgets; a *config* declares readers and views. [`open`] certifies that nothing can overflow, and gives the
+//! [`Metrics`], with a [`Recorder`] for each recorder and a [`Reader`] for each reader.
+//!
+//! ```
+//! const CATALOGUE: &str = "format = 1
+//! [[meter]]
+//! name = 'shop'
+//! [[meter.instrument]]
+//! name = 'orders'
+//! kind = 'counter'
+//! range = [1, 100]
+//! key = [{ name = 'country', values = ['de', 'fr'] }]
+//! [[recorder]]
+//! name = 'main'
+//! budget = [{ instrument = 0, amount = 1000 }]
+//! ";
+//! const CONFIG: &str = "format = 1
+//! [[reader]]
+//! name = 'console'
+//! ";
+//!
+//! fn main() -> Result<(), Box<dyn std::error::Error>> {
+//!     let mut opened = wormweekly::open(CATALOGUE, CONFIG, 0)?;
+//!     let orders = opened.metrics.instrument("orders")?;
+//!     let main = &mut opened.recorders[0];
+//!     main.record(orders, &[("country", "de".into())], 2)?;
+//!     main.record(orders, &[("country", "fr".into())], 1)?;
+//!     print!("{}", opened.readers[0].collect(orders, 1_000)?);
+//!     assert_eq!(opened.metrics.settle(&mut opened.recorders)?[0].sum, 3);
+//!     Ok(())
+//! }
+//! ```
+//!
+//! An [`Instrument`] is shared by threads, and has a mutex inside. A recorder or a reader is owned by one thread at a time:
+//! neither can be cloned, and two threads can't record with one recorder.
+//!
+//! ```compile_fail,E0599
+//! fn copy(recorder: wormweekly::Recorder) -> wormweekly::Recorder {
+//!     recorder.clone()
+//! }
+//! ```
+//!
+//! ```compile_fail,E0499
+//! fn both(recorder: &mut wormweekly::Recorder, orders: &wormweekly::Instrument) {
+//!     std::thread::scope(|scope| {
+//!         scope.spawn(|| recorder.record(orders, &[], 1));
+//!         scope.spawn(|| recorder.record(orders, &[], 1));
+//!     });
+//! }
+//! ```
+//!
+//! A recorder that was dropped is gone, and so are its totals: [`Metrics::settle`] asks for all of them.
+//!
+//! ```compile_fail,E0382
+//! fn gone(recorder: wormweekly::Recorder, orders: &wormweekly::Instrument) {
+//!     drop(recorder);
+//!     let _ = recorder.record(orders, &[], 1);
+//! }
+//! ```
+#![warn(missing_docs)]
+
+mod batch;
+mod fault;
+mod metrics;
+mod opening;
+#[allow(missing_docs)]
+mod raw;
+mod reader;
+mod recorder;
+mod texts;
+mod value;
+
+pub use batch::{Batch, Kind, OwnedValue, Point, PointValue, Stream};
+pub use fault::{ListRefusal, OpenFault, Refusal, SettleFault, UnknownName};
+pub use metrics::{Instrument, Metrics, Total};
+pub use opening::{Opened, open, open_certified};
+pub use reader::Reader;
+pub use recorder::{Prepared, Recorder};
+pub use value::Value;

@@ -1,0 +1,180 @@
+//! The instruments of a run.
+use crate::fault::{Refusal, SettleFault, UnknownName};
+use crate::raw::{self, Handle};
+use crate::recorder::Recorder;
+use std::mem::replace;
+use std::sync::{Arc, Mutex, MutexGuard, PoisonError};
+
+/// The instruments of a run. Cloned, it is the same instruments.
+#[derive(Clone)]
+pub struct Metrics {
+    instruments: Vec<Instrument>,
+}
+
+/// An instrument, which threads share. Cloned, it is the same instrument.
+#[derive(Clone)]
+pub struct Instrument {
+    own: Arc<Own>,
+}
+
+struct Own {
+    run: u64,
+    number: u32,
+    meter: String,
+    name: String,
+    handle: Mutex<Handle>,
+}
+
+impl Drop for Own {
+    fn drop(&mut self) {
+        let handle = self
+            .handle
+            .get_mut()
+            .unwrap_or_else(PoisonError::into_inner);
+        // SAFETY: the handle is null or as the library left it, and nobody else has it.
+        unsafe { raw::wormweekly_free_instrument(handle) }
+    }
+}
+
+/// What an instrument comes to.
+#[derive(Clone, Copy, Debug, PartialEq, Eq)]
+pub struct Total {
+    /// How many recordings were accepted.
+    pub count: u64,
+    /// The sum of their values.
+    pub sum: i128,
+}
+
+impl Metrics {
+    pub(crate) fn new(instruments: Vec<Instrument>) -> Metrics {
+        Metrics { instruments }
+    }
+
+    /// The instrument of this name, where there is exactly one.
+    pub fn instrument(&self, name: &str) -> Result<&Instrument, UnknownName> {
+        let mut found = self
+            .instruments
+            .iter()
+            .filter(|instrument| instrument.name() == name);
+        match (found.next(), found.next()) {
+            (Some(instrument), None) => Ok(instrument),
+            _ => Err(UnknownName(name.to_owned())),
+        }
+    }
+
+    /// All instruments, in the order of the catalogue.
+    pub fn instruments(&self) -> &[Instrument] {
+        &self.instruments
+    }
+
+    /// The total of each instrument, in order, where all of them are what the recorders were told. The recorders are all
+    /// those of the run, in any order.
+    ///
+    /// # Errors
+    ///
+    /// The first [`SettleFault`] of an instrument.
+    pub fn settle(&self, recorders: &mut [Recorder]) -> Result<Vec<Total>, SettleFault> {
+        self.instruments
+            .iter()
+            .map(|instrument| instrument.settle(recorders))
+            .collect()
+    }
+}
+
+impl Instrument {
+    pub(crate) fn new(
+        handle: Handle,
+        run: u64,
+        number: u32,
+        meter: String,
+        name: String,
+    ) -> Instrument {
+        let handle = Mutex::new(handle);
+        let own = Own {
+            run,
+            number,
+            meter,
+            name,
+            handle,
+        };
+        Instrument { own: Arc::new(own) }
+    }
+
+    /// The name.
+    pub fn name(&self) -> &str {
+        &self.own.name
+    }
+
+    /// The name of its meter.
+    pub fn meter(&self) -> &str {
+        &self.own.meter
+    }
+
+    /// Its number in the catalogue, from 0.
+    pub fn number(&self) -> u32 {
+        self.own.number
+    }
+
+    // The number of its run.
+    pub(crate) fn run(&self) -> u64 {
+        self.own.run
+    }
+
+    // Whether both are one instrument.
+    pub(crate) fn is(&self, other: &Instrument) -> bool {
+        Arc::ptr_eq(&self.own, &other.own)
+    }
+
+    /// Ends the recordings. It is collected and settled as before.
+    ///
+    /// # Errors
+    ///
+    /// [`Refusal::Closed`] where it is closed.
+    pub fn close(&self) -> Result<(), Refusal> {
+        // SAFETY: the handle is as the library left it, and this call has it alone.
+        match unsafe { raw::wormweekly_close(&mut self.lock()) } {
+            0 => Ok(()),
+            code => Err(Refusal::of(code)),
+        }
+    }
+
+    // What was behind the lock where a thread ended in a panic is still as the library left it.
+    pub(crate) fn lock(&self) -> MutexGuard<'_, Handle> {
+        self.own
+            .handle
+            .lock()
+            .unwrap_or_else(PoisonError::into_inner)
+    }
+
+    fn settle(&self, recorders: &mut [Recorder]) -> Result<Total, SettleFault> {
+        let mut handles: Vec<Handle> = recorders
+            .iter_mut()
+            .map(|recorder| replace(recorder.handle(), Handle::NOTHING))
+            .collect();
+        let mut total = raw::Total::default();
+        // SAFETY: the handles are as the library left them, and this call has them alone.
+        let code = unsafe {
+            raw::wormweekly_settle(
+                &mut self.lock(),
+                handles.as_mut_ptr(),
+                handles.len(),
+                &mut total,
+            )
+        };
+        for (recorder, handle) in recorders.iter_mut().zip(handles) {
+            *recorder.handle() = handle;
+        }
+        match code {
+            0 => Ok(Total {
+                count: total.count,
+                sum: sum_of(&total),
+            }),
+            code => Err(SettleFault::of(code)),
+        }
+    }
+}
+
+fn sum_of(total: &raw::Total) -> i128 {
+    let size = (i128::from(total.high) << 64) + i128::from(total.low);
+    if total.negative == 0 { size } else { -size }
+}

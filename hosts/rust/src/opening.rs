@@ -1,0 +1,224 @@
+//! The start of a run.
+use crate::fault::OpenFault;
+use crate::metrics::{Instrument, Metrics};
+use crate::raw::{self, Counts, Handle};
+use crate::reader::Reader;
+use crate::recorder::Recorder;
+use std::sync::atomic::{AtomicU64, Ordering};
+
+const MEMORY: u32 = 11;
+const TOO_SHORT: u32 = 102;
+const FAULT: u32 = 103;
+
+// The kinds of names.
+const INSTRUMENT_NAME: u32 = 0;
+const METER_NAME: u32 = 1;
+const RECORDER_NAME: u32 = 2;
+const READER_NAME: u32 = 3;
+
+// The number of the next run. A host in C of the same process counts its own from 1.
+static NEXT_RUN: AtomicU64 = AtomicU64::new(1 << 63);
+
+/// What is opened: the instruments, and a seat for each recorder and each reader that was declared, in order.
+pub struct Opened {
+    /// The instruments.
+    pub metrics: Metrics,
+    /// A seat for each recorder.
+    pub recorders: Vec<Recorder>,
+    /// A seat for each reader.
+    pub readers: Vec<Reader>,
+    /// A line for each view that does not fit an instrument. Streams that collide are a fault of the opening.
+    pub warnings: String,
+}
+
+/// Opens the instruments of a catalogue and a config (TOML), since a start in nanoseconds. The library makes a certificate
+/// that nothing can overflow, and checks it. Instruments are named where there is a recorder.
+///
+/// # Errors
+///
+/// [`OpenFault::Fault`] with the first fault of the catalogue, else of the config, else the first part of safety that
+/// fails; [`OpenFault::Memory`].
+pub fn open(catalogue: &str, config: &str, start: u64) -> Result<Opened, OpenFault> {
+    let texts = Texts {
+        catalogue,
+        config,
+        certificate: None,
+    };
+    texts.open(start)
+}
+
+/// The same with a certificate that somebody made. It is checked, whoever that was.
+///
+/// # Errors
+///
+/// [`OpenFault::Fault`] with the first fault of the catalogue, else of the config, else of the certificate, else what its
+/// check finds first; [`OpenFault::Memory`].
+pub fn open_certified(
+    catalogue: &str,
+    config: &str,
+    certificate: &str,
+    start: u64,
+) -> Result<Opened, OpenFault> {
+    let texts = Texts {
+        catalogue,
+        config,
+        certificate: Some(certificate),
+    };
+    texts.open(start)
+}
+
+struct Texts<'a> {
+    catalogue: &'a str,
+    config: &'a str,
+    certificate: Option<&'a str>,
+}
+
+struct Handles {
+    instruments: Vec<Handle>,
+    recorders: Vec<Handle>,
+    readers: Vec<Handle>,
+}
+
+fn nothing(count: usize) -> Vec<Handle> {
+    (0..count).map(|_| Handle::NOTHING).collect()
+}
+
+impl Handles {
+    fn nothing(counts: &Counts) -> Handles {
+        Handles {
+            instruments: nothing(counts.instruments),
+            recorders: nothing(counts.recorders),
+            readers: nothing(counts.readers),
+        }
+    }
+}
+
+impl Texts<'_> {
+    fn open(&self, start: u64) -> Result<Opened, OpenFault> {
+        let run = NEXT_RUN.fetch_add(1, Ordering::Relaxed);
+        let mut counts = Counts::default();
+        let mut fault = vec![0u8; 512];
+        let mut handles = Handles::nothing(&counts);
+        let mut code = self.call(start, run, &mut handles, &mut counts, &mut fault);
+        if code == TOO_SHORT {
+            handles = Handles::nothing(&counts);
+            code = self.call(start, run, &mut handles, &mut counts, &mut fault);
+        }
+        match code {
+            0 => named(handles, run).map_err(refused),
+            FAULT => Err(OpenFault::Fault(
+                String::from_utf8_lossy(&fault).into_owned(),
+            )),
+            code => Err(refused(code)),
+        }
+    }
+
+    // Opens what there are handles for. The fault is cut to its length.
+    fn call(
+        &self,
+        start: u64,
+        run: u64,
+        handles: &mut Handles,
+        counts: &mut Counts,
+        fault: &mut Vec<u8>,
+    ) -> u32 {
+        let Handles {
+            instruments,
+            recorders,
+            readers,
+        } = handles;
+        let mut fault_length = 0;
+        // SAFETY: the texts and buffers are borrowed for the call and apart from each other, and the handles are null.
+        let code = match self.certificate {
+            None => unsafe {
+                raw::wormweekly_open(
+                    self.catalogue.as_ptr(),
+                    self.catalogue.len(),
+                    self.config.as_ptr(),
+                    self.config.len(),
+                    start,
+                    run,
+                    instruments.as_mut_ptr(),
+                    instruments.len(),
+                    recorders.as_mut_ptr(),
+                    recorders.len(),
+                    readers.as_mut_ptr(),
+                    readers.len(),
+                    counts,
+                    fault.as_mut_ptr(),
+                    fault.len(),
+                    &mut fault_length,
+                )
+            },
+            // SAFETY: as above.
+            Some(certificate) => unsafe {
+                raw::wormweekly_open_certified(
+                    self.catalogue.as_ptr(),
+                    self.catalogue.len(),
+                    self.config.as_ptr(),
+                    self.config.len(),
+                    certificate.as_ptr(),
+                    certificate.len(),
+                    start,
+                    run,
+                    instruments.as_mut_ptr(),
+                    instruments.len(),
+                    recorders.as_mut_ptr(),
+                    recorders.len(),
+                    readers.as_mut_ptr(),
+                    readers.len(),
+                    counts,
+                    fault.as_mut_ptr(),
+                    fault.len(),
+                    &mut fault_length,
+                )
+            },
+        };
+        if code == FAULT {
+            fault.truncate(fault_length);
+        }
+        code
+    }
+}
+
+fn refused(code: u32) -> OpenFault {
+    match code {
+        MEMORY => OpenFault::Memory,
+        other => OpenFault::Other(other),
+    }
+}
+
+// Gives each handle its owner, with its name.
+fn named(handles: Handles, run: u64) -> Result<Opened, u32> {
+    let recorders = handles.recorders.into_iter();
+    let mut recorders: Vec<Recorder> = recorders.map(|one| Recorder::new(one, run)).collect();
+    let mut name = |kind, number: usize| match recorders.first_mut() {
+        Some(first) => first.name_of(kind, number as u32),
+        None => String::new(),
+    };
+    let instruments = handles.instruments.into_iter().enumerate();
+    let instruments = instruments.map(|(number, handle)| {
+        let meter = name(METER_NAME, number);
+        let own = name(INSTRUMENT_NAME, number);
+        Instrument::new(handle, run, number as u32, meter, own)
+    });
+    let metrics = Metrics::new(instruments.collect());
+    let readers = handles.readers.into_iter().enumerate();
+    let readers = readers
+        .map(|(number, handle)| Reader::new(handle, name(READER_NAME, number)))
+        .collect();
+    for (number, recorder) in recorders.iter_mut().enumerate() {
+        let own = recorder.name_of(RECORDER_NAME, number as u32);
+        recorder.set_name(own);
+    }
+    let warnings = match recorders.first_mut() {
+        Some(first) => first.warnings()?,
+        None => String::new(),
+    };
+    Ok(Opened {
+        metrics,
+        recorders,
+        readers,
+        warnings,
+    })
+}

@@ -1,0 +1,204 @@
+//! The seats of recorders.
+use crate::fault::{ListRefusal, Refusal};
+use crate::metrics::Instrument;
+use crate::raw::{self, Handle};
+use crate::texts::told;
+use crate::value::{Room, Value};
+
+/// The seat of one recorder, with which a thread records. It keeps what it was told of its recordings, and goes from thread
+/// to thread, but is never shared or copied.
+pub struct Recorder {
+    handle: Handle,
+    run: u64,
+    name: String,
+    room: Room,
+    list: Vec<raw::Prepared>,
+}
+
+/// A set of attributes that was found once, for an instrument.
+#[derive(Clone)]
+pub struct Prepared {
+    instrument: Instrument,
+    own: raw::Prepared,
+}
+
+impl Drop for Recorder {
+    fn drop(&mut self) {
+        // SAFETY: the handle is null or as the library left it, and nobody else has it.
+        unsafe { raw::wormweekly_free_recorder(&mut self.handle) }
+    }
+}
+
+fn answer(code: u32) -> Result<(), Refusal> {
+    match code {
+        0 => Ok(()),
+        code => Err(Refusal::of(code)),
+    }
+}
+
+impl Recorder {
+    pub(crate) fn new(handle: Handle, run: u64) -> Recorder {
+        Recorder {
+            handle,
+            run,
+            name: String::new(),
+            room: Room::default(),
+            list: Vec::new(),
+        }
+    }
+
+    pub(crate) fn set_name(&mut self, name: String) {
+        self.name = name;
+    }
+
+    pub(crate) fn handle(&mut self) -> &mut Handle {
+        &mut self.handle
+    }
+
+    /// The name.
+    pub fn name(&self) -> &str {
+        &self.name
+    }
+
+    /// Makes a recording.
+    ///
+    /// # Errors
+    ///
+    /// The first [`Refusal`]; nothing is counted then.
+    pub fn record(
+        &mut self,
+        instrument: &Instrument,
+        attributes: &[(&str, Value<'_>)],
+        value: i64,
+    ) -> Result<(), Refusal> {
+        self.room.fill(attributes);
+        let Room { texts, attributes } = &self.room;
+        let mut held = instrument.lock();
+        // SAFETY: the handles are as the library left them, this call has them alone, and the buffers are borrowed for it.
+        answer(unsafe {
+            raw::wormweekly_record(
+                &mut held,
+                &mut self.handle,
+                texts.as_ptr(),
+                texts.len(),
+                attributes.as_ptr(),
+                attributes.len(),
+                value,
+            )
+        })
+    }
+
+    /// Finds what a set of attributes comes to, for recordings on an instrument. Takes no lock.
+    ///
+    /// # Errors
+    ///
+    /// [`Refusal::Stranger`] where the instrument is of another run, else the first [`Refusal`] of the attributes.
+    pub fn prepare(
+        &mut self,
+        instrument: &Instrument,
+        attributes: &[(&str, Value<'_>)],
+    ) -> Result<Prepared, Refusal> {
+        if instrument.run() != self.run {
+            return Err(Refusal::Stranger);
+        }
+        self.room.fill(attributes);
+        let Room { texts, attributes } = &self.room;
+        let mut own = raw::Prepared {
+            set: [0; 8],
+            value: 0,
+        };
+        // SAFETY: as in `record`.
+        answer(unsafe {
+            raw::wormweekly_prepare(
+                &mut self.handle,
+                instrument.number(),
+                texts.as_ptr(),
+                texts.len(),
+                attributes.as_ptr(),
+                attributes.len(),
+                &mut own,
+            )
+        })?;
+        Ok(Prepared {
+            instrument: instrument.clone(),
+            own,
+        })
+    }
+
+    /// Makes a recording with attributes that were prepared.
+    ///
+    /// # Errors
+    ///
+    /// The first [`Refusal`]; nothing is counted then.
+    pub fn record_prepared(&mut self, prepared: &Prepared, value: i64) -> Result<(), Refusal> {
+        let own = raw::Prepared {
+            value,
+            ..prepared.own
+        };
+        let mut held = prepared.instrument.lock();
+        // SAFETY: as in `record`.
+        answer(unsafe { raw::wormweekly_record_prepared(&mut held, &mut self.handle, &own) })
+    }
+
+    /// Makes several recordings with attributes that were prepared for one instrument, in one call and under one lock.
+    ///
+    /// # Errors
+    ///
+    /// The first [`Refusal`], with the number of those before it, which are made. One that was prepared for another
+    /// instrument than the first is refused as [`Refusal::UnknownInstrument`].
+    pub fn record_list(&mut self, list: &[(&Prepared, i64)]) -> Result<(), ListRefusal> {
+        let Some((first, _)) = list.first() else {
+            return Ok(());
+        };
+        let own = list
+            .iter()
+            .take_while(|(prepared, _)| prepared.instrument.is(&first.instrument));
+        self.list.clear();
+        self.list.extend(own.map(|(prepared, value)| raw::Prepared {
+            value: *value,
+            ..prepared.own
+        }));
+        let mut made = 0;
+        let mut held = first.instrument.lock();
+        // SAFETY: as in `record`.
+        let code = unsafe {
+            raw::wormweekly_record_list(
+                &mut held,
+                &mut self.handle,
+                self.list.as_ptr(),
+                self.list.len(),
+                &mut made,
+            )
+        };
+        match code {
+            0 if made < list.len() => Err(ListRefusal {
+                made,
+                refusal: Refusal::UnknownInstrument,
+            }),
+            0 => Ok(()),
+            code => Err(ListRefusal {
+                made,
+                refusal: Refusal::of(code),
+            }),
+        }
+    }
+
+    // A name of the plan, empty where there is none.
+    pub(crate) fn name_of(&mut self, kind: u32, number: u32) -> String {
+        let handle = &mut self.handle;
+        // SAFETY: as in `record`.
+        told(|out, length| unsafe {
+            raw::wormweekly_name(handle, kind, number, out.as_mut_ptr(), out.len(), length)
+        })
+        .unwrap_or_default()
+    }
+
+    // The warnings of the plan.
+    pub(crate) fn warnings(&mut self) -> Result<String, u32> {
+        let handle = &mut self.handle;
+        // SAFETY: as in `record`.
+        told(|out, length| unsafe {
+            raw::wormweekly_warnings(handle, out.as_mut_ptr(), out.len(), length)
+        })
+    }
+}

@@ -1,0 +1,383 @@
+//! What a host sees of the library.
+use std::thread;
+use wormweekly::{
+    Kind, ListRefusal, OpenFault, Opened, OwnedValue, Point, PointValue, Refusal, SettleFault,
+    Total, Value, open, open_certified,
+};
+
+/// Attributes with a value, and what recording them is refused for.
+type Refused<'a> = (&'a [(&'a str, Value<'a>)], i64, Refusal);
+
+const CATALOGUE: &str = "format = 1
+[[meter]]
+name = 'shop'
+[[meter.instrument]]
+name = 'requests'
+kind = 'counter'
+range = [1, 100]
+key = [{ name = 'route', values = ['/', '/cart'] }, { name = 'status', values = [200, 404] }, { name = 'cached', values = [true, false], optional = true }]
+[[meter.instrument]]
+name = 'balance'
+kind = 'up_down_counter'
+range = [-50, 50]
+[[recorder]]
+name = 'first'
+budget = [{ instrument = 0, amount = 5 }, { instrument = 1, amount = 3 }]
+[[recorder]]
+name = 'second'
+budget = [{ instrument = 0, amount = 2000 }, { instrument = 1, amount = 3 }]
+";
+
+const CONFIG: &str = "format = 1
+[[reader]]
+name = 'console'
+";
+
+fn opened() -> Opened {
+    open(CATALOGUE, CONFIG, 0).expect("the plan is certified")
+}
+
+#[test]
+fn faults_are_told() {
+    let fault = |catalogue, config| open(catalogue, config, 0).err();
+    assert!(
+        matches!(fault("format = 2\n", CONFIG), Some(OpenFault::Fault(text)) if text.starts_with("catalogue "))
+    );
+    assert!(
+        matches!(fault(CATALOGUE, "format = 2\n"), Some(OpenFault::Fault(text)) if text.starts_with("config "))
+    );
+}
+
+#[test]
+fn names_are_found() {
+    let opened = opened();
+    let names: Vec<_> = opened
+        .metrics
+        .instruments()
+        .iter()
+        .map(|one| (one.meter(), one.name(), one.number()))
+        .collect();
+    assert_eq!(names, [("shop", "requests", 0), ("shop", "balance", 1)]);
+    assert_eq!(
+        opened
+            .recorders
+            .iter()
+            .map(|one| one.name())
+            .collect::<Vec<_>>(),
+        ["first", "second"]
+    );
+    assert_eq!(opened.readers[0].name(), "console");
+    assert!(opened.metrics.instrument("orders").is_err());
+}
+
+#[test]
+fn refusals_come_first_and_change_nothing() -> Result<(), Box<dyn std::error::Error>> {
+    let Opened {
+        metrics,
+        mut recorders,
+        mut readers,
+        ..
+    } = opened();
+    let requests = metrics.instrument("requests")?;
+    let first = &mut recorders[0];
+    let cases: [Refused<'_>; 6] = [
+        (
+            &[("route", "/".into()), ("route", "/".into())],
+            1,
+            Refusal::DuplicateKey,
+        ),
+        (
+            &[("route", "/".into()), ("colour", "red".into())],
+            1,
+            Refusal::UnknownKey,
+        ),
+        (
+            &[("route", "/admin".into()), ("status", 200.into())],
+            1,
+            Refusal::UnknownValue,
+        ),
+        (&[("route", "/".into())], 1, Refusal::MissingKey),
+        (
+            &[("route", "/".into()), ("status", 200.into())],
+            0,
+            Refusal::ValueRange,
+        ),
+        (&[("a", "".into()); 9], 1, Refusal::DuplicateKey),
+    ];
+    for (attributes, value, refusal) in cases {
+        assert_eq!(first.record(requests, attributes, value), Err(refusal));
+    }
+    assert_eq!(readers[0].collect(requests, 10)?, "collected 10 0\n");
+    for value in 1..=5 {
+        first.record(
+            requests,
+            &[
+                ("status", 404.into()),
+                ("cached", true.into()),
+                ("route", "/cart".into()),
+            ],
+            value,
+        )?;
+    }
+    let again = first.record(
+        requests,
+        &[("route", "/".into()), ("status", 200.into())],
+        1,
+    );
+    assert_eq!(again, Err(Refusal::Budget));
+    let batch = readers[0].collect(requests, 20)?;
+    assert!(
+        batch.ends_with(
+            "point {\"route\"=\"/cart\",\"status\"=404,\"cached\"=true} start=0 time=20 value=15\n"
+        ),
+        "{batch}"
+    );
+    assert_eq!(readers[0].text()?, batch);
+    requests.close()?;
+    assert_eq!(requests.close(), Err(Refusal::Closed));
+    let closed = recorders[1].record(
+        requests,
+        &[("route", "/".into()), ("status", 200.into())],
+        1,
+    );
+    assert_eq!(closed, Err(Refusal::Closed));
+    let totals = metrics.settle(&mut recorders)?;
+    assert_eq!(
+        totals,
+        [Total { count: 5, sum: 15 }, Total { count: 0, sum: 0 }]
+    );
+    Ok(())
+}
+
+#[test]
+fn prepared_recordings_go_one_by_one_and_in_lists() -> Result<(), Box<dyn std::error::Error>> {
+    let Opened {
+        metrics,
+        mut recorders,
+        ..
+    } = opened();
+    let requests = metrics.instrument("requests")?;
+    let balance = metrics.instrument("balance")?;
+    let second = &mut recorders[1];
+    let front = second.prepare(requests, &[("route", "/".into()), ("status", 200.into())])?;
+    let cart = second.prepare(
+        requests,
+        &[("route", "/cart".into()), ("status", 200.into())],
+    )?;
+    let bare = second.prepare(balance, &[])?;
+    second.record_prepared(&front, 7)?;
+    second.record_list(&[(&front, 1), (&cart, 2), (&front, 3)])?;
+    second.record_list(&[])?;
+    let stopped = second.record_list(&[(&front, 1), (&cart, 101), (&front, 3)]);
+    assert_eq!(
+        stopped,
+        Err(ListRefusal {
+            made: 1,
+            refusal: Refusal::ValueRange
+        })
+    );
+    let stopped = second.record_list(&[(&front, 1), (&bare, 1), (&front, 3)]);
+    assert_eq!(
+        stopped,
+        Err(ListRefusal {
+            made: 1,
+            refusal: Refusal::UnknownInstrument
+        })
+    );
+    second.record_list(&[(&bare, -50), (&bare, -50), (&bare, 20)])?;
+    let totals = metrics.settle(&mut recorders)?;
+    assert_eq!(
+        totals,
+        [Total { count: 6, sum: 15 }, Total { count: 3, sum: -80 }]
+    );
+    Ok(())
+}
+
+#[test]
+fn seats_of_other_runs_are_strangers() -> Result<(), Box<dyn std::error::Error>> {
+    let mut one = opened();
+    let mut other = opened();
+    let requests = one.metrics.instrument("requests")?;
+    let given = [("route", "/".into()), ("status", 200.into())];
+    assert_eq!(
+        other.recorders[0].record(requests, &given, 1),
+        Err(Refusal::Stranger)
+    );
+    assert_eq!(
+        other.readers[0].collect(requests, 1),
+        Err(Refusal::Stranger)
+    );
+    assert!(matches!(
+        other.recorders[0].prepare(requests, &given),
+        Err(Refusal::Stranger)
+    ));
+    one.recorders[0].record(requests, &given, 1)?;
+    assert_eq!(
+        one.metrics.settle(&mut other.recorders),
+        Err(SettleFault::Stranger)
+    );
+    assert_eq!(
+        one.metrics.settle(&mut one.recorders[..1]),
+        Err(SettleFault::RecorderMissing)
+    );
+    assert_eq!(
+        one.metrics.settle(&mut one.recorders)?[0],
+        Total { count: 1, sum: 1 }
+    );
+    Ok(())
+}
+
+#[test]
+fn threads_lose_nothing() -> Result<(), Box<dyn std::error::Error>> {
+    let Opened {
+        metrics,
+        mut recorders,
+        ..
+    } = opened();
+    let requests = metrics.instrument("requests")?;
+    thread::scope(|scope| {
+        for own in &mut recorders {
+            scope.spawn(move || {
+                let given = [("route", "/".into()), ("status", 200.into())];
+                (0..3000)
+                    .filter(|_| own.record(requests, &given, 1).is_ok())
+                    .count()
+            });
+        }
+    });
+    assert_eq!(
+        metrics.settle(&mut recorders)?[0],
+        Total {
+            count: 2005,
+            sum: 2005
+        }
+    );
+    Ok(())
+}
+
+#[test]
+fn views_that_do_not_fit_are_warned_of() {
+    let catalogue = "format = 1
+[[meter]]
+name = 'house'
+[[meter.instrument]]
+name = 'heat'
+kind = 'gauge'
+range = [-50, 50]
+[[recorder]]
+name = 'sensor'
+budget = [{ instrument = 0, amount = 5 }]
+";
+    let config = "format = 1
+[[reader]]
+name = 'console'
+[[view]]
+aggregation = 'sum'
+";
+    let opened = open(catalogue, config, 0).expect("the plan is certified");
+    assert_eq!(opened.warnings, "warning Unfit view=0 instrument=0\n");
+}
+
+#[test]
+fn a_certificate_is_checked_whoever_made_it() -> Result<(), Box<dyn std::error::Error>> {
+    let catalogue = "format = 1
+[[meter]]
+name = 'shop'
+instrument = [{ name = 'hits', kind = 'counter', range = [0, 100] }]
+[[recorder]]
+name = 'one'
+budget = [{ instrument = 0, amount = 10 }]
+";
+    let certificate = "format = 1
+reason = []
+stream = [{ reader = 0, instrument = 0, by = 'product', sets = 1 }]
+bound = [{ instrument = 0, total = '10', amount = '1000', low = '0', high = '1000' }]
+order = [{ reader = 0, streams = [0] }]
+";
+    let fault = |certificate: &str| open_certified(catalogue, CONFIG, certificate, 0).err();
+    let starts = |fault: Option<OpenFault>, front| matches!(fault, Some(OpenFault::Fault(text)) if text.starts_with(front));
+    assert!(starts(fault("format = 2\n"), "certificate "));
+    assert!(starts(
+        fault(&certificate.replace("sets = 1", "sets = 2")),
+        "check "
+    ));
+    let mut opened = open_certified(catalogue, CONFIG, certificate, 0)?;
+    let hits = opened.metrics.instrument("hits")?;
+    opened.recorders[0].record(hits, &[], 100)?;
+    let totals = opened.metrics.settle(&mut opened.recorders)?;
+    assert_eq!(totals, [Total { count: 1, sum: 100 }]);
+    Ok(())
+}
+
+#[test]
+fn batches_are_walked_point_by_point() -> Result<(), Box<dyn std::error::Error>> {
+    let catalogue = "format = 1
+[[meter]]
+name = 'shop'
+version = '2'
+[[meter.instrument]]
+name = 'latency'
+kind = 'histogram'
+unit = 'ms'
+range = [0, 100]
+boundaries = [10, 50]
+key = [{ name = 'route', values = ['/', '/cart'] }, { name = 'cached', values = [true, 7], optional = true }]
+[[recorder]]
+name = 'one'
+budget = [{ instrument = 0, amount = 10 }]
+";
+    let mut opened = open(catalogue, CONFIG, 5)?;
+    let latency = opened.metrics.instrument("latency")?;
+    let (one, reader) = (&mut opened.recorders[0], &mut opened.readers[0]);
+    assert_eq!(reader.batch()?, None);
+    for value in [3, 20, 70] {
+        one.record(
+            latency,
+            &[("route", "/cart".into()), ("cached", 7.into())],
+            value,
+        )?;
+    }
+    one.record(latency, &[("route", "/".into())], 10)?;
+    reader.collect(latency, 9)?;
+    let batch = reader.batch()?.expect("there is a batch");
+    assert_eq!((batch.instrument, batch.start, batch.time), (0, 5, 9));
+    let [stream] = &batch.streams[..] else {
+        panic!("there is one stream");
+    };
+    assert_eq!(
+        [&stream.name, &stream.unit, &stream.meter, &stream.version],
+        ["latency", "ms", "shop", "2"]
+    );
+    assert_eq!((stream.kind, stream.is_delta), (Kind::Histogram, false));
+    assert_eq!(stream.boundaries, [10, 50]);
+    let text = |text: &str| OwnedValue::Text(text.to_owned());
+    let points = [
+        Point {
+            attributes: vec![("route".to_owned(), text("/"))],
+            is_overflow: false,
+            value: PointValue::Buckets {
+                count: 1,
+                counts: vec![1, 0, 0],
+                sum: Some(10),
+                min: 10,
+                max: 10,
+            },
+        },
+        Point {
+            attributes: vec![
+                ("route".to_owned(), text("/cart")),
+                ("cached".to_owned(), OwnedValue::Whole(7)),
+            ],
+            is_overflow: false,
+            value: PointValue::Buckets {
+                count: 3,
+                counts: vec![1, 1, 1],
+                sum: Some(93),
+                min: 3,
+                max: 70,
+            },
+        },
+    ];
+    assert_eq!(stream.points, points);
+    Ok(())
+}
