@@ -82,7 +82,8 @@ static uint32_t open_shop(const char *catalogue) {
     uint32_t answer = wormweekly_open(bytes(catalogue), strlen(catalogue), bytes(CONFIG), strlen(CONFIG), 0, 1, &orders, 1,
                                       workers, THREADS, &console, 1, &counts, fault, sizeof fault, &length);
     if (answer == WORMWEEKLY_FAULT) {
-        printf("fault: %.*s\n", (int)length, (const char *)fault);
+        size_t told = length < sizeof fault ? length : sizeof fault;
+        printf("fault: %.*s\n", (int)told, (const char *)fault);
     }
     return answer;
 }
