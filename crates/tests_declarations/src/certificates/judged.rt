@@ -1,0 +1,223 @@
+//! How texts are judged as certificates.
+use crate::certificates::samples::{
+    CRITERIA, FOUR_KINDS, FULL, NO_INSTRUMENTS, NOTHING, SELDOM, Sample, TWO_COUNTERS, TWO_READERS, WIDE_GAUGE,
+};
+use crate::declared::{Declared, read_both};
+use crate::equal::assert_equal;
+use metric_cert::Certificate;
+use metric_check::check;
+use std::alloc::{AllocError, Global};
+use std::test::Fail;
+
+fn judged_for(
+    alloc: Global,
+    declared: Declared,
+    certificate: &Certificate,
+) -> Result<String, AllocError> {
+    match check(alloc, declared.catalogue, declared.config, certificate) {
+        Ok(_) => String::from_str(alloc, "accepted"),
+        Err((_, _, fault)) => fault.to_string(alloc),
+    }
+}
+
+fn judged(alloc: Global, sample: &Sample, certificate: &Certificate) -> Result<String, Fail> {
+    let declared = read_both(alloc, sample.catalogue, sample.config)?;
+    Ok(judged_for(alloc, declared, certificate)?)
+}
+
+// How a text is judged as a certificate for the catalogue and the config of a sample.
+fn told(alloc: Global, sample: &Sample, text: &str) -> Result<String, Fail> {
+    match Certificate::read(alloc, text) {
+        Ok(certificate) => judged(alloc, sample, &certificate),
+        Err(fault) => Ok(fault.to_string(alloc)?),
+    }
+}
+
+// More sets than the limit of the view.
+const TIGHT: Sample = Sample {
+    config: r#"
+format = 1
+reader = [{ name = "main" }]
+view = [{ limit = 2 }]
+"#,
+    certificate: r#"
+format = 1
+reason = [{ view = 0, instrument = 0, takes = [4] }]
+stream = [{ reader = 0, instrument = 0, view = 0, by = "product", sets = 3 }]
+bound = [{ instrument = 0, total = "10", amount = "1000", low = "0", high = "1000" }]
+order = [{ reader = 0, streams = [0] }]"#,
+    ..TWO_READERS
+};
+
+const JUDGED: &[(Sample, &str)] = &[
+    (TWO_COUNTERS, "accepted"),
+    (TWO_READERS, "accepted"),
+    (FOUR_KINDS, "accepted"),
+    (CRITERIA, "accepted"),
+    (WIDE_GAUGE, "accepted"),
+    (NO_INSTRUMENTS, "accepted"),
+    (NOTHING, "accepted"),
+    (FULL, "accepted"),
+    (SELDOM, "accepted"),
+    (TIGHT, "9 LimitExceeded"),
+];
+
+#[test]
+fn certificates_are_judged(rt: HostRuntime) -> Result<(), Fail> {
+    for (sample, due) in JUDGED {
+        let told = told(rt.alloc(), sample, sample.certificate)?;
+        assert_equal(&rt, told.as_str(), *due);
+    }
+    Ok(())
+}
+
+// What takes the place of which piece of the certificate of two counters, and how the text is judged then.
+const ALTERED: &[(&str, &str, &str)] = &[
+    (
+        "{ view = 0, instrument = 0, rows = [[0], []] }, ",
+        "",
+        "1 PairMissing",
+    ),
+    ("takes = [0]", "takes = [1]", "2 BadTakes"),
+    ("rows = [[0], []]", "rows = [[0], [1]]", "3 BadRows"),
+    ("takes = [0]", "miss = \"meter_name\"", "4 BadMiss"),
+    (
+        ", { reader = 0, instrument = 1, view = 0, by = \"product\", sets = 1 }",
+        "",
+        "5 StreamMissing",
+    ),
+    (
+        "{ reader = 0, instrument = 1, ",
+        "{ reader = 0, instrument = 1, by = \"product\", sets = 1 }, { reader = 0, instrument = 1, ",
+        "6 StreamStrange",
+    ),
+    ("streams = [1, 0]", "streams = [0, 1]", "7 BadOrder"),
+    (
+        "instrument = 0, by = \"product\", sets = 1",
+        "instrument = 0, by = \"product\", sets = 2",
+        "8 BadSets",
+    ),
+    (
+        "low = \"0\", high = \"15\" }, ",
+        "low = \"-1\", high = \"15\" }, ",
+        "10 SumLow",
+    ),
+    ("high = \"15\" }, ", "high = \"14\" }, ", "11 SumHigh"),
+    (
+        "instrument = 0, total = \"3\"",
+        "instrument = 0, total = \"4\"",
+        "12 CountRange",
+    ),
+    (
+        "instrument = 0, total = \"3\", amount = \"15\"",
+        "instrument = 0, total = \"3\", amount = \"16\"",
+        "13 AmountRange",
+    ),
+    // Places past the pattern's end do no harm, and the budgets bound the series too.
+    ("rows = [[0], []]", "rows = [[0, 3], [7]]", "accepted"),
+    (
+        "instrument = 0, by = \"product\", sets = 1",
+        "instrument = 0, by = \"budget\", sets = 3",
+        "accepted",
+    ),
+    // Fields that are missing, strange or of another kind.
+    ("streams = [1, 0]", "streams = [1, 0", "1 NotToml"),
+    ("format = 1", "# format = 1", "2 Shape"),
+    ("format = 1", "format = 2", "2 Shape"),
+    ("format = 1", "format = \"1\"", "2 Shape"),
+    ("format = 1", "format = 1\nmore = 1", "2 Shape"),
+    ("reason = ", "# reason = ", "2 Shape"),
+    (", takes = [0]", "", "2 Shape"),
+    ("takes = [0]", "takes = [0], rows = []", "2 Shape"),
+    (
+        "takes = [0]",
+        "takes = [0], miss = \"meter_name\"",
+        "2 Shape",
+    ),
+    ("takes = [0]", "miss = \"instrument_name\"", "2 Shape"),
+    ("takes = [0]", "takes = [65536]", "2 Shape"),
+    ("rows = [[0], []]", "rows = [0]", "2 Shape"),
+    (
+        "view = 0, instrument = 0, rows",
+        "view = -1, instrument = 0, rows",
+        "2 Shape",
+    ),
+    ("stream = ", "# stream = ", "2 Shape"),
+    ("product", "sum", "2 Shape"),
+    ("by = \"product\", ", "", "2 Shape"),
+    ("sets = 1 }]", "sets = 4294967296 }]", "2 Shape"),
+    ("bound = ", "# bound = ", "2 Shape"),
+    ("total = \"3\"", "total = 3", "2 Shape"),
+    ("order = ", "# order = ", "2 Shape"),
+    (", streams = [1, 0]", "", "2 Shape"),
+    ("{ reader = 0, streams = [1, 0] }", "1", "2 Shape"),
+    // Numbers in decimal have one spelling, and a range.
+    ("total = \"3\"", "total = \"03\"", "2 Shape"),
+    ("total = \"3\"", "total = \"+3\"", "2 Shape"),
+    ("total = \"3\"", "total = \"-1\"", "2 Shape"),
+    ("total = \"3\"", "total = \"\"", "2 Shape"),
+    (
+        "total = \"3\"",
+        "total = \"18446744073709551615\"",
+        "12 CountRange",
+    ),
+    (
+        "total = \"3\"",
+        "total = \"18446744073709551616\"",
+        "2 Shape",
+    ),
+    ("low = \"0\"", "low = \"-0\"", "2 Shape"),
+    ("low = \"0\"", "low = \"-\"", "2 Shape"),
+    ("low = \"0\"", "low = \"\"", "2 Shape"),
+    ("low = \"0\"", "low = \"1_0\"", "2 Shape"),
+    (
+        "low = \"0\"",
+        "low = \"-170141183460469231731687303715884105728\"",
+        "10 SumLow",
+    ),
+    (
+        "low = \"0\"",
+        "low = \"-170141183460469231731687303715884105729\"",
+        "2 Shape",
+    ),
+    ("high = \"15\"", "high = \"015\"", "2 Shape"),
+    ("high = \"15\"", "high = \"+15\"", "2 Shape"),
+    (
+        "high = \"15\"",
+        "high = \"170141183460469231731687303715884105727\"",
+        "11 SumHigh",
+    ),
+    (
+        "high = \"15\"",
+        "high = \"170141183460469231731687303715884105728\"",
+        "2 Shape",
+    ),
+];
+
+fn told_with(alloc: Global, old: &str, new: &str) -> Result<String, Fail> {
+    let text = TWO_COUNTERS.certificate.replace(alloc, old, new)?;
+    told(alloc, &TWO_COUNTERS, text.as_str())
+}
+
+#[test]
+fn each_alteration_has_its_fault(rt: HostRuntime) -> Result<(), Fail> {
+    for (old, new, due) in ALTERED {
+        assert_equal(&rt, told_with(rt.alloc(), old, new)?.as_str(), *due);
+    }
+    Ok(())
+}
+
+fn is_no_certificate(told: &str) -> bool {
+    told == "1 NotToml" || told == "2 Shape"
+}
+
+// A text that is cut short is no TOML, or another table.
+#[test]
+fn a_text_that_is_cut_is_no_certificate(rt: HostRuntime) -> Result<(), Fail> {
+    for end in 0..TWO_COUNTERS.certificate.len() {
+        let part = TWO_COUNTERS.certificate.get(0..end).unwrap_or("");
+        let told = told(rt.alloc(), &TWO_COUNTERS, part)?;
+        assert!(rt; is_no_certificate(told.as_str()));
+    }
+    Ok(())
+}
