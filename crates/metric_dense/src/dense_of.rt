@@ -73,7 +73,7 @@ impl<A: Aggregate> DenseOf<A> {
     }
 
     // The rank of a full set, at which there is an aggregate.
-    #[tactic(auto, using(crate::proofs::Ranking::rank_below))]
+    #[tactic(auto, using(metric_facts::specs::Ranks::rank_below))]
     fn place(&self, set: &SetKey) -> usize
         requires { is_full_set self.now.keys set.now ≡ true }
         ensures rank { result ≡ rank_of self.now.kept self.now.keys set.now }
