@@ -13,7 +13,7 @@ use Rattle.std.proofs.Math.Nat.{mul_comm, mul-le-mul_left, mod-lt, mod-eq_of_lt,
 use Rattle.metric_facts.specs.declared.facts.KeyFacts.{KeyFacts}
 use Rattle.metric_facts.specs.Facts.{is_entry, is_full_set, key_facts}
 use Rattle.metric_facts.specs.Products.{radix, product_of}
-use Rattle.metric_facts.specs.Ranks.{IsBelow, digit_if, rank, rank_below}
+use Rattle.metric_facts.specs.Ranks.{digit_if, rank, rank_below}
 use Rattle.metric_dense.specs.Ranks.{entry_if, unrank}
 use Rattle.metric_dense.specs.RankLaws.{GivesBack, KeepsOrder, RanksBack}
 
