@@ -5,7 +5,7 @@ use Rattle.metric_io.specs.declared.whole.ReadFault.TheVariants as read
 use Rattle.metric_parts.specs.declared.fault.InputFault.{InputFault}
 use Rattle.metric_parts.specs.declared.fault.InputFault.TheVariants as input
 use Rattle.metric_commands.specs.declared.fault.KitFault.{KitFault}
-use Rattle.metric_commands.specs.declared.fault.KitFault.TheVariants.{Read, Input, Catalogue, Config, Certificate, Check, Make, Finish, Write, Memory}
+use Rattle.metric_commands.specs.declared.fault.KitFault.TheVariants.{Read, Input, Catalogue, Config, Certificate, Check, Make, Audit, Finish, Write, Memory}
 
 abbrev pub from_read : ReadFault → KitFault
 from_read read.Read = Read
@@ -24,6 +24,7 @@ status_of (Config fault) = 1
 status_of (Certificate fault) = 1
 status_of (Check fault) = 1
 status_of (Make fault) = 1
+status_of (Audit fault) = 1
 status_of (Finish fault) = 1
 status_of Write = 5
 status_of Memory = 4
