@@ -1,5 +1,6 @@
 mod AnswerLaws
 mod AnsweredInputs
+mod AuditLaws
 mod OutputLaws
 mod PartLaws
 mod PieceLaws
@@ -7,5 +8,6 @@ mod PlanLaws
 mod ScriptFaults
 mod StopLaws
 mod RunLaws
+mod TellingLaws
 mod TextLaws
 mod ThreadLaws

@@ -43,7 +43,9 @@ fn audit_instrument(
 {
     let slips = slips_of(alloc, plan.catalogue(), instrument, run.events, run.replies)?;
     let batches = batches_of(alloc, instrument, run.events, run.replies)?;
-    match audit(alloc, plan, instrument, run.start, entries, &slips, &batches) {
+    match audit(
+        alloc, plan, instrument, run.start, entries, &slips, &batches,
+    ) {
         Ok(()) => Ok(()),
         Err(AuditFault::Memory) => Err(KitFault::Memory),
         Err(fault) => Err(KitFault::Audit(fault)),

@@ -35,10 +35,7 @@ fn copy_stream(alloc: Global, stream: &StreamPoints) -> Result<StreamPoints, All
     })
 }
 
-fn copy_streams(
-    alloc: Global,
-    streams: &[StreamPoints],
-) -> Result<Items<StreamPoints>, AllocError>
+fn copy_streams(alloc: Global, streams: &[StreamPoints]) -> Result<Items<StreamPoints>, AllocError>
     ensures { IfOk result (λ copies. copies ≡ streams.now) }
 {
     let mut copies = Items::new(alloc);
