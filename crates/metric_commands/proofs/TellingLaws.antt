@@ -1,10 +1,13 @@
 -- What the first events and replies of a run make.
-use Rattle.std.proofs.Common.{◌≡◌, ℕ, zero, suc, ◌+◌, ◌<◌, ◌≤◌, Bool, cond, List, [], ◌∷◌, ◌++◌, Option, Some, None, length, take, replicate, get_or, set, ◌⊎◌, inl, inr, refl, sym, ap, subst, ◌∙◌, arith}
+use Rattle.std.proofs.Common.{◌≡◌, ℕ, zero, suc, ◌+◌, ◌<◌, ◌≤◌, ℤ, Bool, cond, List, [], ◌∷◌, ◌++◌, Option, Some, None, Result, Ok, Err, length, take, replicate, get_or, set, ◌⊎◌, inl, inr, refl, sym, ap, subst, ◌∙◌, arith}
 use Rattle.std.specs.Prelude.{slice_index_or, slice_set, ◌==◌}
 use Rattle.std.proofs.lemmas.Bool.{eq-eqb, ne_eqb, cases_eq}
-use Rattle.std.proofs.lemmas.List.{append-nil, get_or-set_same, get_or-set_other, length-set, length-replicate, get_or_default}
+use Rattle.std.proofs.lemmas.List.{append-nil, get_or-set_same, get_or-set_other, length-set, length-replicate, get_or_default, take_all}
 use Rattle.metric_book.specs.declared.slip.Slip.{Slip}
 use Rattle.metric_catalogue.specs.declared.contents.Contents.{Contents}
+use Rattle.metric_catalogue.specs.declared.attributes.OwnedAttr.{OwnedAttr}
+use Rattle.metric_catalogue.specs.declared.refusal.Refusal.{Refusal}
+use Rattle.metric_history.specs.Encoded.{encoded}
 use Rattle.metric_history.specs.History.{History, answered}
 use Rattle.metric_history.specs.Legal.{AllLegal, grown}
 use Rattle.metric_history.specs.declared.batch.Batch.{Batch}
@@ -12,7 +15,7 @@ use Rattle.metric_history.specs.declared.event.Event.{Event}
 use Rattle.metric_history.specs.declared.event.Reply.{Reply}
 use Rattle.metric_facts.specs.Facts.{RunFacts}
 use Rattle.metric_commands.specs.declared.slips.MadeSlip.{MadeSlip}
-use Rattle.metric_commands.specs.Audits.{AddsSlip, AreSlipsOf, batches_by, batches_told, slip_in, slips_by, slips_told}
+use Rattle.metric_commands.specs.Audits.{AddsSlip, AreSlipsOf, batches_by, batches_told, slip_in, slip_made, slips_by, slips_told}
 
 -- one event more
 pub grown_more : (h : History) (events : List Event) (replies : List Reply) (n : ℕ) (event : Event) (reply : Reply) → n < length events → n < length replies
@@ -87,6 +90,17 @@ batches_more i batches new events replies n event reply some long e p before mor
     rw (grown_more [] events replies n event reply some (omega (arith, some, long)) e p)
     (more ∙ ap (λ (l : List Batch). l ++ batches_by i event reply) before)
 
+-- after the last event
+pub slips_end : (contents : Contents) (i : ℕ) (slips : List (List Slip)) (events : List Event) (replies : List Reply) (n : ℕ) → length events ≤ n → length replies ≡ length events
+    → AreSlipsOf contents (grown [] (take n events) (take n replies)) i slips → AreSlipsOf contents (grown [] events replies) i slips
+slips_end contents i slips events replies n over long s =
+    rw (take_all n events over, take_all n replies (omega (arith, over, long))) at s
+
+pub batches_end : (i : ℕ) (batches : List Batch) (events : List Event) (replies : List Reply) (n : ℕ) → length events ≤ n → length replies ≡ length events
+    → batches ≡ batches_told (grown [] (take n events) (take n replies)) i → batches ≡ batches_told (grown [] events replies) i
+batches_end i batches events replies n over long b =
+    rw (take_all n events over, take_all n replies (omega (arith, over, long))) at b
+
 -- each event has its reply
 pub one_reply_each : (facts : RunFacts) (start : ℕ) (h : History) (events : List Event) (replies : List Reply) → AllLegal facts start h events replies
     → length replies ≡ length events
@@ -95,3 +109,14 @@ one_reply_each facts start h [] (reply ∷ replies) legal = absurd legal
 one_reply_each facts start h (event ∷ events) [] legal = absurd legal
 one_reply_each facts start h (event ∷ events) (reply ∷ replies) legal =
     ap suc (one_reply_each facts start (answered event reply ∷ h) events replies legal.1)
+
+-- the slip of a recording whose attributes name a set key
+pub slip_named : (contents : Contents) (i r recorder : ℕ) (attrs : List OwnedAttr) (value : ℤ) (set : List ℕ) (answer : Result (List ℕ) Refusal)
+    → answer ≡ encoded contents i attrs → answer ≡ Ok set → cond (recorder == r) (record { set = set; value = value } ∷ []) [] ≡ slip_made r recorder value (encoded contents i attrs)
+slip_named contents i r recorder attrs value set answer is named = rw (← is, named) refl
+
+pub slip_unnamed : (contents : Contents) (i r recorder : ℕ) (attrs : List OwnedAttr) (value : ℤ) (refusal : Refusal) (answer : Result (List ℕ) Refusal)
+    → answer ≡ encoded contents i attrs → answer ≡ Err refusal → [] ≡ slip_made r recorder value (encoded contents i attrs)
+slip_unnamed contents i r recorder attrs value refusal answer is named = rw (← is, named) refl
+
+pub ruleset added = (adds_none, adds_other, adds_own)

@@ -63,7 +63,7 @@ fn audit_each(alloc: Global, core: &Core<Audited>, run: Run<'_>) -> Result<(), K
         (grown [] run.events.now run.replies.now)) }
 {
     let plan = core.plan();
-    let count = plan.all_facts().len() as u32;
+    let count = plan.catalogue().instruments().len() as u32;
     for instrument in 0..count {
         audit_instrument(alloc, plan, instrument, core.entries(instrument), run)?;
     }

@@ -50,6 +50,7 @@ pub fn replay<R: Source, W: Sink>(
 }
 
 // A replay without an audit.
+#[derive(Clone, Copy)]
 struct PlainReplay {
     trial: bool,
 }
@@ -140,6 +141,7 @@ impl Command for PlainReplay {
 }
 
 // A replay with an audit.
+#[derive(Clone, Copy)]
 struct AuditedReplay {
     trial: bool,
 }

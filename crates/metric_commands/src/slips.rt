@@ -1,5 +1,5 @@
 //! The slips that the events of a run make.
-ghost use Rattle.std.specs.Prelude.{◌≡◌, ℕ, IfOk, OnOk, [], length, replicate};
+ghost use Rattle.std.specs.Prelude.{◌≡◌, ℕ, IfOk, OnOk, [], Some, length, replicate};
 ghost use Rattle.metric_history.specs.Legal.{grown};
 ghost use Rattle.metric_history.specs.Encoded.{encoded};
 ghost use Rattle.metric_commands.specs.Audits.{AddsSlip, AreSlipsOf, recorded_by, slip_in, slip_made, slips_by};
@@ -69,21 +69,31 @@ fn made(catalogue: &Catalogue, instrument: u32, event: &Event, reply: &Reply) ->
     }
 }
 
-// Puts a slip last among those of its recorder, where there is one.
-fn add_slip(slips: &mut [Items<Slip>], made: Option<MadeSlip>) -> Result<(), AllocError>
-    ensures { OnOk result (AddsSlip slips.old slips.new made) }
+// Puts a slip last among those of its recorder.
+#[tactic(auto, using(crate::proofs::TellingLaws::added))]
+fn push_made(slips: &mut [Items<Slip>], made: MadeSlip) -> Result<(), AllocError>
+    ensures { OnOk result (AddsSlip slips.old slips.new (Some made)) }
 {
-    let Some(MadeSlip { recorder, slip }) = made else {
-        return Ok(());
-    };
-    let recorder = recorder as usize;
+    let recorder = made.recorder as usize;
     if recorder < slips.len() {
-        slips[recorder].push(slip)?;
+        slips[recorder].push(made.slip)?;
     }
     Ok(())
 }
 
+// The same where there is a slip.
+#[tactic(auto, using(crate::proofs::TellingLaws::added))]
+fn add_slip(slips: &mut [Items<Slip>], made: Option<MadeSlip>) -> Result<(), AllocError>
+    ensures { OnOk result (AddsSlip slips.old slips.new made) }
+{
+    match made {
+        Some(made) => push_made(slips, made),
+        None => Ok(()),
+    }
+}
+
 // So many empty lists.
+#[tactic(auto, using(std::proofs::lemmas::List::replicate_more))]
 fn empty_lists(alloc: Global, count: usize) -> Result<Vec<Items<Slip>>, AllocError>
     ensures { IfOk result (λ lists. lists.items ≡ replicate count []) }
 {
@@ -109,8 +119,8 @@ pub(crate) fn slips_of(
 {
     let mut slips = empty_lists(alloc, catalogue.recorders().len())?;
     for (at, event) in events.iter().enumerate() {
-        let made = made(catalogue, instrument, event, &replies[at]);
-        add_slip(slips.as_mut_slice(), made)?;
+        let slip = made(catalogue, instrument, event, &replies[at]);
+        add_slip(slips.as_mut_slice(), slip)?;
     }
     Ok(slips)
 }
