@@ -25,7 +25,9 @@ grown_more h [] replies n event reply some other e r = absurd (omega (arith, som
 grown_more h (x ∷ events) [] n event reply some other e r = absurd (omega (arith, other))
 grown_more h (x ∷ events) (y ∷ replies) zero event reply some other e r = rw (e, r) refl
 grown_more h (x ∷ events) (y ∷ replies) (suc n) event reply some other e r =
-    grown_more (answered x y ∷ h) events replies n event reply (omega (arith, some)) (omega (arith, other)) e r
+    let next : suc (n + 1) ≡ suc n + 1 = omega arith in
+    subst (λ (m : ℕ). grown h (take m (x ∷ events)) (take m (y ∷ replies)) ≡ answered event reply ∷ grown h (take (suc n) (x ∷ events)) (take (suc n) (y ∷ replies))) next
+    (grown_more (answered x y ∷ h) events replies n event reply (omega (arith, some)) (omega (arith, other)) e r)
 
 -- an event that makes no slip
 pub adds_none : (slips : List (List Slip)) → AddsSlip slips slips None
@@ -54,7 +56,7 @@ adds_own slips new made own longer within is more set_to = subst (λ (l : List (
         (get_or-set_same slips made.recorder longer [] within ∙ more
         ∙ ap (λ (l : List Slip). l ++ made.slip ∷ []) (is ∙ get_or_default slips made.recorder own [] within))
     at r (inr other) =
-        get_or-set_other slips made.recorder r longer [] other
+        get_or-set_other slips made.recorder r longer [] (λ same. other (sym same))
         ∙ sym (append-nil (slice_index_or slips r []))
         ∙ ap (λ (b : Bool). slice_index_or slips r [] ++ cond b (made.slip ∷ []) []) (sym (ne_eqb made.recorder r other))
 

@@ -32,14 +32,14 @@ fn audit_instrument(
     plan: &Plan,
     instrument: u32,
     entries: &[Entry],
-    run: Run<'_>,
+    run: &Run<'_>,
 ) -> Result<(), KitFault>
     requires known { instrument < length plan.now.facts.instruments }
-    requires one_each { length run.replies.now ≡ length run.events.now }
-    ensures ok { OnOk result (AuditEnds plan.now.facts run.start entries.now
-        (grown [] run.events.now run.replies.now) instrument (Ok tt)) }
-    ensures err { IfErr result (FailsAudit plan.now.facts run.start entries.now
-        (grown [] run.events.now run.replies.now) instrument) }
+    requires one_each { length run.now.replies.now ≡ length run.now.events.now }
+    ensures ok { OnOk result (AuditEnds plan.now.facts run.now.start entries.now
+        (grown [] run.now.events.now run.now.replies.now) instrument (Ok tt)) }
+    ensures err { IfErr result (FailsAudit plan.now.facts run.now.start entries.now
+        (grown [] run.now.events.now run.now.replies.now) instrument) }
 {
     let slips = slips_of(alloc, plan.catalogue(), instrument, run.events, run.replies)?;
     let batches = batches_of(alloc, instrument, run.events, run.replies)?;
@@ -53,14 +53,14 @@ fn audit_instrument(
 }
 
 // Audits each instrument of a core that has run the events with these replies.
-fn audit_each(alloc: Global, core: &Core<Audited>, run: Run<'_>) -> Result<(), KitFault>
-    requires one_each { length run.replies.now ≡ length run.events.now }
+fn audit_each(alloc: Global, core: &Core<Audited>, run: &Run<'_>) -> Result<(), KitFault>
+    requires one_each { length run.now.replies.now ≡ length run.now.events.now }
     requires stands { CoreStands StandsAudited core.now
-        (grown [] run.events.now run.replies.now) }
-    ensures ok { OnOk result (AreAudited core.now.plan.facts run.start
-        (grown [] run.events.now run.replies.now)) }
-    ensures err { IfErr result (SomeFails core.now.plan.facts run.start
-        (grown [] run.events.now run.replies.now)) }
+        (grown [] run.now.events.now run.now.replies.now) }
+    ensures ok { OnOk result (AreAudited core.now.plan.facts run.now.start
+        (grown [] run.now.events.now run.now.replies.now)) }
+    ensures err { IfErr result (SomeFails core.now.plan.facts run.now.start
+        (grown [] run.now.events.now run.now.replies.now)) }
 {
     let plan = core.plan();
     let count = plan.catalogue().instruments().len() as u32;
@@ -101,6 +101,6 @@ pub(crate) fn audited_replies(
         events,
         replies: &replies,
     };
-    audit_each(alloc, core, run)?;
+    audit_each(alloc, core, &run)?;
     Ok(replies)
 }

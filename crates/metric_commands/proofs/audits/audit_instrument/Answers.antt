@@ -6,6 +6,7 @@ use Rattle.metric_commands.proofs.audits.audit_instrument.Goals as goal
 
 pub returns-in-Ok-clause-ok : goal.returns-in-Ok-clause-ok
 returns-in-Ok-clause-ok c =
-    ends_as c.args.plan.now.facts c.args.run.start c.args.entries.now (grown [] c.args.run.events.now c.args.run.replies.now) c.args.instrument c.catalogue.result.now
+    let run = c.args.run.now in
+    ends_as c.args.plan.now.facts run.start c.args.entries.now (grown [] run.events.now run.replies.now) c.args.instrument c.catalogue.result.now
     c.in_ok-slips.slips.items c.deref.result.now c.in_ok-batches.batches.items c.deref-2.result.now (Ok tt) c.audit.result
     c.catalogue.ensures.catalogue c.in_ok-slips.ensures c.deref.ensures.value c.in_ok-batches.ensures c.deref-2.ensures.value c.in-Ok.is c.audit.ensures
