@@ -1,8 +1,8 @@
 -- What the first events and replies of a run make.
-use Rattle.std.proofs.Common.{◌≡◌, ℕ, zero, suc, ◌+◌, ◌<◌, ◌≤◌, ℤ, Bool, cond, List, [], ◌∷◌, ◌++◌, Option, Some, None, Result, Ok, Err, length, take, replicate, get_or, set, ◌⊎◌, inl, inr, refl, sym, ap, subst, ◌∙◌, arith}
+use Rattle.std.proofs.Common.{◌≡◌, ℕ, zero, suc, ◌+◌, ◌<◌, ◌≤◌, ℤ, Bool, cond, List, [], ◌∷◌, ◌++◌, Option, Some, None, Result, Ok, Err, length, take, drop, replicate, get_or, set, ◌⊎◌, inl, inr, refl, sym, ap, subst, ◌∙◌, arith}
 use Rattle.std.specs.Prelude.{slice_index_or, slice_set, ◌==◌}
 use Rattle.std.proofs.lemmas.Bool.{eq-eqb, ne_eqb, cases_eq}
-use Rattle.std.proofs.lemmas.List.{append-nil, get_or-set_same, get_or-set_other, length-set, length-replicate, get_or_default, take_all}
+use Rattle.std.proofs.lemmas.List.{append-nil, get_or-set_same, get_or-set_other, length-set, length-replicate, get_or_default, take_all, drop_all}
 use Rattle.metric_book.specs.declared.slip.Slip.{Slip}
 use Rattle.metric_catalogue.specs.declared.contents.Contents.{Contents}
 use Rattle.metric_catalogue.specs.declared.attributes.OwnedAttr.{OwnedAttr}
@@ -64,6 +64,10 @@ none_yet : {A : Type 0} (d : A) (count r : ℕ) → slice_index_or (replicate co
 none_yet d zero r = refl
 none_yet d (suc count) zero = refl
 none_yet d (suc count) (suc r) = none_yet d count r
+
+-- a list that is written back whole
+pub slips_kept : (old new : List (List Slip)) → length new ≡ length old → new ++ drop (length new) old ≡ new
+slips_kept old new same = ap (λ (l : List (List Slip)). new ++ l) (drop_all (length new) old (omega (arith, same))) ∙ append-nil new
 
 -- before the first event
 pub slips_begin : (contents : Contents) (i : ℕ) (slips : List (List Slip)) (events : List Event) (replies : List Reply) → slips ≡ replicate (length contents.recorders) [] → AreSlipsOf contents (grown [] (take 0 events) (take 0 replies)) i slips
