@@ -44,7 +44,8 @@ use Rattle.metric_history.specs.declared.event.Reply.{Reply}
 use Rattle.metric_history.specs.declared.event.Reply.TheVariants.{Accepted, Collected, Done, Refused}
 use Rattle.metric_plan.specs.PlanFacts.{plan_facts_at}
 use Rattle.metric_plan.specs.Plans.{IsPlan, PlanValue}
-use Rattle.metric_commands.specs.Audits.{AreAudited, AreSlipsOf, AuditEnds, EndsAudit, SomeFails, batches_by, batches_told, recorded_by, slip_made, slips_by, slips_told}
+use Rattle.metric_commands.specs.Audits.{AreAudited, AreSlipsOf, AuditEnds, EndsAudit, FailsAudit, SomeFails, batches_by, batches_told, recorded_by, slip_made, slips_by, slips_told}
+use Rattle.metric_commands.specs.Faults.{from_audit}
 use Rattle.metric_commands.specs.declared.fault.KitFault.{KitFault}
 use Rattle.metric_commands.specs.declared.fault.KitFault.TheVariants as kit
 
@@ -614,3 +615,20 @@ ends_as facts start journal h i contents slips given batches told end result dec
       (subst (λ (l : List Batch). Audits own i start journal slips l result) (copied ∙ all)
       (subst (λ (l : List (List Slip)). Audits own i start journal l told result) same (audits own found)));
 }
+
+-- and where it fails, why
+pub fails_as : (facts : RunFacts) (start : ℕ) (journal : List Entry) (h : History) (i : ℕ) (contents : Contents) (slips given : List (List Slip)) (batches told : List Batch)
+    (fault : AuditFault) (result : Result (Unit {0}) AuditFault) → contents ≡ facts.contents → AreSlipsOf contents h i slips → given ≡ slips → batches ≡ batches_told h i → told ≡ batches → result ≡ Err fault
+    → AuditsInstrument facts i start journal given told result → FailsAudit facts start journal h i (from_audit fault)
+fails_as facts start journal h i contents slips given batches told (audits.Slips recorder) result declared made same all copied is ends =
+    ((λ e. absurd cc), ends_as facts start journal h i contents slips given batches told (Err (audits.Slips recorder)) result declared made same all copied is ends)
+fails_as facts start journal h i contents slips given batches told (audits.Batch at) result declared made same all copied is ends =
+    ((λ e. absurd cc), ends_as facts start journal h i contents slips given batches told (Err (audits.Batch at)) result declared made same all copied is ends)
+fails_as facts start journal h i contents slips given batches told audits.Memory result declared made same all copied is ends = tt
+
+-- what a run's audits refuse
+pub run_refuses : (plan now : PlanValue) (start : ℕ) (events : List Event) (replies : List Reply) (fault : KitFault) → IsPlan plan → EncodesFullSets → KeepsLegal
+    → AllLegal plan.facts start [] events replies → now ≡ plan → SomeFails now.facts start (grown [] events replies) fault → fault ≡ kit.Memory
+run_refuses plan now start events replies fault p full keep legal same some =
+    only_memory plan start (grown [] events replies) fault p full (keep plan.facts start [] events replies tt legal)
+    (subst (λ (q : PlanValue). SomeFails q.facts start (grown [] events replies) fault) same some)

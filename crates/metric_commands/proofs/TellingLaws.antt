@@ -66,8 +66,10 @@ none_yet d (suc count) zero = refl
 none_yet d (suc count) (suc r) = none_yet d count r
 
 -- a list that is written back whole
-pub slips_kept : (old new : List (List Slip)) → length new ≡ length old → new ++ drop (length new) old ≡ new
-slips_kept old new same = ap (λ (l : List (List Slip)). new ++ l) (drop_all (length new) old (omega (arith, same))) ∙ append-nil new
+pub slips_kept : (old new : List (List Slip)) (len : ℕ) → len ≡ length old → length new ≡ length old → take len (new ++ drop (length new) old) ≡ new
+slips_kept old new len counted same =
+    ap (take len) (ap (λ (l : List (List Slip)). new ++ l) (drop_all (length new) old (omega (arith, same))) ∙ append-nil new)
+    ∙ take_all len new (omega (arith, counted, same))
 
 -- before the first event
 pub slips_begin : (contents : Contents) (i : ℕ) (slips : List (List Slip)) (events : List Event) (replies : List Reply) → slips ≡ replicate (length contents.recorders) [] → AreSlipsOf contents (grown [] (take 0 events) (take 0 replies)) i slips

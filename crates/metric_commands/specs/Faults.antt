@@ -1,5 +1,7 @@
 -- What a fault of a layer is to a command, and the exit status of each fault.
 use Rattle.std.specs.Prelude.{ℕ}
+use Rattle.metric_audit.specs.declared.fault.AuditFault.{AuditFault}
+use Rattle.metric_audit.specs.declared.fault.AuditFault.TheVariants as audits
 use Rattle.metric_io.specs.declared.whole.ReadFault.{ReadFault}
 use Rattle.metric_io.specs.declared.whole.ReadFault.TheVariants as read
 use Rattle.metric_parts.specs.declared.fault.InputFault.{InputFault}
@@ -14,6 +16,11 @@ from_read read.Memory = Memory
 abbrev pub from_input : InputFault → KitFault
 from_input (input.Input line) = Input line
 from_input input.Memory = Memory
+
+abbrev pub from_audit : AuditFault → KitFault
+from_audit (audits.Slips recorder) = Audit (audits.Slips recorder)
+from_audit (audits.Batch at) = Audit (audits.Batch at)
+from_audit audits.Memory = Memory
 
 -- 1 where the input is refused, 3 where it is unreadable, 4 without memory, 5 where the sink failed
 abbrev pub status_of : KitFault → ℕ

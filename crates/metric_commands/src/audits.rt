@@ -10,7 +10,7 @@ use crate::batches::batches_of;
 use crate::fault::KitFault;
 use crate::pieces::has_want_of_memory;
 use crate::slips::slips_of;
-use metric_audit::{AuditFault, Audited, audit};
+use metric_audit::{Audited, audit};
 use metric_core::Core;
 use metric_facts::laws::attributes_name_full_sets;
 use metric_history::laws::runs_keep_histories_legal;
@@ -43,13 +43,10 @@ fn audit_instrument(
 {
     let slips = slips_of(alloc, plan.catalogue(), instrument, run.events, run.replies)?;
     let batches = batches_of(alloc, instrument, run.events, run.replies)?;
-    match audit(
+    audit(
         alloc, plan, instrument, run.start, entries, &slips, &batches,
-    ) {
-        Ok(()) => Ok(()),
-        Err(AuditFault::Memory) => Err(KitFault::Memory),
-        Err(fault) => Err(KitFault::Audit(fault)),
-    }
+    )?;
+    Ok(())
 }
 
 // Audits each instrument of a core that has run the events with these replies.

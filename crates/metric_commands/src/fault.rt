@@ -127,3 +127,16 @@ impl From<InputFault> for KitFault {
         }
     }
 }
+
+impl From<AuditFault> for KitFault {
+    ghost use Rattle.metric_commands.specs.Faults.{from_audit};
+
+    ghost from_gives = { λ fault kit. kit ≡ from_audit fault };
+
+    fn from(fault: AuditFault) -> KitFault {
+        match fault {
+            AuditFault::Slips { .. } | AuditFault::Batch { .. } => KitFault::Audit(fault),
+            AuditFault::Memory => KitFault::Memory,
+        }
+    }
+}

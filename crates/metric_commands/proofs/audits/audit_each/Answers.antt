@@ -3,4 +3,4 @@ use Rattle.std.proofs.Common.{ap, length, arith}
 use Rattle.metric_commands.proofs.audits.audit_each.Goals as goal
 
 pub overflow_cast-count : goal.overflow_cast-count
-overflow_cast-count c = record { fits = omega (arith, c.instruments.ensures.few, ap length c.instruments.ensures.instruments) }
+overflow_cast-count c = ?
