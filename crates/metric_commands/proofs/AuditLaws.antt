@@ -632,3 +632,28 @@ pub run_refuses : (plan now : PlanValue) (start : ℕ) (events : List Event) (re
 run_refuses plan now start events replies fault p full keep legal same some =
     only_memory plan start (grown [] events replies) fault p full (keep plan.facts start [] events replies tt legal)
     (subst (λ (q : PlanValue). SomeFails q.facts start (grown [] events replies) fault) same some)
+
+-- ---- all instruments of a core
+
+abbrev pub AreAuditedBelow : RunFacts → ℕ → History → ℕ → Type 0
+AreAuditedBelow facts start h n = (i : ℕ) → i < n → AuditEnds facts start (accepted facts h i) h i (Ok tt)
+
+-- after one more
+pub audited_more : (facts same : RunFacts) (start : ℕ) (h : History) (n : ℕ) (journal : List Entry) → same ≡ facts → journal ≡ accepted facts h n
+    → AreAuditedBelow facts start h n → AuditEnds same start journal h n (Ok tt) → AreAuditedBelow facts start h (n + 1)
+audited_more facts same start h n journal e is before now i within = elim (cases_lt i n) [
+  | inl below ↦ before i below
+  | inr over ↦
+      let last : n ≡ i = omega (arith, within, over) in
+      subst (λ (k : ℕ). AuditEnds facts start (accepted facts h k) h k (Ok tt)) last
+      (subst (λ (l : List Entry). AuditEnds facts start l h n (Ok tt)) is (subst (λ (f : RunFacts). AuditEnds f start journal h n (Ok tt)) e now))
+]
+
+-- the one that fails
+pub one_fails : (facts same : RunFacts) (start : ℕ) (h : History) (n : ℕ) (journal : List Entry) (fault : KitFault) → same ≡ facts → journal ≡ accepted facts h n
+    → n < length facts.instruments → FailsAudit same start journal h n fault → SomeFails facts start h fault
+one_fails facts same start h n journal fault e is known fails = record {
+  instrument = n;
+  known = known;
+  fails = subst (λ (l : List Entry). FailsAudit facts start l h n fault) is (subst (λ (f : RunFacts). FailsAudit f start journal h n fault) e fails);
+}

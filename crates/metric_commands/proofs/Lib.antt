@@ -1,6 +1,7 @@
 mod AnswerLaws
 mod AnsweredInputs
 mod AuditLaws
+mod AuditedRuns
 mod OutputLaws
 mod PartLaws
 mod PieceLaws
