@@ -1,17 +1,17 @@
 -- A legal history is audited: the slips that its events make are the entries of each journal, and each batch is right.
 use Rattle.std.proofs.Common.{◌≡◌, ℕ, zero, suc, ◌+◌, ◌-◌, ◌<◌, ◌≤◌, ◌≢◌, ℤ, Bool, true, false, ◌&&◌, not, cond, max, List, [], ◌∷◌, ◌++◌, length, map, take, drop, Option, Some, None, Result, Ok, Err, ◌⊎◌, inl, inr, get_or, refl, sym, ap, subst, ◌∙◌, append_assoc, arith}
-use Rattle.std.specs.Prelude.{filter, fold, slice_get, slice_index, slice_index_or, slice_range, nat_le, nat_lt, ◌==◌, if◌then◌else◌}
+use Rattle.std.specs.Prelude.{filter, fold, slice_get, slice_index, slice_range, nat_le, nat_lt, ◌==◌, if◌then◌else◌}
 use Rattle.std.specs.List.{list_all}
 use Rattle.std.specs.Result.{result_unwrap_or}
-use Rattle.std.proofs.lemmas.Bool.{and_from, eq-eqb, eqb-true, ne_eqb, ltb-true, cases_eq, cases_lt, false≢true}
+use Rattle.std.proofs.lemmas.Bool.{and_from, eq-eqb, eqb-true, ne_eqb, ltb-true, cases_lt, false≢true}
 use Rattle.std.proofs.lemmas.Bool.Decides.{nat_tests}
 use Rattle.std.proofs.lemmas.Grind.{fold-append}
 use Rattle.std.proofs.lemmas.List.{append-nil, get_or_past, length-append, length-drop, length-map, take-append-le, drop-append-le, take-append-drop, take_all, drop_all, map-append}
 use Rattle.std.proofs.lemmas.List.Elements.{filter-append}
 use Rattle.std.proofs.lemmas.Option.{slice_get-get_or}
 use Rattle.metric_audit.specs.Audits.{Audits, AuditsInstrument}
-use Rattle.metric_audit.specs.Batches.{AreAllRight, FollowsRightly, IsRight, IsRightAt, each_may_follow, fits_reader, is_headed, mark_after, may_follow, time_after}
-use Rattle.metric_audit.specs.Slips.{AreEntriesOf, handed_in}
+use Rattle.metric_audit.specs.Batches.{AreAllRight, IsRight, each_may_follow, is_headed, mark_after, may_follow, time_after}
+use Rattle.metric_audit.specs.Slips.{AreEntriesOf}
 use Rattle.metric_audit.specs.declared.fault.AuditFault.{AuditFault}
 use Rattle.metric_audit.specs.declared.fault.AuditFault.TheVariants as audits
 use Rattle.metric_base.specs.StepLaws.{after_ok, require_ok}
@@ -20,7 +20,7 @@ use Rattle.metric_book.specs.Slips.{is_by, slip_of, slips_of}
 use Rattle.metric_book.specs.declared.slip.Slip.{Slip}
 use Rattle.metric_catalogue.specs.Attributes.{given_by_owned}
 use Rattle.metric_catalogue.specs.Budgets.{amount_of}
-use Rattle.metric_catalogue.specs.Encoding.{encode_of, set_of}
+use Rattle.metric_catalogue.specs.Encoding.{encode_of}
 use Rattle.metric_catalogue.specs.declared.attributes.OwnedAttr.{OwnedAttr}
 use Rattle.metric_catalogue.specs.declared.contents.Contents.{Contents}
 use Rattle.metric_catalogue.specs.declared.contents.Instrument.{Instrument}
@@ -33,7 +33,7 @@ use Rattle.metric_facts.specs.Facts.{EncodesFullSets, RunFacts, in_bounds, is_de
 use Rattle.metric_history.specs.Answers.{Told, batch, collected, recorded, spent}
 use Rattle.metric_history.specs.Encoded.{encoded}
 use Rattle.metric_history.specs.History.{History, accepted, added_by, batch_time, collects, is_closed, mark_of, previous_of, told_of}
-use Rattle.metric_history.specs.Legal.{AllLegal, IsLegal, KeepsLegal, Legal, LegalClose, LegalCollect, LegalRecord, close, collection, grown, recording}
+use Rattle.metric_history.specs.Legal.{AllLegal, IsLegal, KeepsLegal, Legal, LegalClose, LegalCollect, LegalRecord, close, grown, recording}
 use Rattle.metric_history.specs.Points.{reported}
 use Rattle.metric_history.specs.Windows.{fits_all, fits_stream, window}
 use Rattle.metric_history.specs.declared.batch.Batch.{Batch}
@@ -44,8 +44,7 @@ use Rattle.metric_history.specs.declared.event.Reply.{Reply}
 use Rattle.metric_history.specs.declared.event.Reply.TheVariants.{Accepted, Collected, Done, Refused}
 use Rattle.metric_plan.specs.PlanFacts.{plan_facts_at}
 use Rattle.metric_plan.specs.Plans.{IsPlan, PlanValue}
-use Rattle.metric_commands.specs.Audits.{AreAudited, AreSlipsOf, AuditEnds, EndsAudit, FailsAudit, SomeFails, batches_by, batches_told, recorded_by, slip_made, slips_by, slips_told}
-use Rattle.metric_commands.specs.Faults.{from_audit}
+use Rattle.metric_commands.specs.Audits.{AreAudited, AreSlipsOf, AuditEnds, EndsAudit, SomeFails, batches_by, batches_told, slips_by, slips_told}
 use Rattle.metric_commands.specs.declared.fault.KitFault.{KitFault}
 use Rattle.metric_commands.specs.declared.fault.KitFault.TheVariants as kit
 
@@ -616,44 +615,9 @@ ends_as facts start journal h i contents slips given batches told end result dec
       (subst (λ (l : List (List Slip)). Audits own i start journal l told result) same (audits own found)));
 }
 
--- and where it fails, why
-pub fails_as : (facts : RunFacts) (start : ℕ) (journal : List Entry) (h : History) (i : ℕ) (contents : Contents) (slips given : List (List Slip)) (batches told : List Batch)
-    (fault : AuditFault) (result : Result (Unit {0}) AuditFault) → contents ≡ facts.contents → AreSlipsOf contents h i slips → given ≡ slips → batches ≡ batches_told h i → told ≡ batches → result ≡ Err fault
-    → AuditsInstrument facts i start journal given told result → FailsAudit facts start journal h i (from_audit fault)
-fails_as facts start journal h i contents slips given batches told (audits.Slips recorder) result declared made same all copied is ends =
-    ((λ e. absurd cc), ends_as facts start journal h i contents slips given batches told (Err (audits.Slips recorder)) result declared made same all copied is ends)
-fails_as facts start journal h i contents slips given batches told (audits.Batch at) result declared made same all copied is ends =
-    ((λ e. absurd cc), ends_as facts start journal h i contents slips given batches told (Err (audits.Batch at)) result declared made same all copied is ends)
-fails_as facts start journal h i contents slips given batches told audits.Memory result declared made same all copied is ends = tt
-
 -- what a run's audits refuse
 pub run_refuses : (plan now : PlanValue) (start : ℕ) (events : List Event) (replies : List Reply) (fault : KitFault) → IsPlan plan → EncodesFullSets → KeepsLegal
     → AllLegal plan.facts start [] events replies → now ≡ plan → SomeFails now.facts start (grown [] events replies) fault → fault ≡ kit.Memory
 run_refuses plan now start events replies fault p full keep legal same some =
     only_memory plan start (grown [] events replies) fault p full (keep plan.facts start [] events replies tt legal)
     (subst (λ (q : PlanValue). SomeFails q.facts start (grown [] events replies) fault) same some)
-
--- ---- all instruments of a core
-
-abbrev pub AreAuditedBelow : RunFacts → ℕ → History → ℕ → Type 0
-AreAuditedBelow facts start h n = (i : ℕ) → i < n → AuditEnds facts start (accepted facts h i) h i (Ok tt)
-
--- after one more
-pub audited_more : (facts same : RunFacts) (start : ℕ) (h : History) (n : ℕ) (journal : List Entry) → same ≡ facts → journal ≡ accepted facts h n
-    → AreAuditedBelow facts start h n → AuditEnds same start journal h n (Ok tt) → AreAuditedBelow facts start h (n + 1)
-audited_more facts same start h n journal e is before now i within = elim (cases_lt i n) [
-  | inl below ↦ before i below
-  | inr over ↦
-      let last : n ≡ i = omega (arith, within, over) in
-      subst (λ (k : ℕ). AuditEnds facts start (accepted facts h k) h k (Ok tt)) last
-      (subst (λ (l : List Entry). AuditEnds facts start l h n (Ok tt)) is (subst (λ (f : RunFacts). AuditEnds f start journal h n (Ok tt)) e now))
-]
-
--- the one that fails
-pub one_fails : (facts same : RunFacts) (start : ℕ) (h : History) (n : ℕ) (journal : List Entry) (fault : KitFault) → same ≡ facts → journal ≡ accepted facts h n
-    → n < length facts.instruments → FailsAudit same start journal h n fault → SomeFails facts start h fault
-one_fails facts same start h n journal fault e is known fails = record {
-  instrument = n;
-  known = known;
-  fails = subst (λ (l : List Entry). FailsAudit facts start l h n fault) is (subst (λ (f : RunFacts). FailsAudit f start journal h n fault) e fails);
-}

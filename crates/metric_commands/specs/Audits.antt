@@ -1,5 +1,5 @@
 -- What the events and replies of a run say of one instrument, and how the audit of its journal ends.
-use Rattle.std.specs.Prelude.{◌≡◌, ◌≢◌, ◌<◌, ◌==◌, ◌&&◌, ◌++◌, ℕ, ℤ, List, [], ◌∷◌, Option, Some, None, Result, Ok, Err, length, slice_get, slice_index_or, if◌then◌else◌}
+use Rattle.std.specs.Prelude.{◌≡◌, ◌≢◌, ◌<◌, ◌==◌, ◌++◌, ℕ, ℤ, List, [], ◌∷◌, Option, Some, None, Result, Ok, Err, length, slice_get, slice_index_or, if◌then◌else◌}
 use Rattle.metric_audit.specs.Audits.{Audits}
 use Rattle.metric_audit.specs.declared.fault.AuditFault.{AuditFault}
 use Rattle.metric_audit.specs.declared.fault.AuditFault.TheVariants as audits
@@ -11,7 +11,6 @@ use Rattle.metric_facts.specs.Facts.{RunFacts}
 use Rattle.metric_history.specs.Encoded.{encoded}
 use Rattle.metric_history.specs.Events.{instrument_of}
 use Rattle.metric_history.specs.History.{History, accepted}
-use Rattle.metric_history.specs.Legal.{grown}
 use Rattle.metric_history.specs.declared.batch.Batch.{Batch}
 use Rattle.metric_history.specs.declared.entry.Entry.{Entry}
 use Rattle.metric_history.specs.declared.event.Event.{Event}

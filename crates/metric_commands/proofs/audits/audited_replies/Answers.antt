@@ -1,5 +1,5 @@
 -- what a fresh core answers is legal, so its audits refuse only memory
-use Rattle.std.proofs.Common.{◌≡◌, [], length, ap, ◌∙◌}
+use Rattle.std.proofs.Common.{[], length, ap, ◌∙◌}
 use Rattle.std.proofs.lemmas.Result.{err_from_is_err_and}
 use Rattle.metric_history.specs.Legal.{AllLegal}
 use Rattle.metric_plan.specs.Plans.{IsPlan}

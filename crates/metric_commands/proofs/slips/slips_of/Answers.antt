@@ -1,5 +1,5 @@
 -- one event more, and all of them
-use Rattle.std.proofs.Common.{rules, arith, ◌+◌, List, [], ◌++◌, drop, take, length, ap, sym, subst, ◌∙◌}
+use Rattle.std.proofs.Common.{rules, arith, ◌+◌, List, [], take, length, ap, sym, subst, ◌∙◌}
 use Rattle.metric_book.specs.declared.slip.Slip.{Slip}
 use Rattle.metric_commands.specs.Audits.{AddsSlip, AreSlipsOf}
 use Rattle.metric_history.specs.Legal.{grown}
