@@ -1,6 +1,6 @@
 -- A legal history is audited: the slips that its events make are the entries of each journal, and each batch is right.
-use Rattle.std.proofs.Common.{◌≡◌, ℕ, zero, suc, ◌+◌, ◌-◌, ◌<◌, ◌≤◌, ◌≢◌, ℤ, Bool, true, false, ◌&&◌, not, cond, max, List, [], ◌∷◌, ◌++◌, length, map, take, drop, Option, Some, None, Result, Ok, Err, ◌⊎◌, inl, inr, get_or, refl, sym, ap, subst, ◌∙◌, append_assoc, arith}
-use Rattle.std.specs.Prelude.{filter, fold, slice_get, slice_index, slice_range, nat_le, nat_lt, ◌==◌, if◌then◌else◌}
+use Rattle.std.proofs.Common.{◌≡◌, ℕ, zero, suc, ◌-◌, ◌<◌, ◌≤◌, ◌≢◌, ℤ, Bool, true, false, ◌&&◌, not, cond, max, List, [], ◌∷◌, ◌++◌, length, map, take, drop, Option, Some, None, Result, Ok, Err, ◌⊎◌, inl, inr, get_or, refl, sym, ap, subst, ◌∙◌, append_assoc, arith}
+use Rattle.std.specs.Prelude.{filter, slice_get, slice_index, slice_range, nat_le, nat_lt, ◌==◌, if◌then◌else◌}
 use Rattle.std.specs.List.{list_all}
 use Rattle.std.specs.Result.{result_unwrap_or}
 use Rattle.std.proofs.lemmas.Bool.{and_from, eq-eqb, eqb-true, ne_eqb, ltb-true, cases_lt, false≢true}
@@ -33,7 +33,7 @@ use Rattle.metric_facts.specs.Facts.{EncodesFullSets, RunFacts, in_bounds, is_de
 use Rattle.metric_history.specs.Answers.{Told, batch, collected, recorded, spent}
 use Rattle.metric_history.specs.Encoded.{encoded}
 use Rattle.metric_history.specs.History.{History, accepted, added_by, batch_time, collects, is_closed, mark_of, previous_of, told_of}
-use Rattle.metric_history.specs.Legal.{AllLegal, IsLegal, KeepsLegal, Legal, LegalClose, LegalCollect, LegalRecord, close, grown, recording}
+use Rattle.metric_history.specs.Legal.{AllLegal, IsLegal, KeepsLegal, Legal, LegalClose, LegalCollect, LegalRecord, grown}
 use Rattle.metric_history.specs.Points.{reported}
 use Rattle.metric_history.specs.Windows.{fits_all, fits_stream, window}
 use Rattle.metric_history.specs.declared.batch.Batch.{Batch}
@@ -44,7 +44,7 @@ use Rattle.metric_history.specs.declared.event.Reply.{Reply}
 use Rattle.metric_history.specs.declared.event.Reply.TheVariants.{Accepted, Collected, Done, Refused}
 use Rattle.metric_plan.specs.PlanFacts.{plan_facts_at}
 use Rattle.metric_plan.specs.Plans.{IsPlan, PlanValue}
-use Rattle.metric_commands.specs.Audits.{AreAudited, AreSlipsOf, AuditEnds, EndsAudit, SomeFails, batches_by, batches_told, slips_by, slips_told}
+use Rattle.metric_commands.specs.Audits.{AreSlipsOf, AuditEnds, EndsAudit, SomeFails, batches_by, batches_told, slips_by, slips_told}
 use Rattle.metric_commands.specs.declared.fault.KitFault.{KitFault}
 use Rattle.metric_commands.specs.declared.fault.KitFault.TheVariants as kit
 
