@@ -53,7 +53,10 @@ pub(crate) fn measure<R: Wait + Clock>(rt: &R, bench: &mut Bench) -> anyhow::Res
 pub(crate) fn replayed(alloc: Global, input: &str) -> anyhow::Result<u64> {
     let mut source = CutSource::new(input.as_bytes(), None);
     let mut sink = CutSink::new(alloc, None);
-    let options = ReplayOptions { trial: true };
+    let options = ReplayOptions {
+        trial: true,
+        audit: false,
+    };
     match replay(alloc, options, &mut source, &mut sink) {
         Ok(()) => Ok(sink.taken().len() as u64),
         Err(_) => anyhow::bail!("a script that is refused"),

@@ -12,6 +12,10 @@ most_each = 1000000
 abbrev pub trial_flag : Rule
 trial_flag = record (new_rule (codes "trial")) { long = Some (codes "trial"); action = Some SetTrue }
 
+-- the flag `--audit`, the same
+abbrev pub audit_flag : Rule
+audit_flag = record (new_rule (codes "audit")) { long = Some (codes "audit"); action = Some SetTrue }
+
 -- the option `--each`, which has to be given, once, with a number in its range
 abbrev pub each_option : Rule
 each_option = record (new_rule (codes "each")) { long = Some (codes "each"); action = Some Set; parser = Some (Unsigned 0 most_each); required = true }
@@ -26,7 +30,7 @@ abbrev pub show_app : App
 show_app = new_app (codes "show")
 
 abbrev pub replay_app : App
-replay_app = with_rule (new_app (codes "replay")) trial_flag
+replay_app = with_rule (with_rule (new_app (codes "replay")) trial_flag) audit_flag
 
 abbrev pub threads_app : App
 threads_app = with_rule (new_app (codes "threads")) each_option

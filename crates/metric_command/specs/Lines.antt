@@ -14,13 +14,13 @@ has_flag flag rows = option_map_or (λ text. bytes_eq text (codes "true")) (firs
 
 -- the command by its name, with its flags; no name means a trial
 abbrev pub line_in : Option (Text × List Row) → Line
-line_in None = Replay true
+line_in None = Replay true false
 line_in (Some (name, rows)) =
     if bytes_eq name (codes "make") then Make
     else if bytes_eq name (codes "check") then Check
     else if bytes_eq name (codes "show") then Show
     else if bytes_eq name (codes "threads") then Threads (number_in (first_of (codes "each") rows))
-    else Replay (has_flag (codes "trial") rows)
+    else Replay (has_flag (codes "trial") rows) (has_flag (codes "audit") rows)
 
 -- clap has a fault of some kind to tell
 abbrev pub IsRefused : List Text → Type 0

@@ -6,13 +6,19 @@ ghost use Rattle.metric_command.specs.declared.line.Line.TheVariants.{Make, Chec
 /// Clap takes each line of the program, whatever the first word is, and this is what it means. Does
 /// nothing.
 pub fn lines_are_taken()
-    ensures no_words { (name : List ℕ) → Means (name ∷ []) (Replay true) }
+    ensures no_words { (name : List ℕ) → Means (name ∷ []) (Replay true false) }
     ensures make { (name : List ℕ) → Means (name ∷ codes "make" ∷ []) Make }
     ensures check { (name : List ℕ) → Means (name ∷ codes "check" ∷ []) Check }
     ensures show { (name : List ℕ) → Means (name ∷ codes "show" ∷ []) Show }
-    ensures replay { (name : List ℕ) → Means (name ∷ codes "replay" ∷ []) (Replay false) }
+    ensures replay { (name : List ℕ) → Means (name ∷ codes "replay" ∷ []) (Replay false false) }
     ensures trial { (name : List ℕ) →
-        Means (name ∷ codes "replay" ∷ codes "--trial" ∷ []) (Replay true) }
+        Means (name ∷ codes "replay" ∷ codes "--trial" ∷ []) (Replay true false) }
+    ensures audit { (name : List ℕ) →
+        Means (name ∷ codes "replay" ∷ codes "--audit" ∷ []) (Replay false true) }
+    ensures both { (name : List ℕ) →
+        Means (name ∷ codes "replay" ∷ codes "--trial" ∷ codes "--audit" ∷ []) (Replay true true) }
+    ensures turned { (name : List ℕ) →
+        Means (name ∷ codes "replay" ∷ codes "--audit" ∷ codes "--trial" ∷ []) (Replay true true) }
     ensures none_each { (name : List ℕ) →
         Means (name ∷ codes "threads" ∷ codes "--each" ∷ codes "0" ∷ []) (Threads 0) }
     ensures some_each { (name : List ℕ) →
@@ -35,10 +41,14 @@ pub fn others_are_refused()
     ensures no_command { (name : List ℕ) → IsRefused (name ∷ codes "--trial" ∷ []) }
     ensures twice { (name : List ℕ) →
         IsRefused (name ∷ codes "replay" ∷ codes "--trial" ∷ codes "--trial" ∷ []) }
+    ensures audit_twice { (name : List ℕ) →
+        IsRefused (name ∷ codes "replay" ∷ codes "--audit" ∷ codes "--audit" ∷ []) }
     ensures value { (name : List ℕ) →
         IsRefused (name ∷ codes "replay" ∷ codes "--trial=true" ∷ []) }
     ensures more { (name : List ℕ) →
         IsRefused (name ∷ codes "show" ∷ codes "--trial" ∷ []) }
+    ensures audit_of_other { (name : List ℕ) →
+        IsRefused (name ∷ codes "check" ∷ codes "--audit" ∷ []) }
     ensures no_each { (name : List ℕ) → IsRefused (name ∷ codes "threads" ∷ []) }
     ensures no_number { (name : List ℕ) →
         IsRefused (name ∷ codes "threads" ∷ codes "--each" ∷ []) }

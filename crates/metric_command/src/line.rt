@@ -24,6 +24,8 @@ pub enum Line {
     Replay {
         /// Whether the plan is made as a trial, without a certificate.
         trial: bool,
+        /// Whether the replies are audited before they are printed.
+        audit: bool,
     },
     /// Record and collect in threads, and print what was recorded.
     Threads {

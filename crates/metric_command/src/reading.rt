@@ -1,8 +1,8 @@
 // The reading of a command line.
 ghost use Rattle.std.specs.Prelude.{◌≡◌, [], IfOk, IsErrOf, OnOk, Some, map, false, true};
 ghost use Rattle.clap.specs.Words.{app_of, fault_of, first_of, found_of, rows_of, rule_of, subcommand_of, subcommand_rows_of, takes};
-ghost use Rattle.clap.specs.Words.{new_app, with_rule, with_subcommand};
-ghost use Rattle.metric_command.specs.Kit.{each_option, kit_app, plain_app, trial_flag};
+ghost use Rattle.clap.specs.Words.{with_subcommand};
+ghost use Rattle.metric_command.specs.Kit.{audit_flag, each_option, kit_app, plain_app, replay_app, threads_app, trial_flag};
 ghost use Rattle.metric_command.specs.Lines.{IsRefused, has_flag, line_in};
 ghost use Rattle.metric_command.specs.Numbers.{number_in, number_of};
 
@@ -12,9 +12,9 @@ use clap::{Arg, ArgAction, ArgMatches, Command};
 use std::alloc::{AllocError, Global};
 
 /// The command that the words of a command line ask for: `make`, `check`, `show`, `replay`,
-/// `replay --trial` or `threads --each N`, with `N` from 0 to 1,000,000. The first word is the program's
-/// name, whatever it is. No further word asks for a trial, and so does the word `--` alone, which clap
-/// takes as the end of the flags.
+/// `replay --trial`, either with `--audit` too, or `threads --each N`, with `N` from 0 to 1,000,000. The
+/// first word is the program's name, whatever it is. No further word asks for a trial, and so does the word
+/// `--` alone, which clap takes as the end of the flags.
 ///
 /// # Errors
 ///
@@ -39,22 +39,27 @@ pub fn command_of<'a>(alloc: Global, words: &'a [&'a str]) -> Result<Line, LineF
 fn kit_command<'a>(alloc: Global) -> Result<Command<'a>, AllocError>
     ensures { IfOk result (λ command. app_of command ≡ kit_app) }
 {
-    let program = with_flagged(alloc, plain_command(alloc)?, "replay", trial_flag(alloc))?;
-    with_flagged(alloc, program, "threads", each_option(alloc))
+    let program = with_replay(alloc, plain_command(alloc)?)?;
+    with_threads(alloc, program)
 }
 
-// The program with one more command, which has one flag.
-fn with_flagged<'a>(
-    alloc: Global,
-    program: Command<'a>,
-    name: &'a str,
-    flag: Arg<'a>,
-) -> Result<Command<'a>, AllocError>
-    requires { flag.global ≡ false }
-    ensures { IfOk result (λ command. app_of command ≡ with_subcommand (app_of program.entry)
-        (with_rule (new_app name.entry.now) (rule_of flag.entry)).top) }
+// The program with the command `replay`.
+fn with_replay<'a>(alloc: Global, program: Command<'a>) -> Result<Command<'a>, AllocError>
+    ensures { IfOk result (λ command. app_of command
+        ≡ with_subcommand (app_of program.entry) replay_app.top) }
 {
-    let command = Command::new(alloc, name).arg(flag)?;
+    let command = Command::new(alloc, "replay")
+        .arg(trial_flag(alloc))?
+        .arg(audit_flag(alloc))?;
+    program.subcommand(command)
+}
+
+// The program with the command `threads`.
+fn with_threads<'a>(alloc: Global, program: Command<'a>) -> Result<Command<'a>, AllocError>
+    ensures { IfOk result (λ command. app_of command
+        ≡ with_subcommand (app_of program.entry) threads_app.top) }
+{
+    let command = Command::new(alloc, "threads").arg(each_option(alloc))?;
     program.subcommand(command)
 }
 
@@ -64,6 +69,15 @@ fn trial_flag<'a>(alloc: Global) -> Arg<'a>
 {
     Arg::new(alloc, "trial")
         .long("trial")
+        .action(ArgAction::SetTrue)
+}
+
+fn audit_flag<'a>(alloc: Global) -> Arg<'a>
+    ensures rule { rule_of result ≡ audit_flag }
+    ensures own { result.global ≡ false }
+{
+    Arg::new(alloc, "audit")
+        .long("audit")
         .action(ArgAction::SetTrue)
 }
 
@@ -93,7 +107,10 @@ fn line_of(matches: &ArgMatches<'_>) -> Line
 {
     match matches.subcommand() {
         Some((command, flags)) => named_line(command, flags),
-        None => Line::Replay { trial: true },
+        None => Line::Replay {
+            trial: true,
+            audit: false,
+        },
     }
 }
 
@@ -109,6 +126,7 @@ fn named_line(command: &str, flags: &ArgMatches<'_>) -> Line
         },
         _ => Line::Replay {
             trial: is_given(flags, "trial"),
+            audit: is_given(flags, "audit"),
         },
     }
 }

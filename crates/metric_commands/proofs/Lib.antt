@@ -1,5 +1,7 @@
 mod AnswerLaws
 mod AnsweredInputs
+mod AuditLaws
+mod AuditedRuns
 mod OutputLaws
 mod PartLaws
 mod PieceLaws
@@ -7,5 +9,6 @@ mod PlanLaws
 mod ScriptFaults
 mod StopLaws
 mod RunLaws
+mod TellingLaws
 mod TextLaws
 mod ThreadLaws

@@ -1,5 +1,5 @@
 -- An input has one output.
-use Rattle.std.proofs.Common.{Bool, true, false, inl, inr, ◌≡◌, ℕ, List, [], Option, Some, None, Ok, IsSomeAnd, sym, ap, subst, ◌∙◌}
+use Rattle.std.proofs.Common.{Bool, true, false, inl, inr, ◌≡◌, ℕ, List, [], ◌++◌, Option, Some, None, Ok, IsSomeAnd, sym, ap, subst, ◌∙◌}
 use Rattle.metric_base.specs.StepLaws.{ok_is}
 use Rattle.metric_catalogue.specs.Catalogues.{catalogue_of}
 use Rattle.metric_catalogue.specs.declared.contents.Contents.{Contents as Declared}
@@ -21,7 +21,7 @@ use Rattle.metric_history.specs.declared.event.Reply.{Reply}
 use Rattle.metric_commands.specs.declared.options.ReplayOptions.{ReplayOptions}
 use Rattle.metric_commands.specs.Declarations.{IsDeclared}
 use Rattle.metric_commands.specs.Replies.{replies_text}
-use Rattle.metric_commands.specs.Replaying.{IsPlanned, IsOutput}
+use Rattle.metric_commands.specs.Replaying.{IsPlanned, IsOutput, audit_text}
 use Rattle.metric_commands.proofs.AnswerLaws.{one_run}
 
 some_is : {A : Type 0} (x y : A) (o : Option A) → o ≡ Some x → o ≡ Some y → x ≡ y
@@ -73,4 +73,7 @@ one_output parts starts events options input a b p q =
     let on_start : AllLegal q.plan.facts t.start [] s.events p.replies = subst (λ (n : ℕ). AllLegal q.plan.facts n [] s.events p.replies) start on_plan in
     let on_events : AllLegal q.plan.facts t.start [] t.events p.replies = subst (λ (es : List Event). AllLegal q.plan.facts t.start [] es p.replies) run on_start in
     let replies : p.replies ≡ q.replies = one_run q.plan.facts t.start [] t.events p.replies q.replies on_events t.run.legal s.run.remembered t.run.remembered in
-    p.written ∙ ap (λ (v : PlanValue). replies_text v p.replies) plan ∙ ap (λ (rs : List Reply). replies_text q.plan rs) replies ∙ sym q.written
+    p.written
+    ∙ ap (λ (v : PlanValue). replies_text v p.replies ++ audit_text options p.replies) plan
+    ∙ ap (λ (rs : List Reply). replies_text q.plan rs ++ audit_text options rs) replies
+    ∙ sym q.written

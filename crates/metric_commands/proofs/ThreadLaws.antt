@@ -6,7 +6,7 @@ use Rattle.metric_provider.specs.Seats.{RecorderValue}
 use Rattle.metric_provider.specs.Totals.{told_totals}
 use Rattle.metric_provider.specs.declared.totals.Total.{Total}
 use Rattle.metric_commands.specs.declared.fault.KitFault.{KitFault}
-use Rattle.metric_commands.specs.declared.fault.KitFault.TheVariants.{Read, Input, Catalogue, Config, Certificate, Check, Make, Finish, Write, Memory}
+use Rattle.metric_commands.specs.declared.fault.KitFault.TheVariants.{Read, Input, Catalogue, Config, Certificate, Check, Make, Audit, Finish, Write, Memory}
 use Rattle.metric_commands.specs.Checking.{IsCertifiedInput, IsFirstCheckFault, check_needs}
 use Rattle.metric_commands.specs.Claims.{IsCertifiedPlan}
 use Rattle.metric_commands.specs.Commands.{IsAnswerTo}
@@ -31,6 +31,7 @@ before_threads input (Config fault) found = found
 before_threads input (Certificate fault) found = found
 before_threads input (Check fault) found = found
 before_threads input (Make fault) found = found
+before_threads input (Audit fault) found = found
 before_threads input (Finish fault) found = absurd found
 before_threads input Write found = found
 before_threads input Memory found = found
@@ -46,6 +47,7 @@ after_threads input plan (Config fault) c own = absurd own
 after_threads input plan (Certificate fault) c own = absurd own
 after_threads input plan (Check fault) c own = absurd own
 after_threads input plan (Make fault) c own = absurd own
+after_threads input plan (Audit fault) c own = absurd own
 after_threads input plan (Finish fault) c own = record { plan = plan; certified = certified_input input plan c; own = own }
 after_threads input plan Write c own = absurd own
 after_threads input plan Memory c own = tt
@@ -59,6 +61,7 @@ own_after_threads (Config fault) own = absurd own
 own_after_threads (Certificate fault) own = absurd own
 own_after_threads (Check fault) own = absurd own
 own_after_threads (Make fault) own = absurd own
+own_after_threads (Audit fault) own = absurd own
 own_after_threads (Finish fault) own = tt
 own_after_threads Write own = absurd own
 own_after_threads Memory own = tt

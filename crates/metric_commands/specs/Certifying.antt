@@ -14,7 +14,7 @@ use Rattle.metric_cert.specs.Certificates.{certificate_from}
 use Rattle.metric_cert.specs.Making.{IsMade, make_faults}
 use Rattle.metric_cert.specs.Valid.{IsValid}
 use Rattle.metric_commands.specs.declared.fault.KitFault.{KitFault}
-use Rattle.metric_commands.specs.declared.fault.KitFault.TheVariants.{Read, Input, Catalogue, Config as BadConfig, Certificate as BadCertificate, Check, Make, Finish, Write, Memory}
+use Rattle.metric_commands.specs.declared.fault.KitFault.TheVariants.{Read, Input, Catalogue, Config as BadConfig, Certificate as BadCertificate, Check, Make, Audit, Finish, Write, Memory}
 use Rattle.metric_commands.specs.Declarations.{IsDeclared, IsDeclaredFault, IsMisdeclared}
 use Rattle.metric_commands.specs.Showing.{show_needs}
 
@@ -89,6 +89,7 @@ make_refused input read (BadConfig fault) is_read found = record { read = read; 
 make_refused input read (BadCertificate fault) is_read found = found
 make_refused input read (Check fault) is_read found = found
 make_refused input read (Make fault) is_read found = record { read = read; is_read = is_read; first = found }
+make_refused input read (Audit fault) is_read found = found
 make_refused input read (Finish fault) is_read found = found
 make_refused input read Write is_read found = found
 make_refused input read Memory is_read found = tt

@@ -7,7 +7,7 @@ use Rattle.metric_parts.specs.declared.needs.Needs.{Needs}
 use Rattle.metric_parts.specs.declared.parts.Parts.{Parts}
 use Rattle.metric_plan.specs.Plans.{PlanValue}
 use Rattle.metric_commands.specs.declared.fault.KitFault.{KitFault}
-use Rattle.metric_commands.specs.declared.fault.KitFault.TheVariants.{Read, Input, Catalogue, Config as BadConfig, Certificate as BadCertificate, Check, Make, Finish, Write, Memory}
+use Rattle.metric_commands.specs.declared.fault.KitFault.TheVariants.{Read, Input, Catalogue, Config as BadConfig, Certificate as BadCertificate, Check, Make, Audit, Finish, Write, Memory}
 use Rattle.metric_commands.specs.Claims.{IsCertifiedPlan, IsClaimFault}
 use Rattle.metric_commands.specs.Declarations.{IsMisdeclared}
 
@@ -52,6 +52,7 @@ check_refused input read (BadConfig fault) is_read found = record { read = read;
 check_refused input read (BadCertificate fault) is_read found = record { read = read; is_read = is_read; first = found }
 check_refused input read (Check fault) is_read found = record { read = read; is_read = is_read; first = found }
 check_refused input read (Make fault) is_read found = found
+check_refused input read (Audit fault) is_read found = found
 check_refused input read (Finish fault) is_read found = found
 check_refused input read Write is_read found = found
 check_refused input read Memory is_read found = tt

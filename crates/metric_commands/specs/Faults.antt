@@ -1,11 +1,13 @@
 -- What a fault of a layer is to a command, and the exit status of each fault.
 use Rattle.std.specs.Prelude.{ℕ}
+use Rattle.metric_audit.specs.declared.fault.AuditFault.{AuditFault}
+use Rattle.metric_audit.specs.declared.fault.AuditFault.TheVariants as audits
 use Rattle.metric_io.specs.declared.whole.ReadFault.{ReadFault}
 use Rattle.metric_io.specs.declared.whole.ReadFault.TheVariants as read
 use Rattle.metric_parts.specs.declared.fault.InputFault.{InputFault}
 use Rattle.metric_parts.specs.declared.fault.InputFault.TheVariants as input
 use Rattle.metric_commands.specs.declared.fault.KitFault.{KitFault}
-use Rattle.metric_commands.specs.declared.fault.KitFault.TheVariants.{Read, Input, Catalogue, Config, Certificate, Check, Make, Finish, Write, Memory}
+use Rattle.metric_commands.specs.declared.fault.KitFault.TheVariants.{Read, Input, Catalogue, Config, Certificate, Check, Make, Audit, Finish, Write, Memory}
 
 abbrev pub from_read : ReadFault → KitFault
 from_read read.Read = Read
@@ -14,6 +16,11 @@ from_read read.Memory = Memory
 abbrev pub from_input : InputFault → KitFault
 from_input (input.Input line) = Input line
 from_input input.Memory = Memory
+
+abbrev pub from_audit : AuditFault → KitFault
+from_audit (audits.Slips recorder) = Audit (audits.Slips recorder)
+from_audit (audits.Batch at) = Audit (audits.Batch at)
+from_audit audits.Memory = Memory
 
 -- 1 where the input is refused, 3 where it is unreadable, 4 without memory, 5 where the sink failed
 abbrev pub status_of : KitFault → ℕ
@@ -24,6 +31,7 @@ status_of (Config fault) = 1
 status_of (Certificate fault) = 1
 status_of (Check fault) = 1
 status_of (Make fault) = 1
+status_of (Audit fault) = 1
 status_of (Finish fault) = 1
 status_of Write = 5
 status_of Memory = 4

@@ -7,6 +7,7 @@ pub mod Written
 pub mod Replies
 pub mod Planned
 pub mod Runs
+pub mod Audits
 pub mod WrittenRuns
 pub mod DueRuns
 pub mod Declarations

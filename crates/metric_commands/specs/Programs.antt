@@ -18,15 +18,15 @@ use Rattle.metric_commands.specs.Replaying.{IsFirstFault, IsOutput}
 use Rattle.metric_commands.specs.Showing.{IsFirstShowFault, IsShown}
 use Rattle.metric_commands.specs.Threading.{IsCounted, IsFirstThreadsFault}
 
-abbrev pub replay_options : Bool → ReplayOptions
-replay_options trial = record { trial = trial }
+abbrev pub replay_options : Bool → Bool → ReplayOptions
+replay_options trial audit = record { trial = trial; audit = audit }
 
 -- Each command line runs the command that it names.
 abbrev pub RunsLine : Line → SourceRun → SinkRun → Result (Unit {0}) KitFault → Type 0
 RunsLine lines.Make = RunsCommand IsCertificateText IsFirstMakeFault
 RunsLine lines.Check = RunsCommand IsAcceptance IsFirstCheckFault
 RunsLine lines.Show = RunsCommand IsShown IsFirstShowFault
-RunsLine (lines.Replay trial) = RunsCommand (IsOutput (replay_options trial)) (IsFirstFault (replay_options trial))
+RunsLine (lines.Replay trial audit) = RunsCommand (IsOutput (replay_options trial audit)) (IsFirstFault (replay_options trial audit))
 RunsLine (lines.Threads each) = RunsCommand IsCounted IsFirstThreadsFault
 
 -- the exit status where the words name no command

@@ -1,5 +1,5 @@
 -- What a replay makes of the bytes of its input.
-use Rattle.std.specs.Prelude.{◌≡◌, ◌⊎◌, ℕ, true, false, not, List, [], Some}
+use Rattle.std.specs.Prelude.{◌≡◌, ◌⊎◌, ◌++◌, ℕ, Bool, true, false, not, List, [], Some, if◌then◌else◌}
 use Rattle.std.proofs.Common.{inr}
 use Rattle.metric_text.specs.Lines.{lines_of}
 use Rattle.metric_parts.specs.Input.{IsFirstFault as IsFaultyLine}
@@ -13,15 +13,24 @@ use Rattle.metric_views.specs.declared.config.Setup.{Setup}
 use Rattle.metric_plan.specs.Counting.{is_counted}
 use Rattle.metric_plan.specs.Plans.{PlanValue, plan_of}
 use Rattle.metric_plan.specs.declared.fault.CheckFault.TheVariants.{CountRange}
+use Rattle.metric_history.specs.Legal.{grown}
 use Rattle.metric_history.specs.declared.event.Event.{Event}
 use Rattle.metric_history.specs.declared.event.Reply.{Reply}
 use Rattle.metric_commands.specs.declared.options.ReplayOptions.{ReplayOptions}
 use Rattle.metric_commands.specs.declared.fault.KitFault.{KitFault}
-use Rattle.metric_commands.specs.declared.fault.KitFault.TheVariants.{Read, Input, Catalogue, Config as BadConfig, Certificate as BadCertificate, Check, Make, Finish, Write, Memory}
+use Rattle.metric_commands.specs.declared.fault.KitFault.TheVariants.{Read, Input, Catalogue, Config as BadConfig, Certificate as BadCertificate, Check, Make, Audit, Finish, Write, Memory}
 use Rattle.metric_commands.specs.Claims.{IsCertifiedPlan, IsFaultyCertificate, IsRefusedCheck}
 use Rattle.metric_commands.specs.Declarations.{IsDeclared, IsDeclaredFault, IsMisdeclared}
-use Rattle.metric_commands.specs.Replies.{replies_text}
+use Rattle.metric_commands.specs.Audits.{AreAudited}
+use Rattle.metric_commands.specs.Replies.{accepted_count, audited_text, replies_text}
 use Rattle.metric_commands.specs.Runs.{IsRun}
+
+-- a replay without an audit, and one with it
+abbrev pub plain_options : Bool → ReplayOptions
+plain_options trial = record { trial = trial; audit = false }
+
+abbrev pub audited_options : Bool → ReplayOptions
+audited_options trial = record { trial = trial; audit = true }
 
 -- a trial needs no certificate
 abbrev pub needs_of : ReplayOptions → Needs
@@ -57,18 +66,30 @@ pub record IsAnswered (options : ReplayOptions) (read : Parts) (plan : PlanValue
   pub is_script : IsScript script.lines start events
   pub run : IsRun plan start events replies
 
+-- What an audited run comes to: the replies, with how many recordings they accept, and the audit of each instrument ends well.
+pub record IsAuditedRun (options : ReplayOptions) (read : Parts) (plan : PlanValue) (replies : List Reply) (accepted : ℕ) : Type 0 where
+  pub answered : IsAnswered options read plan replies
+  pub audited : AreAudited plan.facts answered.start (grown [] answered.events replies)
+  pub counted : accepted ≡ accepted_count replies
+
 -- The replies to the script of the input.
 pub record IsReplayed (options : ReplayOptions) (input : List ℕ) (plan : PlanValue) (replies : List Reply) : Type 0 where
   pub read : Parts
   pub is_read : IsRead (needs_of options) (lines_of input) read
   pub answered : IsAnswered options read plan replies
 
+-- what an audit adds to the replies: a line with how many recordings were accepted
+abbrev pub audit_text : ReplayOptions → List Reply → List ℕ
+audit_text options replies = if options.audit then audited_text (accepted_count replies) else []
+
 -- The text that a replay of the input writes.
 pub record IsOutput (options : ReplayOptions) (input text : List ℕ) : Type 0 where
   pub plan : PlanValue
   pub replies : List Reply
   pub replayed : IsReplayed options input plan replies
-  pub written : text ≡ replies_text plan replies
+  -- an audit of each instrument ends well, where one is asked for
+  pub audited : options.audit ≡ true → AreAudited plan.facts replayed.answered.start (grown [] replayed.answered.events replies)
+  pub written : text ≡ replies_text plan replies ++ audit_text options replies
 
 -- What the parts declare is right, but budgets for one instrument are together above the range of u64.
 pub record IsUncounted (read : Parts) : Type 0 where
@@ -111,6 +132,8 @@ IsFirstFault options input (BadConfig fault) = IsMisdeclared (needs_of options) 
 IsFirstFault options input (BadCertificate fault) = IsMisdeclared (needs_of options) input (IsPlanFault options (BadCertificate fault))
 IsFirstFault options input (Check fault) = IsMisdeclared (needs_of options) input (IsPlanFault options (Check fault))
 IsFirstFault options input (Make fault) = ⊥
+-- an audit never fails
+IsFirstFault options input (Audit fault) = ⊥
 IsFirstFault options input (Finish fault) = ⊥
 IsFirstFault options input Memory = Unit {0}
 IsFirstFault options input Read = ⊥
@@ -127,6 +150,7 @@ replay_refused options input read (BadConfig fault) is_read found = record { rea
 replay_refused options input read (BadCertificate fault) is_read found = record { read = read; is_read = is_read; first = found }
 replay_refused options input read (Check fault) is_read found = record { read = read; is_read = is_read; first = found }
 replay_refused options input read (Make fault) is_read found = found
+replay_refused options input read (Audit fault) is_read found = found
 replay_refused options input read (Finish fault) is_read found = found
 replay_refused options input read Write is_read found = found
 replay_refused options input read Memory is_read found = tt

@@ -1,5 +1,6 @@
 -- How the replies to a script are written.
-use Rattle.std.specs.Prelude.{ℕ, Bool, true, false, List, [], ◌∷◌, ◌++◌, codes}
+use Rattle.std.specs.Prelude.{ℕ, Bool, true, false, List, [], ◌∷◌, ◌++◌, codes, count_by}
+use Rattle.metric_text.specs.Lists.{numbered}
 use Rattle.metric_catalogue.specs.Refusals.{refusal_text}
 use Rattle.metric_catalogue.specs.declared.refusal.Refusal.{Refusal}
 use Rattle.metric_catalogue.specs.declared.refusal.Refusal.TheVariants as refusals
@@ -23,6 +24,18 @@ reply_text plan (Refused refusal) = refused_text refusal
 -- all of them
 abbrev pub replies_text : PlanValue → List Reply → List ℕ
 replies_text plan replies = parts_text (λ _ reply. reply_text plan reply) replies
+
+-- how many recordings were accepted
+abbrev pub is_accepted : Reply → Bool
+is_accepted Accepted = true
+is_accepted _ = false
+
+abbrev pub accepted_count : List Reply → ℕ
+accepted_count replies = count_by is_accepted replies
+
+-- the line that ends an audited replay
+abbrev pub audited_text : ℕ → List ℕ
+audited_text accepted = numbered (codes "audited ") accepted ++ codes "\n"
 
 -- want of memory
 abbrev pub is_want_of_memory : Reply → Bool

@@ -13,7 +13,7 @@ use Rattle.metric_resolve.specs.Resolved.{streams_of}
 use Rattle.metric_resolve.specs.Warnings.{warnings_of}
 use Rattle.metric_lines.specs.Streams.{shown_text, warning_text}
 use Rattle.metric_commands.specs.declared.fault.KitFault.{KitFault}
-use Rattle.metric_commands.specs.declared.fault.KitFault.TheVariants.{Read, Input, Catalogue, Config as BadConfig, Certificate as BadCertificate, Check, Make, Finish, Write, Memory}
+use Rattle.metric_commands.specs.declared.fault.KitFault.TheVariants.{Read, Input, Catalogue, Config as BadConfig, Certificate as BadCertificate, Check, Make, Audit, Finish, Write, Memory}
 use Rattle.metric_commands.specs.Declarations.{IsDeclared, IsDeclaredFault, IsMisdeclared}
 use Rattle.metric_commands.specs.Written.{parts_text}
 
@@ -58,6 +58,7 @@ show_refused input read (BadConfig fault) is_read found = record { read = read; 
 show_refused input read (BadCertificate fault) is_read found = found
 show_refused input read (Check fault) is_read found = found
 show_refused input read (Make fault) is_read found = found
+show_refused input read (Audit fault) is_read found = found
 show_refused input read (Finish fault) is_read found = found
 show_refused input read Write is_read found = found
 show_refused input read Memory is_read found = tt

@@ -2,6 +2,7 @@
 ghost use Rattle.std.specs.Prelude.{◌≡◌};
 ghost use Rattle.metric_commands.specs.Faults.{status_of};
 
+use metric_audit::AuditFault;
 use metric_catalogue::CatalogueFault;
 use metric_cert::{CertFault, MakeFault};
 use metric_io::{Broken, ReadFault};
@@ -41,6 +42,10 @@ pub enum KitFault {
     /// The catalogue and the config are not safe, so there is no certificate.
     #[error("refused: make {0}")]
     Make(MakeFault),
+    /// The journal of an instrument does not agree with its slips and batches. It never comes: what runs gives
+    /// agrees.
+    #[error("refused: audit {0}")]
+    Audit(AuditFault),
     /// What the recorders were told could not be settled.
     #[error("refused: finish {0}")]
     Finish(FinishFault),
@@ -63,6 +68,7 @@ impl KitFault {
             | KitFault::Certificate(_)
             | KitFault::Check(_)
             | KitFault::Make(_)
+            | KitFault::Audit(_)
             | KitFault::Finish(_) => 1,
             KitFault::Read | KitFault::Input { .. } => 3,
             KitFault::Memory => 4,
@@ -118,6 +124,19 @@ impl From<InputFault> for KitFault {
         match fault {
             InputFault::Input { line } => KitFault::Input { line },
             InputFault::Memory => KitFault::Memory,
+        }
+    }
+}
+
+impl From<AuditFault> for KitFault {
+    ghost use Rattle.metric_commands.specs.Faults.{from_audit};
+
+    ghost from_gives = { λ fault kit. kit ≡ from_audit fault };
+
+    fn from(fault: AuditFault) -> KitFault {
+        match fault {
+            AuditFault::Slips { .. } | AuditFault::Batch { .. } => KitFault::Audit(fault),
+            AuditFault::Memory => KitFault::Memory,
         }
     }
 }

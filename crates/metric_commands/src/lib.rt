@@ -6,6 +6,8 @@
 //! command line, tells why it stops, and gives the exit status.
 #![tactic(auto)]
 
+mod audits;
+mod batches;
 mod checks;
 mod command;
 mod fault;
@@ -20,6 +22,7 @@ mod program;
 mod replays;
 mod replies;
 mod show;
+mod slips;
 mod stops;
 mod threads;
 mod totals;

@@ -9,6 +9,8 @@ use metric_parts::Needs;
 pub struct ReplayOptions {
     /// Whether the config is tried without a certificate.
     pub trial: bool,
+    /// Whether the replies are audited before they are written.
+    pub audit: bool,
 }
 
 /// How much is recorded by threads.

@@ -36,8 +36,8 @@ fn piece_len(events: &[Event]) -> usize
     events.len()
 }
 
-// Whether some reply is want of memory.
-fn has_want_of_memory(replies: &[Reply]) -> bool
+/// Whether some reply is want of memory.
+pub(crate) fn has_want_of_memory(replies: &[Reply]) -> bool
     ensures { result ≡ list_any is_want_of_memory replies.now }
 {
     replies.iter().any(|reply| is_want_of_memory(reply))

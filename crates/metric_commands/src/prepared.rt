@@ -3,7 +3,6 @@ ghost use Rattle.std.specs.Prelude.{◌≡◌, [], false, IfErr, IfOk, IsSome};
 ghost use Rattle.metric_commands.specs.Faults.{IsOfInput};
 ghost use Rattle.metric_commands.specs.Replaying.{IsPlanFault, IsPlanned, IsPrepared, IsReplayFault};
 ghost use Rattle.metric_core.specs.CoreStands.{CoreStands};
-ghost use Rattle.metric_marked.specs.Marks.{StandsMarked};
 
 use crate::fault::KitFault;
 use crate::options::ReplayOptions;
@@ -12,30 +11,31 @@ use metric_base::Items;
 use metric_book::Book;
 use metric_core::Core;
 use metric_history::Event;
-use metric_marked::Marked;
 use metric_parts::Parts;
 use metric_plan::Plan;
 use metric_script::events_of;
 use std::alloc::Global;
 
-/// A core that has run nothing, and the events of a script for it.
+/// A core that has run nothing since a start, and the events of a script for it.
 #[derive(Drop)]
-pub(crate) struct PreparedRun {
-    pub core: Core<Marked>,
+pub(crate) struct PreparedRun<B: Book> {
+    pub core: Core<B>,
+    pub start: u64,
     pub events: Items<Event>,
 }
 
 /// What an input's parts declare, with the events of their script.
-pub(crate) fn prepared_run(
+pub(crate) fn prepared_run<B: Book>(
     alloc: Global,
     options: ReplayOptions,
     parts: &Parts<'_>,
-) -> Result<PreparedRun, KitFault>
+) -> Result<PreparedRun<B>, KitFault>
     requires certificate { options.trial ≡ false → IsSome parts.now.certificate }
     requires script { IsSome parts.now.script }
     ensures ok { IfOk result (λ run. IsPrepared options parts.now
         run.core.plan run.core.start run.events) }
-    ensures fresh { IfOk result (λ run. CoreStands StandsMarked run.core []) }
+    ensures fresh { IfOk result (λ run. CoreStands B.stands run.core []) }
+    ensures start { IfOk result (λ run. run.core.start ≡ run.start) }
     ensures first { IfErr result (λ fault. IsReplayFault options fault parts.now) }
     ensures own { IfErr result IsOfInput }
 {
@@ -44,6 +44,7 @@ pub(crate) fn prepared_run(
     let core = core_of(alloc, plan, script.start)?;
     Ok(PreparedRun {
         core,
+        start: script.start,
         events: script.events,
     })
 }

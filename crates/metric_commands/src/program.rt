@@ -63,7 +63,9 @@ fn run_command<R: Threads + Wait + Sync, S: Source, W: Sink>(
         Line::Make => make_run(alloc, source, sink),
         Line::Check => check_run(alloc, source, sink),
         Line::Show => show_run(alloc, source, sink),
-        Line::Replay { trial } => replay(alloc, ReplayOptions { trial }, source, sink),
+        Line::Replay { trial, audit } => {
+            replay(alloc, ReplayOptions { trial, audit }, source, sink)
+        }
         Line::Threads { each } => threads_run(rt, alloc, ThreadsOptions { each }, source, sink),
     }
 }

@@ -1,19 +1,31 @@
 //! A script replayed against a catalogue and a config.
+ghost use Rattle.std.specs.Prelude.{◌≡◌, false, IfErr, IfOk, IsSome};
 ghost use Rattle.metric_commands.specs.Commands.{RunsCommand, sink_run, source_run};
-ghost use Rattle.metric_commands.specs.Replaying.{IsFirstFault, IsOutput};
+ghost use Rattle.metric_commands.specs.Faults.{IsOfInput};
+ghost use Rattle.metric_commands.specs.Replaying.{IsAuditedRun, IsFirstFault, IsOutput, IsReplayFault};
 
+use crate::audits::audited_replies;
 use crate::command::{Command, run};
 use crate::fault::KitFault;
 use crate::options::ReplayOptions;
 use crate::pieces::write_run;
 use crate::prepared::{PreparedRun, prepared_run};
+use crate::replies::{accepted_count, write_audited};
+use metric_audit::Audited;
+use metric_core::Core;
+use metric_history::Reply;
 use metric_io::{Sink, Source};
+use metric_marked::Marked;
 use metric_parts::{Needs, Parts};
 use std::alloc::Global;
 
 /// Replays the script of an input against its catalogue and its config, and writes the text of each reply.
 /// The whole script is read before the first byte is written, so a refused input writes nothing. Replies are written
 /// as the events are run, and memory holds one batch at a time.
+///
+/// With an audit the recordings are kept, and each instrument's journal is audited with the slips that the events make
+/// and the batches among the replies, before anything is written; a last line tells how many recordings were accepted.
+/// No audit fails. Memory holds all replies then, and a copy of the batches of one instrument.
 ///
 /// # Errors
 ///
@@ -29,49 +41,75 @@ pub fn replay<R: Source, W: Sink>(
         (source_run R.remaining R.counts source.old source.new)
         (sink_run W.contents W.failures sink.old sink.new) result }
 {
-    run(alloc, &options, source, sink)
+    let trial = options.trial;
+    if options.audit {
+        run(alloc, &AuditedReplay { trial }, source, sink)
+    } else {
+        run(alloc, &PlainReplay { trial }, source, sink)
+    }
 }
 
-impl Command for ReplayOptions {
+// A replay without an audit.
+#[derive(Clone, Copy)]
+struct PlainReplay {
+    trial: bool,
+}
+
+impl Command for PlainReplay {
     ghost use Rattle.std.specs.Prelude.{[]};
-    ghost use Rattle.std.proofs.Common.{inl, refl};
+    ghost use Rattle.std.proofs.Common.{inl, sym};
+    ghost use Rattle.std.proofs.lemmas.Bool.{false≢true};
+    ghost use Rattle.std.proofs.lemmas.List.{append-nil};
     ghost use Rattle.metric_core.specs.CoreStands.{CoreStands};
     ghost use Rattle.metric_marked.specs.Marks.{StandsMarked};
     ghost use Rattle.metric_commands.specs.DueRuns.{is_due_run};
-    ghost use Rattle.metric_commands.specs.Replaying.{IsFirstFault as IsFirst, IsOutput as IsText, IsPrepared as IsOfParts, IsReplayFault as IsFault, needs_of, replay_refused};
+    ghost use Rattle.metric_commands.specs.Replaying.{IsFirstFault as IsFirst, IsOutput as IsText, IsPrepared as IsOfParts, IsReplayFault as IsFault, needs_of, plain_options, replay_refused};
+    ghost use Rattle.metric_commands.specs.Replies.{replies_text};
     ghost use Rattle.metric_commands.specs.Runs.{due_replies};
     ghost use Rattle.metric_commands.specs.WrittenRuns.{due_text};
 
-    type Answer = PreparedRun;
+    type Answer = PreparedRun<Marked>;
 
-    ghost needed = { needs_of };
+    ghost needed = { λ c. needs_of (plain_options c.trial) };
 
-    ghost is_answer = { λ options read run. IsOfParts options read run.core.plan run.core.start run.events
+    ghost is_answer = { λ c read run. IsOfParts (plain_options c.trial) read run.core.plan run.core.start run.events
         × CoreStands StandsMarked run.core [] };
 
-    ghost is_fault = { IsFault };
+    ghost is_fault = { λ c. IsFault (plain_options c.trial) };
 
-    ghost is_due = { IsText };
+    ghost is_due = { λ c. IsText (plain_options c.trial) };
 
-    ghost is_first_fault = { IsFirst };
+    ghost is_first_fault = { λ c. IsFirst (plain_options c.trial) };
 
     ghost text = { λ run. due_text run.core.plan run.core.start [] run.events };
 
     fn needed_parts(&self) -> Needs {
-        self.needs()
+        let options = ReplayOptions {
+            trial: self.trial,
+            audit: false,
+        };
+        options.needs()
     }
 
-    fn answer(&self, alloc: Global, parts: &Parts<'_>) -> Result<PreparedRun, KitFault> {
-        prepared_run(alloc, *self, parts)
+    fn answer(&self, alloc: Global, parts: &Parts<'_>) -> Result<PreparedRun<Marked>, KitFault> {
+        let options = ReplayOptions {
+            trial: self.trial,
+            audit: false,
+        };
+        prepared_run(alloc, options, parts)
     }
 
     fn write<W: Sink>(
         &self,
         alloc: Global,
         sink: &mut W,
-        run: PreparedRun,
+        run: PreparedRun<Marked>,
     ) -> Result<(), KitFault> {
-        let PreparedRun { mut core, events } = run;
+        let PreparedRun {
+            mut core,
+            start: _,
+            events,
+        } = run;
         write_run(alloc, sink, &mut core, events.as_slice())
     }
 
@@ -91,10 +129,108 @@ impl Command for ReplayOptions {
           run = is_due_run run.core.plan run.core.start run.events;
         };
       };
-      written = refl;
+      audited = λ asked. absurd (false≢true asked);
+      written = sym (append-nil (replies_text run.core.plan (due_replies run.core.plan.facts run.core.start [] run.events)));
     } };
 
-    ghost refused = { replay_refused };
+    ghost refused = { λ c. replay_refused (plain_options c.trial) };
+
+    ghost unread = { λ _ _ _ found. inl found };
+
+    ghost unremembered = { λ _ _. tt };
+}
+
+// A replay with an audit.
+#[derive(Clone, Copy)]
+struct AuditedReplay {
+    trial: bool,
+}
+
+// The replies to a script that were audited, and how many recordings they accept.
+#[derive(Drop)]
+struct AuditedRun {
+    core: Core<Audited>,
+    replies: Vec<Reply>,
+    accepted: u64,
+}
+
+// The replies to the script of an input, audited.
+fn audited_run(
+    alloc: Global,
+    options: ReplayOptions,
+    parts: &Parts<'_>,
+) -> Result<AuditedRun, KitFault>
+    requires certificate { options.trial ≡ false → IsSome parts.now.certificate }
+    requires script { IsSome parts.now.script }
+    ensures ok { IfOk result (λ run. IsAuditedRun options parts.now run.core.plan
+        run.replies.items run.accepted) }
+    ensures first { IfErr result (λ fault. IsReplayFault options fault parts.now) }
+    ensures own { IfErr result IsOfInput }
+{
+    let run = prepared_run(alloc, options, parts)?;
+    let PreparedRun {
+        mut core,
+        start,
+        events,
+    } = run;
+    let replies = audited_replies(alloc, &mut core, start, events.as_slice())?;
+    let accepted = accepted_count(&replies);
+    Ok(AuditedRun {
+        core,
+        replies,
+        accepted,
+    })
+}
+
+impl Command for AuditedReplay {
+    ghost use Rattle.std.specs.Prelude.{ℕ, ◌++◌};
+    ghost use Rattle.std.proofs.Common.{ap, inl};
+    ghost use Rattle.metric_commands.specs.Replaying.{IsAuditedRun as IsAudited, IsFirstFault as IsFirst, IsOutput as IsText, IsReplayFault as IsFault, audited_options, needs_of, replay_refused};
+    ghost use Rattle.metric_commands.specs.Replies.{audited_text, replies_text};
+
+    type Answer = AuditedRun;
+
+    ghost needed = { λ c. needs_of (audited_options c.trial) };
+
+    ghost is_answer = { λ c read run. IsAudited (audited_options c.trial) read run.core.plan run.replies.items run.accepted };
+
+    ghost is_fault = { λ c. IsFault (audited_options c.trial) };
+
+    ghost is_due = { λ c. IsText (audited_options c.trial) };
+
+    ghost is_first_fault = { λ c. IsFirst (audited_options c.trial) };
+
+    ghost text = { λ run. replies_text run.core.plan run.replies.items ++ audited_text run.accepted };
+
+    fn needed_parts(&self) -> Needs {
+        let options = ReplayOptions {
+            trial: self.trial,
+            audit: true,
+        };
+        options.needs()
+    }
+
+    fn answer(&self, alloc: Global, parts: &Parts<'_>) -> Result<AuditedRun, KitFault> {
+        let options = ReplayOptions {
+            trial: self.trial,
+            audit: true,
+        };
+        audited_run(alloc, options, parts)
+    }
+
+    fn write<W: Sink>(&self, alloc: Global, sink: &mut W, run: AuditedRun) -> Result<(), KitFault> {
+        write_audited(alloc, sink, run.core.plan(), &run.replies, run.accepted)
+    }
+
+    ghost answered = { λ _ _ read run is_read known. record {
+      plan = run.core.plan;
+      replies = run.replies.items;
+      replayed = record { read = read; is_read = is_read; answered = known.answered };
+      audited = λ _. known.audited;
+      written = ap (λ (n : ℕ). replies_text run.core.plan run.replies.items ++ audited_text n) known.counted;
+    } };
+
+    ghost refused = { λ c. replay_refused (audited_options c.trial) };
 
     ghost unread = { λ _ _ _ found. inl found };
 

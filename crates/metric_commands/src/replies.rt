@@ -4,7 +4,7 @@ ghost use Rattle.std.specs.Io.KnownBytes.{Appends};
 ghost use Rattle.metric_io.specs.Prefix.{AppendsPrefix};
 ghost use Rattle.metric_catalogue.specs.Refusals.{refusal_text};
 ghost use Rattle.metric_export.specs.Exports.{plan_text};
-ghost use Rattle.metric_commands.specs.Replies.{refused_text, replies_text};
+ghost use Rattle.metric_commands.specs.Replies.{accepted_count, audited_text, is_accepted, refused_text, replies_text};
 ghost use Rattle.metric_commands.specs.Written.{IsSinkFault};
 
 use crate::fault::KitFault;
@@ -14,7 +14,7 @@ use metric_export::{ExportFault, write_batch};
 use metric_history::{Batch, Reply};
 use metric_io::Sink;
 use metric_plan::Plan;
-use metric_text::{push_byte, push_number, push_text};
+use metric_text::{push_byte, push_number, push_numbered, push_text};
 use std::alloc::{AllocError, Global};
 
 // Writes a refusal as it is printed.
@@ -72,6 +72,64 @@ pub(crate) fn write_replies<W: Sink>(
     ensures counted { OnOk result (W.failures sink.new ≡ W.failures sink.old) }
 {
     write_parts(alloc, sink, &UnderPlan { alloc, plan }, replies)
+}
+
+// Whether a recording was accepted.
+fn is_accepted(reply: &Reply) -> bool
+    ensures { result ≡ is_accepted reply.now }
+{
+    matches!(reply, Reply::Accepted)
+}
+
+/// How many recordings were accepted.
+pub(crate) fn accepted_count(replies: &[Reply]) -> u64
+    ensures { result ≡ accepted_count replies.now }
+{
+    replies.iter().filter(|reply| is_accepted(*reply)).count() as u64
+}
+
+// Writes the line of an audit.
+fn push_audit(out: &mut Vec<u8>, accepted: u64) -> Result<(), AllocError>
+    ensures { OnOk result (out.new.items ≡ out.old.items ++ audited_text accepted) }
+{
+    push_numbered(out, "audited ", accepted)?;
+    push_byte(out, b'\n')
+}
+
+// The same to a sink.
+#[tactic(auto, using(metric_io::specs::Prefix::prefixes))]
+fn write_audit<W: Sink>(alloc: Global, sink: &mut W, accepted: u64) -> Result<(), KitFault>
+    ensures ok { OnOk result (Appends (W.contents sink.old) (W.contents sink.new)
+        (audited_text accepted)) }
+    ensures prefix { AppendsPrefix (W.contents sink.old) (W.contents sink.new)
+        (audited_text accepted) }
+    ensures broken { IfErr result (IsSinkFault (W.failures sink.old) (W.failures sink.new)) }
+    ensures counted { OnOk result (W.failures sink.new ≡ W.failures sink.old) }
+{
+    let mut line = Vec::new(alloc);
+    push_audit(&mut line, accepted)?;
+    write_text(sink, &line)
+}
+
+/// Writes the text of each reply in order, and the line of an audit with how many recordings were accepted.
+#[tactic(auto, using(crate::proofs::TextLaws::two_texts))]
+pub(crate) fn write_audited<W: Sink>(
+    alloc: Global,
+    sink: &mut W,
+    plan: &Plan,
+    replies: &[Reply],
+    accepted: u64,
+) -> Result<(), KitFault>
+    ensures ok { OnOk result (Appends (W.contents sink.old) (W.contents sink.new)
+        (replies_text plan.now replies.now ++ audited_text accepted)) }
+    ensures prefix { AppendsPrefix (W.contents sink.old) (W.contents sink.new)
+        (replies_text plan.now replies.now ++ audited_text accepted) }
+    ensures broken { IfErr result (IsSinkFault (W.failures sink.old) (W.failures sink.new)) }
+    ensures counted { OnOk result (W.failures sink.new ≡ W.failures sink.old) }
+{
+    write_replies(alloc, sink, plan, replies)?;
+    write_audit(alloc, sink, accepted)?;
+    Ok(())
 }
 
 // How replies are written under a plan.

@@ -2,8 +2,9 @@
 use crate::equal::assert_equal;
 use crate::inputs::{
     BUDGETED, HITS, MAIN, OUTPUT, Parts, READERS, READERS_OUTPUT, READERS_RUN, RUN, RUNS, SHOP,
-    SHOP_VIEWS,
+    SHOP_OUTPUT, SHOP_RUN, SHOP_VIEWS,
 };
+use metric_audit::AuditFault;
 use metric_command::{Line, LineFault};
 use metric_commands::{KitFault, run_line};
 use metric_io::{CutSink, CutSource};
@@ -13,9 +14,25 @@ use std::sync::Wait;
 use std::test::Fail;
 use std::thread::Threads;
 
-const TRIAL: Line = Line::Replay { trial: true };
+const TRIAL: Line = Line::Replay {
+    trial: true,
+    audit: false,
+};
 
-const REPLAY: Line = Line::Replay { trial: false };
+const REPLAY: Line = Line::Replay {
+    trial: false,
+    audit: false,
+};
+
+const AUDITED_TRIAL: Line = Line::Replay {
+    trial: true,
+    audit: true,
+};
+
+const AUDITED: Line = Line::Replay {
+    trial: false,
+    audit: true,
+};
 
 const FOUR_EACH: Line = Line::Threads { each: 4 };
 
@@ -256,6 +273,12 @@ const TOLD: &[(Line, Parts, &str)] = &[
         "refused: input line 16, 3",
     ),
     (REPLAY, &[HITS, MAIN, RUN], "refused: input line 19, 3"),
+    (AUDITED, &[HITS, MAIN, RUN], "refused: input line 19, 3"),
+    (
+        AUDITED_TRIAL,
+        &[HITS, MAIN, "%% script\nstart 0\nrec\nclose 0\n"],
+        "refused: input line 21, 3",
+    ),
     (
         REPLAY,
         &[HITS, MAIN, "%% certificate\n", RUN],
@@ -423,6 +446,35 @@ const DECLARED: &[(Parts, &str)] = &[
     ),
 ];
 
+// An audited replay, the parts of its input, the replies, and the line after them.
+const AUDITS: &[(Line, Parts, &str, &str)] = &[
+    (
+        AUDITED,
+        &[BUDGETED, READERS, CERTIFICATE, READERS_RUN],
+        READERS_OUTPUT,
+        "audited 2\n",
+    ),
+    (
+        AUDITED_TRIAL,
+        &[BUDGETED, READERS, READERS_RUN],
+        READERS_OUTPUT,
+        "audited 2\n",
+    ),
+    (AUDITED_TRIAL, SAMPLE, OUTPUT, "audited 2\n"),
+    (
+        AUDITED_TRIAL,
+        &[SHOP, SHOP_VIEWS, SHOP_RUN],
+        SHOP_OUTPUT,
+        "audited 8\n",
+    ),
+    (
+        AUDITED_TRIAL,
+        &[HITS, MAIN, "%% script\nstart 0\n"],
+        "",
+        "audited 0\n",
+    ),
+];
+
 // Writes the line that was told and the exit status, where the command was not done.
 fn write_stop(out: &mut String, told: &[u8], status: u8) -> Result<(), Fail> {
     match str::from_utf8(told)?.strip_suffix("\n") {
@@ -482,6 +534,15 @@ fn a_trial_writes_its_replies(rt: HostRuntime) -> Result<(), Fail> {
     for (parts, wanted) in RUNS {
         let told = told_whole(&rt, rt.alloc(), TRIAL, parts)?;
         assert_equal(&rt, told.as_str(), *wanted);
+    }
+    Ok(())
+}
+
+#[test]
+fn an_audit_ends_with_a_line(rt: HostRuntime) -> Result<(), Fail> {
+    for (line, parts, replies, last) in AUDITS {
+        let told = told_whole(&rt, rt.alloc(), *line, parts)?;
+        assert_equal(&rt, told.strip_suffix(*last), Some(*replies));
     }
     Ok(())
 }
@@ -581,6 +642,8 @@ fn a_reader_that_fails_writes_nothing(rt: HostRuntime) -> Result<(), Fail> {
     for line in [
         TRIAL,
         REPLAY,
+        AUDITED_TRIAL,
+        AUDITED,
         Line::Check,
         Line::Make,
         Line::Show,
@@ -594,6 +657,14 @@ fn a_reader_that_fails_writes_nothing(rt: HostRuntime) -> Result<(), Fail> {
 // Faults that no input of these tests brings about, each with its line and its status.
 const STOPS: &[(KitFault, &str)] = &[
     (KitFault::Memory, "refused: memory, 4"),
+    (
+        KitFault::Audit(AuditFault::Slips { recorder: 3 }),
+        "refused: audit 1 Slips of recorder 3, 1",
+    ),
+    (
+        KitFault::Audit(AuditFault::Batch { at: 1 }),
+        "refused: audit 2 Batch at 1, 1",
+    ),
     (
         KitFault::Finish(FinishFault::RecorderMissing),
         "refused: finish 1 RecorderMissing, 1",

@@ -227,7 +227,7 @@ stream_name = 'waits'
 aggregation = 'sum'
 ";
 
-const SHOP_RUN: &str = "%% script
+pub(crate) const SHOP_RUN: &str = "%% script
 start 5
 record 0 0 6 \"paid\"=true \"route\"=\"/a\"
 record 0 0 0 \"user\"=7 \"route\"=\"/b\"
@@ -243,7 +243,7 @@ collect 0 2 20
 collect 0 3 20
 ";
 
-const SHOP_OUTPUT: &str = "accepted
+pub(crate) const SHOP_OUTPUT: &str = "accepted
 accepted
 accepted
 accepted

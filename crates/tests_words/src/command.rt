@@ -2,9 +2,25 @@
 use crate::equal::assert_equal;
 use metric_command::{Line, LineFault, command_of, lines_are_taken, others_are_refused};
 
-const TRIAL: Result<Line, LineFault> = Ok(Line::Replay { trial: true });
+const TRIAL: Result<Line, LineFault> = Ok(Line::Replay {
+    trial: true,
+    audit: false,
+});
 
-const REPLAY: Result<Line, LineFault> = Ok(Line::Replay { trial: false });
+const REPLAY: Result<Line, LineFault> = Ok(Line::Replay {
+    trial: false,
+    audit: false,
+});
+
+const AUDITED: Result<Line, LineFault> = Ok(Line::Replay {
+    trial: false,
+    audit: true,
+});
+
+const AUDITED_TRIAL: Result<Line, LineFault> = Ok(Line::Replay {
+    trial: true,
+    audit: true,
+});
 
 const SHOW: Result<Line, LineFault> = Ok(Line::Show);
 
@@ -24,6 +40,15 @@ const LINES: &[(&[&str], Result<Line, LineFault>)] = &[
     (&["metric_kit", "replay"], REPLAY),
     (&["metric_kit", "replay", "--trial"], TRIAL),
     (&["./kit", "replay", "--trial"], TRIAL),
+    (&["metric_kit", "replay", "--audit"], AUDITED),
+    (
+        &["metric_kit", "replay", "--trial", "--audit"],
+        AUDITED_TRIAL,
+    ),
+    (
+        &["metric_kit", "replay", "--audit", "--trial"],
+        AUDITED_TRIAL,
+    ),
     (&["metric_kit", "--"], TRIAL),
     (&["metric_kit", "replay", "--"], REPLAY),
     (&["metric_kit", "threads", "--each", "0"], NONE_EACH),
@@ -51,6 +76,10 @@ const LINES: &[(&[&str], Result<Line, LineFault>)] = &[
     (&["metric_kit", "show", "replay"], MISUSE),
     (&["metric_kit", "replay", "--trial", "--trial"], MISUSE),
     (&["metric_kit", "replay", "--trial=true"], MISUSE),
+    (&["metric_kit", "replay", "--audit", "--audit"], MISUSE),
+    (&["metric_kit", "replay", "--audit=true"], MISUSE),
+    (&["metric_kit", "--audit"], MISUSE),
+    (&["metric_kit", "check", "--audit"], MISUSE),
     (&["metric_kit", "replay", "--tria"], MISUSE),
     (&["metric_kit", "replay", "-t"], MISUSE),
     (&["metric_kit", "replay", "trial"], MISUSE),

@@ -38,3 +38,15 @@ returns-clause-some_each c = λ name. (refl, refl)
 pub returns-clause-most_each : goal.returns-clause-most_each
 unfolding clap_on_literals
 returns-clause-most_each c = λ name. (refl, refl)
+
+pub returns-clause-audit : goal.returns-clause-audit
+unfolding clap_on_literals
+returns-clause-audit c = λ name. (refl, refl)
+
+pub returns-clause-both : goal.returns-clause-both
+unfolding clap_on_literals
+returns-clause-both c = λ name. (refl, refl)
+
+pub returns-clause-turned : goal.returns-clause-turned
+unfolding clap_on_literals
+returns-clause-turned c = λ name. (refl, refl)

@@ -58,3 +58,11 @@ returns-clause-above c = λ name. some_fault _ _
 pub returns-clause-below : goal.returns-clause-below
 unfolding clap_on_literals
 returns-clause-below c = λ name. some_fault _ _
+
+pub returns-clause-audit_twice : goal.returns-clause-audit_twice
+unfolding clap_on_literals
+returns-clause-audit_twice c = λ name. some_fault _ _
+
+pub returns-clause-audit_of_other : goal.returns-clause-audit_of_other
+unfolding clap_on_literals
+returns-clause-audit_of_other c = λ name. some_fault _ _
