@@ -204,7 +204,8 @@ uint32_t wormweekly_collect(wormweekly_instrument *instrument, wormweekly_reader
 uint32_t wormweekly_text(wormweekly_reader *reader, uint8_t *out, size_t room, size_t *text_length);
 
 /* THE BATCH POINT BY POINT, for a host that writes a format of its own. Streams, points and keys are numbered from 0, the
- * streams within the batch. WORMWEEKLY_UNKNOWN says that there is none of a number. None needs a mutex. */
+ * streams within the batch. WORMWEEKLY_UNKNOWN says that there is none of a number. Where there is too little room for a text,
+ * its length is written all the same. None needs a mutex. */
 
 uint32_t wormweekly_batch(wormweekly_reader *reader, wormweekly_batch_out *batch);
 uint32_t wormweekly_stream(wormweekly_reader *reader, size_t stream, wormweekly_stream_out *out);

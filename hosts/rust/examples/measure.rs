@@ -55,7 +55,7 @@ fn catalogue() -> String {
     let mut text = String::from("format = 1\n[[meter]]\nname = 'measured'\n");
     for number in 0..THREADS {
         text += &format!(
-            "[[meter.instrument]]\nname = 'requests {number}'\nkind = 'counter'\nrange = [0, 100]\nkey = [{}]\n",
+            "[[meter.instrument]]\nname = 'requests_{number}'\nkind = 'counter'\nrange = [0, 100]\nkey = [{}]\n",
             keys.join(", ")
         );
     }
