@@ -1,6 +1,7 @@
 //! How texts are judged as certificates.
 use crate::certificates::samples::{
-    CRITERIA, FOUR_KINDS, FULL, NO_INSTRUMENTS, NOTHING, SELDOM, Sample, TWO_COUNTERS, TWO_READERS, WIDE_GAUGE,
+    CRITERIA, FOUR_KINDS, FULL, NO_INSTRUMENTS, NOTHING, SELDOM, Sample, TWO_COUNTERS, TWO_READERS,
+    WIDE_GAUGE,
 };
 use crate::declared::{Declared, read_both};
 use crate::equal::assert_equal;

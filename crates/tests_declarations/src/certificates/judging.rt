@@ -1,7 +1,7 @@
 //! Certificates that are altered in one place: each is accepted exactly where it is valid all the same.
 use crate::certificates::altering::altered;
-use crate::certificates::plain::is_valid;
 use crate::certificates::made::made;
+use crate::certificates::plain::is_valid;
 use crate::certificates::samples::{FOUR_KINDS, NO_INSTRUMENTS, Sample, TWO_COUNTERS, TWO_READERS};
 use crate::declared::{Declared, read_both};
 use crate::equal::assert_equal;

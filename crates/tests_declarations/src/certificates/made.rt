@@ -1,8 +1,9 @@
 //! What is made for a catalogue and a config.
-use crate::certificates::samples::{
-    CRITERIA, FOUR_KINDS, FULL, NO_INSTRUMENTS, NOTHING, PLAIN, SELDOM, Sample, TWO_COUNTERS, TWO_READERS, WIDE_GAUGE,
-};
 use crate::certificates::printed::rewritten;
+use crate::certificates::samples::{
+    CRITERIA, FOUR_KINDS, FULL, NO_INSTRUMENTS, NOTHING, PLAIN, SELDOM, Sample, TWO_COUNTERS,
+    TWO_READERS, WIDE_GAUGE,
+};
 use crate::declared::{Declared, read_both};
 use crate::equal::assert_equal;
 use metric_cert::make;
