@@ -21,6 +21,7 @@ use crate::settlements::{TotalOut, wormweekly_settle};
 use crate::warnings::wormweekly_warnings;
 use metric_hosted::Prepared;
 use std::alloc::Global;
+use std::slice::from_mut;
 
 const CATALOGUE: &str = "format = 1
 [[meter]]
@@ -110,16 +111,16 @@ const NOTHING: Prepared = Prepared {
 // What is opened, with what the opening answered.
 #[derive(Drop)]
 struct Opened {
-    instruments: [InstrumentHandle; 1],
-    recorders: [RecorderHandle; 1],
-    readers: [ReaderHandle; 1],
+    instrument: InstrumentHandle,
+    recorder: RecorderHandle,
+    reader: ReaderHandle,
     answer: u32,
 }
 
 fn open_shop(alloc: Global, catalogue: &[u8], config: &[u8]) -> Opened {
-    let mut instruments = [InstrumentHandle::empty(alloc)];
-    let mut recorders = [RecorderHandle::empty(alloc)];
-    let mut readers = [ReaderHandle::empty(alloc)];
+    let mut instrument = InstrumentHandle::empty(alloc);
+    let mut recorder = RecorderHandle::empty(alloc);
+    let mut reader = ReaderHandle::empty(alloc);
     let mut counts = NO_COUNTS;
     let mut fault = [0u8; 4];
     let mut fault_length = 0;
@@ -129,26 +130,26 @@ fn open_shop(alloc: Global, catalogue: &[u8], config: &[u8]) -> Opened {
         config,
         0,
         1,
-        &mut instruments,
-        &mut recorders,
-        &mut readers,
+        from_mut(&mut instrument),
+        from_mut(&mut recorder),
+        from_mut(&mut reader),
         &mut counts,
         &mut fault,
         &mut fault_length,
     );
     Opened {
-        instruments,
-        recorders,
-        readers,
+        instrument,
+        recorder,
+        reader,
         answer,
     }
 }
 
 // The same with a certificate, without handles that are kept.
 fn certified(alloc: Global, certificate: &[u8]) -> u32 {
-    let mut instruments = [InstrumentHandle::empty(alloc)];
-    let mut recorders = [RecorderHandle::empty(alloc)];
-    let mut readers = [ReaderHandle::empty(alloc)];
+    let mut instrument = InstrumentHandle::empty(alloc);
+    let mut recorder = RecorderHandle::empty(alloc);
+    let mut reader = ReaderHandle::empty(alloc);
     let mut counts = NO_COUNTS;
     let mut fault = [0u8; 4];
     let mut fault_length = 0;
@@ -159,9 +160,9 @@ fn certified(alloc: Global, certificate: &[u8]) -> u32 {
         certificate,
         0,
         2,
-        &mut instruments,
-        &mut recorders,
-        &mut readers,
+        from_mut(&mut instrument),
+        from_mut(&mut recorder),
+        from_mut(&mut reader),
         &mut counts,
         &mut fault,
         &mut fault_length,
@@ -170,8 +171,8 @@ fn certified(alloc: Global, certificate: &[u8]) -> u32 {
 
 // What opening answers without a handle for the recorder, and how many of each there are to be.
 fn counted(alloc: Global) -> (u32, [usize; 3]) {
-    let mut instruments = [InstrumentHandle::empty(alloc)];
-    let mut readers = [ReaderHandle::empty(alloc)];
+    let mut instrument = InstrumentHandle::empty(alloc);
+    let mut reader = ReaderHandle::empty(alloc);
     let mut counts = NO_COUNTS;
     let mut fault_length = 0;
     let answer = wormweekly_open(
@@ -180,9 +181,9 @@ fn counted(alloc: Global) -> (u32, [usize; 3]) {
         CONFIG.as_bytes(),
         0,
         3,
-        &mut instruments,
+        from_mut(&mut instrument),
         &mut [],
-        &mut readers,
+        from_mut(&mut reader),
         &mut counts,
         &mut [],
         &mut fault_length,
@@ -276,16 +277,16 @@ fn written(alloc: Global, to: &mut ReaderHandle, stream: usize) -> [u32; 6] {
     ]
 }
 
-fn settled(alloc: Global, on: &mut InstrumentHandle, by: &mut [RecorderHandle]) -> (u32, TotalOut) {
+fn settled(alloc: Global, on: &mut InstrumentHandle, by: &mut RecorderHandle) -> (u32, TotalOut) {
     let mut total = NO_TOTAL;
-    let answer = wormweekly_settle(alloc, on, by, &mut total);
+    let answer = wormweekly_settle(alloc, on, from_mut(by), &mut total);
     (answer, total)
 }
 
 fn freed(alloc: Global, all: &mut Opened) {
-    wormweekly_free_instrument(alloc, &mut all.instruments[0]);
-    wormweekly_free_recorder(alloc, &mut all.recorders[0]);
-    wormweekly_free_reader(alloc, &mut all.readers[0]);
+    wormweekly_free_instrument(alloc, &mut all.instrument);
+    wormweekly_free_recorder(alloc, &mut all.recorder);
+    wormweekly_free_reader(alloc, &mut all.reader);
 }
 
 #[test]
@@ -293,22 +294,22 @@ fn calls_are_answered(rt: HostRuntime) {
     let alloc = rt.alloc();
     let mut all = open_shop(alloc, CATALOGUE.as_bytes(), CONFIG.as_bytes());
     assert_eq!(rt; all.answer, 0);
-    let answers = recorded(alloc, &mut all.instruments[0], &mut all.recorders[0]);
+    let answers = recorded(alloc, &mut all.instrument, &mut all.recorder);
     assert_eq!(rt; answers, [0, 101, 101, 0, 0, 0, 2]);
     let answers = ended(
         alloc,
-        &mut all.instruments[0],
-        &mut all.recorders[0],
-        &mut all.readers[0],
+        &mut all.instrument,
+        &mut all.recorder,
+        &mut all.reader,
     );
     assert_eq!(rt; answers, [0, 102, 102, 106, 0, 8]);
-    let answers = told(alloc, &mut all.recorders[0], &mut all.readers[0]);
+    let answers = told(alloc, &mut all.recorder, &mut all.reader);
     assert_eq!(rt; answers, [(0, 4), (0, 273), (0, 0)]);
-    let reader = &mut all.readers[0];
+    let reader = &mut all.reader;
     assert_eq!(rt; walked(alloc, reader, 0), ([0, 0, 0], [1, 1, 2, 2, -150]));
     assert_eq!(rt; walked(alloc, reader, 1), ([0, 106, 106], [1, 0, 0, 0, 0]));
     assert_eq!(rt; written(alloc, reader, 0), [0, 102, 0, 106, 0, 0]);
-    let (answer, total) = settled(alloc, &mut all.instruments[0], &mut all.recorders);
+    let (answer, total) = settled(alloc, &mut all.instrument, &mut all.recorder);
     assert_eq!(rt;
         (answer, total.count, total.negative, total.low),
         (0, 4, 1, 145)
@@ -321,24 +322,24 @@ fn null_is_an_answer(rt: HostRuntime) {
     let mut all = open_shop(alloc, CATALOGUE.as_bytes(), CONFIG.as_bytes());
     freed(alloc, &mut all);
     freed(alloc, &mut all);
-    let answers = recorded(alloc, &mut all.instruments[0], &mut all.recorders[0]);
+    let answers = recorded(alloc, &mut all.instrument, &mut all.recorder);
     assert_eq!(rt; answers, [100, 100, 100, 100, 100, 100, 0]);
     let answers = ended(
         alloc,
-        &mut all.instruments[0],
-        &mut all.recorders[0],
-        &mut all.readers[0],
+        &mut all.instrument,
+        &mut all.recorder,
+        &mut all.reader,
     );
     assert_eq!(rt; answers, [100, 100, 100, 100, 100, 100]);
-    let answers = told(alloc, &mut all.recorders[0], &mut all.readers[0]);
+    let answers = told(alloc, &mut all.recorder, &mut all.reader);
     assert_eq!(rt; answers, [(100, 0), (100, 0), (100, 0)]);
-    let reader = &mut all.readers[0];
+    let reader = &mut all.reader;
     assert_eq!(rt;
         walked(alloc, reader, 0),
         ([100, 100, 100], [0, 0, 0, 0, 0])
     );
     assert_eq!(rt; written(alloc, reader, 0), [100, 100, 100, 100, 100, 100]);
-    let (answer, total) = settled(alloc, &mut all.instruments[0], &mut all.recorders);
+    let (answer, total) = settled(alloc, &mut all.instrument, &mut all.recorder);
     assert_eq!(rt; (answer, total.count), (100, 0));
 }
 
