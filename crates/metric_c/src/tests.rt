@@ -242,7 +242,7 @@ fn told(alloc: Global, by: &mut RecorderHandle, to: &mut ReaderHandle) -> [(u32,
 }
 
 // What the calls that walk a batch answer of a stream, and what they find of its last point.
-fn walked(alloc: Global, to: &mut ReaderHandle, stream: usize) -> ([u32; 3], [i64; 5]) {
+fn walked(alloc: Global, to: &mut ReaderHandle, stream: usize) -> ([u32; 3], [u64; 4], i64) {
     let mut batch = NO_BATCH;
     let mut of = NO_STREAM;
     let mut point = NO_POINT;
@@ -251,14 +251,8 @@ fn walked(alloc: Global, to: &mut ReaderHandle, stream: usize) -> ([u32; 3], [i6
         wormweekly_stream(alloc, to, stream, &mut of),
         wormweekly_point(alloc, to, stream, 1, &mut point),
     ];
-    let found = [
-        batch.streams as i64,
-        of.kind as i64,
-        of.points as i64,
-        i64::from(point.set[0]),
-        point.value,
-    ];
-    (answers, found)
+    let found = [batch.streams, of.kind, of.points, u64::from(point.set[0])];
+    (answers, found, point.value)
 }
 
 // What the calls that write texts and lists of it answer.
@@ -306,8 +300,8 @@ fn calls_are_answered(rt: HostRuntime) {
     let answers = told(alloc, &mut all.recorder, &mut all.reader);
     assert_eq!(rt; answers, [(0, 4), (0, 273), (0, 0)]);
     let reader = &mut all.reader;
-    assert_eq!(rt; walked(alloc, reader, 0), ([0, 0, 0], [1, 1, 2, 2, -150]));
-    assert_eq!(rt; walked(alloc, reader, 1), ([0, 106, 106], [1, 0, 0, 0, 0]));
+    assert_eq!(rt; walked(alloc, reader, 0), ([0, 0, 0], [1, 1, 2, 2], -150));
+    assert_eq!(rt; walked(alloc, reader, 1), ([0, 106, 106], [1, 0, 0, 0], 0));
     assert_eq!(rt; written(alloc, reader, 0), [0, 102, 0, 106, 0, 0]);
     let (answer, total) = settled(alloc, &mut all.instrument, &mut all.recorder);
     assert_eq!(rt;
@@ -336,7 +330,7 @@ fn null_is_an_answer(rt: HostRuntime) {
     let reader = &mut all.reader;
     assert_eq!(rt;
         walked(alloc, reader, 0),
-        ([100, 100, 100], [0, 0, 0, 0, 0])
+        ([100, 100, 100], [0, 0, 0, 0], 0)
     );
     assert_eq!(rt; written(alloc, reader, 0), [100, 100, 100, 100, 100, 100]);
     let (answer, total) = settled(alloc, &mut all.instrument, &mut all.recorder);
