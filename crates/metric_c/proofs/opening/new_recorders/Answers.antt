@@ -1,5 +1,5 @@
 -- one seat more
-use Rattle.std.proofs.Common.{rules, ◌≡◌, ◌++◌, [], ◌∷◌, List, Option, Some, length, map, sym, ap, ◌∙◌, arith}
+use Rattle.std.proofs.Common.{rules, false, ◌≡◌, ◌++◌, [], ◌∷◌, List, Option, Some, length, map, sym, ap, ◌∙◌, arith}
 use Rattle.std.specs.List.{range_with_len}
 use Rattle.std.proofs.lemmas.List.{map-append}
 use Rattle.std.proofs.lemmas.List.FromFn.{map-range_with_len_more}
