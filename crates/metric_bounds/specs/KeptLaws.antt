@@ -1,8 +1,9 @@
 -- Each stream of a config says of each key of its instrument whether it is kept.
-use Rattle.std.proofs.Common.{◌≡◌, ℕ, zero, Bool, true, false, All, List, length, Option, Some, None, Contains, sym, ap, ◌∙◌}
+use Rattle.std.proofs.Common.{◌≡◌, ℕ, zero, Bool, true, false, List, length, Option, Some, None, Contains, sym, ap, subst, ◌∙◌}
 use Rattle.std.specs.Prelude.{slice_get}
 use Rattle.std.proofs.lemmas.List.{length-map}
-use Rattle.std.proofs.lemmas.List.Elements.{All-contains_itself, All-weaker}
+use Rattle.std.proofs.lemmas.List.Elements.{Contains-get_or}
+use Rattle.std.proofs.lemmas.Option.{get_or_from_slice_get, slice_get_within}
 use Rattle.metric_catalogue.specs.declared.contents.Contents.{Contents}
 use Rattle.metric_catalogue.specs.declared.contents.Instrument.{Instrument}
 use Rattle.metric_views.specs.Choices.{is_unfit}
@@ -50,7 +51,10 @@ own_flags contents config s own = by (slice_get config.readers s.reader) (slice_
         filled : Some (fill_by s.reader r (template_of s.instrument j s.view settings)) ≡ Some (Kept s) → fill_by s.reader r (template_of s.instrument j s.view settings) ≡ Kept s
         filled e = cc
 
-pub all_flags : (contents : Contents) (config : Config) → All (FlagsKeys contents) (streams_of contents config)
-all_flags contents config =
-    All-weaker (Contains (streams_of contents config)) (FlagsKeys contents) (λ s there. own_flags contents config s ((streams_exact contents config s).0 there))
-    (streams_of contents config) (All-contains_itself (streams_of contents config))
+-- and so does the one at a place
+pub flags_at : (contents : Contents) (config : Config) (k : ℕ) (s : Stream) (i : Instrument) → slice_get (streams_of contents config) k ≡ Some s
+    → slice_get contents.instruments s.instrument ≡ Some i → length s.kept ≡ length i.keys
+flags_at contents config k s i at found =
+    let streams = streams_of contents config in
+    let there : Contains streams s = subst (Contains streams) (get_or_from_slice_get streams k s s at) (Contains-get_or streams k s (slice_get_within streams k s at)) in
+    subst (FlagsEach s) found (own_flags contents config s ((streams_exact contents config s).0 there))

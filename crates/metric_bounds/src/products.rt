@@ -1,8 +1,8 @@
 //! How many distinct sets of attributes a stream may see.
 ghost use Rattle.std.specs.Prelude.{◌≡◌, ◌≤◌, ◌^◌, ◌<◌, length, IfOk};
-ghost use Rattle.std.specs.Option.{option_copied, option_map};
+ghost use Rattle.std.specs.Option.{option_map};
 ghost use Rattle.metric_combinations.specs.Restrictions.{restrictions};
-ghost use Rattle.metric_bounds.specs.Sets.{FlagsKeys, factor_of, listed_of, product_of, product_over, product_within, sets_of};
+ghost use Rattle.metric_bounds.specs.Sets.{FlagsKeys, factor_of, listed_of, product_of, product_over, sets_of};
 
 use metric_base::Items;
 use metric_catalogue::{Catalogue, Instrument, Key, SetKey};
@@ -14,20 +14,21 @@ use std::alloc::{AllocError, Global};
 ///
 /// A stream that says of each key whether it is kept, as those of a config do, sees no more sets than that, whichever
 /// combinations its instrument lists.
-#[tactic(auto, unfolding(crate::specs::Sets::product_of))]
 pub fn product(catalogue: &Catalogue, stream: &Stream) -> u128
     ensures product { result ≡ product_of catalogue.now stream.now }
     ensures most { FlagsKeys catalogue.now stream.now
         → sets_of catalogue.now stream.now ≤ result }
 {
-    let instruments = catalogue.instruments();
-    product_within(stream, instruments.get(stream.instrument as usize))
+    // That lists of combinations only take away rests on what each catalogue keeps.
+    let _ = catalogue.instruments();
+    product_of(catalogue, stream)
 }
 
-fn product_within(stream: &Stream, instrument: Option<&Instrument>) -> u128
-    ensures { result ≡ product_within stream.now (option_copied instrument.entry) }
+#[tactic(auto, unfolding(crate::specs::Sets::product_of))]
+fn product_of(catalogue: &Catalogue, stream: &Stream) -> u128
+    ensures { result ≡ product_of catalogue.now stream.now }
 {
-    match instrument {
+    match catalogue.instruments().get(stream.instrument as usize) {
         Some(instrument) => product_over(stream.kept.get().as_slice(), instrument.keys.as_slice()),
         None => 1,
     }
