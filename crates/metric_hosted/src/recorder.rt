@@ -11,13 +11,12 @@ ghost use Rattle.metric_provider.specs.Recordings.{admitted, told_at};
 ghost use Rattle.metric_provider.specs.Seats.{is_recorder_of, new_recorder, provider_of};
 
 use crate::instrument::Hosted;
-use crate::keys::{declared_key, declared_set};
 use crate::settling::SeatTold;
 use metric_catalogue::{Attr, Refusal, SetKey};
 use metric_facts::laws::attributes_name_full_sets;
 use metric_facts::same_facts;
 use metric_plan::Plan;
-use metric_provider::FinishFault;
+use metric_provider::{FinishFault, declared_key, declared_set};
 use metric_slot::Told;
 use std::alloc::{AllocError, Global};
 use std::marker::Model;

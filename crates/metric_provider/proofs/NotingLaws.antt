@@ -269,9 +269,3 @@ still_long plan seat noted later i more made long is told =
     let same : later.slips ≡ slice_set seat.slips i (slips_at seat i ++ more) =
     ap (λ (s : RecorderValue). s.slips) told ∙ slips_stay plan noted i made ∙ ap (λ (s : RecorderValue). s.slips) is in
     omega (arith, long, ap (λ (all : List (List Slip)). length all) same, length-set seat.slips i (slips_at seat i ++ more))
-
-pub still_long_one : (seat noted later : RecorderValue) (i : ℕ) (more : List Slip) → i < length seat.slips → noted ≡ with_slips true seat i more
-    → later ≡ noted → i < length later.slips
-still_long_one seat noted later i more long is same =
-    let slips : later.slips ≡ slice_set seat.slips i (slips_at seat i ++ more) = ap (λ (s : RecorderValue). s.slips) (same ∙ is) in
-    omega (arith, long, ap (λ (all : List (List Slip)). length all) slips, length-set seat.slips i (slips_at seat i ++ more))

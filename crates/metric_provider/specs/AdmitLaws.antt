@@ -15,7 +15,7 @@ use Rattle.metric_provider.specs.KeyRecordings.{declared_key}
 use Rattle.metric_provider.specs.Providers.{KnowsRecording}
 use Rattle.metric_provider.specs.Recordings.{declared_set}
 use Rattle.metric_provider.specs.Seats.{ProviderValue, RecorderValue, is_recorder_of}
-use Rattle.metric_provider.proofs.PlanFacts.{full_at}
+use Rattle.metric_provider.specs.PlanFacts.{full_at}
 
 -- what a declared recording is known to be
 pub record IsDeclared (plan : PlanValue) (instrument : ℕ) (set : List ℕ) (value : ℤ) : Type 0 where

@@ -16,13 +16,18 @@ use Rattle.metric_provider.specs.Providers.{KnowsRecording}
 use Rattle.metric_provider.specs.Recordings.{AnswersSeat, RefusesRecording, with_recording, with_slips}
 use Rattle.metric_provider.specs.Seats.{ProviderValue, RecorderValue, is_recorder_of}
 
--- the set key of a recording that the plan declares, if it is a full set of the instrument's keys, or the first refusal
-abbrev pub declared_key : PlanValue → ℕ → List ℕ → ℤ → Result (List ℕ) Refusal
-declared_key plan instrument set value =
-    require_some (slice_get plan.facts.instruments instrument) UnknownInstrument >>= λ own.
+-- the set key of a recording that an instrument with these facts declares, if it is a full set of its keys, or the first refusal
+abbrev pub key_of : Facts → List ℕ → ℤ → Result (List ℕ) Refusal
+key_of own set value =
     require (is_full_set own.keys set) UnknownValue >>= λ _.
     require (in_bounds own value) ValueRange >>= λ _.
     Ok set
+
+-- the same of an instrument of the plan
+abbrev pub declared_key : PlanValue → ℕ → List ℕ → ℤ → Result (List ℕ) Refusal
+declared_key plan instrument set value =
+    require_some (slice_get plan.facts.instruments instrument) UnknownInstrument >>= λ own.
+    key_of own set value
 
 -- the set key of a recording that a seat may make of a provider, or the first refusal
 abbrev pub admitted_key : ProviderValue → RecorderValue → ℕ → List ℕ → ℤ → Result (List ℕ) Refusal

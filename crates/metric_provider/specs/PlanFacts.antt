@@ -1,6 +1,7 @@
 -- What a plan keeps of the facts of one instrument.
-use Rattle.std.proofs.Common.{◌≡◌, ℕ, true, List, Option, Some, Ok, length, sym, ap, ◌∙◌}
-use Rattle.std.specs.Prelude.{slice_get}
+use Rattle.std.proofs.Common.{◌≡◌, ◌<◌, ℕ, true, ◌&&◌, List, Option, Some, Ok, length, sym, ap, ◌∙◌}
+use Rattle.std.specs.Prelude.{slice_get, ◌==◌, nat_lt}
+use Rattle.std.proofs.lemmas.Bool.{and_parts, ltb-true}
 use Rattle.std.proofs.lemmas.List.{length-map}
 use Rattle.metric_base.specs.Steps.{◌>>=◌, require_some}
 use Rattle.metric_catalogue.specs.Budgets.{amount_of}
@@ -12,6 +13,7 @@ use Rattle.metric_facts.specs.declared.facts.Facts.{Facts}
 use Rattle.metric_facts.specs.Facts.{EncodesFullSets, is_delta_reader, is_full_set}
 use Rattle.metric_plan.specs.PlanFacts.{plan_facts_at}
 use Rattle.metric_plan.specs.Plans.{IsPlan, PlanValue}
+use Rattle.metric_provider.specs.Seats.{CollectorValue, ProviderValue, is_collector_of}
 
 -- there is a budget for each recorder
 pub budgets_each : (plan : PlanValue) (i : ℕ) (own : Facts) → IsPlan plan → slice_get plan.facts.instruments i ≡ Some own → length own.budgets ≡ length plan.facts.contents.recorders
@@ -34,3 +36,11 @@ full_at plan i own attrs set p full found made =
     let named : set_of of.instrument.keys attrs ≡ Ok set =
     sym (ap (λ (o : Option Instrument). require_some o UnknownInstrument >>= λ d. set_of d.keys attrs) of.at) ∙ made in
     ap (λ (f : Facts). is_full_set f.keys set) of.is ∙ full of.instrument.keys attrs set named
+
+-- the seat of a provider is of one of its readers
+pub reader_known : (p : ProviderValue) (seat : CollectorValue) → is_collector_of p seat ≡ true → seat.number < length p.plan.config.readers
+reader_known p seat of =
+    let readers = length p.plan.config.readers in
+    let long = length seat.seen == length p.plan.facts.instruments in
+    let parts = and_parts (nat_lt seat.number readers) long ((and_parts (seat.run == p.run) (nat_lt seat.number readers && long) of).1) in
+    ltb-true seat.number readers parts.0

@@ -3,12 +3,13 @@ ghost use Rattle.std.specs.Prelude.{◌≡◌, ◌<◌, ◌-◌, Bool, true, Som
 ghost use Rattle.metric_catalogue.specs.Attributes.{given_by};
 ghost use Rattle.metric_provider.specs.KeyRecordings.{AreAccepted, AreAdmitted, IsRefusedAfter, IsUnadmittedAfter, admitted_key, noted_of_all, slip_of_one, told_of_all};
 ghost use Rattle.metric_provider.specs.Providers.{KnowsRecording};
-ghost use Rattle.metric_provider.specs.Recordings.{AnswersSeat, IsToldOf, RefusesSlip, SeatSpares, admitted, declared_set, told_at, with_recording, with_slips};
+ghost use Rattle.metric_provider.specs.Recordings.{AnswersSeat, IsToldOf, RefusesSlip, SeatSpares, admitted, told_at, with_recording, with_slips};
 ghost use Rattle.metric_provider.specs.Seats.{is_recorder_of, new_recorder, provider_of, slips_at};
 
+use crate::admission::{declared_key, declared_set, key_of};
 use crate::fault::SetsFault;
 use crate::gate::Gate;
-use crate::keys::{Measurement, declared_key, recording_of};
+use crate::keys::{Measurement, recording_of};
 use crate::notes::{Notes, no_notes};
 use crate::provider::Provider;
 use metric_book::{Book, Slip};
@@ -488,32 +489,28 @@ impl Recorder {
         ensures refused { let p = provider_of plan.now run in
             IfErr result (IsUnadmittedAfter p self.now instrument all.now) }
     {
+        if all.is_empty() {
+            return Ok(());
+        }
+        if !self.is_of(plan, run) {
+            return Err(SetsFault {
+                place: 0,
+                refusal: Refusal::Stranger,
+            });
+        }
+        if instrument as usize >= plan.all_facts().len() {
+            return Err(SetsFault {
+                place: 0,
+                refusal: Refusal::UnknownInstrument,
+            });
+        }
+        let facts = plan.facts(instrument);
         for (place, one) in all.iter().enumerate() {
-            match self.admit_key(plan, run, instrument, one.set, &one.value) {
+            match key_of(facts, one.set, &one.value) {
                 Ok(_) => {}
                 Err(refusal) => return Err(SetsFault { place, refusal }),
             }
         }
         Ok(())
     }
-}
-
-// The set key of a recording that the plan declares, or the first refusal.
-fn declared_set(
-    plan: &Plan,
-    instrument: u32,
-    attrs: &[Attr<'_>],
-    value: &i64,
-) -> Result<SetKey, Refusal>
-    ensures { let given = map given_by attrs.now in
-        result ≡ declared_set plan.now instrument given value.now }
-{
-    if instrument as usize >= plan.all_facts().len() {
-        return Err(Refusal::UnknownInstrument);
-    }
-    let set = plan.catalogue().encode(instrument, attrs)?;
-    if !plan.facts(instrument).admits(value) {
-        return Err(Refusal::ValueRange);
-    }
-    Ok(set)
 }

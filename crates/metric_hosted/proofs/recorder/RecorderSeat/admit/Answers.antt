@@ -2,7 +2,7 @@
 use Rattle.std.proofs.Common.{map, sym, ◌∙◌}
 use Rattle.metric_catalogue.specs.Attributes.{given_by}
 use Rattle.metric_provider.specs.Seats.{provider_of}
-use Rattle.metric_hosted.proofs.AdmitLaws.{knows_of, long_of}
+use Rattle.metric_provider.specs.AdmitLaws.{knows_of, long_of}
 use Rattle.metric_hosted.proofs.recorder.RecorderSeat.admit.Goals as goal
 
 pub returns-clause-known : goal.returns-clause-known
