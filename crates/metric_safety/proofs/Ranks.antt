@@ -9,7 +9,7 @@ use Rattle.metric_facts.specs.declared.facts.KeyFacts.{KeyFacts}
 use Rattle.metric_facts.specs.Facts.{is_entry, is_full_set}
 use Rattle.metric_facts.specs.Products.{product_of}
 use Rattle.metric_facts.specs.Ranks.{digit_if, rank, rank_below}
-use Rattle.metric_history.specs.Series.{restricted}
+use Rattle.metric_combinations.specs.Restrictions.{restricted}
 
 -- zeros of one length are one list
 zeros_same : (xs ys : List ℕ) → list_all (λ entry. entry == 0) xs ≡ true → list_all (λ entry. entry == 0) ys ≡ true → length xs ≡ length ys → xs ≡ ys

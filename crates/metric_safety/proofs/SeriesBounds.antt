@@ -11,7 +11,8 @@ use Rattle.std.proofs.lemmas.List.Sums.{length-filter, count_by-le-length}
 use Rattle.std.proofs.lemmas.Map.Steps.{length-le_from_distinct_below}
 use Rattle.metric_facts.specs.declared.facts.KeyFacts.{KeyFacts}
 use Rattle.metric_facts.specs.Facts.{is_full_set}
-use Rattle.metric_history.specs.Series.{restricted, distinct, others}
+use Rattle.metric_combinations.specs.Restrictions.{restricted}
+use Rattle.metric_history.specs.Series.{distinct, others}
 use Rattle.metric_history.specs.SeriesLaws.{key_is_same, distinct-cons}
 use Rattle.metric_facts.specs.Products.{product_of}
 use Rattle.metric_facts.specs.Ranks.{digit_if, rank, rank_below}
