@@ -2,12 +2,14 @@
 use Rattle.std.proofs.Common.{◌≡◌, ℕ, ◌+◌, ◌^◌, ◌<◌, ◌≤◌, min, pos, ◌≤ℤ◌, ◌<ℤ◌, Bool, true, false, List, length, map, All, Contains, Option, Some, None, refl, sym, ap, subst, ◌∙◌, arith}
 use Rattle.std.specs.Prelude.{sum, sum_by, slice_get, ◌==◌, ◌↔◌, IsTrue, FitsSigned}
 use Rattle.std.specs.Int.{w64}
+use Rattle.std.specs.Option.{option_map}
 use Rattle.std.proofs.lemmas.Bool.{and_from, eq-eqb}
 use Rattle.std.proofs.lemmas.List.{length-map}
 use Rattle.std.proofs.lemmas.List.Elements.{All-contains, Contains-get_or}
 use Rattle.std.proofs.lemmas.List.Folds.{list_any_at}
 use Rattle.std.proofs.lemmas.List.Sums.{sum-map}
 use Rattle.std.proofs.lemmas.Option.{slice_get_within, get_or_from_slice_get}
+use Rattle.metric_combinations.specs.Restrictions.{restrictions}
 use Rattle.metric_catalogue.specs.Budgets.{amount_of}
 use Rattle.metric_catalogue.specs.Sound.{IsSound}
 use Rattle.metric_catalogue.specs.declared.contents.Contents.{Contents}
@@ -26,15 +28,16 @@ use Rattle.metric_resolve.specs.Laws.{IsOwn}
 use Rattle.metric_resolve.specs.Resolved.{streams_of}
 use Rattle.metric_bounds.specs.Amounts.{total_of, amount_with, low_with, high_with}
 use Rattle.metric_bounds.specs.Safe.{AreSafe, IsSafe, SetsFit}
-use Rattle.metric_bounds.specs.Sets.{sets_of}
+use Rattle.metric_bounds.specs.Sets.{count_or, list_within, listed_of, sets_of}
 use Rattle.metric_bounds.specs.Sums.{is_summed, keeps_sum, sums_instrument}
 use Rattle.metric_facts.specs.declared.facts.Facts.{Facts}
 use Rattle.metric_facts.specs.declared.facts.NumberedStream.{NumberedStream}
 use Rattle.metric_facts.specs.Facts.{RunFacts, facts_from, facts_of, key_facts}
 use Rattle.metric_facts.specs.NumberedLaws.{all_numbered}
+use Rattle.metric_facts.specs.Products.{product_of}
 use Rattle.metric_plan.specs.PlanFacts.{FactsAt, facts_at}
 use Rattle.metric_plan.specs.Plans.{PlanValue, RangesFit, plan_of, run_facts}
-use Rattle.metric_plan.specs.SetLaws.{sets_are}
+use Rattle.metric_plan.specs.SetLaws.{products_are}
 use Rattle.metric_safety.specs.SafeFacts.{IsSafeStream, IsSafeFacts}
 use Rattle.metric_safety.specs.SafeRuns.{GivesSafePlan, IsSafePlan, IsSafeRun}
 
@@ -81,6 +84,14 @@ total_is recorders number = sum-map (λ recorder. amount_of recorder number) rec
 total_same : (contents : Contents) (number : ℕ) → sum (map (λ (recorder : Recorder). amount_of recorder number) contents.recorders) ≡ total_of contents number
 unfolding total_of
 total_same contents number = total_is contents.recorders number
+
+-- how many series a stream may have, as far as the facts of its instrument tell
+series_are : (contents : Contents) (s : Stream) (instrument : Instrument) → slice_get contents.instruments s.instrument ≡ Some instrument
+    → sets_of contents s ≡ count_or (product_of s.kept (map key_facts instrument.keys)) (option_map (restrictions s.kept) instrument.allowed)
+unfolding sets_of listed_of
+series_are contents s instrument at =
+    ap (λ (n : ℕ). count_or n (listed_of contents s)) (products_are contents s instrument at)
+    ∙ ap (λ (o : Option Instrument). count_or (product_of s.kept (map key_facts instrument.keys)) (list_within s o)) at
 
 -- ---- safety
 
