@@ -2,12 +2,14 @@
 use Rattle.std.proofs.Common.{◌≡◌, ℕ, ◌+◌, ◌^◌, ◌<◌, ◌≤◌, min, pos, ◌≤ℤ◌, ◌<ℤ◌, Bool, true, false, List, length, map, All, Contains, Option, Some, None, refl, sym, ap, subst, ◌∙◌, arith}
 use Rattle.std.specs.Prelude.{sum, sum_by, slice_get, ◌==◌, ◌↔◌, IsTrue, FitsSigned}
 use Rattle.std.specs.Int.{w64}
+use Rattle.std.specs.Option.{option_map}
 use Rattle.std.proofs.lemmas.Bool.{and_from, eq-eqb}
 use Rattle.std.proofs.lemmas.List.{length-map}
 use Rattle.std.proofs.lemmas.List.Elements.{All-contains, Contains-get_or}
 use Rattle.std.proofs.lemmas.List.Folds.{list_any_at}
 use Rattle.std.proofs.lemmas.List.Sums.{sum-map}
 use Rattle.std.proofs.lemmas.Option.{slice_get_within, get_or_from_slice_get}
+use Rattle.metric_combinations.specs.Restrictions.{restrictions}
 use Rattle.metric_catalogue.specs.Budgets.{amount_of}
 use Rattle.metric_catalogue.specs.Sound.{IsSound}
 use Rattle.metric_catalogue.specs.declared.contents.Contents.{Contents}
@@ -26,15 +28,16 @@ use Rattle.metric_resolve.specs.Laws.{IsOwn}
 use Rattle.metric_resolve.specs.Resolved.{streams_of}
 use Rattle.metric_bounds.specs.Amounts.{total_of, amount_with, low_with, high_with}
 use Rattle.metric_bounds.specs.Safe.{AreSafe, IsSafe, SetsFit}
-use Rattle.metric_bounds.specs.Sets.{sets_of}
+use Rattle.metric_bounds.specs.Sets.{count_or, list_within, listed_of, sets_of}
 use Rattle.metric_bounds.specs.Sums.{is_summed, keeps_sum, sums_instrument}
 use Rattle.metric_facts.specs.declared.facts.Facts.{Facts}
 use Rattle.metric_facts.specs.declared.facts.NumberedStream.{NumberedStream}
 use Rattle.metric_facts.specs.Facts.{RunFacts, facts_from, facts_of, key_facts}
 use Rattle.metric_facts.specs.NumberedLaws.{all_numbered}
+use Rattle.metric_facts.specs.Products.{product_of}
 use Rattle.metric_plan.specs.PlanFacts.{FactsAt, facts_at}
 use Rattle.metric_plan.specs.Plans.{PlanValue, RangesFit, plan_of, run_facts}
-use Rattle.metric_plan.specs.SetLaws.{sets_are}
+use Rattle.metric_plan.specs.SetLaws.{products_are}
 use Rattle.metric_safety.specs.SafeFacts.{IsSafeStream, IsSafeFacts}
 use Rattle.metric_safety.specs.SafeRuns.{GivesSafePlan, IsSafePlan, IsSafeRun}
 
@@ -82,6 +85,14 @@ total_same : (contents : Contents) (number : ℕ) → sum (map (λ (recorder : R
 unfolding total_of
 total_same contents number = total_is contents.recorders number
 
+-- how many series a stream may have, as far as the facts of its instrument tell
+series_are : (contents : Contents) (s : Stream) (instrument : Instrument) → slice_get contents.instruments s.instrument ≡ Some instrument
+    → sets_of contents s ≡ count_or (product_of s.kept (map key_facts instrument.keys)) (option_map (restrictions s.kept) instrument.allowed)
+unfolding sets_of listed_of
+series_are contents s instrument at =
+    ap (λ (n : ℕ). count_or n (listed_of contents s)) (products_are contents s instrument at)
+    ∙ ap (λ (o : Option Instrument). count_or (product_of s.kept (map key_facts instrument.keys)) (list_within s o)) at
+
 -- ---- safety
 
 record HasFlags (contents : Contents) (s : Stream) : Type 0 where
@@ -97,7 +108,7 @@ stream_safe certified flags contents readers streams number instrument s safe th
     let same : total_of contents number ≡ sum (map (λ (recorder : Recorder). amount_of recorder number) contents.recorders) = sym (total_same contents number) in
     record {
       flags = has.flags instrument own_at ∙ sym (length-map instrument.keys key_facts);
-      series = subst (λ (n : ℕ). n ≤ s.limit) (both (sets_are contents s instrument own_at) (ap (total_of contents) of ∙ same)) fits;
+      series = subst (λ (n : ℕ). n ≤ s.limit) (both (series_are contents s instrument own_at) (ap (total_of contents) of ∙ same)) fits;
       low = λ kept. subst (λ (n : ℕ). FitsSigned w64 (low_with n instrument.lo)) same (ranges.low (summed kept));
       high = λ kept. subst (λ (n : ℕ). FitsSigned w64 (high_with n instrument.hi)) same (ranges.high (summed kept));
     }
@@ -150,6 +161,9 @@ safe_run exact contents config certified by_product sound safe ranges = record {
   keys = λ number own instrument e f.
       let here = at number own e in
       ap (λ (x : Facts). x.keys) here.is ∙ ap (λ (x : Instrument). map key_facts x.keys) (one_instrument here.instrument instrument (slice_get contents.instruments number) here.at f);
+  allowed = λ number own instrument e f.
+      let here = at number own e in
+      ap (λ (x : Facts). x.allowed) here.is ∙ ap (λ (x : Instrument). x.allowed) (one_instrument here.instrument instrument (slice_get contents.instruments number) here.at f);
   few_keys = λ number own e.
       let here = at number own e in
       let long : length own.keys ≡ length here.instrument.keys = ap (λ (x : Facts). length x.keys) here.is ∙ length-map here.instrument.keys key_facts in
