@@ -7,8 +7,9 @@ use Rattle.std.proofs.lemmas.List.Elements.{All-more, All-take}
 use Rattle.std.proofs.lemmas.Option.{get_or_from_slice_get, same_Some, slice_get-get_or, slice_get_past, slice_get_within}
 use Rattle.metric_base.specs.StepLaws.{ok_is, require_ok}
 use Rattle.metric_base.specs.Steps.{◌>>=◌, require, require_some}
+use Rattle.metric_combinations.specs.Combinations.{permits}
 use Rattle.metric_catalogue.specs.declared.refusal.Refusal.{Refusal}
-use Rattle.metric_catalogue.specs.declared.refusal.Refusal.TheVariants.{Stranger, UnknownInstrument, UnknownValue, ValueRange}
+use Rattle.metric_catalogue.specs.declared.refusal.Refusal.TheVariants.{Stranger, UnknownInstrument, UnknownValue, Combination, ValueRange}
 use Rattle.metric_facts.specs.declared.facts.Facts.{Facts}
 use Rattle.metric_facts.specs.Facts.{in_bounds, is_full_set}
 use Rattle.metric_plan.specs.Plans.{PlanValue}
@@ -85,7 +86,8 @@ admitted_same p later first i set value same =
 
 key_is : (own : Facts) (set key : List ℕ) (value : ℤ) → key_of own set value ≡ Ok key → set ≡ key
 key_is own set key value made =
-    ok_is set key (Ok set) refl ((require_ok (in_bounds own value) ValueRange _ key ((require_ok (is_full_set own.keys set) UnknownValue _ key made).1)).1)
+    let listed = require_ok (permits own.allowed set) Combination _ key ((require_ok (is_full_set own.keys set) UnknownValue _ key made).1) in
+    ok_is set key (Ok set) refl ((require_ok (in_bounds own value) ValueRange _ key listed.1).1)
 
 -- a seat of the run may make of an instrument's recordings those that its facts declare
 admitted_by : (p : ProviderValue) (seat : RecorderValue) (i : ℕ) (own : Facts) (set : List ℕ) (value : ℤ) → is_recorder_of p seat ≡ true
@@ -194,7 +196,7 @@ recorder_at_each p seat i all admitted some = (knows_each p seat i all admitted 
 pub recordable : (plan : PlanValue) (i by : ℕ) (own : Facts) (all : List Measurement) → slice_get plan.facts.instruments i ≡ Some own → KnowsEach plan i by all → All (IsRecordable own) all
 recordable plan i by own all found known k d below =
     let of = known k d below in
-    record { full = of.full own found; ranged = of.ranged own found }
+    record { allowed = of.allowed own found; ranged = of.ranged own found }
 
 told_by : (spares : Facts → Type 0) (own : Facts) (later : RecorderValue) (i : ℕ) (refusal : Refusal) (o : Option Facts) → o ≡ Some own
     → RefusesRecording spares own later.number (told_at later i) refusal → IfSome o (λ (f : Facts). RefusesRecording spares f later.number (told_at later i) refusal)

@@ -5,11 +5,12 @@ ghost use Rattle.metric_provider.specs.KeyRecordings.{declared_key, key_of};
 ghost use Rattle.metric_provider.specs.Recordings.{declared_set};
 
 use metric_catalogue::{Attr, Refusal, SetKey};
+use metric_combinations::permits;
 use metric_facts::{Facts, is_full_set};
 use metric_plan::Plan;
 
 /// The set key of a recording that the plan declares, or the first refusal: `UnknownInstrument`, those of the attributes in
-/// their order, `ValueRange`.
+/// their order, the last of them `Combination`, and `ValueRange`.
 pub fn declared_set(
     plan: &Plan,
     instrument: u32,
@@ -30,7 +31,7 @@ pub fn declared_set(
 }
 
 /// The same of a set key that a caller brings back: `UnknownInstrument`, `UnknownValue` where it is not one of the
-/// instrument's, `ValueRange`.
+/// instrument's, `Combination` where it is none of its allowed combinations, `ValueRange`.
 pub fn declared_key(
     plan: &Plan,
     instrument: u32,
@@ -51,6 +52,9 @@ pub(crate) fn key_of(facts: &Facts, set: SetKey, value: &i64) -> Result<SetKey, 
 {
     if !is_full_set(facts.keys.as_slice(), &set) {
         return Err(Refusal::UnknownValue);
+    }
+    if !permits(&facts.allowed, &set) {
+        return Err(Refusal::Combination);
     }
     if !facts.admits(value) {
         return Err(Refusal::ValueRange);

@@ -14,7 +14,7 @@ use crate::notes::{Notes, no_notes};
 use crate::provider::Provider;
 use metric_book::{Book, Slip};
 use metric_catalogue::{Attr, Refusal, SetKey};
-use metric_facts::laws::attributes_name_full_sets;
+use metric_facts::laws::attributes_name_allowed_sets;
 use metric_plan::Plan;
 use metric_slot::Told;
 use std::alloc::{AllocError, Global};
@@ -83,8 +83,9 @@ impl Recorder {
 
     /// The set key of a recording of this value on the instrument of this number that the seat may make, or the first
     /// refusal: `Stranger` where the seat's run is of another number, the seat was made for another number of instruments,
-    /// or the plan has no recorder of its number; `UnknownInstrument`, those of the attributes in their order,
-    /// `ValueRange`. Takes no memory and no lock.
+    /// or the plan has no recorder of its number; `UnknownInstrument`, those of the attributes in their order, the last of
+    /// them `Combination` where they are none of the instrument's allowed combinations, and `ValueRange`. Takes no memory and
+    /// no lock.
     pub fn admits<B: Book, G: Gate>(
         &self,
         provider: &Provider<B, G>,
@@ -138,8 +139,8 @@ impl Recorder {
     /// # Errors
     ///
     /// `Stranger` and `UnknownInstrument` as of [`Recorder::admits`], `UnknownValue` where the set key is not one of the
-    /// instrument's: it names a value that a key does not declare, or none of a required key; then `ValueRange`. Then those
-    /// that [`Recorder::record`] names after those of [`Recorder::admits`].
+    /// instrument's: it names a value that a key does not declare, or none of a required key; then `Combination` where it is
+    /// none of the instrument's allowed combinations, and `ValueRange`. Then those that [`Recorder::record`] names after those of [`Recorder::admits`].
     pub fn record_set<R: Wait, B: Book, G: Gate>(
         &mut self,
         rt: &R,
@@ -446,7 +447,7 @@ impl Recorder {
             KnowsRecording plan.now instrument self.now.number set value.now) }
         ensures long { OnOk result (instrument < length self.now.told) }
     {
-        attributes_name_full_sets();
+        attributes_name_allowed_sets();
         // For the proof alone: a plan has facts for each of its instruments.
         let _ = plan.all_facts();
         if !self.is_of(plan, run) {

@@ -2,7 +2,7 @@
 ghost use Rattle.std.specs.Prelude.{◌≡◌, ◌≢◌, ◌↔◌, ◌<◌, ◌≤◌, ◌≤ℤ◌, Some, IsTrue, [], true, length, slice_get, slice_index, IfOk, IfErr, OnOk, OnErr};
 ghost use Rattle.metric_core.specs.Cells.{CellKept, CellStands, new_cell};
 ghost use Rattle.metric_core.specs.CellAnswers.{AnswersClose, GainsEntry, KeepsJournal, ReportsBatch, entry_of, with_batch, with_entry};
-ghost use Rattle.metric_facts.specs.Facts.{in_bounds, is_full_set};
+ghost use Rattle.metric_facts.specs.Facts.{in_bounds, is_allowed_set};
 ghost use Rattle.metric_safety.specs.SafeFacts.{IsSafeFacts};
 ghost use Rattle.metric_safety.specs.WindowBounds.{IsReportWithin};
 ghost use Rattle.metric_slot.specs.Slots.{IsCertified, IsOwnReader, IsOwnRecorder};
@@ -97,7 +97,7 @@ impl<B: Book> Slot<B> {
         value: i64,
     ) -> Result<(), Refusal>
         requires recorder { recorder < length facts.now.budgets }
-        requires set { is_full_set facts.now.keys set ≡ true }
+        requires set { is_allowed_set facts.now set ≡ true }
         requires value { in_bounds facts.now value ≡ true }
         ensures answer { let entry = entry_of recorder set value in
             AnswersRecorder B.stands self.old facts.now told.old entry result }
@@ -130,7 +130,7 @@ impl<B: Book> Slot<B> {
     ) -> Result<(), Refusal>
         requires facts { self.old.facts ≡ facts.now }
         requires recorder { recorder < length facts.now.budgets }
-        requires set { is_full_set facts.now.keys set ≡ true }
+        requires set { is_allowed_set facts.now set ≡ true }
         requires value { in_bounds facts.now value ≡ true }
         ensures answer { let entry = entry_of recorder set value in
             AnswersRecorder B.stands self.old facts.now told.old entry result }
@@ -229,7 +229,7 @@ fn record_own<B: Book>(
     requires safe { IsSafeFacts cell.old.facts }
     requires facts { cell.old.facts ≡ facts.now }
     requires recorder { recorder < length facts.now.budgets }
-    requires set { is_full_set facts.now.keys set ≡ true }
+    requires set { is_allowed_set facts.now set ≡ true }
     requires value { in_bounds facts.now value ≡ true }
     ensures answer { let entry = entry_of recorder set value in
         AnswersRecorder B.stands cell.old facts.now told.now entry result }

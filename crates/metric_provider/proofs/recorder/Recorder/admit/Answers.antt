@@ -8,9 +8,9 @@ use Rattle.metric_provider.proofs.recorder.Recorder.admit.Goals as goal
 pub returns-clause-known : goal.returns-clause-known
 returns-clause-known c =
     knows_of (provider_of c.args.plan.now c.args.run) c.args.self.now c.args.instrument (map given_by c.args.attrs.now) c.args.value.now c.declared_set.result
-    c.all_facts.ensures.kept c.attributes_name_full_sets.ensures (sym c.is_of.ensures ∙ c.if-not-is_of.false) c.declared_set.ensures
+    c.all_facts.ensures.kept c.attributes_name_allowed_sets.ensures (sym c.is_of.ensures ∙ c.if-not-is_of.false) c.declared_set.ensures
 
 pub returns-clause-long : goal.returns-clause-long
 returns-clause-long c =
     long_of (provider_of c.args.plan.now c.args.run) c.args.self.now c.args.instrument (map given_by c.args.attrs.now) c.args.value.now c.declared_set.result
-    c.all_facts.ensures.kept c.attributes_name_full_sets.ensures (sym c.is_of.ensures ∙ c.if-not-is_of.false) c.declared_set.ensures
+    c.all_facts.ensures.kept c.attributes_name_allowed_sets.ensures (sym c.is_of.ensures ∙ c.if-not-is_of.false) c.declared_set.ensures
