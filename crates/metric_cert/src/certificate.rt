@@ -93,7 +93,6 @@ impl Certificate {
 }
 
 impl Claims {
-
     // The lines above the first header.
     fn push_pairs(&self, alloc: Global, text: &mut String) -> Result<(), AllocError>
         ensures { OnOk result (AppendsLines (pairs_of self.now)

@@ -34,8 +34,8 @@ pub has_list : (contents : Contents) (stream : Stream) (own : By) (list : List (
     → IsTrue listed ↔ (listed_of contents stream ≡ Some list) → n ≡ length list → IsTrue (listed && (sets == n)) ↔ Has contents stream own sets
 has_list contents stream own list sets n listed is told long = rw is (
   (λ t.
-  let parts = and_parts listed (sets == n) t in
-  let own = told.0 parts.0 in
-  (own, eqb-true sets n parts.1 ∙ long ∙ sym (as_many contents stream list own))),
+      let parts = and_parts listed (sets == n) t in
+      let own = told.0 parts.0 in
+      (own, eqb-true sets n parts.1 ∙ long ∙ sym (as_many contents stream list own))),
   (λ h. and_from listed (sets == n) (told.1 h.0) (eq-eqb sets n (h.1 ∙ as_many contents stream list h.0 ∙ sym long))),
 )
