@@ -20,22 +20,22 @@ use Rattle.metric_sdk.specs.Setups.{Certifies, IsCertifiedPlan, IsDeclared, Plan
 listed_flag : (contents : Contents) (s : Stream) (o : Option StreamSets) → entry_by_list s (listed_of contents s) ≡ o
     → is_product (unwrap_or o (entry_with s by.Budget (total_of contents s.instrument))).by ≡ false
 listed_flag contents s None is = refl
-listed_flag contents s (Some entry) is = choose (listed_of contents s) is
+listed_flag contents s (Some entry) is = by (listed_of contents s) is
   where
-    choose : (listed : Option (List (List ℕ))) → entry_by_list s listed ≡ Some entry → is_product entry.by ≡ false
-    choose None is = absurd cc
-    choose (Some list) is = at (nat_le (length list) s.limit) is
+    by : (listed : Option (List (List ℕ))) → entry_by_list s listed ≡ Some entry → is_product entry.by ≡ false
+    by None is = absurd cc
+    by (Some list) is = at (nat_le (length list) s.limit) is
       where
         at : (b : Bool) → (if b then Some (entry_with s (by.List list) (length list)) else None) ≡ Some entry → is_product entry.by ≡ false
         at true is = sym (ap (λ (e : StreamSets). is_product e.by) (same_Some (entry_with s (by.List list) (length list)) entry is))
         at false is = absurd cc
 
 entry_flag : (contents : Contents) (s : Stream) → is_product (entry_of contents s).by ≡ nat_le (product_of contents s) s.limit
-entry_flag contents s = choose (nat_le (product_of contents s) s.limit)
+entry_flag contents s = by (nat_le (product_of contents s) s.limit)
   where
-    choose : (b : Bool) → is_product (cond b (entry_with s by.Product (product_of contents s)) (entry_past contents s)).by ≡ b
-    choose true = refl
-    choose false = listed_flag contents s (entry_by_list s (listed_of contents s)) refl
+    by : (b : Bool) → is_product (cond b (entry_with s by.Product (product_of contents s)) (entry_past contents s)).by ≡ b
+    by true = refl
+    by false = listed_flag contents s (entry_by_list s (listed_of contents s)) refl
 
 pub made_flags : (contents : Contents) (streams : List Stream) → entry_flags (map (entry_of contents) streams) ≡ bounded_flags contents streams
 made_flags contents [] = refl
