@@ -1,7 +1,7 @@
 -- slices are equal where they have the same sets
 use Rattle.std.proofs.Common.{◌≡◌, Bool, Some, ap, sym, subst, ◌∙◌}
 use Rattle.metric_check.proofs.Bounded.{same_list}
-use Rattle.metric_check.proofs.limits.is_made_list.Goals as goal
+use Rattle.metric_check.proofs.limits.is_listed.Goals as goal
 
 pub returns-in-Some : goal.returns-in-Some
 returns-in-Some c =
