@@ -1,7 +1,6 @@
-//! The batches with which the events of a run were answered.
-ghost use Rattle.std.specs.Prelude.{◌≡◌, ◌++◌, IfOk, OnOk, [], length};
-ghost use Rattle.metric_history.specs.Legal.{grown};
-ghost use Rattle.metric_commands.specs.Audits.{batches_by, batches_told};
+//! The batches with which events were answered, copied.
+ghost use Rattle.std.specs.Prelude.{◌≡◌, ◌++◌, IfOk, OnOk};
+ghost use Rattle.metric_commands.specs.Audits.{batches_by};
 
 use metric_base::{Copied, Items};
 use metric_history::{Batch, Event, Point, Reply, StreamPoints};
@@ -59,8 +58,8 @@ fn copy_batch(alloc: Global, batch: &Batch) -> Result<Batch, AllocError>
     })
 }
 
-// Puts a copy of the batch with which an event was answered last, where there is one and the event is of the instrument.
-fn add_batch(
+/// Puts a copy of the batch with which an event was answered last, where there is one and the event is of the instrument.
+pub(crate) fn add_batch(
     batches: &mut Vec<Batch>,
     alloc: Global,
     instrument: u32,
@@ -79,22 +78,4 @@ fn add_batch(
         }
         Reply::Accepted | Reply::Done | Reply::Refused(_) => Ok(()),
     }
-}
-
-/// A copy of each batch with which the events of an instrument were answered, in order.
-pub(crate) fn batches_of(
-    alloc: Global,
-    instrument: u32,
-    events: &[Event],
-    replies: &[Reply],
-) -> Result<Vec<Batch>, AllocError>
-    requires { length replies.now ≡ length events.now }
-    ensures { IfOk result (λ batches.
-        batches.items ≡ batches_told (grown [] events.now replies.now) instrument) }
-{
-    let mut batches = Vec::new(alloc);
-    for (at, event) in events.iter().enumerate() {
-        add_batch(&mut batches, alloc, instrument, event, &replies[at])?;
-    }
-    Ok(batches)
 }
