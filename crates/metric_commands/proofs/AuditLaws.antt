@@ -44,7 +44,7 @@ use Rattle.metric_history.specs.declared.event.Reply.{Reply}
 use Rattle.metric_history.specs.declared.event.Reply.TheVariants.{Accepted, Collected, Done, Refused}
 use Rattle.metric_plan.specs.PlanFacts.{plan_facts_at}
 use Rattle.metric_plan.specs.Plans.{IsPlan, PlanValue}
-use Rattle.metric_commands.specs.Accounts.{IsAccount}
+use Rattle.metric_commands.specs.Accounts.{IsAccount, batches_at}
 use Rattle.metric_commands.specs.Audits.{AreSlipsOf, AuditEnds, EndsAudit, SomeFails, batches_by, batches_told, slips_by, slips_told}
 use Rattle.metric_commands.specs.declared.accounts.Account.{Account}
 use Rattle.metric_commands.specs.declared.fault.KitFault.{KitFault}
@@ -605,15 +605,15 @@ only_memory plan start h (kit.Finish fault) p full legal s = absurd s.fails
 only_memory plan start h kit.Write p full legal s = absurd s.fails
 
 -- what an audit answers is how it ends
-pub ends_as : (facts : RunFacts) (start : ℕ) (journal : List Entry) (h : History) (i : ℕ) (account : Account) (slips : List (List Slip)) (told : List Batch)
-    (end result : Result (Unit {0}) AuditFault) → IsAccount facts.contents h i account → slips ≡ account.slips.items → told ≡ account.batches.items → result ≡ end
-    → AuditsInstrument facts i start journal slips told result → AuditEnds facts start journal h i end
-ends_as facts start journal h i account slips told end result a same all is audits = λ own found. record {
+pub ends_as : (facts : RunFacts) (start : ℕ) (journal : List Entry) (replies : List Reply) (h : History) (i : ℕ) (account : Account) (slips : List (List Slip)) (batches told : List Batch)
+    (end result : Result (Unit {0}) AuditFault) → IsAccount facts.contents replies h i account → slips ≡ account.slips.items → batches ≡ batches_at replies account.places.items → told ≡ batches
+    → result ≡ end → AuditsInstrument facts i start journal slips told result → AuditEnds facts start journal h i end
+ends_as facts start journal replies h i account slips batches told end result a same all copied is audits = λ own found. record {
   slips = account.slips.items;
   made = a.slips;
   ends =
       subst (λ (r : Result (Unit {0}) AuditFault). Audits own i start journal account.slips.items (batches_told h i) r) is
-      (subst (λ (l : List Batch). Audits own i start journal account.slips.items l result) (all ∙ a.batches)
+      (subst (λ (l : List Batch). Audits own i start journal account.slips.items l result) (copied ∙ all ∙ a.batches)
       (subst (λ (l : List (List Slip)). Audits own i start journal l told result) same (audits own found)));
 }
 

@@ -8,6 +8,7 @@ ghost use Rattle.metric_core.specs.CoreStands.{CoreStands};
 ghost use Rattle.metric_history.specs.Legal.{grown};
 
 use crate::accounts::{Account, accounts_of};
+use crate::batches::batches_at;
 use crate::fault::KitFault;
 use crate::pieces::has_want_of_memory;
 use metric_audit::{Audited, audit};
@@ -36,15 +37,16 @@ fn audit_instrument(
     account: &Account,
 ) -> Result<(), KitFault>
     requires known { instrument < length plan.now.facts.instruments }
-    requires told { IsAccount plan.now.facts.contents
+    requires told { IsAccount plan.now.facts.contents run.now.replies.now
         (grown [] run.now.events.now run.now.replies.now) instrument account.now }
     ensures ok { OnOk result (AuditEnds plan.now.facts run.now.start entries.now
         (grown [] run.now.events.now run.now.replies.now) instrument (Ok tt)) }
     ensures err { IfErr result (FailsAudit plan.now.facts run.now.start entries.now
         (grown [] run.now.events.now run.now.replies.now) instrument) }
 {
-    let (slips, batches) = (&account.slips, &account.batches);
-    audit(alloc, plan, instrument, run.start, entries, slips, batches)?;
+    let slips = account.slips.as_slice();
+    let batches = batches_at(alloc, run.replies, account.places.as_slice())?;
+    audit(alloc, plan, instrument, run.start, entries, slips, &batches)?;
     Ok(())
 }
 
@@ -57,7 +59,7 @@ fn audit_each(
 ) -> Result<(), KitFault>
     requires stands { CoreStands StandsAudited core.now
         (grown [] run.now.events.now run.now.replies.now) }
-    requires told { AreAccounts core.now.plan.facts.contents
+    requires told { AreAccounts core.now.plan.facts.contents run.now.replies.now
         (grown [] run.now.events.now run.now.replies.now) accounts.now }
     ensures ok { OnOk result (AreAudited core.now.plan.facts run.now.start
         (grown [] run.now.events.now run.now.replies.now)) }

@@ -5,4 +5,4 @@ use Rattle.metric_history.specs.Legal.{grown}
 use Rattle.metric_commands.proofs.accounts.accounts_of.Given as goal
 
 abbrev pub invariant-loop-at : goal.invariant-loop-at
-invariant-loop-at l = AreAccounts l.catalogue (grown [] (take l.at l.events) (take l.at l.replies)) l.accounts.items
+invariant-loop-at l = AreAccounts l.catalogue l.replies (grown [] (take l.at l.events) (take l.at l.replies)) l.accounts.items
