@@ -1,5 +1,6 @@
 -- The names of fields in the code are those of the definitions.
-use Rattle.std.proofs.Common.{◌≡◌, map, refl}
+use Rattle.std.proofs.Common.{◌≡◌, ℕ, Bool, true, false, List, [], ◌∷◌, map, take, codes, refl}
+use Rattle.std.specs.Prelude.{◌==◌, if◌then◌else◌}
 use Rattle.metric_catalogue.specs.declared.catalogue.TheConstants.{TOP_FIELDS}
 use Rattle.metric_catalogue.specs.declared.instruments.TheConstants.{INSTRUMENT_FIELDS}
 use Rattle.metric_catalogue.specs.declared.keys.TheConstants.{KEY_FIELDS}
@@ -15,9 +16,14 @@ pub budget_fields-are : map (λ name. name.now) BUDGET_FIELDS ≡ budget_fields
 unfolding budget_fields
 budget_fields-are = refl
 
-pub instrument_fields-are : map (λ name. name.now) INSTRUMENT_FIELDS ≡ instrument_fields
+pub instrument_fields-are : (format : ℕ) → map (λ name. name.now) (take (if format == 1 then 7 else 8) INSTRUMENT_FIELDS) ≡ instrument_fields format
 unfolding instrument_fields
-instrument_fields-are = refl
+instrument_fields-are format = at (format == 1)
+  where
+    at : (first : Bool) → map (λ name. name.now) (take (if first then 7 else 8) INSTRUMENT_FIELDS)
+        ≡ codes "name" ∷ codes "kind" ∷ codes "unit" ∷ codes "description" ∷ codes "range" ∷ codes "boundaries" ∷ codes "key" ∷ (if first then [] else codes "allowed" ∷ [])
+    at true = refl
+    at false = refl
 
 pub key_fields-are : map (λ name. name.now) KEY_FIELDS ≡ key_fields
 unfolding key_fields

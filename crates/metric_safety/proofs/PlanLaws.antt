@@ -97,7 +97,7 @@ stream_safe certified flags contents readers streams number instrument s safe th
     let same : total_of contents number ≡ sum (map (λ (recorder : Recorder). amount_of recorder number) contents.recorders) = sym (total_same contents number) in
     record {
       flags = has.flags instrument own_at ∙ sym (length-map instrument.keys key_facts);
-      series = subst (λ (n : ℕ). n ≤ s.limit) (both (sets_are contents s instrument own_at) (ap (total_of contents) of ∙ same)) fits;
+      series = subst (λ (n : ℕ). n ≤ s.limit) (both (series_are contents s instrument own_at) (ap (total_of contents) of ∙ same)) fits;
       low = λ kept. subst (λ (n : ℕ). FitsSigned w64 (low_with n instrument.lo)) same (ranges.low (summed kept));
       high = λ kept. subst (λ (n : ℕ). FitsSigned w64 (high_with n instrument.hi)) same (ranges.high (summed kept));
     }
@@ -150,6 +150,9 @@ safe_run exact contents config certified by_product sound safe ranges = record {
   keys = λ number own instrument e f.
       let here = at number own e in
       ap (λ (x : Facts). x.keys) here.is ∙ ap (λ (x : Instrument). map key_facts x.keys) (one_instrument here.instrument instrument (slice_get contents.instruments number) here.at f);
+  allowed = λ number own instrument e f.
+      let here = at number own e in
+      ap (λ (x : Facts). x.allowed) here.is ∙ ap (λ (x : Instrument). x.allowed) (one_instrument here.instrument instrument (slice_get contents.instruments number) here.at f);
   few_keys = λ number own e.
       let here = at number own e in
       let long : length own.keys ≡ length here.instrument.keys = ap (λ (x : Facts). length x.keys) here.is ∙ length-map here.instrument.keys key_facts in
