@@ -3,7 +3,7 @@ use Rattle.std.proofs.Common.{codes, string_bytes, subst}
 use Rattle.metric_cert.specs.Printing.{AppendsLines, pair}
 use Rattle.metric_cert.proofs.Printed.{lines_then}
 use Rattle.metric_cert.proofs.Tabled.{when_ok}
-use Rattle.metric_cert.proofs.certificate.Certificate.push_pairs.Goals as goal
+use Rattle.metric_cert.proofs.certificate.Claims.push_pairs.Goals as goal
 
 pub returns : goal.returns
 returns c =
