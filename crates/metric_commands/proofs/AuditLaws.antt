@@ -29,7 +29,7 @@ use Rattle.metric_catalogue.specs.declared.refusal.Refusal.{Refusal}
 use Rattle.metric_catalogue.specs.declared.refusal.Refusal.TheVariants.{UnknownInstrument, UnknownRecorder, UnknownReader, ValueRange, Closed, Budget, SumRange}
 use Rattle.metric_facts.specs.declared.facts.Facts.{Facts}
 use Rattle.metric_facts.specs.declared.facts.NumberedStream.{NumberedStream}
-use Rattle.metric_facts.specs.Facts.{EncodesFullSets, RunFacts, in_bounds, is_delta, is_full_set, is_of_reader, key_facts}
+use Rattle.metric_facts.specs.Facts.{EncodesAllowedSets, RunFacts, in_bounds, is_allowed_set, is_delta, is_of_reader, key_facts}
 use Rattle.metric_history.specs.Answers.{Told, batch, collected, recorded, spent}
 use Rattle.metric_history.specs.Encoded.{encoded}
 use Rattle.metric_history.specs.History.{History, accepted, added_by, batch_time, collects, is_closed, mark_of, previous_of, told_of}
@@ -86,7 +86,7 @@ pub record IsOwn (run : RunFacts) (i : ℕ) (own : Facts) : Type 0 where
   pub at : slice_get run.instruments i ≡ Some own
   pub numbered : own.instrument ≡ i
   pub budgets : length own.budgets ≡ length run.contents.recorders
-  pub full : (attrs : List OwnedAttr) (set : List ℕ) → encoded run.contents i attrs ≡ Ok set → is_full_set own.keys set ≡ true
+  pub full : (attrs : List OwnedAttr) (set : List ℕ) → encoded run.contents i attrs ≡ Ok set → is_allowed_set own set ≡ true
 
 -- a recording of the instrument that nothing refused
 record IsTaken (run : RunFacts) (start : ℕ) (h : History) (i : ℕ) (own : Facts) (recorder : ℕ) (attrs : List OwnedAttr) (value : ℤ) : Type 0 where
@@ -147,7 +147,7 @@ record Adds (run : RunFacts) (start : ℕ) (h : History) (i : ℕ) (own : Facts)
   entry : Entry
   adds : added_by run i event reply ≡ entry ∷ []
   by_recorder : entry.recorder < length own.budgets
-  full : is_full_set own.keys entry.set ≡ true
+  full : is_allowed_set own entry.set ≡ true
   ranged : in_bounds own entry.value ≡ true
   fits : fits_all own (mark_of run h i) (accepted run h i) entry ≡ true
   slips : (r : ℕ) → slips_by run.contents i r event reply ≡ slips_of r (entry ∷ [])
@@ -408,7 +408,7 @@ record Keeps (run : RunFacts) (start : ℕ) (i : ℕ) (own : Facts) (entries : L
 
 -- after one recording more
 keeps_entry : (run : RunFacts) (start : ℕ) (i : ℕ) (own : Facts) (entries : List Entry) (batches : List Batch) (mark previous : ℕ → ℕ) (entry : Entry)
-    → Keeps run start i own entries batches mark previous → is_full_set own.keys entry.set ≡ true → in_bounds own entry.value ≡ true → fits_all own mark entries entry ≡ true
+    → Keeps run start i own entries batches mark previous → is_allowed_set own entry.set ≡ true → in_bounds own entry.value ≡ true → fits_all own mark entries entry ≡ true
     → Keeps run start i own (entries ++ entry ∷ []) batches mark previous
 keeps_entry run start i own entries batches mark previous entry k full ranged fits = record {
   marks = k.marks;
@@ -416,7 +416,7 @@ keeps_entry run start i own entries batches mark previous entry k full ranged fi
   low = λ reader. omega (arith, k.low reader, length-append entries (entry ∷ []));
   possible = λ reader.
       let may : may_follow own reader (mark reader) entries entry ≡ true =
-      and_from (is_full_set own.keys entry.set) _ full (and_from (in_bounds own entry.value) _ ranged (fits_own own mark entries entry reader own.streams fits)) in
+      and_from (is_allowed_set own entry.set) _ full (and_from (in_bounds own entry.value) _ ranged (fits_own own mark entries entry reader own.streams fits)) in
       let all : each_may_follow own reader (mark reader) (take (mark reader) entries) (drop (mark reader) entries ++ entry ∷ []) ≡ true =
       follows_more own reader (mark reader) (take (mark reader) entries) (drop (mark reader) entries) entry (k.possible reader)
       (subst (λ (l : List Entry). may_follow own reader (mark reader) l entry ≡ true) (sym (take-append-drop (mark reader) entries)) may) in
@@ -556,14 +556,14 @@ batches_are_right run start i own o h legal = (keeps run start i own o h legal).
 
 -- ---- a plan
 
-set_is_full : (instruments : List Instrument) (i : ℕ) (own : Facts) (instrument : Instrument) (attrs : List OwnedAttr) (set : List ℕ) → EncodesFullSets
-    → slice_get instruments i ≡ Some instrument → own.keys ≡ map key_facts instrument.keys
-    → encode_of instruments i (map given_by_owned attrs) ≡ Ok set → is_full_set own.keys set ≡ true
+set_is_allowed : (instruments : List Instrument) (i : ℕ) (own : Facts) (instrument : Instrument) (attrs : List OwnedAttr) (set : List ℕ) → EncodesAllowedSets
+    → slice_get instruments i ≡ Some instrument → own.keys ≡ map key_facts instrument.keys → own.allowed ≡ instrument.allowed
+    → encode_of instruments i (map given_by_owned attrs) ≡ Ok set → is_allowed_set own set ≡ true
 unfolding encode_of
-set_is_full instruments i own instrument attrs set full at keys named =
-    ap (λ all. is_full_set all set) keys ∙ full instrument.keys (map given_by_owned attrs) set (rw at at named)
+set_is_allowed instruments i own instrument attrs set all at keys allowed named =
+    rw (keys, allowed) (all instrument (map given_by_owned attrs) set (rw at at named))
 
-plan_owns : (plan : PlanValue) (i : ℕ) (own : Facts) → IsPlan plan → EncodesFullSets → slice_get plan.facts.instruments i ≡ Some own → IsOwn plan.facts i own
+plan_owns : (plan : PlanValue) (i : ℕ) (own : Facts) → IsPlan plan → EncodesAllowedSets → slice_get plan.facts.instruments i ≡ Some own → IsOwn plan.facts i own
 plan_owns plan i own p full found =
     let here = plan_facts_at plan i own p found in
     record {
@@ -571,7 +571,8 @@ plan_owns plan i own p full found =
       numbered = ap (λ (f : Facts). f.instrument) here.is;
       budgets = ap (λ (f : Facts). length f.budgets) here.is ∙ length-map plan.facts.contents.recorders (λ (recorder : Recorder). amount_of recorder i);
       full = λ attrs set named.
-          set_is_full plan.facts.contents.instruments i own here.instrument attrs set full here.at (ap (λ (f : Facts). f.keys) here.is) named;
+          set_is_allowed plan.facts.contents.instruments i own here.instrument attrs set full here.at (ap (λ (f : Facts). f.keys) here.is)
+          (ap (λ (f : Facts). f.allowed) here.is) named;
     }
 
 -- an audit with the slips and batches of a legal history does not fail
@@ -587,7 +588,7 @@ never_fails run start i own (audits.Batch at) o h legal other e = e.ends.1.wrong
 never_fails run start i own audits.Memory o h legal other e = other refl
 
 -- So where some audit of a run does not end well, memory was refused.
-pub only_memory : (plan : PlanValue) (start : ℕ) (h : History) (fault : KitFault) → IsPlan plan → EncodesFullSets → IsLegal plan.facts start h
+pub only_memory : (plan : PlanValue) (start : ℕ) (h : History) (fault : KitFault) → IsPlan plan → EncodesAllowedSets → IsLegal plan.facts start h
     → SomeFails plan.facts start h fault → fault ≡ kit.Memory
 only_memory plan start h kit.Memory p full legal s = refl
 only_memory plan start h (kit.Audit fault) p full legal s =
@@ -618,7 +619,7 @@ ends_as facts start journal replies h i account slips batches told end result a 
 }
 
 -- what a run's audits refuse
-pub run_refuses : (plan now : PlanValue) (start : ℕ) (events : List Event) (replies : List Reply) (fault : KitFault) → IsPlan plan → EncodesFullSets → KeepsLegal
+pub run_refuses : (plan now : PlanValue) (start : ℕ) (events : List Event) (replies : List Reply) (fault : KitFault) → IsPlan plan → EncodesAllowedSets → KeepsLegal
     → AllLegal plan.facts start [] events replies → now ≡ plan → SomeFails now.facts start (grown [] events replies) fault → fault ≡ kit.Memory
 run_refuses plan now start events replies fault p full keep legal same some =
     only_memory plan start (grown [] events replies) fault p full (keep plan.facts start [] events replies tt legal)

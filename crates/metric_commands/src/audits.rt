@@ -13,7 +13,7 @@ use crate::fault::KitFault;
 use crate::pieces::has_want_of_memory;
 use metric_audit::{Audited, audit};
 use metric_core::Core;
-use metric_facts::laws::attributes_name_full_sets;
+use metric_facts::laws::attributes_name_allowed_sets;
 use metric_history::laws::runs_keep_histories_legal;
 use metric_history::{Entry, Event, Reply};
 use metric_plan::Plan;
@@ -96,7 +96,7 @@ pub(crate) fn audited_replies(
 {
     // For the proof alone: what a plan keeps, and what its runs do.
     let _ = core.plan().catalogue();
-    attributes_name_full_sets();
+    attributes_name_allowed_sets();
     runs_keep_histories_legal();
     let replies = core.run(alloc, events)?;
     if has_want_of_memory(&replies) {

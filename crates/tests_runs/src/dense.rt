@@ -5,7 +5,7 @@ ghost use Rattle.metric_facts.specs.Facts.{is_entry, is_full_set};
 ghost use Rattle.metric_facts.specs.Products.{AreDense};
 ghost use Rattle.tests_runs.specs.Taking.{TakesFullSets};
 
-use crate::agreement::{BOUNDARIES, KEYS, Lines, SMALL, push_lines, push_script};
+use crate::agreement::{BOUNDARIES, COMBINED, KEYS, Lines, SMALL, push_lines, push_script};
 use crate::dice::Dice;
 use crate::equal::assert_equal;
 use crate::plans::dense_plan_of;
@@ -216,7 +216,7 @@ fn a_dense_table_has_a_place_for_each_series(rt: HostRuntime) -> Result<(), Fail
 const INPUTS: u64 = 12;
 
 const DECLARED: &[Lines] = &[
-    &["%% catalogue\nformat = 1\n[[meter]]\nname = 'm'\n"],
+    &["%% catalogue\nformat = 2\n[[meter]]\nname = 'm'\n"],
     &["[[meter.instrument]]\nname = 'i0'\nkind = 'counter'\nrange = [0, 9]\n"],
     BOUNDARIES,
     KEYS,
@@ -231,7 +231,7 @@ const DECLARED: &[Lines] = &[
     KEYS,
     &["[[meter.instrument]]\nname = 'i4'\nkind = 'counter'\nrange = [0, 9]\n"],
     BOUNDARIES,
-    KEYS,
+    COMBINED,
 ];
 
 const BUDGETS: &[Lines] = &[
