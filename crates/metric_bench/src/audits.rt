@@ -8,7 +8,7 @@ use crate::watch::Watch;
 use crate::works::Work;
 use anyhow::Context;
 use metric_sdk::{Audited, Batch, Measurement, Plan, Totals, audit, certified_plan};
-use std::alloc::Global;
+use std::alloc::{AllocError, Global};
 use std::sync::Wait;
 use std::time::Clock;
 
@@ -115,7 +115,8 @@ fn collect_each<R: Wait>(
     batches: &mut Vec<Batch>,
 ) -> anyhow::Result<()> {
     for collector in &mut seats.collectors {
-        batches.push(collector.collect(rt, alloc, &seats.provider, 0, now)?)?;
+        let batch = collector.collect(rt, alloc, &seats.provider, 0, now)?;
+        batches.push(batch).map_err(AllocError::from)?;
     }
     Ok(())
 }

@@ -61,7 +61,7 @@ fn run_of<R: Threads + Wait + Sync>(rt: &R, alloc: Global, plan: Plan) -> Result
 fn by_instrument(
     alloc: Global,
     batches: Vec<Batch>,
-    count: usize,
+    count: u32,
 ) -> Result<Vec<Vec<Batch>>, AllocError> {
     let mut lists: Vec<Vec<Batch>> = Vec::new(alloc);
     for _ in 0..count {
@@ -102,13 +102,14 @@ fn write_instrument(
     plan: &Plan,
     instrument: u32,
     totals: &Totals,
-    batches: &[Batch],
+    batches: &[Vec<Batch>],
 ) -> Result<(), Fail> {
     let at = instrument as usize;
-    let (Some(total), Some(journal), Some(slips)) = (
+    let (Some(total), Some(journal), Some(slips), Some(batches)) = (
         totals.instruments.get(at),
         totals.journals.get(at),
         totals.slips.get(at),
+        batches.get(at),
     ) else {
         return Err("no such instrument".into());
     };
@@ -130,9 +131,10 @@ fn write_run<R: Threads + Wait + Sync>(
     let run = run_of(rt, alloc, certified_plan(alloc, CATALOGUE, CONFIG)?)?;
     let SeatsRun { totals, batches } = run;
     let plan = certified_plan(alloc, CATALOGUE, CONFIG)?;
-    let batches = by_instrument(alloc, batches, plan.all_facts().len())?;
-    for (instrument, own) in batches.iter().enumerate() {
-        write_instrument(out, alloc, &plan, instrument as u32, &totals, own)?;
+    let count = plan.catalogue().instruments().len() as u32;
+    let batches = by_instrument(alloc, batches, count)?;
+    for instrument in 0..count {
+        write_instrument(out, alloc, &plan, instrument, &totals, &batches)?;
     }
     Ok(())
 }
