@@ -11,7 +11,7 @@ use crate::equal::assert_equal;
 use crate::plans::dense_plan_of;
 use crate::runs::{Made, told, told_by};
 use metric_catalogue::{Catalogue, SetKey};
-use metric_cert::make;
+use metric_cert::{By, make};
 use metric_dense::{DenseTable, dense_table};
 use metric_facts::{Facts, KeyFacts};
 use metric_journal::JournalBook;
@@ -51,8 +51,8 @@ const ADDED: &[(u32, &[(u16, u16, i64)])] = &[
 // How many series each stream can have; then of each instrument the place of each value, the points after them, and how
 // many are left once the table is emptied.
 const TOLD: &str = "\
-2 sets by product
-8 sets by product
+2 sets, by product: true
+8 sets, by product: true
 Held(1);Held(0);Held(1);
 Some([1, 0, 0, 0, 0, 0, 0, 0]) Sum(1)
 Some([2, 0, 0, 0, 0, 0, 0, 0]) Sum(7)
@@ -190,8 +190,9 @@ fn write_sets(out: &mut String, alloc: Global) -> Result<(), Fail> {
     let catalogue = Catalogue::read(alloc, CATALOGUE)?;
     let config = Config::read(alloc, CONFIG)?;
     let certificate = make(alloc, &catalogue, &config)?;
-    for stream in certificate.streams.as_slice() {
-        writeln!(out, "{} sets by {}", stream.sets, stream.by.name())?;
+    for stream in certificate.claims().streams.as_slice() {
+        let is_by_product = matches!(stream.by, By::Product);
+        writeln!(out, "{} sets, by product: {is_by_product}", stream.sets)?;
     }
     Ok(())
 }
