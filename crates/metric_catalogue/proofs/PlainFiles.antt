@@ -1,13 +1,13 @@
 -- The format is 1 or 2, and in a file of format 1 no instrument lists combinations.
-use Rattle.std.proofs.Common.{◌≡◌, ℕ, ℤ, suc, zero, pos, negsuc, ◌⊎◌, inl, inr, All, Bool, true, false, not, ◌&&◌, cond, List, [], ◌∷◌, ◌++◌, length, Option, Some, None, Ok, nat_le, codes, refl, sym, ap, subst, ◌∙◌, arith}
+use Rattle.std.proofs.Common.{◌≡◌, ℕ, ℤ, suc, zero, pos, negsuc, ◌≤◌, ◌⊎◌, inl, inr, All, Bool, true, false, not, ◌&&◌, cond, List, [], ◌∷◌, ◌++◌, length, Option, Some, None, Ok, nat_le, codes, refl, sym, ap, subst, ◌∙◌, arith}
+use Rattle.std.proofs.lemmas.Bool.{and_parts}
 use Rattle.std.proofs.lemmas.Bool.Decides.{nat_tests}
 use Rattle.std.specs.List.{list_any}
-use Rattle.std.specs.Prelude.{◌==◌, if◌then◌else◌}
-use Rattle.toml.specs.Data.{Data, Members, get_member}
+use Rattle.toml.specs.Data.{Members, get_member}
 use Rattle.metric_base.specs.Steps.{each, in_turn, require_some}
 use Rattle.metric_base.specs.StepLaws.{after_ok, in_turn_keeps, ok_is, require_ok}
 use Rattle.metric_table.specs.FieldLaws.{none_other}
-use Rattle.metric_table.specs.Fields.{field, format_up_to, integer_of, number_between, only, tables_field, text_field}
+use Rattle.metric_table.specs.Fields.{field, format_up_to, integer_of, number_between, only, tables_field}
 use Rattle.metric_catalogue.specs.declared.contents.Instrument.{Instrument}
 use Rattle.metric_catalogue.specs.declared.contents.Key.{Key}
 use Rattle.metric_catalogue.specs.declared.instruments.Head.{Head}
@@ -22,7 +22,7 @@ use Rattle.metric_catalogue.specs.Faults.{faults_at}
 use Rattle.metric_catalogue.specs.Instruments.{advice_field, head_of, instrument_fields, instrument_name, instrument_of, is_instrument, only_instrument_fields, range_field, sets_field}
 use Rattle.metric_catalogue.specs.Keys.{key_of}
 use Rattle.metric_catalogue.specs.Meters.{is_meter, meter_of, with_meter}
-use Rattle.metric_catalogue.proofs.SoundLists.{each_sound, sound_none}
+use Rattle.metric_catalogue.proofs.SoundLists.{each_sound}
 use Rattle.metric_catalogue.proofs.SoundRows.{rows_none}
 
 -- the instrument lists combinations only in a format beyond the first
@@ -99,10 +99,20 @@ meters_plain format tables metered e first =
 
 one_or_two : (z : ℤ) (n : ℕ) → number_between 1 2 z ≡ Some n → (n ≡ 1) ⊎ (n ≡ 2)
 one_or_two (negsuc m) n e = absurd cc
-one_or_two (pos zero) n e = absurd cc
-one_or_two (pos (suc zero)) n e = let same : 1 ≡ n = cc in inl (sym same)
-one_or_two (pos (suc (suc zero))) n e = let same : 2 ≡ n = cc in inr (sym same)
-one_or_two (pos (suc (suc (suc m)))) n e = absurd cc
+one_or_two (pos m) n e = by (nat_le 1 m && nat_le m 2) refl e
+  where
+    between : (k : ℕ) → 1 ≤ k → k ≤ 2 → (k ≡ 1) ⊎ (k ≡ 2)
+    between zero low high = absurd (omega arith)
+    between (suc zero) low high = inl refl
+    between (suc (suc zero)) low high = inr refl
+    between (suc (suc (suc k))) low high = absurd (omega arith)
+
+    by : (b : Bool) → (nat_le 1 m && nat_le m 2) ≡ b → cond b (Some m) None ≡ Some n → (n ≡ 1) ⊎ (n ≡ 2)
+    by true h e1 =
+        let (low, high) = and_parts (nat_le 1 m) (nat_le m 2) h in
+        let same : m ≡ n = cc in
+        subst (λ (k : ℕ). (k ≡ 1) ⊎ (k ≡ 2)) same (between m (grind (arith, nat_tests)) (grind (arith, nat_tests)))
+    by false h e1 = absurd cc
 
 -- a needed value that was there
 pub some_made : {A E : Type 0} (o : Option A) (e : E) (x : A) → require_some o e ≡ Ok x → o ≡ Some x

@@ -114,15 +114,17 @@ fn row_set(keys: &[Key], entries: &[Value]) -> Option<SetKey>
     }
     let mut set = [0; 8];
     for (place, key) in keys.iter().enumerate() {
-        set[place] = entry_of(key, whole_in(&entries[place]))?;
+        set[place] = entry_of(key, &entries[place])?;
     }
     Some(set)
 }
 
-// The entry of a key that a whole number is: one plus the place of a value, or 0 where the key may be left out.
-fn entry_of(key: &Key, number: i64) -> Option<u16>
-    ensures { result ≡ (if is_entry_of key.now number then Some (unsigned_abs number) else None) }
+// The entry of a key that a whole number is.
+fn entry_of(key: &Key, value: &Value) -> Option<u16>
+    ensures { result ≡ (if is_entry_of key.now (whole_in (view value.now))
+        then Some (unsigned_abs (whole_in (view value.now))) else None) }
 {
+    let number = whole_in(value);
     if is_entry_of(key, number) {
         Some(number as u16)
     } else {
@@ -130,9 +132,10 @@ fn entry_of(key: &Key, number: i64) -> Option<u16>
     }
 }
 
+// Whether a number is one plus the place of a value of the key, or 0 where the key may be left out.
 fn is_entry_of(key: &Key, number: i64) -> bool
     ensures exact { result ≡ is_entry_of key.now number }
-    ensures few { IsTrue result → (pos 0 ≤ℤ number) × (number ≤ℤ pos 1000) }
+    ensures within { IsTrue result → (pos 0 ≤ℤ number) × (number ≤ℤ pos 1000) }
 {
     if number == 0 {
         key.optional

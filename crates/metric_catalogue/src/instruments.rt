@@ -204,8 +204,12 @@ fn only_instrument_fields(
 ) -> Result<(), CatalogueFault>
     ensures { result ≡ only_instrument_fields format at (table_view table.now) }
 {
-    let known = if format == 1 { 7 } else { 8 };
-    only(table, &INSTRUMENT_FIELDS[..known], &faults_at(at))
+    let faults = faults_at(at);
+    if format == 1 {
+        only(table, &INSTRUMENT_FIELDS[..7], &faults)
+    } else {
+        only(table, &INSTRUMENT_FIELDS, &faults)
+    }
 }
 
 #[tactic(auto, unfolding(crate::specs::Instruments::instrument_name))]

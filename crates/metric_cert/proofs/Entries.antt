@@ -1,13 +1,16 @@
 -- The entry that the maker gives a stream says what bounds it, and there is one exactly where the stream fits its limit.
-use Rattle.std.proofs.Common.{◌≡◌, ◌<◌, ◌≤◌, ℕ, Bool, true, false, cond, if◌then◌else◌, List, length, min, Option, Some, None, refl, sym, ap, subst, arith}
+use Rattle.std.proofs.Common.{◌≡◌, ◌<◌, ◌≤◌, ℕ, Bool, true, false, cond, if◌then◌else◌, List, length, min, Option, Some, None, Result, Ok, Err, refl, sym, ap, subst, arith}
 use Rattle.std.specs.Prelude.{nat_le, unwrap_or}
 use Rattle.std.proofs.lemmas.Bool.{leb-true, leb-false}
 use Rattle.std.proofs.lemmas.Option.{same_Some}
 use Rattle.metric_catalogue.specs.declared.contents.Contents.{Contents}
 use Rattle.metric_views.specs.declared.stream.Stream.{Stream}
 use Rattle.metric_bounds.specs.Amounts.{total_of}
+use Rattle.metric_bounds.specs.First.{Asks, Reports}
 use Rattle.metric_bounds.specs.Safe.{SetsFit}
 use Rattle.metric_bounds.specs.Sets.{count_or, listed_of, product_of, sets_of}
+use Rattle.metric_cert.specs.declared.make_fault.MakeFault.{MakeFault}
+use Rattle.metric_cert.specs.declared.make_fault.MakeFault.TheVariants.{LimitExceeded, Memory}
 use Rattle.metric_cert.specs.declared.stream.By.TheVariants as by
 use Rattle.metric_cert.specs.declared.stream.StreamSets.{StreamSets}
 use Rattle.metric_cert.specs.Making.{entry_by_list, entry_of, entry_past, entry_with}
@@ -41,11 +44,11 @@ counted contents stream listed is = ap (count_or (product_of contents stream)) i
 -- a stream sees more sets than its limit where neither the product nor a list is within it
 sets_past : (contents : Contents) (stream : Stream) → stream.limit < product_of contents stream → entry_by_list stream (listed_of contents stream) ≡ None
     → stream.limit < sets_of contents stream
-sets_past contents stream past none = by (listed_of contents stream) (counted contents stream (listed_of contents stream) refl) none
+sets_past contents stream past none = choose (listed_of contents stream) (counted contents stream (listed_of contents stream) refl) none
   where
-    by : (o : Option (List (List ℕ))) → sets_of contents stream ≡ count_or (product_of contents stream) o → entry_by_list stream o ≡ None → stream.limit < sets_of contents stream
-    by None is none = omega (arith, is, past)
-    by (Some list) is none = at (nat_le (length list) stream.limit) refl none
+    choose : (o : Option (List (List ℕ))) → sets_of contents stream ≡ count_or (product_of contents stream) o → entry_by_list stream o ≡ None → stream.limit < sets_of contents stream
+    choose None is none = omega (arith, is, past)
+    choose (Some list) is none = at (nat_le (length list) stream.limit) refl none
       where
         at : (b : Bool) → nat_le (length list) stream.limit ≡ b → (if b then Some (entry_with stream (by.List list) (length list)) else None) ≡ None
             → stream.limit < sets_of contents stream
@@ -69,6 +72,20 @@ pub fits_past : (contents : Contents) (stream : Stream) → stream.limit < produ
     → total_of contents stream.instrument ≤ stream.limit
 fits_past contents stream past none fit = omega (arith, sets_past contents stream past none, fit)
 
+-- what is found by the budgets, where neither the product nor a list is within the limit
+pub budget_reports : (contents : Contents) (stream : Stream) (total : ℕ) (r : Result StreamSets MakeFault) → stream.limit < product_of contents stream
+    → entry_by_list stream (listed_of contents stream) ≡ None → total ≡ total_of contents stream.instrument
+    → r ≡ (if nat_le total stream.limit then Ok (entry_with stream by.Budget total) else Err LimitExceeded)
+    → Reports Memory (Asks (SetsFit contents stream) LimitExceeded) r
+budget_reports contents stream total r past none is given = choose (nat_le total stream.limit) refl given
+  where
+    choose : (b : Bool) → nat_le total stream.limit ≡ b → r ≡ (if b then Ok (entry_with stream by.Budget total) else Err LimitExceeded)
+        → Reports Memory (Asks (SetsFit contents stream) LimitExceeded) r
+    choose true e given = rw given (budget_fits contents stream total is (leb-true total stream.limit e))
+    choose false e given =
+        let above = leb-false total stream.limit e in
+        rw given (λ other. (λ fit. omega (arith, above, is, fits_past contents stream past none fit), refl))
+
 entry_by_product : (contents : Contents) (stream : Stream) → product_of contents stream ≤ stream.limit
     → IsEntryOf contents stream (entry_with stream by.Product (product_of contents stream))
 entry_by_product contents stream within = record { reader = refl; instrument = refl; view = refl; listed = tt; sets = refl; limited = within }
@@ -91,14 +108,14 @@ entry_by_budget contents stream within = record { reader = refl; instrument = re
 
 -- the entry of a stream that fits is true
 pub true_entry : (contents : Contents) (stream : Stream) → SetsFit contents stream → IsEntryOf contents stream (entry_of contents stream)
-true_entry contents stream fit = by (nat_le (product_of contents stream) stream.limit) refl
+true_entry contents stream fit = choose (nat_le (product_of contents stream) stream.limit) refl
   where
     past : stream.limit < product_of contents stream → (o : Option StreamSets) → entry_by_list stream (listed_of contents stream) ≡ o
         → IsEntryOf contents stream (unwrap_or o (entry_with stream by.Budget (total_of contents stream.instrument)))
     past above (Some entry) is = entry_listed contents stream entry is
     past above None is = entry_by_budget contents stream (fits_past contents stream above is fit)
 
-    by : (b : Bool) → nat_le (product_of contents stream) stream.limit ≡ b
+    choose : (b : Bool) → nat_le (product_of contents stream) stream.limit ≡ b
         → IsEntryOf contents stream (cond b (entry_with stream by.Product (product_of contents stream)) (entry_past contents stream))
-    by true e = entry_by_product contents stream (leb-true (product_of contents stream) stream.limit e)
-    by false e = past (leb-false (product_of contents stream) stream.limit e) (entry_by_list stream (listed_of contents stream)) refl
+    choose true e = entry_by_product contents stream (leb-true (product_of contents stream) stream.limit e)
+    choose false e = past (leb-false (product_of contents stream) stream.limit e) (entry_by_list stream (listed_of contents stream)) refl

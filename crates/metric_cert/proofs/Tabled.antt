@@ -1,5 +1,5 @@
 -- A table whose fields were put one after the other is read as what they were put for.
-use Rattle.std.proofs.Common.{◌≡◌, ℕ, ◌+◌, ◌^◌, true, ◌&&◌, codes, List, Option, Some, None, Result, Ok, Err, Ordering, Less, Equal, Greater, refl, ap, ◌∙◌, arith, ◌≤◌, lit≤}
+use Rattle.std.proofs.Common.{◌≡◌, ℕ, ◌+◌, ◌^◌, true, ◌&&◌, codes, List, Option, Some, None, Result, Ok, Err, Ordering, Less, Equal, Greater, refl, ap, subst, ◌∙◌, arith, ◌≤◌, lit≤}
 use Rattle.std.specs.Prelude.{OnOk}
 use Rattle.std.proofs.lemmas.Bool.{and_parts}
 use Rattle.std.proofs.lemmas.Cmp.{nat_list_cmp_total}
@@ -70,6 +70,10 @@ reason_written view instrument (Name (Rows rows)) none one two three start p q r
     rw (r.put, q.put, p.put, start, p.reads, q.reads, r.reads) refl
 reason_written view instrument (Miss criterion) none one two three start p q r =
     rw (r.put, q.put, p.put, start, p.reads, q.reads, r.reads) refl
+
+-- a word was put
+pub word_put : (word own : BoundWord) (before after : Members) → word ≡ own → Puts word_of 0 (codes "by") word before after → Puts word_of 0 (codes "by") own before after
+word_put word own before after is put = subst (λ (w : BoundWord). Puts word_of 0 (codes "by") w before after) is put
 
 pub stream_written : (reader instrument : ℕ) (view : Option ℕ) (by : By) (sets : ℕ) (none one two three four five six : Members) → none ≡ no_members
     → Puts (whole_of (2 ^ 32)) 0 (codes "reader") reader none one → Puts (whole_of (2 ^ 32)) 0 (codes "instrument") instrument one two

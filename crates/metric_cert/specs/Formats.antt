@@ -1,5 +1,5 @@
 -- The formats of certificates.
-use Rattle.std.specs.Prelude.{Bool, true, false, not, ◌&&◌, ◌||◌, ◌==◌}
+use Rattle.std.specs.Prelude.{ℕ, Bool, List, true, false, not, ◌&&◌, ◌||◌, ◌==◌}
 use Rattle.std.specs.List.{list_any}
 use Rattle.metric_cert.specs.declared.claims.Claims.{Claims}
 use Rattle.metric_cert.specs.declared.stream.By.{By}
@@ -16,5 +16,9 @@ abbrev pub has_list : StreamSets → Bool
 has_list stream = is_list stream.by
 
 -- the format is 2, or 1, in which no stream is bounded by a list
+abbrev pub is_format_of : List StreamSets → ℕ → Bool
+is_format_of streams format = format == 2 || (format == 1 && not (list_any has_list streams))
+
+-- what is claimed is of a format that there is
 abbrev pub is_formatted : Claims → Bool
-is_formatted claims = claims.format == 2 || (claims.format == 1 && not (list_any has_list claims.streams))
+is_formatted claims = is_format_of claims.streams claims.format

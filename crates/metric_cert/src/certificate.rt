@@ -12,7 +12,7 @@ use crate::bound::BoundTable;
 use crate::claims::Claims;
 use crate::fault::{CertFault, shape_faults};
 use crate::fields::TableEntries;
-use crate::numbers::{ShortNumber, whole};
+use crate::numbers::{ShortNumber, short};
 use crate::order::OrderTable;
 use crate::printing::{push_if_empty, push_list, push_pair};
 use crate::reason::ReasonTable;
@@ -93,14 +93,13 @@ impl Certificate {
 }
 
 impl Claims {
-
     // The lines above the first header.
     fn push_pairs(&self, alloc: Global, text: &mut String) -> Result<(), AllocError>
         ensures { OnOk result (AppendsLines (pairs_of self.now)
             (string_bytes text.old) (string_bytes text.new)) }
     {
         push_if_empty(alloc, text, "bound", &self.bounds)?;
-        push_pair(alloc, text, "format", whole(u32::from(self.format)))?;
+        push_pair(alloc, text, "format", short(self.format))?;
         push_if_empty(alloc, text, "order", &self.orders)?;
         push_if_empty(alloc, text, "reason", &self.reasons)?;
         push_if_empty(alloc, text, "stream", &self.streams)

@@ -1,5 +1,5 @@
 //! What bounds the series of each stream.
-ghost use Rattle.std.specs.Prelude.{◌≡◌, ◌<◌, All, IfOk, None, Some, if◌then◌else◌, map, nat_le};
+ghost use Rattle.std.specs.Prelude.{◌≡◌, ◌<◌, All, Err, IfOk, Ok, if◌then◌else◌, map, nat_le};
 ghost use Rattle.std.specs.List.{AllZip};
 ghost use Rattle.metric_resolve.specs.Applying.{all_instruments};
 ghost use Rattle.metric_bounds.specs.Amounts.{total_of};
@@ -80,7 +80,7 @@ fn entry_past(
     let listed = listed(alloc, catalogue, stream)?;
     match entry_by_list(stream, listed) {
         Some(entry) => Ok(entry),
-        None => entry_by_budget(total, stream).ok_or(MakeFault::LimitExceeded),
+        None => entry_by_budget(total, stream),
     }
 }
 
@@ -102,14 +102,14 @@ fn entry_by_list(stream: &Stream, listed: Option<Items<SetKey>>) -> Option<Strea
 }
 
 // The entry by budget, where so many recordings are within the limit.
-fn entry_by_budget(total: u64, stream: &Stream) -> Option<StreamSets>
+fn entry_by_budget(total: u64, stream: &Stream) -> Result<StreamSets, MakeFault>
     ensures { result ≡ (if nat_le total stream.now.limit
-        then Some (entry_with stream.now By.Budget total) else None) }
+        then Ok (entry_with stream.now By.Budget total) else Err MakeFault.LimitExceeded) }
 {
     if total <= u64::from(stream.limit) {
-        Some(entry_by(stream, By::Budget, total as u32))
+        Ok(entry_by(stream, By::Budget, total as u32))
     } else {
-        None
+        Err(MakeFault::LimitExceeded)
     }
 }
 

@@ -2,6 +2,7 @@
 ghost use Rattle.std.specs.Prelude.{◌≡◌, ◌≤◌, All, IfOk, IsOkUnless, length};
 ghost use Rattle.std.specs.List.{list_any};
 ghost use Rattle.std.specs.Result.{result_err};
+ghost use Rattle.metric_catalogue.specs.Sound.{IsSound};
 ghost use Rattle.metric_bounds.specs.Finding.{InstrumentsFind, LimitsFind, SafetyFinds};
 ghost use Rattle.metric_bounds.specs.First.{Asks, Reports, Then};
 ghost use Rattle.metric_bounds.specs.Safe.{AreDistinct, IsSafe};
@@ -103,11 +104,19 @@ fn certificate_of(
     let orders = orders_of(alloc, catalogue, config, streams)?;
     let reasons = reasons_of(alloc, catalogue, config)?;
     let claims = Claims {
-        format: u16::from(catalogue.format()),
+        format: format_of(catalogue),
         reasons,
         streams: entries,
         bounds,
         orders,
     };
     Ok(Certificate::made(claims))
+}
+
+// The format of the catalogue, which says whether an instrument may list combinations.
+fn format_of(catalogue: &Catalogue) -> u16
+    ensures format { result ≡ catalogue.now.format }
+    ensures sound { IsSound catalogue.now }
+{
+    u16::from(catalogue.format())
 }

@@ -141,7 +141,7 @@ impl Entry for SetKeyEntry {
     }
 
     fn write(alloc: Global, entry: &SetKey) -> Result<Value, AllocError> {
-        let values = write_all::<ShortNumber>(alloc, entry)?;
+        let values = write_all::<ShortNumber>(alloc, numbers_of(entry))?;
         Ok(listed(values))
     }
 }
@@ -223,6 +223,13 @@ fn put_list(alloc: Global, table: &mut Table, by: &By) -> Result<(), AllocError>
         By::List(list) => put::<SetKeys>(alloc, table, "list", list),
         By::Product | By::Budget => Ok(()),
     }
+}
+
+fn numbers_of(set: &SetKey) -> &[u16]
+    ensures numbers { result.now ≡ set.now }
+    ensures long { length result.now ≡ 8 }
+{
+    set
 }
 
 // The set key of numbers, of which there are 8.

@@ -13,7 +13,7 @@ use Rattle.metric_bounds.specs.Safe.{IsSafe}
 use Rattle.metric_bounds.specs.Sets.{product_of}
 use Rattle.metric_cert.specs.Making.{entry_of, make_faults}
 use Rattle.metric_cert.specs.Valid.{IsValid}
-use Rattle.metric_cert.specs.declared.claims.Claims.{Claims}
+use Rattle.metric_cert.specs.declared.claims.Claims.{Claims as Certificate}
 use Rattle.metric_cert.specs.declared.make_fault.MakeFault.{MakeFault}
 use Rattle.metric_check.specs.Products.{by_product_of}
 use Rattle.metric_plan.specs.Plans.{PlanValue, plan_of}
@@ -25,7 +25,7 @@ pub record IsDeclared (catalogue config : List ℕ) (contents : Contents) (setup
   pub is_catalogue : catalogue_of catalogue ≡ Ok contents
   pub is_config : config_of config ≡ Ok setup
 
--- whether each stream is by product: it is wherever the product of its kept keys is within its limit
+-- whether each stream is by product: it is wherever the product over the keys that it keeps is within its limit
 abbrev pub bounded_flags : Contents → List Stream → List Bool
 bounded_flags contents streams = map (λ s. nat_le (product_of contents s) s.limit) streams
 
@@ -76,20 +76,20 @@ ReadsConfig (Err Memory) read = Unit {0}
 ReadsConfig (Err _) read = ⊥
 
 -- The certificate shows that a catalogue and a config are safe, which they are, by product wherever it can.
-pub record Certifies (contents : Contents) (setup : Setup) (certificate : Claims) : Type 0 where
+pub record Certifies (contents : Contents) (setup : Setup) (certificate : Certificate) : Type 0 where
   pub safe : IsSafe contents setup
   pub valid : IsValid contents setup certificate
   pub entries : certificate.streams ≡ map (entry_of contents) (streams_of contents setup)
 
 -- a certificate, or the first part of safety that fails, unless memory was refused
-abbrev pub Makes : Result Claims SetupFault → Contents → Setup → Type 0
+abbrev pub Makes : Result Certificate SetupFault → Contents → Setup → Type 0
 Makes (Ok certificate) contents setup = Certifies contents setup certificate
 Makes (Err (Unsafe fault)) contents setup = IsUnsafe contents setup fault
 Makes (Err Memory) contents setup = Unit {0}
 Makes (Err _) contents setup = ⊥
 
 -- the plan of a certificate, unless memory was refused
-abbrev pub Plans : Result PlanValue SetupFault → Contents → Setup → Claims → Type 0
+abbrev pub Plans : Result PlanValue SetupFault → Contents → Setup → Certificate → Type 0
 Plans (Ok plan) contents setup certificate = plan ≡ plan_of true (by_product_of certificate) contents setup
 Plans (Err Memory) contents setup certificate = Unit {0}
 Plans (Err _) contents setup certificate = ⊥

@@ -1,15 +1,12 @@
 -- the fields that were put are read back
-use Rattle.std.proofs.Common.{◌≡◌, lit≤, subst}
-use Rattle.std.specs.Prelude.{◌^◌, codes}
-use Rattle.metric_cert.specs.Names.{word_of}
-use Rattle.metric_cert.specs.Writing.{Puts}
-use Rattle.metric_cert.proofs.Tabled.{given_printable, list_printable, none_printable, put_printable, stream_written, when_ok}
+use Rattle.std.proofs.Common.{lit≤}
+use Rattle.metric_cert.proofs.Tabled.{given_printable, list_printable, none_printable, put_printable, stream_written, when_ok, word_put}
 use Rattle.metric_cert.proofs.stream.StreamTableFields.put.Goals as goal
 
 pub returns-clause-reads : goal.returns-clause-reads
 returns-clause-reads c =
     let stream = c.args.entry.now in
-    let by = subst (λ w. Puts word_of 0 (codes "by") w _ _) c.word.ensures c.in_ok-put-3.ensures in
+    let by = word_put _ _ _ _ c.word.ensures c.in_ok-put-3.ensures in
     when_ok _ c.put-4.ensures
     (stream_written stream.reader stream.instrument stream.view stream.by stream.sets _ _ _ _ _ _ _ c.requires c.in_ok-put.ensures c.in_ok-put-2.ensures c.in_ok-put_given.ensures by c.in_ok-put_list.ensures)
 
