@@ -45,7 +45,9 @@ use Rattle.metric_history.specs.declared.event.Reply.{Reply}
 use Rattle.metric_history.specs.declared.event.Reply.TheVariants.{Accepted, Collected, Done, Refused}
 use Rattle.metric_plan.specs.PlanFacts.{plan_facts_at}
 use Rattle.metric_plan.specs.Plans.{IsPlan, PlanValue}
+use Rattle.metric_commands.specs.Accounts.{IsAccount, batches_at}
 use Rattle.metric_commands.specs.Audits.{AreSlipsOf, AuditEnds, EndsAudit, SomeFails, batches_by, batches_told, slips_by, slips_told}
+use Rattle.metric_commands.specs.declared.accounts.Account.{Account}
 use Rattle.metric_commands.specs.declared.fault.KitFault.{KitFault}
 use Rattle.metric_commands.specs.declared.fault.KitFault.TheVariants as kit
 
@@ -606,15 +608,15 @@ only_memory plan start h (kit.Finish fault) p names legal s = absurd s.fails
 only_memory plan start h kit.Write p names legal s = absurd s.fails
 
 -- what an audit answers is how it ends
-pub ends_as : (facts : RunFacts) (start : ℕ) (journal : List Entry) (h : History) (i : ℕ) (contents : Contents) (slips given : List (List Slip)) (batches told : List Batch)
-    (end result : Result (Unit {0}) AuditFault) → contents ≡ facts.contents → AreSlipsOf contents h i slips → given ≡ slips → batches ≡ batches_told h i → told ≡ batches → result ≡ end
-    → AuditsInstrument facts i start journal given told result → AuditEnds facts start journal h i end
-ends_as facts start journal h i contents slips given batches told end result declared made same all copied is audits = λ own found. record {
-  slips = slips;
-  made = subst (λ (c : Contents). AreSlipsOf c h i slips) declared made;
+pub ends_as : (facts : RunFacts) (start : ℕ) (journal : List Entry) (replies : List Reply) (h : History) (i : ℕ) (account : Account) (slips : List (List Slip)) (batches told : List Batch)
+    (end result : Result (Unit {0}) AuditFault) → IsAccount facts.contents replies h i account → slips ≡ account.slips.items → batches ≡ batches_at replies account.places.items → told ≡ batches
+    → result ≡ end → AuditsInstrument facts i start journal slips told result → AuditEnds facts start journal h i end
+ends_as facts start journal replies h i account slips batches told end result a same all copied is audits = λ own found. record {
+  slips = account.slips.items;
+  made = a.slips;
   ends =
-      subst (λ (r : Result (Unit {0}) AuditFault). Audits own i start journal slips (batches_told h i) r) is
-      (subst (λ (l : List Batch). Audits own i start journal slips l result) (copied ∙ all)
+      subst (λ (r : Result (Unit {0}) AuditFault). Audits own i start journal account.slips.items (batches_told h i) r) is
+      (subst (λ (l : List Batch). Audits own i start journal account.slips.items l result) (copied ∙ all ∙ a.batches)
       (subst (λ (l : List (List Slip)). Audits own i start journal l told result) same (audits own found)));
 }
 
