@@ -1,5 +1,6 @@
 //! Whether the streams have at most as many series as their limits.
-ghost use Rattle.std.specs.Prelude.{◌≡◌, ◌↔◌, All, IfOk, IsTrue, Some};
+ghost use Rattle.std.specs.Prelude.{◌≡◌, ◌↔◌, All, IfOk, IsTrue, Some, length};
+ghost use Rattle.metric_bounds.specs.Amounts.{total_of};
 ghost use Rattle.metric_bounds.specs.First.{Reports};
 ghost use Rattle.metric_bounds.specs.Sets.{listed_of};
 ghost use Rattle.metric_resolve.specs.Resolved.{IsKnown};
@@ -72,12 +73,35 @@ fn has_bound(
 {
     match &entry.by {
         By::Product => Ok(u128::from(entry.sets) == product(catalogue, stream)),
-        By::List(list) => {
-            let is_listed = is_listed(alloc, catalogue, stream, list.as_slice())?;
-            Ok(is_listed && entry.sets as usize == list.len())
-        }
-        By::Budget => Ok(u64::from(entry.sets) == bounds[stream.instrument as usize].total),
+        By::List(list) => has_list(alloc, catalogue, stream, list.as_slice(), entry.sets),
+        By::Budget => Ok(has_total(catalogue, stream, entry.sets, bounds)),
     }
+}
+
+// Whether there are as many sets as the instrument of a stream may be recorded.
+fn has_total(catalogue: &Catalogue, stream: &Stream, sets: u32, bounds: &[InstrumentBound]) -> bool
+    requires totals { AreTotals catalogue.now bounds.now }
+    requires known { IsKnown catalogue.now stream.now }
+    ensures { IsTrue result ↔ (sets ≡ total_of catalogue.now stream.now.instrument) }
+{
+    // Only the contract speaks of the catalogue.
+    let _ = catalogue;
+    u64::from(sets) == bounds[stream.instrument as usize].total
+}
+
+// Whether a list is that of a stream, and there are as many sets.
+fn has_list(
+    alloc: Global,
+    catalogue: &Catalogue,
+    stream: &Stream,
+    list: &[SetKey],
+    sets: u32,
+) -> Result<bool, AllocError>
+    ensures { IfOk result (λ has. IsTrue has
+        ↔ ((listed_of catalogue.now stream.now ≡ Some list.now) × (sets ≡ length list.now))) }
+{
+    let is_listed = is_listed(alloc, catalogue, stream, list)?;
+    Ok(is_listed && sets as usize == list.len())
 }
 
 // Whether a list is that of a stream: both stand in order, so they are compared as they stand.

@@ -20,8 +20,9 @@ use std::thread::Threads;
 
 /// Lets each recorder of an input record, and each reader collect, in a thread of its own: a recorder
 /// on each instrument in order, so many times, the greatest value of its range with the first declared value of each required
-/// key; a reader all instruments at the times 1 to 8 (Metrics SDK, concurrency requirements). Recordings beyond a budget are
-/// passed over. After the threads have ended it writes what each instrument comes to. A refused input writes nothing.
+/// key; a reader all instruments at the times 1 to 8 (Metrics SDK, concurrency requirements). Recordings beyond a budget, and
+/// those of a combination that an instrument does not allow, are passed over. After the threads have ended it writes what each
+/// instrument comes to. A refused input writes nothing.
 ///
 /// # Errors
 ///

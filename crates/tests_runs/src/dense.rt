@@ -5,7 +5,7 @@ ghost use Rattle.metric_facts.specs.Facts.{is_entry, is_full_set};
 ghost use Rattle.metric_facts.specs.Products.{AreDense};
 ghost use Rattle.tests_runs.specs.Taking.{TakesFullSets};
 
-use crate::agreement::{BOUNDARIES, KEYS, Lines, SMALL, push_lines, push_script};
+use crate::agreement::{BOUNDARIES, COMBINED, KEYS, Lines, SMALL, push_lines, push_script};
 use crate::dice::Dice;
 use crate::equal::assert_equal;
 use crate::plans::dense_plan_of;
@@ -190,7 +190,7 @@ fn write_sets(out: &mut String, alloc: Global) -> Result<(), Fail> {
     let catalogue = Catalogue::read(alloc, CATALOGUE)?;
     let config = Config::read(alloc, CONFIG)?;
     let certificate = make(alloc, &catalogue, &config)?;
-    for stream in certificate.streams.as_slice() {
+    for stream in certificate.claims().streams.as_slice() {
         let is_by_product = matches!(stream.by, By::Product);
         writeln!(out, "{} sets, by product: {is_by_product}", stream.sets)?;
     }
@@ -217,7 +217,7 @@ fn a_dense_table_has_a_place_for_each_series(rt: HostRuntime) -> Result<(), Fail
 const INPUTS: u64 = 12;
 
 const DECLARED: &[Lines] = &[
-    &["%% catalogue\nformat = 1\n[[meter]]\nname = 'm'\n"],
+    &["%% catalogue\nformat = 2\n[[meter]]\nname = 'm'\n"],
     &["[[meter.instrument]]\nname = 'i0'\nkind = 'counter'\nrange = [0, 9]\n"],
     BOUNDARIES,
     KEYS,
@@ -232,7 +232,7 @@ const DECLARED: &[Lines] = &[
     KEYS,
     &["[[meter.instrument]]\nname = 'i4'\nkind = 'counter'\nrange = [0, 9]\n"],
     BOUNDARIES,
-    KEYS,
+    COMBINED,
 ];
 
 const BUDGETS: &[Lines] = &[
