@@ -278,8 +278,8 @@ fn answer(alloc: Global, shop: &mut Shop, call: &Call) -> Told {
         Call::Collect => collect(alloc, shop),
         Call::Close => close(alloc, shop),
         Call::Settle => settle(alloc, shop),
-        Call::Short(text) => tell(alloc, shop, text, &mut [0u8; 3]),
-        Call::Whole(text) => tell(alloc, shop, text, &mut [0u8; 500]),
+        Call::Short(text) => tell_short(alloc, shop, text),
+        Call::Whole(text) => tell_whole(alloc, shop, text),
         Call::Batch => batch(alloc, shop),
         Call::Stream(at) => stream(alloc, shop, *at),
         Call::Point(at, number) => point(alloc, shop, *at, *number),
@@ -292,8 +292,8 @@ fn answer(alloc: Global, shop: &mut Shop, call: &Call) -> Told {
 }
 
 fn record(alloc: Global, shop: &mut Shop, texts: &[u8]) -> Told {
-    let (on, by) = (&mut shop.instrument, &mut shop.recorder);
-    let code = wormweekly_record(alloc, on, by, texts, &GIVEN, 5);
+    let on = &mut shop.instrument;
+    let code = wormweekly_record(alloc, on, &mut shop.recorder, texts, &GIVEN, 5);
     (code, [0; 3], 0)
 }
 
@@ -301,14 +301,14 @@ fn prepare(alloc: Global, shop: &mut Shop, texts: &[u8]) -> Told {
     let mut prepared = NOTHING;
     let code = wormweekly_prepare(alloc, &mut shop.recorder, 0, texts, &GIVEN, &mut prepared);
     shop.prepared = prepared;
-    let [first, second, ..] = prepared.set;
-    (code, [u64::from(first), u64::from(second), 0], 0)
+    let set = prepared.set;
+    (code, [u64::from(set[0]), u64::from(set[1]), 0], 0)
 }
 
 fn record_prepared(alloc: Global, shop: &mut Shop, value: i64) -> Told {
     shop.prepared.value = value;
-    let (on, by) = (&mut shop.instrument, &mut shop.recorder);
-    let code = wormweekly_record_prepared(alloc, on, by, &shop.prepared);
+    let on = &mut shop.instrument;
+    let code = wormweekly_record_prepared(alloc, on, &mut shop.recorder, &shop.prepared);
     (code, [0; 3], 0)
 }
 
@@ -316,8 +316,8 @@ fn record_list(alloc: Global, shop: &mut Shop, value: i64) -> Told {
     shop.prepared.value = value;
     let list = [shop.prepared, shop.prepared];
     let mut made = 9;
-    let (on, by) = (&mut shop.instrument, &mut shop.recorder);
-    let code = wormweekly_record_list(alloc, on, by, &list, &mut made);
+    let on = &mut shop.instrument;
+    let code = wormweekly_record_list(alloc, on, &mut shop.recorder, &list, &mut made);
     (code, [made as u64, 0, 0], 0)
 }
 
@@ -343,17 +343,30 @@ fn settle(alloc: Global, shop: &mut Shop) -> Told {
     (code, [total.count, total.negative, total.low], 0)
 }
 
+fn tell_short(alloc: Global, shop: &mut Shop, text: &Text) -> Told {
+    let mut out = [0u8; 3];
+    tell(alloc, shop, text, &mut out)
+}
+
+fn tell_whole(alloc: Global, shop: &mut Shop, text: &Text) -> Told {
+    let mut out = [0u8; 500];
+    tell(alloc, shop, text, &mut out)
+}
+
 fn tell(alloc: Global, shop: &mut Shop, text: &Text, out: &mut [u8]) -> Told {
     let mut length = 0;
-    let (by, to) = (&mut shop.recorder, &mut shop.reader);
     let code = match text {
-        Text::Batch => wormweekly_text(alloc, to, out, &mut length),
-        Text::Warnings => wormweekly_warnings(alloc, by, out, &mut length),
-        Text::Name(kind) => wormweekly_name(alloc, by, *kind, 0, out, &mut length),
-        Text::OfStream(at, kind) => {
-            wormweekly_stream_text(alloc, to, *at, *kind, out, &mut length)
+        Text::Batch => wormweekly_text(alloc, &mut shop.reader, out, &mut length),
+        Text::Warnings => wormweekly_warnings(alloc, &mut shop.recorder, out, &mut length),
+        Text::Name(kind) => {
+            wormweekly_name(alloc, &mut shop.recorder, *kind, 0, out, &mut length)
         }
-        Text::Key(at, key) => wormweekly_key(alloc, to, *at, *key, out, &mut length),
+        Text::OfStream(at, kind) => {
+            wormweekly_stream_text(alloc, &mut shop.reader, *at, *kind, out, &mut length)
+        }
+        Text::Key(at, key) => {
+            wormweekly_key(alloc, &mut shop.reader, *at, *key, out, &mut length)
+        }
     };
     (code, [length as u64, 0, 0], 0)
 }
@@ -394,8 +407,7 @@ fn point(alloc: Global, shop: &mut Shop, at: usize, number: usize) -> Told {
         buckets: 0,
     };
     let code = wormweekly_point(alloc, &mut shop.reader, at, number, &mut out);
-    let [first, ..] = out.set;
-    (code, [u64::from(first), out.count, out.buckets], out.value)
+    (code, [u64::from(out.set[0]), out.count, out.buckets], out.value)
 }
 
 // The value that an entry names for the first key.
@@ -415,8 +427,7 @@ fn value(alloc: Global, shop: &mut Shop, at: usize, entry: u16) -> Told {
 fn boundaries(alloc: Global, shop: &mut Shop, at: usize) -> Told {
     let mut out = [0i64; 2];
     let code = wormweekly_boundaries(alloc, &mut shop.reader, at, &mut out);
-    let [_, last] = out;
-    (code, [0; 3], last)
+    (code, [0; 3], out[1])
 }
 
 fn no_boundaries(alloc: Global, shop: &mut Shop, at: usize) -> Told {

@@ -18,3 +18,6 @@ pub returns-in_default-from_utf8-2-clause-why : goal.returns-in_default-from_utf
 returns-in_default-from_utf8-2-clause-why c =
     and_second (is_utf8 c.args.catalogue.now) (is_utf8 c.args.config.now && is_utf8 c.args.certificate.now)
     (and_second (is_utf8 c.args.config.now) (is_utf8 c.args.certificate.now) (not_utf8 c.args.certificate.now c.in_default-from_utf8-2.ensures.cases.0))
+
+pub returns-clause-why : goal.returns-clause-why
+returns-clause-why c = ?

@@ -1,5 +1,5 @@
 -- there is room, and the first handles hold what was made
-use Rattle.std.proofs.Common.{◌≡◌, ◌++◌, List, Option, drop, length, map, sym, ap, subst, ◌∙◌, arith}
+use Rattle.std.proofs.Common.{◌≡◌, ◌++◌, List, Option, drop, length, sym, ap, subst, ◌∙◌, arith}
 use Rattle.std.proofs.lemmas.List.{length-map}
 use Rattle.std.proofs.lemmas.List.FromFn.{length-map-range_with_len}
 use Rattle.metric_hosted.specs.declared.planned.HostedReader.{HostedReader}
