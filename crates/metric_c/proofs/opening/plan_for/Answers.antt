@@ -16,4 +16,10 @@ returns-in_default-from_utf8-clause-why c =
     and_second (is_utf8 c.args.catalogue.now) (is_utf8 c.args.config.now) (not_utf8 c.args.config.now c.in_default-from_utf8.ensures.cases.0)
 
 pub returns-clause-why : goal.returns-clause-why
-returns-clause-why c = ?
+returns-clause-why c =
+    let catalogue = c.args.catalogue.now in
+    let config = c.args.config.now in
+    subst (λ (are : Bool). IfErr c.plan_of.result (IsWhy are (HasFault catalogue config)))
+    (sym (and_both (is_utf8 catalogue) (is_utf8 config) (is_utf8-from_IsUtf8 catalogue c.in-Ok.ensures.cases.1) (is_utf8-from_IsUtf8 config c.in-Ok-from_utf8.ensures.cases.1)))
+    (subst (λ (text : List ℕ). IfErr c.plan_of.result (IsWhy true (HasFault catalogue text))) c.in-Ok-from_utf8.ensures.cases.0
+    (subst (λ (text : List ℕ). IfErr c.plan_of.result (IsWhy true (HasFault text c.in-Ok-from_utf8.config.now))) c.in-Ok.ensures.cases.0 c.plan_of.ensures.why))
