@@ -9,7 +9,7 @@ use crate::watch::Watch;
 use crate::words::Words;
 use crate::works::Work;
 use anyhow::Context;
-use metric_sdk::{Attr, Catalogue, MeterProvider, Recorder};
+use metric_sdk::{Attr, Catalogue, Marked, MeterProvider, Recorder};
 use std::alloc::Global;
 use std::sync::Wait;
 use std::time::Clock;
@@ -135,7 +135,7 @@ fn record_lists<R: Wait + Clock>(
     watch: &mut Watch,
 ) -> anyhow::Result<u64> {
     let plan = plan_of(alloc, &shape_of(lists.count), 1)?;
-    let mut seats = started(rt, alloc, plan)?;
+    let mut seats = started::<R, Marked>(rt, alloc, plan)?;
     let recorder = seats.recorders.last_mut().context("no recorder")?;
     watch.start(rt);
     let made = record_all(rt, &seats.provider, recorder, all, lists.events);

@@ -1,16 +1,18 @@
 //! Measures what recording, collecting, checking and replaying cost, beside floors measured in the same run.
 //!
 //! Without words it does nothing. `metric_bench all` measures everything; `record`, `histogram`, `collect`,
-//! `threads`, `check`, `replay` and `memory` a part. `--series`, `--attributes`, `--threads` and `--events` set sizes.
+//! `threads`, `check`, `replay`, `audit` and `memory` a part. `--series`, `--attributes`, `--threads` and `--events` set sizes.
 //! Each figure names its unit, and is the least of several repetitions; of what threads do at once it is the median.
 //! `allocations` measures nothing: it makes recordings between marks, for `tools/watch-allocations`.
 #![tactic(auto)]
 
 mod allocations;
+mod audits;
 mod bench;
 mod by_hand;
 mod cells;
 mod checking;
+mod combined;
 mod floors;
 mod histograms;
 mod inputs;
@@ -78,6 +80,9 @@ fn measure<R: Files + AllocGlobal + Threads + Wait + Clock + Sync>(
     }
     if words.ask_for("replay") {
         replaying::measure(rt, bench)?;
+    }
+    if words.ask_for("audit") {
+        audits::measure(rt, bench)?;
     }
     bench.end()?;
     Ok(())

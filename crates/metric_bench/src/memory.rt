@@ -3,11 +3,14 @@ use crate::bench::{Bench, Row, Unit, each};
 use crate::cells::{Instrument, recordings};
 use crate::floors::{Floor, map_of};
 use crate::inputs::{Found, one_of, plan_of, sets};
+use crate::seats::{Keyed, Seats, started};
+use anyhow::Context;
 use indexmap::IndexMap;
-use metric_sdk::SetKey;
+use metric_sdk::{Audited, Measurement, SetKey};
 use std::alloc::{AllocError, Global};
 use std::fs;
 use std::rt::Files;
+use std::sync::Wait;
 
 // How many series there are, so many that pages of memory and what a map keeps in reserve weigh little.
 const SERIES: u32 = 100_000;
@@ -32,7 +35,10 @@ const PARTS: &[(&str, Found)] = &[
 /// Measures the memory of series: of each kind, and beside it that of a map of as many set keys to numbers. It is
 /// the memory that the process has in use, before there was an instrument and after its series came, so this is
 /// measured first, and all that is measured is kept to the end, since memory that is given back may stay in use.
-pub(crate) fn measure<R: Files + AllocGlobal>(rt: &R, bench: &mut Bench) -> anyhow::Result<()> {
+pub(crate) fn measure<R: Files + AllocGlobal + Wait>(
+    rt: &R,
+    bench: &mut Bench,
+) -> anyhow::Result<()> {
     let sets = sets(bench.alloc, SERIES)?;
     let before = in_use(rt)?;
     let _map: IndexMap<SetKey, u64> = map_of(bench.alloc, &sets)?;
@@ -45,7 +51,51 @@ pub(crate) fn measure<R: Files + AllocGlobal>(rt: &R, bench: &mut Bench) -> anyh
         bench.begin(*title, "series")?;
         measure_part(rt, bench, *found, &mut kept)?;
     }
+    measure_kept(rt, bench)
+}
+
+// How many recordings are kept.
+const KEPT: u32 = 500_000;
+
+// The series that they are of.
+const KEPT_SERIES: u32 = 1_000;
+
+// Measures what each recording takes over books that keep it, beside a list of as many set keys and values.
+fn measure_kept<R: Files + AllocGlobal + Wait>(rt: &R, bench: &mut Bench) -> anyhow::Result<()> {
+    let before = in_use(rt)?;
+    let recordings = recordings(bench.alloc, KEPT, KEPT_SERIES)?;
+    bench.floor = Floor {
+        name: "a list of set keys and values",
+        each: each(in_use(rt)?.saturating_sub(before), u64::from(KEPT)),
+    };
+    bench.begin("memory, audited", "recordings")?;
+    let row = Row {
+        name: "a recording kept, with its slip",
+        size: u64::from(KEPT),
+        operations: u64::from(KEPT),
+        unit: Unit::each("B a recording"),
+    };
+    let bytes = bytes_of_kept(rt, bench.alloc, &recordings)?;
+    bench.add(&row, bytes)?;
     Ok(())
+}
+
+fn bytes_of_kept<R: Files + AllocGlobal + Wait>(
+    rt: &R,
+    alloc: Global,
+    recordings: &[Measurement],
+) -> anyhow::Result<u64> {
+    let plan = plan_of(alloc, &one_of(0, KEPT_SERIES, Found::Dense), 1)?;
+    let mut seats: Seats<Audited> = started(rt, alloc, plan)?;
+    let recorder = seats.recorders.last_mut().context("no recorder")?;
+    let keyed = Keyed {
+        instrument: 0,
+        recordings,
+        are_listed: false,
+    };
+    let before = in_use(rt)?;
+    keyed.repeat(rt, &seats.provider, recorder, 1)?;
+    Ok(in_use(rt)?.saturating_sub(before))
 }
 
 fn measure_part<R: Files + AllocGlobal>(

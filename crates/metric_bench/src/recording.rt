@@ -4,14 +4,15 @@ use crate::by_hand::Hash;
 use crate::cells::{Instrument, recordings};
 use crate::floors::{Floor, at_place, by_texts, look_up};
 use crate::inputs::{Found, one_of, plan_of};
-use crate::lists;
 use crate::points::number_of;
 use crate::seats::{Keyed, LIST, Rounds, record_by_last, started};
 use crate::watch::Watch;
 use crate::words::Words;
 use crate::works::Work;
+use crate::{combined, lists};
 use anyhow::Context;
-use metric_sdk::Plan;
+use metric_book::Book;
+use metric_sdk::{Audited, Marked, Plan};
 use std::alloc::Global;
 use std::sync::Wait;
 use std::time::Clock;
@@ -34,6 +35,12 @@ pub(crate) enum Act {
     HeldBySet,
     /// The same, each list of them under one lock.
     HeldByLists,
+    /// Recordings whose series are held, by a seat, over books that keep each of them.
+    KeptBySeat,
+    /// The same, with their set keys in hand.
+    KeptBySet,
+    /// The same, each list of them under one lock.
+    KeptByLists,
     /// A collection.
     Collect,
 }
@@ -75,6 +82,7 @@ const BY_SEAT: &[Group] = &[
         beside: Beside::Texts(Hash::Std),
         lines: &[
             ("sum, held", 0, Act::HeldBySeat),
+            ("sum, held, audited", 0, Act::KeptBySeat),
             ("sum, new series", 0, Act::NewBySeat),
             ("last value, new series", 1, Act::NewBySeat),
             ("last value, held", 1, Act::HeldBySeat),
@@ -92,7 +100,9 @@ const BY_SEAT: &[Group] = &[
         beside: Beside::Place,
         lines: &[
             ("sum, held, set key in hand", 0, Act::HeldBySet),
+            ("sum, held, set key in hand, audited", 0, Act::KeptBySet),
             ("sum, held, sixteen under one lock", 0, Act::HeldByLists),
+            ("sum, held, sixteen, audited", 0, Act::KeptByLists),
         ],
     },
 ];
@@ -192,6 +202,7 @@ pub(crate) fn measure<R: Wait + Clock>(
     words: &Words<'_>,
 ) -> anyhow::Result<()> {
     lists::measure(rt, bench, words, false)?;
+    combined::measure(rt, bench)?;
     measure_parts(rt, bench, words, PARTS_IN_HAND)?;
     lists::measure(rt, bench, words, true)?;
     measure_parts(rt, bench, words, PARTS_BY_SEAT)
@@ -295,7 +306,7 @@ impl Case {
     // About as many recordings as there are events, where series are held.
     fn new(part: &Part, kind: u32, act: Act, series: u32, events: u32) -> Case {
         let count = match act {
-            Act::HeldByLists => series.div_ceil(LIST).saturating_mul(LIST),
+            Act::HeldByLists | Act::KeptByLists => series.div_ceil(LIST).saturating_mul(LIST),
             _ => series,
         };
         let rounds = (events / count.max(1)).max(1);
@@ -350,9 +361,12 @@ pub(crate) fn case_done<R: Wait + Clock>(
 ) -> anyhow::Result<u64> {
     match case.act {
         Act::New | Act::Held => record_in_cell(rt, alloc, case, watch),
-        Act::NewBySeat | Act::HeldBySeat => record_by_seat(rt, alloc, case, watch),
-        Act::HeldBySet => record_keyed(rt, alloc, case, false, watch),
-        Act::HeldByLists => record_keyed(rt, alloc, case, true, watch),
+        Act::NewBySeat | Act::HeldBySeat => record_by_seat::<R, Marked>(rt, alloc, case, watch),
+        Act::HeldBySet => record_keyed::<R, Marked>(rt, alloc, case, false, watch),
+        Act::HeldByLists => record_keyed::<R, Marked>(rt, alloc, case, true, watch),
+        Act::KeptBySeat => record_by_seat::<R, Audited>(rt, alloc, case, watch),
+        Act::KeptBySet => record_keyed::<R, Audited>(rt, alloc, case, false, watch),
+        Act::KeptByLists => record_keyed::<R, Audited>(rt, alloc, case, true, watch),
         Act::Collect => collect_once(rt, alloc, case, watch),
     }
 }
@@ -392,13 +406,13 @@ fn collect_once<R: Clock>(
     Ok(number_of(&batch?))
 }
 
-fn record_by_seat<R: Wait + Clock>(
+fn record_by_seat<R: Wait + Clock, B: Book>(
     rt: &R,
     alloc: Global,
     case: &Case,
     watch: &mut Watch,
 ) -> anyhow::Result<u64> {
-    let mut seats = started(rt, alloc, case.plan(alloc)?)?;
+    let mut seats = started::<R, B>(rt, alloc, case.plan(alloc)?)?;
     let rounds = Rounds {
         instrument: 0,
         series: case.series,
@@ -410,14 +424,14 @@ fn record_by_seat<R: Wait + Clock>(
     made
 }
 
-fn record_keyed<R: Wait + Clock>(
+fn record_keyed<R: Wait + Clock, B: Book>(
     rt: &R,
     alloc: Global,
     case: &Case,
     are_listed: bool,
     watch: &mut Watch,
 ) -> anyhow::Result<u64> {
-    let mut seats = started(rt, alloc, case.plan(alloc)?)?;
+    let mut seats = started::<R, B>(rt, alloc, case.plan(alloc)?)?;
     let recordings = recordings(alloc, case.count, case.series)?;
     let recorder = seats.recorders.last_mut().context("no recorder")?;
     let keyed = Keyed {

@@ -1,19 +1,22 @@
 //! A provider of a certified plan with its seats, and what a seat records.
 use crate::inputs::Cycle;
 use anyhow::Context;
-use metric_sdk::{Collector, Measurement, MeterProvider, NoGate, Plan, Recorder, Refusal, start};
+use metric_book::Book;
+use metric_sdk::{
+    Collector, Measurement, NoGate, Plan, Provider, Recorder, Refusal, Totals, start,
+};
 use std::alloc::Global;
 use std::sync::Wait;
 use std::sync::atomic::{AtomicBool, Ordering};
 
-/// A provider and the seats of its recorders and readers, in order.
-pub(crate) struct Seats {
-    pub provider: MeterProvider,
+/// A provider over a book, and the seats of its recorders and readers, in order.
+pub(crate) struct Seats<B: Book> {
+    pub provider: Provider<B, NoGate>,
     pub recorders: Vec<Recorder>,
     pub collectors: Vec<Collector>,
 }
 
-impl Drop for Seats {
+impl<B: Book> Drop for Seats<B> {
     // A call of its own, so that what owns seats does not carry the steps of dropping each part.
     fn drop(self) {
         let Seats {
@@ -24,8 +27,27 @@ impl Drop for Seats {
     }
 }
 
+impl<B: Book> Seats<B> {
+    /// What the provider comes to.
+    pub(crate) fn finish<R: Wait>(self, rt: &R, alloc: Global) -> anyhow::Result<Totals> {
+        let Seats {
+            provider,
+            recorders,
+            collectors: _collectors,
+        } = self;
+        match provider.finish(rt, alloc, recorders) {
+            Ok(totals) => Ok(totals),
+            Err(_) => anyhow::bail!("what the seats were told could not be settled"),
+        }
+    }
+}
+
 /// A provider of a certified plan, with its seats.
-pub(crate) fn started<R: Wait>(rt: &R, alloc: Global, plan: Plan) -> anyhow::Result<Seats> {
+pub(crate) fn started<R: Wait, B: Book>(
+    rt: &R,
+    alloc: Global,
+    plan: Plan,
+) -> anyhow::Result<Seats<B>> {
     if !plan.is_certified() {
         anyhow::bail!("a plan that is not certified");
     }
@@ -48,10 +70,10 @@ pub(crate) struct Rounds {
 
 impl Rounds {
     /// Makes so many recordings, or fewer where it is over before. How many there were.
-    pub(crate) fn repeat<R: Wait>(
+    pub(crate) fn repeat<R: Wait, B: Book>(
         self,
         rt: &R,
-        provider: &MeterProvider,
+        provider: &Provider<B, NoGate>,
         recorder: &mut Recorder,
         events: u32,
         is_over: &AtomicBool,
@@ -72,9 +94,9 @@ impl Rounds {
 }
 
 /// Goes through the series so many times by the last recorder. How many recordings there were.
-pub(crate) fn record_by_last<R: Wait>(
+pub(crate) fn record_by_last<R: Wait, B: Book>(
     rt: &R,
-    seats: &mut Seats,
+    seats: &mut Seats<B>,
     rounds: Rounds,
     times: u32,
 ) -> anyhow::Result<u64> {
@@ -104,10 +126,10 @@ impl Keyed<'_> {
     }
 
     /// Makes each recording so many times. How many there were.
-    pub(crate) fn repeat<R: Wait>(
+    pub(crate) fn repeat<R: Wait, B: Book>(
         self,
         rt: &R,
-        provider: &MeterProvider,
+        provider: &Provider<B, NoGate>,
         recorder: &mut Recorder,
         times: u32,
     ) -> Result<u64, Refusal> {
@@ -121,10 +143,10 @@ impl Keyed<'_> {
         Ok(u64::from(times).wrapping_mul(self.recordings.len() as u64))
     }
 
-    fn record_each<R: Wait>(
+    fn record_each<R: Wait, B: Book>(
         self,
         rt: &R,
-        provider: &MeterProvider,
+        provider: &Provider<B, NoGate>,
         recorder: &mut Recorder,
     ) -> Result<(), Refusal> {
         for one in self.recordings {
@@ -133,10 +155,10 @@ impl Keyed<'_> {
         Ok(())
     }
 
-    fn record_lists<R: Wait>(
+    fn record_lists<R: Wait, B: Book>(
         self,
         rt: &R,
-        provider: &MeterProvider,
+        provider: &Provider<B, NoGate>,
         recorder: &mut Recorder,
     ) -> Result<(), Refusal> {
         for list in self.recordings.chunks(LIST as usize) {
@@ -146,9 +168,9 @@ impl Keyed<'_> {
     }
 }
 
-fn record_list<R: Wait>(
+fn record_list<R: Wait, B: Book>(
     rt: &R,
-    provider: &MeterProvider,
+    provider: &Provider<B, NoGate>,
     recorder: &mut Recorder,
     instrument: u32,
     list: &[Measurement],

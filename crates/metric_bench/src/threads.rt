@@ -8,7 +8,7 @@ use crate::tasks::{Caller, Collections, Runner, Task, times_together};
 use crate::watch::Spread;
 use crate::words::Words;
 use crossbeam_utils::CachePadded;
-use metric_sdk::{Collector, Measurement, MeterProvider, Recorder};
+use metric_sdk::{Collector, Marked, Measurement, MeterProvider, Recorder};
 use std::alloc::{AllocError, Global};
 use std::sync::{Mutex, Wait};
 use std::thread::Threads;
@@ -273,7 +273,7 @@ fn seats_measured<R: Threads + Wait + Clock + Sync>(
 }
 
 // A provider with so many recorders and instruments.
-fn seats_of<R: Wait>(rt: &R, alloc: Global, count: u32) -> anyhow::Result<Seats> {
+fn seats_of<R: Wait>(rt: &R, alloc: Global, count: u32) -> anyhow::Result<Seats<Marked>> {
     let shape = Shape {
         instruments: count,
         kind: 0,

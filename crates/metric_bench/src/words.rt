@@ -71,6 +71,7 @@ const PARTS: &[&str] = &[
     "threads",
     "check",
     "replay",
+    "audit",
     "memory",
     "allocations",
 ];

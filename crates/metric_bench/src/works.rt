@@ -1,6 +1,8 @@
 //! The works that are measured, and the least time that each takes.
+use crate::audits::audited;
 use crate::by_hand::{Hash, add_at_places, add_by_texts};
 use crate::checking::{Step, Texts, step_done};
+use crate::combined::ask_for_rows;
 use crate::floors::{copy_bytes, look_up_sets};
 use crate::histograms::add_values;
 use crate::lists::{Lists, lists_done};
@@ -24,6 +26,8 @@ pub(crate) enum Work<'a> {
     Texts(Hash, u32),
     /// A copy of bytes.
     Copy,
+    /// Questions whether set keys are among the combinations of an instrument.
+    Combined,
     /// Lists of attributes, one after the other.
     Lists(Lists),
     /// Recordings or a collection of an instrument.
@@ -34,6 +38,8 @@ pub(crate) enum Work<'a> {
     Step(Step, &'a Texts),
     /// A replay of an input.
     Replay(&'a str),
+    /// An audit of a journal of so many series.
+    Audit(u32),
 }
 
 impl Work<'_> {
@@ -49,11 +55,13 @@ impl Work<'_> {
             Work::Places(count) => add_at_places(rt, alloc, *count, watch),
             Work::Texts(hash, count) => add_by_texts(rt, alloc, *hash, *count, watch),
             Work::Copy => copy_bytes(rt, alloc, watch),
+            Work::Combined => ask_for_rows(rt, alloc, watch),
             Work::Lists(lists) => lists_done(rt, alloc, lists, watch),
             Work::Case(case) => case_done(rt, alloc, case, watch),
             Work::Values(boundaries, events) => add_values(alloc, boundaries, *events),
             Work::Step(step, texts) => step_done(rt, alloc, *step, texts, watch),
             Work::Replay(input) => replayed(alloc, input),
+            Work::Audit(series) => audited(rt, alloc, *series, watch),
         }
     }
 }

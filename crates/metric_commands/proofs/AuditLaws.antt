@@ -20,6 +20,7 @@ use Rattle.metric_book.specs.Slips.{is_by, slip_of, slips_of}
 use Rattle.metric_book.specs.declared.slip.Slip.{Slip}
 use Rattle.metric_catalogue.specs.Attributes.{given_by_owned}
 use Rattle.metric_catalogue.specs.Budgets.{amount_of}
+use Rattle.metric_combinations.specs.Combinations.{permits}
 use Rattle.metric_catalogue.specs.Encoding.{encode_of}
 use Rattle.metric_catalogue.specs.declared.attributes.OwnedAttr.{OwnedAttr}
 use Rattle.metric_catalogue.specs.declared.contents.Contents.{Contents}
@@ -29,7 +30,7 @@ use Rattle.metric_catalogue.specs.declared.refusal.Refusal.{Refusal}
 use Rattle.metric_catalogue.specs.declared.refusal.Refusal.TheVariants.{UnknownInstrument, UnknownRecorder, UnknownReader, ValueRange, Closed, Budget, SumRange}
 use Rattle.metric_facts.specs.declared.facts.Facts.{Facts}
 use Rattle.metric_facts.specs.declared.facts.NumberedStream.{NumberedStream}
-use Rattle.metric_facts.specs.Facts.{EncodesFullSets, RunFacts, in_bounds, is_delta, is_full_set, is_of_reader, key_facts}
+use Rattle.metric_facts.specs.Facts.{EncodesAllowedSets, RunFacts, in_bounds, is_allowed_set, is_delta, is_full_set, is_of_reader, key_facts}
 use Rattle.metric_history.specs.Answers.{Told, batch, collected, recorded, spent}
 use Rattle.metric_history.specs.Encoded.{encoded}
 use Rattle.metric_history.specs.History.{History, accepted, added_by, batch_time, collects, is_closed, mark_of, previous_of, told_of}
@@ -44,7 +45,9 @@ use Rattle.metric_history.specs.declared.event.Reply.{Reply}
 use Rattle.metric_history.specs.declared.event.Reply.TheVariants.{Accepted, Collected, Done, Refused}
 use Rattle.metric_plan.specs.PlanFacts.{plan_facts_at}
 use Rattle.metric_plan.specs.Plans.{IsPlan, PlanValue}
+use Rattle.metric_commands.specs.Accounts.{IsAccount, batches_at}
 use Rattle.metric_commands.specs.Audits.{AreSlipsOf, AuditEnds, EndsAudit, SomeFails, batches_by, batches_told, slips_by, slips_told}
+use Rattle.metric_commands.specs.declared.accounts.Account.{Account}
 use Rattle.metric_commands.specs.declared.fault.KitFault.{KitFault}
 use Rattle.metric_commands.specs.declared.fault.KitFault.TheVariants as kit
 
@@ -84,7 +87,7 @@ pub record IsOwn (run : RunFacts) (i : ℕ) (own : Facts) : Type 0 where
   pub at : slice_get run.instruments i ≡ Some own
   pub numbered : own.instrument ≡ i
   pub budgets : length own.budgets ≡ length run.contents.recorders
-  pub full : (attrs : List OwnedAttr) (set : List ℕ) → encoded run.contents i attrs ≡ Ok set → is_full_set own.keys set ≡ true
+  pub allowed : (attrs : List OwnedAttr) (set : List ℕ) → encoded run.contents i attrs ≡ Ok set → is_allowed_set own set ≡ true
 
 -- a recording of the instrument that nothing refused
 record IsTaken (run : RunFacts) (start : ℕ) (h : History) (i : ℕ) (own : Facts) (recorder : ℕ) (attrs : List OwnedAttr) (value : ℤ) : Type 0 where
@@ -145,7 +148,7 @@ record Adds (run : RunFacts) (start : ℕ) (h : History) (i : ℕ) (own : Facts)
   entry : Entry
   adds : added_by run i event reply ≡ entry ∷ []
   by_recorder : entry.recorder < length own.budgets
-  full : is_full_set own.keys entry.set ≡ true
+  allowed : is_allowed_set own entry.set ≡ true
   ranged : in_bounds own entry.value ≡ true
   fits : fits_all own (mark_of run h i) (accepted run h i) entry ≡ true
   slips : (r : ℕ) → slips_by run.contents i r event reply ≡ slips_of r (entry ∷ [])
@@ -198,7 +201,7 @@ adds_record run start h i own recorder attrs value o t = record {
   entry = record { recorder = recorder; set = result_unwrap_or (encoded run.contents i attrs) []; value = value };
   adds = rw (eq-eqb i i refl) refl;
   by_recorder = t.by_recorder;
-  full = rw t.named (o.full attrs t.set t.named);
+  allowed = rw t.named (o.allowed attrs t.set t.named);
   ranged = t.ranged;
   fits = rw t.named t.fits;
   slips = λ r. slip_is run.contents i r recorder attrs value t.set t.named;
@@ -406,15 +409,15 @@ record Keeps (run : RunFacts) (start : ℕ) (i : ℕ) (own : Facts) (entries : L
 
 -- after one recording more
 keeps_entry : (run : RunFacts) (start : ℕ) (i : ℕ) (own : Facts) (entries : List Entry) (batches : List Batch) (mark previous : ℕ → ℕ) (entry : Entry)
-    → Keeps run start i own entries batches mark previous → is_full_set own.keys entry.set ≡ true → in_bounds own entry.value ≡ true → fits_all own mark entries entry ≡ true
+    → Keeps run start i own entries batches mark previous → is_allowed_set own entry.set ≡ true → in_bounds own entry.value ≡ true → fits_all own mark entries entry ≡ true
     → Keeps run start i own (entries ++ entry ∷ []) batches mark previous
-keeps_entry run start i own entries batches mark previous entry k full ranged fits = record {
+keeps_entry run start i own entries batches mark previous entry k allowed ranged fits = record {
   marks = k.marks;
   times = k.times;
   low = λ reader. omega (arith, k.low reader, length-append entries (entry ∷ []));
   possible = λ reader.
       let may : may_follow own reader (mark reader) entries entry ≡ true =
-      and_from (is_full_set own.keys entry.set) _ full (and_from (in_bounds own entry.value) _ ranged (fits_own own mark entries entry reader own.streams fits)) in
+      and_from (is_allowed_set own entry.set) _ allowed (and_from (in_bounds own entry.value) _ ranged (fits_own own mark entries entry reader own.streams fits)) in
       let all : each_may_follow own reader (mark reader) (take (mark reader) entries) (drop (mark reader) entries ++ entry ∷ []) ≡ true =
       follows_more own reader (mark reader) (take (mark reader) entries) (drop (mark reader) entries) entry (k.possible reader)
       (subst (λ (l : List Entry). may_follow own reader (mark reader) l entry ≡ true) (sym (take-append-drop (mark reader) entries)) may) in
@@ -515,7 +518,7 @@ keeps_step : (run : RunFacts) (start : ℕ) (h : History) (i : ℕ) (own : Facts
     (λ r. cond (collects i r event reply) (max (batch_time reply) (previous_of start h i r)) (previous_of start h i r))
 keeps_step run start h i own event reply numbered (inl a) k =
     kept_as run start i own _ _ _ _ _ _ _ _
-    (keeps_entry run start i own (accepted run h i) (batches_told h i) (mark_of run h i) (previous_of start h i) a.entry k a.full a.ranged a.fits)
+    (keeps_entry run start i own (accepted run h i) (batches_told h i) (mark_of run h i) (previous_of start h i) a.entry k a.allowed a.ranged a.fits)
     (ap (λ (l : List Entry). accepted run h i ++ l) (sym a.adds))
     (sym (append-nil (batches_told h i)) ∙ ap (λ (l : List Batch). batches_told h i ++ l) (sym a.batches))
     (λ r. ap (λ (b : Bool). cond b (length (accepted run h i)) (mark_of run h i r)) (sym (a.collects_none r)))
@@ -554,22 +557,24 @@ batches_are_right run start i own o h legal = (keeps run start i own o h legal).
 
 -- ---- a plan
 
-set_is_full : (instruments : List Instrument) (i : ℕ) (own : Facts) (instrument : Instrument) (attrs : List OwnedAttr) (set : List ℕ) → EncodesFullSets
-    → slice_get instruments i ≡ Some instrument → own.keys ≡ map key_facts instrument.keys
-    → encode_of instruments i (map given_by_owned attrs) ≡ Ok set → is_full_set own.keys set ≡ true
+set_is_allowed : (instruments : List Instrument) (i : ℕ) (own : Facts) (instrument : Instrument) (attrs : List OwnedAttr) (set : List ℕ) → EncodesAllowedSets
+    → slice_get instruments i ≡ Some instrument → own.keys ≡ map key_facts instrument.keys → own.allowed ≡ instrument.allowed
+    → encode_of instruments i (map given_by_owned attrs) ≡ Ok set → is_allowed_set own set ≡ true
 unfolding encode_of
-set_is_full instruments i own instrument attrs set full at keys named =
-    ap (λ all. is_full_set all set) keys ∙ full instrument.keys (map given_by_owned attrs) set (rw at at named)
+set_is_allowed instruments i own instrument attrs set names at keys allowed named =
+    ap (λ all. is_full_set all set && permits own.allowed set) keys
+    ∙ ap (λ o. is_full_set (map key_facts instrument.keys) set && permits o set) allowed
+    ∙ names instrument (map given_by_owned attrs) set (rw at at named)
 
-plan_owns : (plan : PlanValue) (i : ℕ) (own : Facts) → IsPlan plan → EncodesFullSets → slice_get plan.facts.instruments i ≡ Some own → IsOwn plan.facts i own
-plan_owns plan i own p full found =
+plan_owns : (plan : PlanValue) (i : ℕ) (own : Facts) → IsPlan plan → EncodesAllowedSets → slice_get plan.facts.instruments i ≡ Some own → IsOwn plan.facts i own
+plan_owns plan i own p names found =
     let here = plan_facts_at plan i own p found in
     record {
       at = found;
       numbered = ap (λ (f : Facts). f.instrument) here.is;
       budgets = ap (λ (f : Facts). length f.budgets) here.is ∙ length-map plan.facts.contents.recorders (λ (recorder : Recorder). amount_of recorder i);
-      full = λ attrs set named.
-          set_is_full plan.facts.contents.instruments i own here.instrument attrs set full here.at (ap (λ (f : Facts). f.keys) here.is) named;
+      allowed = λ attrs set named.
+          set_is_allowed plan.facts.contents.instruments i own here.instrument attrs set names here.at (ap (λ (f : Facts). f.keys) here.is) (ap (λ (f : Facts). f.allowed) here.is) named;
     }
 
 -- an audit with the slips and batches of a legal history does not fail
@@ -585,39 +590,39 @@ never_fails run start i own (audits.Batch at) o h legal other e = e.ends.1.wrong
 never_fails run start i own audits.Memory o h legal other e = other refl
 
 -- So where some audit of a run does not end well, memory was refused.
-pub only_memory : (plan : PlanValue) (start : ℕ) (h : History) (fault : KitFault) → IsPlan plan → EncodesFullSets → IsLegal plan.facts start h
+pub only_memory : (plan : PlanValue) (start : ℕ) (h : History) (fault : KitFault) → IsPlan plan → EncodesAllowedSets → IsLegal plan.facts start h
     → SomeFails plan.facts start h fault → fault ≡ kit.Memory
-only_memory plan start h kit.Memory p full legal s = refl
-only_memory plan start h (kit.Audit fault) p full legal s =
+only_memory plan start h kit.Memory p names legal s = refl
+only_memory plan start h (kit.Audit fault) p names legal s =
     let own = get_or plan.facts.instruments s.instrument (first plan.facts.instruments s.known) in
     let found : slice_get plan.facts.instruments s.instrument ≡ Some own = slice_get-get_or plan.facts.instruments s.instrument (first plan.facts.instruments s.known) s.known in
-    absurd (never_fails plan.facts start s.instrument own fault (plan_owns plan s.instrument own p full found) h legal s.fails.0 (s.fails.1 own found))
-only_memory plan start h kit.Read p full legal s = absurd s.fails
-only_memory plan start h (kit.Input line) p full legal s = absurd s.fails
-only_memory plan start h (kit.Catalogue fault) p full legal s = absurd s.fails
-only_memory plan start h (kit.Config fault) p full legal s = absurd s.fails
-only_memory plan start h (kit.Certificate fault) p full legal s = absurd s.fails
-only_memory plan start h (kit.Check fault) p full legal s = absurd s.fails
-only_memory plan start h (kit.Make fault) p full legal s = absurd s.fails
-only_memory plan start h (kit.Finish fault) p full legal s = absurd s.fails
-only_memory plan start h kit.Write p full legal s = absurd s.fails
+    absurd (never_fails plan.facts start s.instrument own fault (plan_owns plan s.instrument own p names found) h legal s.fails.0 (s.fails.1 own found))
+only_memory plan start h kit.Read p names legal s = absurd s.fails
+only_memory plan start h (kit.Input line) p names legal s = absurd s.fails
+only_memory plan start h (kit.Catalogue fault) p names legal s = absurd s.fails
+only_memory plan start h (kit.Config fault) p names legal s = absurd s.fails
+only_memory plan start h (kit.Certificate fault) p names legal s = absurd s.fails
+only_memory plan start h (kit.Check fault) p names legal s = absurd s.fails
+only_memory plan start h (kit.Make fault) p names legal s = absurd s.fails
+only_memory plan start h (kit.Finish fault) p names legal s = absurd s.fails
+only_memory plan start h kit.Write p names legal s = absurd s.fails
 
 -- what an audit answers is how it ends
-pub ends_as : (facts : RunFacts) (start : ℕ) (journal : List Entry) (h : History) (i : ℕ) (contents : Contents) (slips given : List (List Slip)) (batches told : List Batch)
-    (end result : Result (Unit {0}) AuditFault) → contents ≡ facts.contents → AreSlipsOf contents h i slips → given ≡ slips → batches ≡ batches_told h i → told ≡ batches → result ≡ end
-    → AuditsInstrument facts i start journal given told result → AuditEnds facts start journal h i end
-ends_as facts start journal h i contents slips given batches told end result declared made same all copied is audits = λ own found. record {
-  slips = slips;
-  made = subst (λ (c : Contents). AreSlipsOf c h i slips) declared made;
+pub ends_as : (facts : RunFacts) (start : ℕ) (journal : List Entry) (replies : List Reply) (h : History) (i : ℕ) (account : Account) (slips : List (List Slip)) (batches told : List Batch)
+    (end result : Result (Unit {0}) AuditFault) → IsAccount facts.contents replies h i account → slips ≡ account.slips.items → batches ≡ batches_at replies account.places.items → told ≡ batches
+    → result ≡ end → AuditsInstrument facts i start journal slips told result → AuditEnds facts start journal h i end
+ends_as facts start journal replies h i account slips batches told end result a same all copied is audits = λ own found. record {
+  slips = account.slips.items;
+  made = a.slips;
   ends =
-      subst (λ (r : Result (Unit {0}) AuditFault). Audits own i start journal slips (batches_told h i) r) is
-      (subst (λ (l : List Batch). Audits own i start journal slips l result) (copied ∙ all)
+      subst (λ (r : Result (Unit {0}) AuditFault). Audits own i start journal account.slips.items (batches_told h i) r) is
+      (subst (λ (l : List Batch). Audits own i start journal account.slips.items l result) (copied ∙ all ∙ a.batches)
       (subst (λ (l : List (List Slip)). Audits own i start journal l told result) same (audits own found)));
 }
 
 -- what a run's audits refuse
-pub run_refuses : (plan now : PlanValue) (start : ℕ) (events : List Event) (replies : List Reply) (fault : KitFault) → IsPlan plan → EncodesFullSets → KeepsLegal
+pub run_refuses : (plan now : PlanValue) (start : ℕ) (events : List Event) (replies : List Reply) (fault : KitFault) → IsPlan plan → EncodesAllowedSets → KeepsLegal
     → AllLegal plan.facts start [] events replies → now ≡ plan → SomeFails now.facts start (grown [] events replies) fault → fault ≡ kit.Memory
-run_refuses plan now start events replies fault p full keep legal same some =
-    only_memory plan start (grown [] events replies) fault p full (keep plan.facts start [] events replies tt legal)
+run_refuses plan now start events replies fault p names keep legal same some =
+    only_memory plan start (grown [] events replies) fault p names (keep plan.facts start [] events replies tt legal)
     (subst (λ (q : PlanValue). SomeFails q.facts start (grown [] events replies) fault) same some)

@@ -1,3 +1,4 @@
+mod AccountLaws
 mod AnswerLaws
 mod AnsweredInputs
 mod AuditLaws

@@ -1,4 +1,4 @@
--- What the first events and replies of a run make.
+-- What an event adds to slips, and how a run grows by an event.
 use Rattle.std.proofs.Common.{◌≡◌, ℕ, zero, suc, ◌+◌, ◌<◌, ◌≤◌, ℤ, Bool, cond, List, [], ◌∷◌, ◌++◌, Option, Some, None, Result, Ok, Err, length, take, drop, replicate, get_or, set, ◌⊎◌, inl, inr, refl, sym, ap, subst, ◌∙◌, arith}
 use Rattle.std.specs.Prelude.{slice_index_or, ◌==◌}
 use Rattle.std.proofs.lemmas.Bool.{eq-eqb, ne_eqb, cases_eq}
@@ -10,12 +10,11 @@ use Rattle.metric_catalogue.specs.declared.refusal.Refusal.{Refusal}
 use Rattle.metric_history.specs.Encoded.{encoded}
 use Rattle.metric_history.specs.History.{History, answered}
 use Rattle.metric_history.specs.Legal.{AllLegal, grown}
-use Rattle.metric_history.specs.declared.batch.Batch.{Batch}
 use Rattle.metric_history.specs.declared.event.Event.{Event}
 use Rattle.metric_history.specs.declared.event.Reply.{Reply}
 use Rattle.metric_facts.specs.Facts.{RunFacts}
 use Rattle.metric_commands.specs.declared.slips.MadeSlip.{MadeSlip}
-use Rattle.metric_commands.specs.Audits.{AddsSlip, AreSlipsOf, batches_by, batches_told, slip_in, slip_made, slips_by, slips_told}
+use Rattle.metric_commands.specs.Audits.{AddsSlip, slip_made}
 
 -- one event more
 pub grown_more : (h : History) (events : List Event) (replies : List Reply) (n : ℕ) (event : Event) (reply : Reply) → n < length events → n < length replies
@@ -60,54 +59,17 @@ adds_own slips new made own longer within is more set_to = subst (λ (l : List (
         ∙ sym (append-nil (slice_index_or slips r []))
         ∙ ap (λ (b : Bool). slice_index_or slips r [] ++ cond b (made.slip ∷ []) []) (sym (ne_eqb made.recorder r other))
 
-none_yet : {A : Type 0} (d : A) (count r : ℕ) → slice_index_or (replicate count d) r d ≡ d
+-- no list has anything yet
+pub none_yet : {A : Type 0} (d : A) (count r : ℕ) → slice_index_or (replicate count d) r d ≡ d
 none_yet d zero r = refl
 none_yet d (suc count) zero = refl
 none_yet d (suc count) (suc r) = none_yet d count r
 
 -- a list that is written back whole
-pub slips_kept : (old new : List (List Slip)) (len : ℕ) → len ≡ length old → length new ≡ length old → take len (new ++ drop (length new) old) ≡ new
-slips_kept old new len counted same =
-    ap (take len) (ap (λ (l : List (List Slip)). new ++ l) (drop_all (length new) old (omega (arith, same))) ∙ append-nil new)
+pub list_kept : {A : Type 0} (old new : List A) (len : ℕ) → len ≡ length old → length new ≡ length old → take len (new ++ drop (length new) old) ≡ new
+list_kept {A = A} old new len counted same =
+    ap (take len) (ap (λ (l : List A). new ++ l) (drop_all (length new) old (omega (arith, same))) ∙ append-nil new)
     ∙ take_all len new (omega (arith, counted, same))
-
--- before the first event
-pub slips_begin : (contents : Contents) (i : ℕ) (slips : List (List Slip)) (events : List Event) (replies : List Reply) → slips ≡ replicate (length contents.recorders) [] → AreSlipsOf contents (grown [] (take 0 events) (take 0 replies)) i slips
-slips_begin contents i slips events replies none = subst (λ (l : List (List Slip)). AreSlipsOf contents [] i l) (sym none)
-    (record { one_each = length-replicate (length contents.recorders) []; own = λ r within. none_yet [] (length contents.recorders) r })
-
--- after one event more
-pub slips_more : (contents : Contents) (i : ℕ) (slips new : List (List Slip)) (events : List Event) (replies : List Reply) (n : ℕ) (event : Event) (reply : Reply) (made : Option MadeSlip)
-    → n < length events → length replies ≡ length events → event ≡ get_or events n event → reply ≡ get_or replies n reply
-    → AreSlipsOf contents (grown [] (take n events) (take n replies)) i slips → ((r : ℕ) → slip_in made r ≡ slips_by contents i r event reply) → AddsSlip slips new made
-    → AreSlipsOf contents (grown [] (take (n + 1) events) (take (n + 1) replies)) i new
-slips_more contents i slips new events replies n event reply made some long e p s by a = rw (grown_more [] events replies n event reply some (omega (arith, some, long)) e p) (record {
-  one_each = a.one_each ∙ s.one_each;
-  own = λ r within.
-      a.own r within
-      ∙ ap (λ (l : List Slip). l ++ slip_in made r) (s.own r (omega (arith, within, a.one_each)))
-      ∙ ap (λ (l : List Slip). slips_told contents (grown [] (take n events) (take n replies)) i r ++ l) (by r);
-})
-
--- the batches after one event more
-pub batches_more : (i : ℕ) (batches new : List Batch) (events : List Event) (replies : List Reply) (n : ℕ) (event : Event) (reply : Reply)
-    → n < length events → length replies ≡ length events → event ≡ get_or events n event → reply ≡ get_or replies n reply
-    → batches ≡ batches_told (grown [] (take n events) (take n replies)) i → new ≡ batches ++ batches_by i event reply
-    → new ≡ batches_told (grown [] (take (n + 1) events) (take (n + 1) replies)) i
-batches_more i batches new events replies n event reply some long e p before more =
-    rw (grown_more [] events replies n event reply some (omega (arith, some, long)) e p)
-    (more ∙ ap (λ (l : List Batch). l ++ batches_by i event reply) before)
-
--- after the last event
-pub slips_end : (contents : Contents) (i : ℕ) (slips : List (List Slip)) (events : List Event) (replies : List Reply) (n : ℕ) → length events ≤ n → length replies ≡ length events
-    → AreSlipsOf contents (grown [] (take n events) (take n replies)) i slips → AreSlipsOf contents (grown [] events replies) i slips
-slips_end contents i slips events replies n over long s =
-    rw (take_all n events over, take_all n replies (omega (arith, over, long))) at s
-
-pub batches_end : (i : ℕ) (batches : List Batch) (events : List Event) (replies : List Reply) (n : ℕ) → length events ≤ n → length replies ≡ length events
-    → batches ≡ batches_told (grown [] (take n events) (take n replies)) i → batches ≡ batches_told (grown [] events replies) i
-batches_end i batches events replies n over long b =
-    rw (take_all n events over, take_all n replies (omega (arith, over, long))) at b
 
 -- each event has its reply
 pub one_reply_each : (facts : RunFacts) (start : ℕ) (h : History) (events : List Event) (replies : List Reply) → AllLegal facts start h events replies

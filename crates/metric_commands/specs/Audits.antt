@@ -67,6 +67,11 @@ pub record AddsSlip (old new : List (List Slip)) (made : Option MadeSlip) : Type
   pub one_each : length new ≡ length old
   pub own : (r : ℕ) → r < length new → slice_index_or new r [] ≡ slice_index_or old r [] ++ slip_in made r
 
+-- Each recorder has its own slip of an event with its reply more, where it makes one.
+pub record AddsSlips (contents : Contents) (i : ℕ) (event : Event) (reply : Reply) (old new : List (List Slip)) : Type 0 where
+  pub one_each : length new ≡ length old
+  pub own : (r : ℕ) → r < length new → slice_index_or new r [] ≡ slice_index_or old r [] ++ slips_by contents i r event reply
+
 -- The audit of an instrument's journal, with the slips and the batches of a history, ends so.
 pub record EndsAudit (facts : RunFacts) (start : ℕ) (journal : List Entry) (h : History) (i : ℕ) (own : Facts)
     (end : Result (Unit {0}) AuditFault) : Type 0 where

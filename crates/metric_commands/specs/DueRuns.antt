@@ -3,12 +3,13 @@ use Rattle.std.specs.Prelude.{◌≡◌, ℕ, ℤ, Bool, true, false, not, ◌||
 use Rattle.std.proofs.Common.{refl, ap, ◌∙◌}
 use Rattle.std.specs.List.{list_all, list_any}
 use Rattle.metric_base.specs.Steps.{◌>>=◌, require, require_some}
+use Rattle.metric_combinations.specs.Combinations.{permits}
 use Rattle.metric_catalogue.specs.Attributes.{given_by_owned}
-use Rattle.metric_catalogue.specs.Encoding.{Given, encode_of, has_declared_value, has_repeated_key, is_complete, is_declared, set_key, set_of}
+use Rattle.metric_catalogue.specs.Encoding.{Given, allowed_set, encode_of, has_declared_value, has_repeated_key, is_complete, is_declared, permitted, set_key, set_of}
 use Rattle.metric_catalogue.specs.declared.contents.Instrument.{Instrument}
 use Rattle.metric_catalogue.specs.declared.contents.Key.{Key}
 use Rattle.metric_catalogue.specs.declared.refusal.Refusal.{Refusal}
-use Rattle.metric_catalogue.specs.declared.refusal.Refusal.TheVariants.{Budget, Closed, DuplicateKey, MissingKey, SumRange, UnknownInstrument, UnknownKey, UnknownReader, UnknownRecorder, UnknownValue, ValueRange}
+use Rattle.metric_catalogue.specs.declared.refusal.Refusal.TheVariants.{Budget, Closed, Combination, DuplicateKey, MissingKey, SumRange, UnknownInstrument, UnknownKey, UnknownReader, UnknownRecorder, UnknownValue, ValueRange}
 use Rattle.metric_facts.specs.declared.facts.FactsFields.{FactsFields as Facts}
 use Rattle.metric_facts.specs.Facts.{RunFacts, in_bounds}
 use Rattle.metric_history.specs.Answers.{Told, batch, closing, collected, recorded, spent}
@@ -49,13 +50,21 @@ unfolding set_of
 set_remembered keys attrs =
     set_steps (not (has_repeated_key attrs)) (list_all (is_declared keys) attrs) (list_all (has_declared_value keys) attrs) (list_all (is_complete attrs) keys) (set_key keys attrs)
 
-set_of_known : (own : Option Instrument) (attrs : List Given) → IsRemembered (require_some own UnknownInstrument >>= λ instrument. set_of instrument.keys attrs)
-set_of_known None attrs = record { known = refl }
-set_of_known (Some instrument) attrs = set_remembered instrument.keys attrs
+permitted_remembered : (allowed : Option (List (List ℕ))) (set : Result (List ℕ) Refusal) → IsRemembered set → IsRemembered (set >>= permitted allowed)
+permitted_remembered allowed (Ok set) known = one_step (permits allowed set) Combination set refl
+permitted_remembered allowed (Err refusal) known = record { known = known.known }
+
+allowed_remembered : (instrument : Instrument) (attrs : List Given) → IsRemembered (allowed_set instrument attrs)
+unfolding allowed_set
+allowed_remembered instrument attrs = permitted_remembered instrument.allowed (set_of instrument.keys attrs) (set_remembered instrument.keys attrs)
+
+set_known : (own : Option Instrument) (attrs : List Given) → IsRemembered (require_some own UnknownInstrument >>= λ instrument. allowed_set instrument attrs)
+set_known None attrs = record { known = refl }
+set_known (Some instrument) attrs = allowed_remembered instrument attrs
 
 encode_remembered : (instruments : List Instrument) (number : ℕ) (attrs : List Given) → IsRemembered (encode_of instruments number attrs)
 unfolding encode_of
-encode_remembered instruments number attrs = set_of_known (slice_get instruments number) attrs
+encode_remembered instruments number attrs = set_known (slice_get instruments number) attrs
 
 record_steps : (a : Bool) (set : Result (List ℕ) Refusal) (b c d : Bool) (fits : List ℕ → Bool) (entry : List ℕ → Entry) → IsRemembered set
     → IsRemembered (require a UnknownRecorder >>= λ _. set >>= λ s. require b ValueRange >>= λ _. require c Closed >>= λ _. require d Budget >>= λ _.

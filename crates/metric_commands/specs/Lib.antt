@@ -8,6 +8,7 @@ pub mod Replies
 pub mod Planned
 pub mod Runs
 pub mod Audits
+pub mod Accounts
 pub mod WrittenRuns
 pub mod DueRuns
 pub mod Declarations

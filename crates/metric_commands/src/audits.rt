@@ -1,18 +1,19 @@
 //! Whether the replies to a run agree with its journals.
 ghost use Rattle.std.specs.Prelude.{◌≡◌, ◌<◌, IfErr, IfOk, OnOk, Ok, [], length};
 ghost use Rattle.metric_audit.specs.AuditedStands.{StandsAudited};
+ghost use Rattle.metric_commands.specs.Accounts.{AreAccounts, IsAccount};
 ghost use Rattle.metric_commands.specs.Audits.{AreAudited, AuditEnds, FailsAudit, SomeFails};
 ghost use Rattle.metric_commands.specs.Runs.{IsRun};
 ghost use Rattle.metric_core.specs.CoreStands.{CoreStands};
 ghost use Rattle.metric_history.specs.Legal.{grown};
 
-use crate::batches::batches_of;
+use crate::accounts::{Account, accounts_of};
+use crate::batches::batches_at;
 use crate::fault::KitFault;
 use crate::pieces::has_want_of_memory;
-use crate::slips::slips_of;
 use metric_audit::{Audited, audit};
 use metric_core::Core;
-use metric_facts::laws::attributes_name_full_sets;
+use metric_facts::laws::attributes_name_allowed_sets;
 use metric_history::laws::runs_keep_histories_legal;
 use metric_history::{Entry, Event, Reply};
 use metric_plan::Plan;
@@ -26,34 +27,40 @@ struct Run<'a> {
     replies: &'a [Reply],
 }
 
-// Audits the journal of an instrument, with the slips that the events make and the batches among the replies.
+// Audits the journal of an instrument, with the account that the run gives of it.
 fn audit_instrument(
     alloc: Global,
     plan: &Plan,
     instrument: u32,
     entries: &[Entry],
     run: &Run<'_>,
+    account: &Account,
 ) -> Result<(), KitFault>
     requires known { instrument < length plan.now.facts.instruments }
-    requires one_each { length run.now.replies.now ≡ length run.now.events.now }
+    requires told { IsAccount plan.now.facts.contents run.now.replies.now
+        (grown [] run.now.events.now run.now.replies.now) instrument account.now }
     ensures ok { OnOk result (AuditEnds plan.now.facts run.now.start entries.now
         (grown [] run.now.events.now run.now.replies.now) instrument (Ok tt)) }
     ensures err { IfErr result (FailsAudit plan.now.facts run.now.start entries.now
         (grown [] run.now.events.now run.now.replies.now) instrument) }
 {
-    let slips = slips_of(alloc, plan.catalogue(), instrument, run.events, run.replies)?;
-    let batches = batches_of(alloc, instrument, run.events, run.replies)?;
-    audit(
-        alloc, plan, instrument, run.start, entries, &slips, &batches,
-    )?;
+    let slips = account.slips.as_slice();
+    let batches = batches_at(alloc, run.replies, account.places.as_slice())?;
+    audit(alloc, plan, instrument, run.start, entries, slips, &batches)?;
     Ok(())
 }
 
-// Audits each instrument of a core that has run the events with these replies.
-fn audit_each(alloc: Global, core: &Core<Audited>, run: &Run<'_>) -> Result<(), KitFault>
-    requires one_each { length run.now.replies.now ≡ length run.now.events.now }
+// Audits each instrument of a core that has run the events with these replies, with the account of each.
+fn audit_each(
+    alloc: Global,
+    core: &Core<Audited>,
+    run: &Run<'_>,
+    accounts: &[Account],
+) -> Result<(), KitFault>
     requires stands { CoreStands StandsAudited core.now
         (grown [] run.now.events.now run.now.replies.now) }
+    requires told { AreAccounts core.now.plan.facts.contents run.now.replies.now
+        (grown [] run.now.events.now run.now.replies.now) accounts.now }
     ensures ok { OnOk result (AreAudited core.now.plan.facts run.now.start
         (grown [] run.now.events.now run.now.replies.now)) }
     ensures err { IfErr result (SomeFails core.now.plan.facts run.now.start
@@ -62,7 +69,9 @@ fn audit_each(alloc: Global, core: &Core<Audited>, run: &Run<'_>) -> Result<(), 
     let plan = core.plan();
     let count = plan.catalogue().instruments().len() as u32;
     for instrument in 0..count {
-        audit_instrument(alloc, plan, instrument, core.entries(instrument), run)?;
+        let account = &accounts[instrument as usize];
+        let entries = core.entries(instrument);
+        audit_instrument(alloc, plan, instrument, entries, run, account)?;
     }
     Ok(())
 }
@@ -87,17 +96,18 @@ pub(crate) fn audited_replies(
 {
     // For the proof alone: what a plan keeps, and what its runs do.
     let _ = core.plan().catalogue();
-    attributes_name_full_sets();
+    attributes_name_allowed_sets();
     runs_keep_histories_legal();
     let replies = core.run(alloc, events)?;
     if has_want_of_memory(&replies) {
         return Err(KitFault::Memory);
     }
+    let accounts = accounts_of(alloc, core.plan().catalogue(), events, &replies)?;
     let run = Run {
         start,
         events,
         replies: &replies,
     };
-    audit_each(alloc, core, &run)?;
+    audit_each(alloc, core, &run, &accounts)?;
     Ok(replies)
 }

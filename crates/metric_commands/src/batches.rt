@@ -1,10 +1,9 @@
-//! The batches with which the events of a run were answered.
-ghost use Rattle.std.specs.Prelude.{◌≡◌, ◌++◌, IfOk, OnOk, [], length};
-ghost use Rattle.metric_history.specs.Legal.{grown};
-ghost use Rattle.metric_commands.specs.Audits.{batches_by, batches_told};
+//! The batches with which events were answered, copied.
+ghost use Rattle.std.specs.Prelude.{◌≡◌, ◌++◌, IfOk, OnOk, slice_get};
+ghost use Rattle.metric_commands.specs.Accounts.{batch_at, batch_in, batches_at};
 
 use metric_base::{Copied, Items};
-use metric_history::{Batch, Event, Point, Reply, StreamPoints};
+use metric_history::{Batch, Point, Reply, StreamPoints};
 use std::alloc::{AllocError, Global};
 
 fn copy_point(alloc: Global, point: &Point) -> Result<Point, AllocError>
@@ -59,42 +58,43 @@ fn copy_batch(alloc: Global, batch: &Batch) -> Result<Batch, AllocError>
     })
 }
 
-// Puts a copy of the batch with which an event was answered last, where there is one and the event is of the instrument.
-fn add_batch(
-    batches: &mut Vec<Batch>,
-    alloc: Global,
-    instrument: u32,
-    event: &Event,
-    reply: &Reply,
-) -> Result<(), AllocError>
-    ensures { OnOk result (batches.new.items
-        ≡ batches.old.items ++ batches_by instrument event.now reply.now) }
+// Puts a copy of a reply's batch last, where it has one.
+fn add_batch(batches: &mut Vec<Batch>, alloc: Global, reply: &Reply) -> Result<(), AllocError>
+    ensures { OnOk result (batches.new.items ≡ batches.old.items ++ batch_in reply.now) }
 {
     match reply {
-        Reply::Collected(batch) => {
-            if event.instrument() == instrument {
-                batches.push(copy_batch(alloc, batch)?)?;
-            }
-            Ok(())
-        }
+        Reply::Collected(batch) => Ok(batches.push(copy_batch(alloc, batch)?)?),
         Reply::Accepted | Reply::Done | Reply::Refused(_) => Ok(()),
     }
 }
 
-/// A copy of each batch with which the events of an instrument were answered, in order.
-pub(crate) fn batches_of(
+// The same of the reply at a place.
+fn add_batch_at(
+    batches: &mut Vec<Batch>,
     alloc: Global,
-    instrument: u32,
-    events: &[Event],
     replies: &[Reply],
+    place: usize,
+) -> Result<(), AllocError>
+    ensures { OnOk result (batches.new.items
+        ≡ batches.old.items ++ batch_at (slice_get replies.now place)) }
+{
+    match replies.get(place) {
+        Some(reply) => add_batch(batches, alloc, reply),
+        None => Ok(()),
+    }
+}
+
+/// A copy of each batch among the replies at these places, in order.
+pub(crate) fn batches_at(
+    alloc: Global,
+    replies: &[Reply],
+    places: &[usize],
 ) -> Result<Vec<Batch>, AllocError>
-    requires { length replies.now ≡ length events.now }
-    ensures { IfOk result (λ batches.
-        batches.items ≡ batches_told (grown [] events.now replies.now) instrument) }
+    ensures { IfOk result (λ batches. batches.items ≡ batches_at replies.now places.now) }
 {
     let mut batches = Vec::new(alloc);
-    for (at, event) in events.iter().enumerate() {
-        add_batch(&mut batches, alloc, instrument, event, &replies[at])?;
+    for place in places {
+        add_batch_at(&mut batches, alloc, replies, *place)?;
     }
     Ok(batches)
 }

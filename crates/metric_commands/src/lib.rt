@@ -6,6 +6,7 @@
 //! command line, tells why it stops, and gives the exit status.
 #![tactic(auto)]
 
+mod accounts;
 mod audits;
 mod batches;
 mod checks;
@@ -21,6 +22,7 @@ mod prepared;
 mod program;
 mod replays;
 mod replies;
+mod seats;
 mod show;
 mod slips;
 mod stops;
@@ -35,5 +37,6 @@ pub use makes::make_run;
 pub use options::{ReplayOptions, ThreadsOptions};
 pub use program::run_line;
 pub use replays::replay;
+pub use seats::{SeatsRun, run_seats};
 pub use show::show_run;
 pub use threads::threads_run;

@@ -1,8 +1,7 @@
 //! The slips that the events of a run make.
-ghost use Rattle.std.specs.Prelude.{◌≡◌, ℕ, IfOk, OnOk, [], Some, length, replicate};
-ghost use Rattle.metric_history.specs.Legal.{grown};
+ghost use Rattle.std.specs.Prelude.{◌≡◌, ℕ, IfOk, OnOk, [], Some, replicate};
 ghost use Rattle.metric_history.specs.Encoded.{encoded};
-ghost use Rattle.metric_commands.specs.Audits.{AddsSlip, AreSlipsOf, recorded_by, slip_in, slip_made, slips_by};
+ghost use Rattle.metric_commands.specs.Audits.{AddsSlip, AddsSlips, recorded_by, slip_in, slip_made, slips_by};
 
 use metric_base::Items;
 use metric_book::Slip;
@@ -83,7 +82,7 @@ fn push_made(slips: &mut [Items<Slip>], made: MadeSlip) -> Result<(), AllocError
 
 // The same where there is a slip.
 #[tactic(auto, using(crate::proofs::TellingLaws::added))]
-fn add_slip(slips: &mut [Items<Slip>], made: Option<MadeSlip>) -> Result<(), AllocError>
+fn push_if_made(slips: &mut [Items<Slip>], made: Option<MadeSlip>) -> Result<(), AllocError>
     ensures { OnOk result (AddsSlip slips.old slips.new made) }
 {
     match made {
@@ -92,9 +91,25 @@ fn add_slip(slips: &mut [Items<Slip>], made: Option<MadeSlip>) -> Result<(), All
     }
 }
 
-// So many empty lists.
+/// Puts the slip that an event with its reply makes on an instrument last among those of its recorder: one for an accepted
+/// recording, with the set key that its attributes name.
+#[tactic(auto, using(crate::proofs::AccountLaws::account_laws))]
+pub(crate) fn add_slip(
+    slips: &mut [Items<Slip>],
+    catalogue: &Catalogue,
+    instrument: u32,
+    event: &Event,
+    reply: &Reply,
+) -> Result<(), AllocError>
+    ensures { OnOk result (AddsSlips catalogue.now instrument event.now reply.now
+        slips.old slips.new) }
+{
+    push_if_made(slips, made(catalogue, instrument, event, reply))
+}
+
+/// So many lists without slips.
 #[tactic(auto, using(std::proofs::lemmas::List::replicate_more))]
-fn empty_lists(alloc: Global, count: usize) -> Result<Vec<Items<Slip>>, AllocError>
+pub(crate) fn no_slips(alloc: Global, count: usize) -> Result<Vec<Items<Slip>>, AllocError>
     ensures { IfOk result (λ lists. lists.items ≡ replicate count []) }
 {
     let mut lists = Vec::new(alloc);
@@ -102,25 +117,4 @@ fn empty_lists(alloc: Global, count: usize) -> Result<Vec<Items<Slip>>, AllocErr
         lists.push(Items::new(alloc))?;
     }
     Ok(lists)
-}
-
-/// The slips that each recorder has on an instrument after events with these replies: one for each of its accepted
-/// recordings, in order, with the set key that its attributes name.
-pub(crate) fn slips_of(
-    alloc: Global,
-    catalogue: &Catalogue,
-    instrument: u32,
-    events: &[Event],
-    replies: &[Reply],
-) -> Result<Vec<Items<Slip>>, AllocError>
-    requires { length replies.now ≡ length events.now }
-    ensures { IfOk result (λ slips. AreSlipsOf catalogue.now
-        (grown [] events.now replies.now) instrument slips.items) }
-{
-    let mut slips = empty_lists(alloc, catalogue.recorders().len())?;
-    for (at, event) in events.iter().enumerate() {
-        let slip = made(catalogue, instrument, event, &replies[at]);
-        add_slip(slips.as_mut_slice(), slip)?;
-    }
-    Ok(slips)
 }

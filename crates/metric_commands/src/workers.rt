@@ -2,16 +2,17 @@
 ghost use Rattle.std.specs.Prelude.{◌≡◌, IfOk};
 
 use crate::options::ThreadsOptions;
+use metric_book::Book;
 use metric_catalogue::{Attr, Instrument, Refusal};
-use metric_marked::Marked;
-use metric_provider::{Collector, NoGate, Provider, Recorder};
+use metric_history::Batch;
+use metric_provider::{AllFault, Collector, NoGate, Provider, Recorder};
 use std::alloc::{AllocError, Global};
 use std::sync::Wait;
 use std::thread;
 use std::thread::{JoinHandle, Threads};
 
-/// The provider of the threads.
-pub(crate) type Shared = Provider<Marked, NoGate>;
+/// The provider of the threads, over a book.
+pub(crate) type Shared<B> = Provider<B, NoGate>;
 
 // The last time of the collections, which come at each moment from 1 on.
 const LAST: u64 = 8;
@@ -23,16 +24,33 @@ enum Seat {
     Collector(Collector),
 }
 
-/// Lets the recorders record and the readers collect, each in a thread of its own, and gives the recorders back after
+// What a thread comes to: the seat with which it recorded, or the batches that it was told.
+#[derive(Drop)]
+enum Done {
+    Recorder(Recorder),
+    Batches(Vec<Batch>),
+}
+
+/// What the threads of recorders and readers come to.
+#[derive(Drop)]
+pub(crate) struct Worked {
+    /// The seats of the recorders.
+    pub recorders: Vec<Recorder>,
+    /// The batches that the readers were told, those of one reader in order. None where the books keep no entries: no audit
+    /// would need them.
+    pub batches: Vec<Batch>,
+}
+
+/// Lets the recorders record and the readers collect, each in a thread of its own, and tells what they come to after
 /// all of them have ended. Fails where memory was refused in a thread, or for one, or a thread could not be started.
-pub(crate) fn work<R: Threads + Wait + Sync>(
+pub(crate) fn work<R: Threads + Wait + Sync, B: Book + Send + Sync>(
     rt: &R,
     alloc: Global,
-    provider: &Shared,
+    provider: &Shared<B>,
     options: ThreadsOptions,
     recorders: Vec<Recorder>,
     collectors: Vec<Collector>,
-) -> Result<Vec<Recorder>, AllocError> {
+) -> Result<Worked, AllocError> {
     let seats = all_seats(alloc, recorders, collectors)?;
     thread::scope(thread::scope_env(), rt, |scope| {
         let mut threads = Vec::new(alloc);
@@ -40,7 +58,7 @@ pub(crate) fn work<R: Threads + Wait + Sync>(
             let used = move || use_seat(rt, alloc, provider, options, seat);
             threads.push(scope.spawn(used)?)?;
         }
-        each_back(rt, alloc, threads)
+        all_worked(rt, alloc, threads)
     })
 }
 
@@ -64,46 +82,53 @@ fn add_collectors(seats: Vec<Seat>, collectors: Vec<Collector>) -> Result<Vec<Se
     Ok(seats)
 }
 
-// Does what a seat is for. A recorder is given back.
-fn use_seat<R: Wait>(
+// Does what a seat is for.
+fn use_seat<R: Wait, B: Book>(
     rt: &R,
     alloc: Global,
-    provider: &Shared,
+    provider: &Shared<B>,
     options: ThreadsOptions,
     seat: Seat,
-) -> Used {
+) -> Result<Done, AllocError> {
     match seat {
         Seat::Recorder(recorder) => record_all(rt, alloc, provider, options, recorder),
         Seat::Collector(collector) => collect_all(rt, alloc, provider, collector),
     }
 }
 
-// What a thread comes to.
-type Used = Result<Option<Recorder>, AllocError>;
-
-// The recorders of threads that have ended, or a failure of one.
-fn each_back<R: Threads>(
+// What threads that have ended come to, or a failure of one.
+fn all_worked<R: Threads>(
     rt: &R,
     alloc: Global,
-    threads: Vec<JoinHandle<Used>>,
-) -> Result<Vec<Recorder>, AllocError> {
+    threads: Vec<JoinHandle<Result<Done, AllocError>>>,
+) -> Result<Worked, AllocError> {
     let mut recorders = Vec::new(alloc);
+    let mut batches = Vec::new(alloc);
     for thread in threads {
-        if let Some(recorder) = thread.join(rt)? {
-            recorders.push(recorder)?;
+        match thread.join(rt)? {
+            Done::Recorder(recorder) => recorders.push(recorder)?,
+            Done::Batches(told) => push_all(&mut batches, told)?,
         }
     }
-    Ok(recorders)
+    Ok(Worked { recorders, batches })
 }
 
-// Records on each instrument in order, so many times, and gives the recorder back.
-fn record_all<R: Wait>(
+// Puts batches last.
+fn push_all(batches: &mut Vec<Batch>, more: Vec<Batch>) -> Result<(), AllocError> {
+    for batch in more {
+        batches.push(batch)?;
+    }
+    Ok(())
+}
+
+// Records on each instrument in order, so many times.
+fn record_all<R: Wait, B: Book>(
     rt: &R,
     alloc: Global,
-    provider: &Shared,
+    provider: &Shared<B>,
     options: ThreadsOptions,
     recorder: Recorder,
-) -> Used {
+) -> Result<Done, AllocError> {
     let mut recorder = recorder;
     let instruments = provider.plan().catalogue().instruments();
     for (number, instrument) in instruments.iter().enumerate() {
@@ -114,7 +139,7 @@ fn record_all<R: Wait>(
         };
         recording.repeat(rt, provider, options.each, &mut recorder)?;
     }
-    Ok(Some(recorder))
+    Ok(Done::Recorder(recorder))
 }
 
 // A recording that is made again and again.
@@ -127,10 +152,10 @@ struct Recording<'a> {
 
 impl Recording<'_> {
     // Makes the recording so many times. Each refusal but want of memory is passed over.
-    fn repeat<R: Wait>(
+    fn repeat<R: Wait, B: Book>(
         &self,
         rt: &R,
-        provider: &Shared,
+        provider: &Shared<B>,
         times: u32,
         recorder: &mut Recorder,
     ) -> Result<(), AllocError> {
@@ -160,15 +185,29 @@ fn first_attrs(alloc: Global, instrument: &Instrument) -> Result<Vec<Attr<'_>>, 
     Ok(attrs)
 }
 
-// Collects all instruments at each time. Each refusal but want of memory is passed over. No recorder is given back.
-fn collect_all<R: Wait>(rt: &R, alloc: Global, provider: &Shared, collector: Collector) -> Used {
+// Collects all instruments at each time. The batches are kept where the books keep their entries.
+fn collect_all<R: Wait, B: Book>(
+    rt: &R,
+    alloc: Global,
+    provider: &Shared<B>,
+    collector: Collector,
+) -> Result<Done, AllocError> {
     let mut collector = collector;
+    let mut batches = Vec::new(alloc);
     for now in 1..=LAST {
-        if let Err(fault) = collector.collect_all(rt, alloc, provider, now)
-            && matches!(fault.refusal, Refusal::Memory)
-        {
-            return Err(AllocError);
+        let told = told_of(collector.collect_all(rt, alloc, provider, now))?;
+        if B::KEEPS_ENTRIES {
+            push_all(&mut batches, told)?;
         }
     }
-    Ok(None)
+    Ok(Done::Batches(batches))
+}
+
+// The batches of a collection, or those before a refusal. Each refusal but want of memory is passed over.
+fn told_of(collected: Result<Vec<Batch>, AllFault>) -> Result<Vec<Batch>, AllocError> {
+    match collected {
+        Ok(batches) => Ok(batches),
+        Err(fault) if matches!(fault.refusal, Refusal::Memory) => Err(AllocError),
+        Err(fault) => Ok(fault.done),
+    }
 }

@@ -1,7 +1,6 @@
 -- The certificate that is made is by product wherever it can, and so is the plan of it.
-use Rattle.std.proofs.Common.{◌≡◌, ℕ, Bool, true, false, cond, if◌then◌else◌, List, [], ◌∷◌, length, map, nat_le, Option, Some, None, Result, Ok, Err, IfOk, refl, sym, ap, ◌∙◌}
+use Rattle.std.proofs.Common.{◌≡◌, ℕ, Bool, true, false, cond, List, [], ◌∷◌, length, map, nat_le, Option, Some, None, Result, Ok, Err, IfOk, refl, ap, ◌∙◌}
 use Rattle.std.specs.Prelude.{unwrap_or}
-use Rattle.std.proofs.lemmas.Option.{same_Some}
 use Rattle.metric_catalogue.specs.declared.contents.Contents.{Contents}
 use Rattle.metric_views.specs.declared.config.Setup.{Setup}
 use Rattle.metric_views.specs.declared.stream.Stream.{Stream}
@@ -17,25 +16,27 @@ use Rattle.metric_plan.specs.Plans.{PlanValue, plan_of}
 use Rattle.metric_sdk.specs.declared.fault.SetupFault.{SetupFault}
 use Rattle.metric_sdk.specs.Setups.{Certifies, IsCertifiedPlan, IsDeclared, Plans, bounded_flags}
 
-listed_flag : (contents : Contents) (s : Stream) (o : Option StreamSets) → entry_by_list s (listed_of contents s) ≡ o
-    → is_product (unwrap_or o (entry_with s by.Budget (total_of contents s.instrument))).by ≡ false
-listed_flag contents s None is = refl
-listed_flag contents s (Some entry) is = by (listed_of contents s) is
+-- no stream past its product is by it
+past_flag : (contents : Contents) (s : Stream) → is_product (entry_past contents s).by ≡ false
+past_flag contents s = of (listed_of contents s)
   where
-    by : (listed : Option (List (List ℕ))) → entry_by_list s listed ≡ Some entry → is_product entry.by ≡ false
-    by None is = absurd cc
-    by (Some list) is = at (nat_le (length list) s.limit) is
-      where
-        at : (b : Bool) → (if b then Some (entry_with s (by.List list) (length list)) else None) ≡ Some entry → is_product entry.by ≡ false
-        at true is = sym (ap (λ (e : StreamSets). is_product e.by) (same_Some (entry_with s (by.List list) (length list)) entry is))
-        at false is = absurd cc
+    budget : StreamSets
+    budget = entry_with s by.Budget (total_of contents s.instrument)
+
+    listed : (list : List (List ℕ)) (b : Bool) → is_product (unwrap_or (cond b (Some (entry_with s (by.List list) (length list))) None) budget).by ≡ false
+    listed list true = refl
+    listed list false = refl
+
+    of : (list : Option (List (List ℕ))) → is_product (unwrap_or (entry_by_list s list) budget).by ≡ false
+    of None = refl
+    of (Some list) = listed list (nat_le (length list) s.limit)
 
 entry_flag : (contents : Contents) (s : Stream) → is_product (entry_of contents s).by ≡ nat_le (product_of contents s) s.limit
-entry_flag contents s = by (nat_le (product_of contents s) s.limit)
+entry_flag contents s = of (nat_le (product_of contents s) s.limit)
   where
-    by : (b : Bool) → is_product (cond b (entry_with s by.Product (product_of contents s)) (entry_past contents s)).by ≡ b
-    by true = refl
-    by false = listed_flag contents s (entry_by_list s (listed_of contents s)) refl
+    of : (b : Bool) → is_product (cond b (entry_with s by.Product (product_of contents s)) (entry_past contents s)).by ≡ b
+    of true = refl
+    of false = past_flag contents s
 
 pub made_flags : (contents : Contents) (streams : List Stream) → entry_flags (map (entry_of contents) streams) ≡ bounded_flags contents streams
 made_flags contents [] = refl

@@ -18,8 +18,8 @@ const WORKERS: usize = 3;
 // A pretended request: a route, the status of the answer, and how many milliseconds it took.
 type Request = (&'static str, i64, i64);
 
-// The catalogue does not declare the last route.
-const SERVED: [Request; 9] = [
+// The catalogue does not declare the route of the last but one, and does not allow the status of the last for its route.
+const SERVED: [Request; 10] = [
     ("/", 200, 3),
     ("/cart", 200, 12),
     ("/pay", 500, 1_200),
@@ -29,6 +29,7 @@ const SERVED: [Request; 9] = [
     ("/", 200, 4),
     ("/cart", 200, 9),
     ("/admin", 404, 1),
+    ("/cart", 500, 7),
 ];
 
 /// Serves each request whose turn is the worker's. Metrics stop no service: refused recordings are counted.

@@ -52,6 +52,14 @@ pub(crate) const KEYS: Lines = &[
     "key = [{ name = 'k0', values = ['a', 'b'], optional = true }, { name = 'k1', values = [-2], optional = true }]\n",
 ];
 
+/// Keys with the combinations that are allowed.
+pub(crate) const COMBINED: Lines = &[
+    "key = [{ name = 'k0', values = ['a', 'b', 'c \"d'] }]\nallowed = [[1], [3]]\n",
+    "key = [{ name = 'k0', values = ['a', 'b'] }, { name = 'k1', values = [true, -2], optional = true }]\nallowed = [[1, 0], [2, 1], [1, 2]]\n",
+    "key = [{ name = 'k0', values = ['a', 'b'], optional = true }, { name = 'k1', values = [-2], optional = true }]\nallowed = [[0, 0], [2, 0]]\n",
+    "allowed = []\n",
+];
+
 /// Small budgets.
 pub(crate) const SMALL: Lines = &["0", "2", "9", "1000"];
 
@@ -59,7 +67,7 @@ pub(crate) const SMALL: Lines = &["0", "2", "9", "1000"];
 const LARGE: Lines = &["0", "2", "9", "1000", "9223372036854775807"];
 
 const CATALOGUE: &[Lines] = &[
-    &["%% catalogue\nformat = 1\n[[meter]]\nname = 'm'\n"],
+    &["%% catalogue\nformat = 2\n[[meter]]\nname = 'm'\n"],
     &["[[meter.instrument]]\nname = 'i0'\n"],
     COUNTER,
     BOUNDARIES,
@@ -79,7 +87,7 @@ const CATALOGUE: &[Lines] = &[
     &["[[meter.instrument]]\nname = 'i4'\n"],
     COUNTER,
     BOUNDARIES,
-    KEYS,
+    COMBINED,
     &["[[recorder]]\nname = 'p0'\nbudget = [{ instrument = 0, amount = "],
     LARGE,
     &[" }, { instrument = 1, amount = "],
@@ -228,6 +236,7 @@ const SEEN: Lines = &[
     "UnknownKey",
     "UnknownValue",
     "MissingKey",
+    "Combination",
     "ValueRange",
     "Closed",
     "Budget",

@@ -5,18 +5,20 @@ ghost use Rattle.metric_facts.specs.Facts.{is_entry, is_full_set};
 ghost use Rattle.metric_facts.specs.Products.{AreDense};
 ghost use Rattle.tests_runs.specs.Taking.{TakesFullSets};
 
-use crate::agreement::{BOUNDARIES, KEYS, Lines, SMALL, push_lines, push_script};
+use crate::agreement::{BOUNDARIES, COMBINED, KEYS, Lines, SMALL, push_lines, push_script};
 use crate::dice::Dice;
 use crate::equal::assert_equal;
 use crate::plans::dense_plan_of;
 use crate::runs::{Made, told, told_by};
-use metric_catalogue::SetKey;
+use metric_catalogue::{Catalogue, SetKey};
+use metric_cert::{By, make};
 use metric_dense::{DenseTable, dense_table};
 use metric_facts::{Facts, KeyFacts};
 use metric_journal::JournalBook;
 use metric_marked::Marked;
 use metric_plan::Plan;
 use metric_series::Table;
+use metric_views::Config;
 use std::alloc::Global;
 use std::test::Fail;
 
@@ -46,8 +48,11 @@ const ADDED: &[(u32, &[(u16, u16, i64)])] = &[
     (1, &[(1, 3, 4), (2, 0, -6), (2, 3, 3), (1, 0, 8), (1, 3, 9)]),
 ];
 
-// The place of each value, the points after them, and how many are left once the table is emptied.
+// How many series each stream can have; then of each instrument the place of each value, the points after them, and how
+// many are left once the table is emptied.
 const TOLD: &str = "\
+2 sets, by product: true
+8 sets, by product: true
 Held(1);Held(0);Held(1);
 Some([1, 0, 0, 0, 0, 0, 0, 0]) Sum(1)
 Some([2, 0, 0, 0, 0, 0, 0, 0]) Sum(7)
@@ -180,9 +185,22 @@ fn write_instrument(
     write_table(out, alloc, plan.facts(instrument), added)
 }
 
+// What the certificate says of each stream.
+fn write_sets(out: &mut String, alloc: Global) -> Result<(), Fail> {
+    let catalogue = Catalogue::read(alloc, CATALOGUE)?;
+    let config = Config::read(alloc, CONFIG)?;
+    let certificate = make(alloc, &catalogue, &config)?;
+    for stream in certificate.claims().streams.as_slice() {
+        let is_by_product = matches!(stream.by, By::Product);
+        writeln!(out, "{} sets, by product: {is_by_product}", stream.sets)?;
+    }
+    Ok(())
+}
+
 fn tables_told(alloc: Global) -> Result<String, Fail> {
     let plan = dense_plan_of(alloc, CATALOGUE, CONFIG)?;
     let mut out = String::new(alloc);
+    write_sets(&mut out, alloc)?;
     for (instrument, added) in ADDED {
         write_instrument(&mut out, alloc, &plan, *instrument, added)?;
     }
@@ -199,7 +217,7 @@ fn a_dense_table_has_a_place_for_each_series(rt: HostRuntime) -> Result<(), Fail
 const INPUTS: u64 = 12;
 
 const DECLARED: &[Lines] = &[
-    &["%% catalogue\nformat = 1\n[[meter]]\nname = 'm'\n"],
+    &["%% catalogue\nformat = 2\n[[meter]]\nname = 'm'\n"],
     &["[[meter.instrument]]\nname = 'i0'\nkind = 'counter'\nrange = [0, 9]\n"],
     BOUNDARIES,
     KEYS,
@@ -214,7 +232,7 @@ const DECLARED: &[Lines] = &[
     KEYS,
     &["[[meter.instrument]]\nname = 'i4'\nkind = 'counter'\nrange = [0, 9]\n"],
     BOUNDARIES,
-    KEYS,
+    COMBINED,
 ];
 
 const BUDGETS: &[Lines] = &[

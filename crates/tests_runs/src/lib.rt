@@ -36,3 +36,5 @@ mod refusing;
 mod runs;
 #[cfg(test)]
 mod series;
+#[cfg(test)]
+mod threads;

@@ -34,8 +34,8 @@ fn checked_plan(
     }
 }
 
-// The plan of the certificate that is made.
-fn certified_plan(alloc: Global, catalogue: &str, config: &str) -> Result<Plan, Fail> {
+/// The plan of the certificate that is made.
+pub(crate) fn certified_plan(alloc: Global, catalogue: &str, config: &str) -> Result<Plan, Fail> {
     let catalogue = Catalogue::read(alloc, catalogue)?;
     let config = Config::read(alloc, config)?;
     let certificate = make(alloc, &catalogue, &config)?;

@@ -24,4 +24,4 @@ returns-in_err-audit_each-clause-memory c =
     rw p.1
     (p.2
     ∙ run_refuses c.args.core.now.plan c.run.new.self.plan c.args.start c.args.events.now c.deref-2.result.now c.in_err-audit_each.field-0.0 kept
-    c.attributes_name_full_sets.ensures c.runs_keep_histories_legal.ensures legal c.in_ok-replies.ensures.plan c.in_err-audit_each.ensures.err)
+    c.attributes_name_allowed_sets.ensures c.runs_keep_histories_legal.ensures legal c.in_ok-replies.ensures.plan c.in_err-audit_each.ensures.err)
