@@ -69,6 +69,8 @@ enum wormweekly_answer {
     WORMWEEKLY_UNKNOWN_KEY = 4,
     WORMWEEKLY_UNKNOWN_VALUE = 5,
     WORMWEEKLY_MISSING_KEY = 6,
+    /* The instrument does not allow this combination of values. */
+    WORMWEEKLY_COMBINATION = 13,
     /* The value is outside the instrument's range. */
     WORMWEEKLY_VALUE_RANGE = 7,
     /* The instrument is closed. */

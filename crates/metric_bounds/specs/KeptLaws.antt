@@ -1,5 +1,5 @@
 -- Each stream of a config says of each key of its instrument whether it is kept.
-use Rattle.std.proofs.Common.{◌≡◌, ℕ, zero, Bool, true, false, List, length, Option, Some, None, Contains, sym, ap, subst, ◌∙◌}
+use Rattle.std.proofs.Common.{◌≡◌, ℕ, zero, Bool, true, false, length, Option, Some, None, Contains, sym, ap, subst, ◌∙◌}
 use Rattle.std.specs.Prelude.{slice_get}
 use Rattle.std.proofs.lemmas.List.{length-map}
 use Rattle.std.proofs.lemmas.List.Elements.{Contains-get_or}

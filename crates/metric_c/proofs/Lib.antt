@@ -7,3 +7,4 @@ pub mod EachLaws
 pub mod AttributeLaws
 pub mod Utf8Laws
 pub mod HeldLaws
+pub mod RoomLaws

@@ -1,6 +1,6 @@
 -- One seat more has told.
-use Rattle.std.proofs.Common.{◌≡◌, ◌<◌, ℕ, zero, suc, ◌+◌, List, [], ◌∷◌, ◌++◌, Option, Some, None, Ok, length, map, take, refl, sym, ap, subst, ◌∙◌, arith}
-use Rattle.std.specs.Prelude.{slice_index_or, slice_set}
+use Rattle.std.proofs.Common.{◌≡◌, ◌<◌, ℕ, zero, suc, ◌+◌, List, [], ◌∷◌, ◌++◌, Option, Some, None, Ok, length, map, take, sym, ap, subst, ◌∙◌, arith}
+use Rattle.std.specs.Prelude.{slice_get, slice_index_or, slice_set}
 use Rattle.metric_c.specs.Codes.{WhereHeld}
 use Rattle.metric_c.specs.Settlements.{AllTold}
 use Rattle.metric_c.specs.declared.recorder_handle.RecorderHandle.{RecorderHandle}
@@ -21,6 +21,13 @@ seats_kept (h ∷ handles) zero old new below is same =
     ap (λ (v : Option HostedRecorder). v ∷ seats_of handles) (same ∙ ap (λ (x : RecorderHandle). x.value) is)
 seats_kept (h ∷ handles) (suc i) old new below is same =
     ap (λ (vs : List (Option HostedRecorder)). h.value ∷ vs) (seats_kept handles i old new (omega arith) is same)
+
+-- what the handle of a place holds
+pub seat_at : (handles : List RecorderHandle) (i : ℕ) (own : RecorderHandle) → i < length handles → own ≡ slice_index_or handles i own
+    → slice_get (seats_of handles) i ≡ Some own.value
+seat_at [] i own below is = absurd (omega arith)
+seat_at (h ∷ handles) zero own below is = ap (λ (r : RecorderHandle). Some r.value) (sym is)
+seat_at (h ∷ handles) (suc i) own below is = seat_at handles i own (omega arith) is
 
 tells : (h : HostedValue) (v : Option HostedRecorder) (told : SeatTold) → WhereHeld v ⊥ (λ own. TellsOf own.plan h own.seat (Ok told)) → AllTold h (v ∷ []) (told ∷ [])
 tells h None told given = absurd given

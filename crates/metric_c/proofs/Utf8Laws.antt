@@ -1,5 +1,5 @@
 -- Bytes that are no UTF-8, and the text that stands first.
-use Rattle.std.proofs.Common.{◌≡◌, ◌≤◌, ℕ, Bool, true, false, ◌&&◌, List, Option, Some, None, length, take, drop, refl, sym, ap, subst, ◌∙◌, arith}
+use Rattle.std.proofs.Common.{◌≡◌, ◌≤◌, ℕ, Bool, true, false, ◌&&◌, List, Option, Some, None, length, take, drop, refl, sym, ap, ◌∙◌, arith}
 use Rattle.std.specs.Prelude.{nat_le, if◌then◌else◌}
 use Rattle.std.specs.Str.{is_utf8, IsUtf8}
 use Rattle.std.proofs.lemmas.Bool.Decides.{nat_tests}
@@ -20,7 +20,7 @@ pub and_second : (a b : Bool) → b ≡ false → (a && b) ≡ false
 and_second true b none = none
 and_second false b none = refl
 
-and_both : (a b : Bool) → a ≡ true → b ≡ true → (a && b) ≡ true
+pub and_both : (a b : Bool) → a ≡ true → b ≡ true → (a && b) ≡ true
 and_both a b first second = ap (λ (x : Bool). x && b) first ∙ second
 
 -- where both tests pass

@@ -1,5 +1,5 @@
 -- An instrument is closed.
-use Rattle.std.specs.Prelude.{◌≡◌, true, Option, Some, None}
+use Rattle.std.specs.Prelude.{◌≡◌, true, Option, Some}
 use Rattle.metric_core.specs.CellAnswers.{KeepsJournal}
 use Rattle.metric_marked.specs.Marks.{StandsMarked}
 use Rattle.metric_hosted.specs.Hosts.{HostedValue}

@@ -1,7 +1,6 @@
 -- What opening leaves in the handles of a host.
-use Rattle.std.specs.Prelude.{◌≡◌, ◌≢◌, ℕ, Bool, false, ◌&&◌, List, [], ◌++◌, Option, Some, None, drop, length, map, slice_get}
+use Rattle.std.specs.Prelude.{◌≡◌, ◌≢◌, ◌⊎◌, ℕ, Bool, false, ◌||◌, List, [], Option, Some, None, length, map, nat_lt, slice_get}
 use Rattle.std.specs.List.{range_with_len}
-use Rattle.std.specs.Str.{is_utf8}
 use Rattle.metric_core.specs.Cells.{CellStands, new_cell}
 use Rattle.metric_marked.specs.Marks.{StandsMarked}
 use Rattle.metric_plan.specs.Plans.{PlanValue}
@@ -12,6 +11,7 @@ use Rattle.metric_sdk.specs.declared.fault.SetupFault.TheVariants.{Memory}
 use Rattle.metric_hosted.specs.Hosts.{HostedValue}
 use Rattle.metric_hosted.specs.declared.planned.HostedReader.{HostedReader}
 use Rattle.metric_hosted.specs.declared.planned.HostedRecorder.{HostedRecorder}
+use Rattle.metric_c.specs.Texts.{AreFirst}
 use Rattle.metric_c.specs.declared.opening.Counts.{Counts}
 use Rattle.metric_c.specs.declared.instrument_handle.InstrumentHandle.{InstrumentHandle}
 use Rattle.metric_c.specs.declared.reader_handle.ReaderHandle.{ReaderHandle}
@@ -34,6 +34,15 @@ counts_of plan = record {
   recorders = length plan.facts.contents.recorders;
   readers = length plan.config.readers;
 }
+
+-- whether there are fewer handles of some kind than there are to be
+abbrev pub lacks_handles : Counts → ℕ → ℕ → ℕ → Bool
+lacks_handles counts instruments recorders readers =
+    (nat_lt instruments counts.instruments || nat_lt recorders counts.recorders) || nat_lt readers counts.readers
+
+-- a plan is opened, or there are too few handles, or memory was refused
+abbrev pub IsOpenCode : ℕ → Type 0
+IsOpenCode code = (code ≡ 0) ⊎ ((code ≡ 102) ⊎ (code ≡ 11))
 
 -- The instrument of this number, without recordings since a start, in a run.
 pub record IsNewInstrument (plan : PlanValue) (start run number : ℕ) (h : HostedValue) : Type 0 where
@@ -66,10 +75,6 @@ new_reader_of plan run number =
 
 abbrev pub new_readers : PlanValue → ℕ → List (Option HostedReader)
 new_readers plan run = map (new_reader_of plan run) (range_with_len 0 (length plan.config.readers))
-
--- the first handles hold what was made, and those after them what they held
-abbrev pub AreFirst : {T : Type 0} → List T → List T → List T → Type 0
-AreFirst made before after = after ≡ made ++ drop (length made) before
 
 -- What the handles of a host hold.
 pub record AllHeld : Type 0 where

@@ -1,10 +1,23 @@
--- Texts that go out into a buffer of the host.
-use Rattle.std.specs.Prelude.{◌≡◌, ◌<◌, ℕ, List, length, take}
+-- Texts and lists that go out into a buffer of the host.
+use Rattle.std.specs.Prelude.{◌≡◌, ◌⊎◌, ◌<◌, ◌++◌, ℕ, List, drop, length, take}
 
--- a text stands at the front of a buffer, and its length beside it
-abbrev pub IsTold : List ℕ → List ℕ → ℕ → Type 0
-IsTold text out count = (count ≡ length text) × (take count out ≡ text)
+-- the first places have what was made, and those after them what they had
+abbrev pub AreFirst : {T : Type 0} → List T → List T → List T → Type 0
+AreFirst made before after = after ≡ made ++ drop (length made) before
 
--- it has no room there
-abbrev pub IsTooLong : List ℕ → List ℕ → ℕ → Type 0
-IsTooLong text out count = (count ≡ length text) × (length out < length text)
+-- what writing a list into a buffer is answered: 0 where its first places have it, 102 where there is no room for all of it
+abbrev pub AnswersAll : {T : Type 0} → List T → List T → List T → ℕ → Type 0
+AnswersAll all before after code = ((code ≡ 0) × AreFirst all before after) ⊎ ((code ≡ 102) × (length before < length all))
+
+-- the same of a text, whose length is written in either case
+abbrev pub AnswersText : List ℕ → List ℕ → List ℕ → ℕ → ℕ → Type 0
+AnswersText text before after count code = (count ≡ length text) × AnswersAll text before after code
+
+-- a text stands in a buffer as far as there is room, with its whole length beside it
+abbrev pub IsFront : List ℕ → List ℕ → List ℕ → ℕ → Type 0
+IsFront text before after count = (count ≡ length text) × AreFirst (take (length before) text) before after
+
+-- Some text does.
+pub record HasFront (before after : List ℕ) (count : ℕ) : Type 0 where
+  pub text : List ℕ
+  pub is : IsFront text before after count

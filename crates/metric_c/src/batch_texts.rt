@@ -1,23 +1,21 @@
 //! The texts of a batch: of its streams, of their keys and of the values of attributes.
-ghost use Rattle.std.specs.Prelude.{◌≡◌, ◌≢◌, ◌<◌, None, IsSomeAnd, length, option_map, take};
-ghost use Rattle.std.specs.Option.{option_copied};
+ghost use Rattle.std.specs.Prelude.{◌≡◌, ◌≢◌, length, option_map};
+ghost use Rattle.std.specs.Option.{MatchOption, option_copied};
 ghost use Rattle.metric_c.specs.Codes.{WhereHeld};
-ghost use Rattle.metric_c.specs.Texts.{IsTold, IsTooLong};
+ghost use Rattle.metric_c.specs.Texts.{AnswersAll, AnswersText};
 ghost use Rattle.metric_c.specs.Walking.{attribute_of, entry_value, instrument_at, key_at, key_name, meter_at, meter_text, stream_text, text_at, text_of_value};
 ghost use Rattle.metric_lines.specs.Keys.{value_at};
 
 use crate::attributes::Attribute;
-use crate::batch_numbers::copy_all;
 use crate::batches::stream_at;
 use crate::codes::{NOT_OPEN, UNKNOWN};
 use crate::reader_handle::ReaderHandle;
-use crate::texts::copy_text;
+use crate::texts::{copy_all, write_found};
 use metric_catalogue::{Instrument, Key, Meter, Values};
 use metric_hosted::HostedReader;
 use metric_names::AttrValue;
 use metric_views::Stream;
 use std::alloc::Global;
-use std::mem::replace;
 
 /// Writes a text of the stream at a place of the batch, if there is room for all of it, and its length: its name (0), unit (1)
 /// or description (2); its meter's name (3), version (4) or schema URL (5).
@@ -30,24 +28,19 @@ pub extern "C" fn wormweekly_stream_text(
     out: &mut [u8],
     text_length: &mut usize,
 ) -> u32
-    ensures told { result ≡ 0 → WhereHeld reader.old.value ⊥ (λ own.
-        IsSomeAnd (text_at own at kind) (λ text. IsTold text out.new text_length.new)) }
-    ensures short { result ≡ 102 → WhereHeld reader.old.value ⊥ (λ own.
-        IsSomeAnd (text_at own at kind) (λ text. IsTooLong text out.old text_length.new)) }
-    ensures unknown { result ≡ 106 → WhereHeld reader.old.value ⊥ (λ own.
-        text_at own at kind ≡ None) }
-    ensures null { result ≡ 100 → reader.old.value ≡ None }
+    ensures answer { WhereHeld reader.old.value (result ≡ 100) (λ own.
+        MatchOption (text_at own at kind) (result ≡ 106) (λ text.
+        AnswersText text out.old out.new text_length.new result)) }
     ensures reader { reader.new.value ≡ reader.old.value }
     ensures refused { result ≢ 0 → out.new ≡ out.old }
+    ensures length { result ≢ 0 → result ≢ 102 → text_length.new ≡ text_length.old }
 {
-    match replace(reader, ReaderHandle::empty(alloc)).into_box() {
-        None => NOT_OPEN,
-        Some(own) => {
-            let code = write_found(text_at(&own, at, kind), out, text_length);
-            *reader = ReaderHandle::of(own);
-            code
-        }
-    }
+    let Some(own) = reader.take(alloc) else {
+        return NOT_OPEN;
+    };
+    let code = write_found(text_at(&own, at, kind), out, text_length);
+    reader.put(own);
+    code
 }
 
 /// Writes the name of a key that the instrument of the stream at a place declares, under the same rule.
@@ -60,24 +53,19 @@ pub extern "C" fn wormweekly_key(
     out: &mut [u8],
     text_length: &mut usize,
 ) -> u32
-    ensures told { result ≡ 0 → WhereHeld reader.old.value ⊥ (λ own.
-        IsSomeAnd (key_name own at key) (λ text. IsTold text out.new text_length.new)) }
-    ensures short { result ≡ 102 → WhereHeld reader.old.value ⊥ (λ own.
-        IsSomeAnd (key_name own at key) (λ text. IsTooLong text out.old text_length.new)) }
-    ensures unknown { result ≡ 106 → WhereHeld reader.old.value ⊥ (λ own.
-        key_name own at key ≡ None) }
-    ensures null { result ≡ 100 → reader.old.value ≡ None }
+    ensures answer { WhereHeld reader.old.value (result ≡ 100) (λ own.
+        MatchOption (key_name own at key) (result ≡ 106) (λ text.
+        AnswersText text out.old out.new text_length.new result)) }
     ensures reader { reader.new.value ≡ reader.old.value }
     ensures refused { result ≢ 0 → out.new ≡ out.old }
+    ensures length { result ≢ 0 → result ≢ 102 → text_length.new ≡ text_length.old }
 {
-    match replace(reader, ReaderHandle::empty(alloc)).into_box() {
-        None => NOT_OPEN,
-        Some(own) => {
-            let code = write_found(key_name(&own, at, key), out, text_length);
-            *reader = ReaderHandle::of(own);
-            code
-        }
-    }
+    let Some(own) = reader.take(alloc) else {
+        return NOT_OPEN;
+    };
+    let code = write_found(key_name(&own, at, key), out, text_length);
+    reader.put(own);
+    code
 }
 
 /// Writes the value that an entry of a set key names for a key of the stream at a place: as an attribute without its key, and
@@ -92,44 +80,38 @@ pub extern "C" fn wormweekly_value(
     value: &mut Attribute,
     out: &mut [u8],
 ) -> u32
-    ensures told { result ≡ 0 → WhereHeld reader.old.value ⊥ (λ own.
-        IsSomeAnd (entry_value own at key entry) (λ v.
-        (value.new ≡ attribute_of v) × (take value.new.text out.new ≡ text_of_value v))) }
-    ensures short { result ≡ 102 → WhereHeld reader.old.value ⊥ (λ own.
-        IsSomeAnd (entry_value own at key entry) (λ v.
-        (value.new ≡ attribute_of v) × (length out.old < value.new.text))) }
-    ensures unknown { result ≡ 106 → WhereHeld reader.old.value ⊥ (λ own.
-        entry_value own at key entry ≡ None) }
-    ensures null { result ≡ 100 → reader.old.value ≡ None }
+    ensures answer { WhereHeld reader.old.value (result ≡ 100) (λ own.
+        MatchOption (entry_value own at key entry) (result ≡ 106) (λ v.
+        (value.new ≡ attribute_of v) × AnswersAll (text_of_value v) out.old out.new result)) }
     ensures reader { reader.new.value ≡ reader.old.value }
     ensures refused { result ≢ 0 → out.new ≡ out.old }
+    ensures value { result ≢ 0 → result ≢ 102 → value.new ≡ value.old }
 {
-    match replace(reader, ReaderHandle::empty(alloc)).into_box() {
-        None => NOT_OPEN,
-        Some(own) => {
-            let code = match entry_value(&own, at, key, entry) {
-                None => UNKNOWN,
-                Some(found) => write_value(found, value, out),
-            };
-            *reader = ReaderHandle::of(own);
-            code
-        }
-    }
+    let Some(own) = reader.take(alloc) else {
+        return NOT_OPEN;
+    };
+    let code = write_entry(&own, at, key, entry, value, out);
+    reader.put(own);
+    code
 }
 
-// Writes a text, where there is one.
-fn write_found(found: Option<&str>, out: &mut [u8], text_length: &mut usize) -> u32
-    ensures told { result ≡ 0 → IsSomeAnd (option_map (λ text. text.now) found.entry)
-        (λ text. IsTold text out.new text_length.new) }
-    ensures short { result ≡ 102 → IsSomeAnd (option_map (λ text. text.now) found.entry)
-        (λ text. IsTooLong text out.old text_length.new) }
-    ensures unknown { result ≡ 106 → option_map (λ text. text.now) found.entry ≡ None }
-    ensures open { result ≢ 100 }
+// Writes the value that an entry names, where there is one.
+fn write_entry(
+    own: &HostedReader,
+    at: usize,
+    key: usize,
+    entry: u16,
+    value: &mut Attribute,
+    out: &mut [u8],
+) -> u32
+    ensures answer { MatchOption (entry_value own.now at key entry) (result ≡ 106) (λ v.
+        (value.new ≡ attribute_of v) × AnswersAll (text_of_value v) out.old out.new result) }
     ensures refused { result ≢ 0 → out.new ≡ out.old }
+    ensures value { result ≢ 0 → result ≢ 102 → value.new ≡ value.old }
 {
-    match found {
+    match entry_value(own, at, key, entry) {
         None => UNKNOWN,
-        Some(text) => copy_text(text.as_bytes(), out, text_length),
+        Some(found) => write_value(found, value, out),
     }
 }
 
@@ -217,9 +199,7 @@ fn value_at(values: &Values, entry: u16) -> Option<&AttrValue>
 // Writes a value as an attribute without its key, and its text.
 fn write_value(found: &AttrValue, value: &mut Attribute, out: &mut [u8]) -> u32
     ensures value { value.new ≡ attribute_of found.now }
-    ensures told { result ≡ 0 → take value.new.text out.new ≡ text_of_value found.now }
-    ensures short { result ≡ 102 → length out.old < value.new.text }
-    ensures open { (result ≢ 100) × (result ≢ 106) }
+    ensures text { AnswersAll (text_of_value found.now) out.old out.new result }
     ensures refused { result ≢ 0 → out.new ≡ out.old }
 {
     let text = text_of_value(found);

@@ -12,7 +12,6 @@ use metric_hosted::HostedReader;
 use metric_sdk::PointValue;
 use metric_views::{Stream, StreamAggregation, Temporality};
 use std::alloc::Global;
-use std::mem::replace;
 
 /// The batch as a whole: the number of its instrument, how many streams it has, and from when to when it is, in nanoseconds.
 #[repr(C)]
@@ -65,20 +64,12 @@ pub extern "C" fn wormweekly_batch(
     ensures reader { reader.new.value ≡ reader.old.value }
     ensures refused { result ≢ 0 → out.new ≡ out.old }
 {
-    match replace(reader, ReaderHandle::empty(alloc)).into_box() {
-        None => NOT_OPEN,
-        Some(own) => {
-            let found = batch_out(&own);
-            *reader = ReaderHandle::of(own);
-            match found {
-                None => UNKNOWN,
-                Some(batch) => {
-                    *out = batch;
-                    DONE
-                }
-            }
-        }
-    }
+    let Some(own) = reader.take(alloc) else {
+        return NOT_OPEN;
+    };
+    let found = batch_out(&own);
+    reader.put(own);
+    write(found, out)
 }
 
 /// Writes what the stream at a place of the batch is.
@@ -94,20 +85,12 @@ pub extern "C" fn wormweekly_stream(
     ensures reader { reader.new.value ≡ reader.old.value }
     ensures refused { result ≢ 0 → out.new ≡ out.old }
 {
-    match replace(reader, ReaderHandle::empty(alloc)).into_box() {
-        None => NOT_OPEN,
-        Some(own) => {
-            let found = stream_out(&own, at);
-            *reader = ReaderHandle::of(own);
-            match found {
-                None => UNKNOWN,
-                Some(stream) => {
-                    *out = stream;
-                    DONE
-                }
-            }
-        }
-    }
+    let Some(own) = reader.take(alloc) else {
+        return NOT_OPEN;
+    };
+    let found = stream_out(&own, at);
+    reader.put(own);
+    write(found, out)
 }
 
 /// Writes what a point of the stream at a place of the batch is.
@@ -124,18 +107,24 @@ pub extern "C" fn wormweekly_point(
     ensures reader { reader.new.value ≡ reader.old.value }
     ensures refused { result ≢ 0 → out.new ≡ out.old }
 {
-    match replace(reader, ReaderHandle::empty(alloc)).into_box() {
-        None => NOT_OPEN,
-        Some(own) => {
-            let found = point_out(&own, at, number);
-            *reader = ReaderHandle::of(own);
-            match found {
-                None => UNKNOWN,
-                Some(point) => {
-                    *out = point;
-                    DONE
-                }
-            }
+    let Some(own) = reader.take(alloc) else {
+        return NOT_OPEN;
+    };
+    let found = point_out(&own, at, number);
+    reader.put(own);
+    write(found, out)
+}
+
+// Writes what was found.
+fn write<T: Copy + Drop>(found: Option<T>, out: &mut T) -> u32
+    ensures answer { IsWritten found out.new result }
+    ensures refused { result ≢ 0 → out.new ≡ out.old }
+{
+    match found {
+        None => UNKNOWN,
+        Some(found) => {
+            *out = found;
+            DONE
         }
     }
 }

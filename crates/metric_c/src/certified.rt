@@ -1,8 +1,9 @@
 //! The start with a certificate.
-ghost use Rattle.std.specs.Prelude.{◌≡◌, ◌≢◌, ◌&&◌, false, IsTrue, IfErr, IfOk};
+ghost use Rattle.std.specs.Prelude.{◌≡◌, ◌≢◌, ◌⊎◌, ◌&&◌, false, true, IsTrue, length, IfErr, IfOk};
 ghost use Rattle.std.specs.Str.{is_utf8};
-ghost use Rattle.metric_c.specs.Opening.{Counted, Opens, held_by};
+ghost use Rattle.metric_c.specs.Opening.{Counted, IsOpenCode, Opens, held_by, lacks_handles};
 ghost use Rattle.metric_c.specs.Refusing.{IsWhy};
+ghost use Rattle.metric_c.specs.Texts.{HasFront};
 ghost use Rattle.metric_c.specs.Vouching.{HasVouchFault, IsVouchedPlan};
 
 use crate::instrument_handle::InstrumentHandle;
@@ -36,12 +37,19 @@ pub extern "C" fn wormweekly_open_certified(
         let new = held_by instruments.new recorders.new readers.new in
         result ≡ 0 → Opens (IsVouchedPlan catalogue.now config.now certificate.now)
         start run counts.new old new }
-    ensures short { result ≡ 102
+    ensures answer { IsOpenCode result ⊎ ((result ≡ 101) ⊎ (result ≡ 103)) }
+    ensures counted { result ≡ 102
         → Counted (IsVouchedPlan catalogue.now config.now certificate.now) counts.new }
+    ensures short { result ≡ 102 → lacks_handles counts.new
+        (length instruments.old) (length recorders.old) (length readers.old) ≡ true }
+    ensures uncounted { (result ≡ 101) ⊎ (result ≡ 103) → counts.new ≡ counts.old }
     ensures no_text { result ≡ 101
         → (is_utf8 catalogue.now && (is_utf8 config.now && is_utf8 certificate.now)) ≡ false }
     ensures faulty { result ≡ 103 → HasVouchFault catalogue.now config.now certificate.now }
+    ensures texts { result ≡ 103
+        → (is_utf8 catalogue.now && (is_utf8 config.now && is_utf8 certificate.now)) ≡ true }
     ensures fault { result ≢ 103 → (fault.new ≡ fault.old) × (fault_length.new ≡ 0) }
+    ensures told { result ≡ 103 → HasFront fault.old fault.new fault_length.new }
     ensures instruments { result ≢ 0 → instruments.new ≡ instruments.old }
     ensures recorders { result ≢ 0 → recorders.new ≡ recorders.old }
     ensures readers { result ≢ 0 → readers.new ≡ readers.old }
@@ -84,6 +92,15 @@ fn plan_for(
     let Ok(certificate) = from_utf8(certificate) else {
         return Err(NoPlan::NoText);
     };
+    plan_of(alloc, catalogue, config, certificate)
+}
+
+fn plan_of(alloc: Global, catalogue: &str, config: &str, certificate: &str) -> Result<Plan, NoPlan>
+    ensures certified { IfOk result (λ plan. IsTrue plan.is_certified) }
+    ensures plan { IfOk result (IsVouchedPlan catalogue.now config.now certificate.now) }
+    ensures why { IfErr result (IsWhy true
+        (HasVouchFault catalogue.now config.now certificate.now)) }
+{
     match vouched_plan(alloc, catalogue, config, certificate) {
         Ok(plan) => Ok(plan),
         Err(VouchFault::Memory) => Err(NoPlan::Memory),

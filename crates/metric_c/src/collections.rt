@@ -1,9 +1,10 @@
 //! Collections.
-ghost use Rattle.std.specs.Prelude.{◌≡◌, ◌≢◌, ◌<◌, length, take, IfOk, OnErr, OnOk};
+ghost use Rattle.std.specs.Prelude.{◌≡◌, ◌≢◌, ◌⊎◌, IfOk, OnErr, OnOk};
 ghost use Rattle.metric_c.specs.Codes.{Changes, IsCodeOf, WhereBoth, WhereHeld};
 ghost use Rattle.metric_c.specs.Collections.{Collects, Refuses, text_of};
+ghost use Rattle.metric_c.specs.Texts.{AnswersText};
 
-use crate::codes::{DONE, MEMORY, NOT_OPEN, TOO_SHORT, code_of};
+use crate::codes::{MEMORY, NOT_OPEN, code_of};
 use crate::instrument_handle::InstrumentHandle;
 use crate::reader_handle::ReaderHandle;
 use crate::texts::copy_text;
@@ -11,7 +12,6 @@ use metric_catalogue::Refusal;
 use metric_hosted::{Hosted, HostedReader};
 use metric_lines::push_batch;
 use std::alloc::{AllocError, Global};
-use std::mem::replace;
 
 /// Collects an instrument for a reader at a time in nanoseconds (Metrics SDK, collect). The reader keeps the batch.
 #[unsafe(no_mangle)]
@@ -28,21 +28,17 @@ pub extern "C" fn wormweekly_collect(
     ensures instrument { result ≢ 0 → instrument.new.value ≡ instrument.old.value }
     ensures reader { result ≢ 0 → reader.new.value ≡ reader.old.value }
 {
-    match replace(instrument, InstrumentHandle::empty(alloc)).into_box() {
-        None => NOT_OPEN,
-        Some(mut held) => {
-            let code = match replace(reader, ReaderHandle::empty(alloc)).into_box() {
-                None => NOT_OPEN,
-                Some(mut own) => {
-                    let code = collect_one(alloc, &mut held, &mut own, now);
-                    *reader = ReaderHandle::of(own);
-                    code
-                }
-            };
-            *instrument = InstrumentHandle::of(held);
-            code
-        }
-    }
+    let Some(mut held) = instrument.take(alloc) else {
+        return NOT_OPEN;
+    };
+    let Some(mut own) = reader.take(alloc) else {
+        instrument.put(held);
+        return NOT_OPEN;
+    };
+    let code = collect_one(alloc, &mut held, &mut own, now);
+    reader.put(own);
+    instrument.put(held);
+    code
 }
 
 fn collect_one(alloc: Global, held: &mut Hosted, own: &mut HostedReader, now: u64) -> u32
@@ -81,23 +77,34 @@ pub extern "C" fn wormweekly_text(
     out: &mut [u8],
     text_length: &mut usize,
 ) -> u32
+    ensures answer { WhereHeld reader.old.value (result ≡ 100) (λ own.
+        AnswersText (text_of own) out.old out.new text_length.new result ⊎ (result ≡ 11)) }
     ensures reader { reader.new.value ≡ reader.old.value }
-    ensures text { result ≡ 0 → WhereHeld reader.old.value ⊥ (λ own.
-        (text_length.new ≡ length (text_of own)) × (take text_length.new out.new ≡ text_of own)) }
-    ensures short { result ≡ 102 → WhereHeld reader.old.value ⊥ (λ own.
-        (text_length.new ≡ length (text_of own)) × (length out.old < length (text_of own))) }
     ensures refused { result ≢ 0 → out.new ≡ out.old }
+    ensures length { result ≢ 0 → result ≢ 102 → text_length.new ≡ text_length.old }
 {
-    match replace(reader, ReaderHandle::empty(alloc)).into_box() {
-        None => NOT_OPEN,
-        Some(own) => {
-            let text = text_of(alloc, &own);
-            *reader = ReaderHandle::of(own);
-            match text {
-                Err(_) => MEMORY,
-                Ok(text) => copy_text(text.as_slice(), out, text_length),
-            }
-        }
+    let Some(own) = reader.take(alloc) else {
+        return NOT_OPEN;
+    };
+    let code = write_batch_text(alloc, &own, out, text_length);
+    reader.put(own);
+    code
+}
+
+fn write_batch_text(
+    alloc: Global,
+    own: &HostedReader,
+    out: &mut [u8],
+    text_length: &mut usize,
+) -> u32
+    ensures answer { AnswersText (text_of own.now) out.old out.new text_length.new result
+        ⊎ (result ≡ 11) }
+    ensures refused { result ≢ 0 → out.new ≡ out.old }
+    ensures length { result ≢ 0 → result ≢ 102 → text_length.new ≡ text_length.old }
+{
+    match text_of(alloc, own) {
+        Err(_) => MEMORY,
+        Ok(text) => copy_text(text.as_slice(), out, text_length),
     }
 }
 

@@ -9,7 +9,6 @@ use crate::instrument_handle::InstrumentHandle;
 use crate::reader_handle::ReaderHandle;
 use crate::recorder_handle::RecorderHandle;
 use std::alloc::Global;
-use std::mem::replace;
 
 /// Ends the recordings of an instrument.
 #[unsafe(no_mangle)]
@@ -19,14 +18,12 @@ pub extern "C" fn wormweekly_close(alloc: Global, instrument: &mut InstrumentHan
     ensures done { result ≡ 0 → IsClosed instrument.old.value instrument.new.value }
     ensures refused { result ≢ 0 → instrument.new.value ≡ instrument.old.value }
 {
-    match replace(instrument, InstrumentHandle::empty(alloc)).into_box() {
-        None => NOT_OPEN,
-        Some(mut held) => {
-            let answer = held.close();
-            *instrument = InstrumentHandle::of(held);
-            code_of(&answer)
-        }
-    }
+    let Some(mut held) = instrument.take(alloc) else {
+        return NOT_OPEN;
+    };
+    let answer = held.close();
+    instrument.put(held);
+    code_of(&answer)
 }
 
 /// Frees what a handle holds, and leaves it null. Freed twice, nothing happens.

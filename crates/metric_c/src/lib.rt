@@ -8,7 +8,7 @@
 //! | Answer | What it says |
 //! |---|---|
 //! | 0 | done |
-//! | 1 to 12 | the number of a refusal |
+//! | 1 to 13 | the number of a refusal |
 //! | 100 | a handle is null |
 //! | 101 | bytes are no UTF-8, a length leads past the texts, or an attribute is of no kind |
 //! | 102 | a buffer, or a list of handles, is too short |

@@ -1,18 +1,17 @@
 //! The names that a plan declares.
-ghost use Rattle.std.specs.Prelude.{◌≡◌, ◌≢◌, None, IsSomeAnd, option_map};
+ghost use Rattle.std.specs.Prelude.{◌≡◌, ◌≢◌, option_map};
+ghost use Rattle.std.specs.Option.{MatchOption};
 ghost use Rattle.metric_c.specs.Codes.{WhereHeld};
 ghost use Rattle.metric_c.specs.Names.{instrument_name, meter_name, name_of, reader_name, recorder_name};
-ghost use Rattle.metric_c.specs.Texts.{IsTold, IsTooLong};
+ghost use Rattle.metric_c.specs.Texts.{AnswersText};
 
-use crate::codes::{NOT_OPEN, UNKNOWN};
+use crate::codes::NOT_OPEN;
 use crate::recorder_handle::RecorderHandle;
-use crate::texts::copy_text;
+use crate::texts::write_found;
 use metric_catalogue::Catalogue;
-use metric_hosted::HostedRecorder;
 use metric_plan::Plan;
 use metric_views::Config;
 use std::alloc::Global;
-use std::mem::replace;
 
 /// Writes a name of the plan that a recorder is of, if there is room for all of it, and its length: of the instrument of a
 /// number (0), of that one's meter (1), of the recorder (2) or of the reader (3) of a number.
@@ -25,45 +24,20 @@ pub extern "C" fn wormweekly_name(
     out: &mut [u8],
     text_length: &mut usize,
 ) -> u32
-    ensures named { result ≡ 0 → WhereHeld recorder.old.value ⊥ (λ own.
-        IsSomeAnd (name_of own.plan kind number) (λ name. IsTold name out.new text_length.new)) }
-    ensures short { result ≡ 102 → WhereHeld recorder.old.value ⊥ (λ own.
-        IsSomeAnd (name_of own.plan kind number) (λ name. IsTooLong name out.old text_length.new)) }
-    ensures unknown { result ≡ 106 → WhereHeld recorder.old.value ⊥ (λ own.
-        name_of own.plan kind number ≡ None) }
-    ensures null { result ≡ 100 → recorder.old.value ≡ None }
+    ensures answer { WhereHeld recorder.old.value (result ≡ 100) (λ own.
+        MatchOption (name_of own.plan kind number) (result ≡ 106) (λ name.
+        AnswersText name out.old out.new text_length.new result)) }
     ensures recorder { recorder.new.value ≡ recorder.old.value }
     ensures refused { result ≢ 0 → out.new ≡ out.old }
+    ensures length { result ≢ 0 → result ≢ 102 → text_length.new ≡ text_length.old }
 {
-    match replace(recorder, RecorderHandle::empty(alloc)).into_box() {
-        None => NOT_OPEN,
-        Some(own) => {
-            let code = write_name(&own, kind, number, out, text_length);
-            *recorder = RecorderHandle::of(own);
-            code
-        }
-    }
-}
-
-fn write_name(
-    own: &HostedRecorder,
-    kind: u32,
-    number: u32,
-    out: &mut [u8],
-    text_length: &mut usize,
-) -> u32
-    ensures named { result ≡ 0 → IsSomeAnd (name_of own.now.plan kind number)
-        (λ name. IsTold name out.new text_length.new) }
-    ensures short { result ≡ 102 → IsSomeAnd (name_of own.now.plan kind number)
-        (λ name. IsTooLong name out.old text_length.new) }
-    ensures unknown { result ≡ 106 → name_of own.now.plan kind number ≡ None }
-    ensures open { result ≢ 100 }
-    ensures refused { result ≢ 0 → out.new ≡ out.old }
-{
-    match name_of(own.plan.get(), kind, number as usize) {
-        None => UNKNOWN,
-        Some(name) => copy_text(name.as_bytes(), out, text_length),
-    }
+    let Some(own) = recorder.take(alloc) else {
+        return NOT_OPEN;
+    };
+    let name = name_of(own.plan.get(), kind, number as usize);
+    let code = write_found(name, out, text_length);
+    recorder.put(own);
+    code
 }
 
 fn name_of(plan: &Plan, kind: u32, number: usize) -> Option<&str>

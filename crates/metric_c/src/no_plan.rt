@@ -1,8 +1,10 @@
 //! Why there is no plan.
-ghost use Rattle.std.specs.Prelude.{◌≡◌, ◌≢◌, length};
+ghost use Rattle.std.specs.Prelude.{◌≡◌, ◌≢◌};
 ghost use Rattle.metric_c.specs.Refusing.{code_of_no_plan, is_fault};
+ghost use Rattle.metric_c.specs.Texts.{HasFront};
 
 use crate::codes::{FAULT, MEMORY, NO_TEXT};
+use crate::texts::copy_front;
 use std::alloc::{AllocError, Global};
 
 /// Why texts come to no certified plan.
@@ -30,6 +32,7 @@ pub(crate) fn told(text: Result<String, AllocError>, alloc: Global) -> NoPlan
 pub(crate) fn tell(why: &NoPlan, out: &mut [u8], text_length: &mut usize) -> u32
     ensures code { result ≡ code_of_no_plan why.now }
     ensures out { result ≢ 103 → (out.new ≡ out.old) × (text_length.new ≡ text_length.old) }
+    ensures told { result ≡ 103 → HasFront out.old out.new text_length.new }
 {
     match why {
         NoPlan::NoText => NO_TEXT,
@@ -39,13 +42,4 @@ pub(crate) fn tell(why: &NoPlan, out: &mut [u8], text_length: &mut usize) -> u32
             FAULT
         }
     }
-}
-
-// Copies as many bytes as there is room for. How many there are.
-fn copy_front(text: &[u8], out: &mut [u8]) -> usize
-    ensures { result ≡ length text.now }
-{
-    let count = text.len().min(out.len());
-    out[..count].copy_from_slice(&text[..count]);
-    text.len()
 }

@@ -1,8 +1,9 @@
 //! The start.
-ghost use Rattle.std.specs.Prelude.{◌≡◌, ◌≢◌, ◌≤◌, ◌++◌, ◌&&◌, false, IsTrue, drop, length, IfErr, IfOk};
+ghost use Rattle.std.specs.Prelude.{◌≡◌, ◌≢◌, ◌≤◌, ◌⊎◌, ◌&&◌, false, true, IsTrue, length, IfErr, IfOk};
 ghost use Rattle.std.specs.Str.{is_utf8};
-ghost use Rattle.metric_c.specs.Opening.{AreNewInstruments, Begins, Counted, HasFault, Opens, counts_of, held_by, instruments_in, new_readers, new_recorders, readers_in, recorders_in};
-ghost use Rattle.metric_c.specs.Refusing.{IsWhy, code_of_no_plan};
+ghost use Rattle.metric_c.specs.Opening.{AreNewInstruments, Begins, Counted, HasFault, IsOpenCode, Opens, counts_of, held_by, instruments_in, lacks_handles, new_readers, new_recorders, readers_in, recorders_in};
+ghost use Rattle.metric_c.specs.Refusing.{IsWhy};
+ghost use Rattle.metric_c.specs.Texts.{AreFirst, HasFront};
 ghost use Rattle.metric_sdk.specs.Setups.{IsCertifiedPlan};
 
 use crate::codes::{DONE, MEMORY, TOO_SHORT};
@@ -46,11 +47,16 @@ pub extern "C" fn wormweekly_open(
     ensures opened { let old = held_by instruments.old recorders.old readers.old in
         let new = held_by instruments.new recorders.new readers.new in
         result ≡ 0 → Opens (IsCertifiedPlan catalogue.now config.now) start run counts.new old new }
-    ensures short { result ≡ 102
-        → Counted (IsCertifiedPlan catalogue.now config.now) counts.new }
+    ensures answer { IsOpenCode result ⊎ ((result ≡ 101) ⊎ (result ≡ 103)) }
+    ensures counted { result ≡ 102 → Counted (IsCertifiedPlan catalogue.now config.now) counts.new }
+    ensures short { result ≡ 102 → lacks_handles counts.new
+        (length instruments.old) (length recorders.old) (length readers.old) ≡ true }
+    ensures uncounted { (result ≡ 101) ⊎ (result ≡ 103) → counts.new ≡ counts.old }
     ensures no_text { result ≡ 101 → (is_utf8 catalogue.now && is_utf8 config.now) ≡ false }
     ensures faulty { result ≡ 103 → HasFault catalogue.now config.now }
+    ensures texts { result ≡ 103 → (is_utf8 catalogue.now && is_utf8 config.now) ≡ true }
     ensures fault { result ≢ 103 → (fault.new ≡ fault.old) × (fault_length.new ≡ 0) }
+    ensures told { result ≡ 103 → HasFront fault.old fault.new fault_length.new }
     ensures instruments { result ≢ 0 → instruments.new ≡ instruments.old }
     ensures recorders { result ≢ 0 → recorders.new ≡ recorders.old }
     ensures readers { result ≢ 0 → readers.new ≡ readers.old }
@@ -84,6 +90,14 @@ fn plan_for(alloc: Global, catalogue: &[u8], config: &[u8]) -> Result<Plan, NoPl
     let Ok(config) = from_utf8(config) else {
         return Err(NoPlan::NoText);
     };
+    plan_of(alloc, catalogue, config)
+}
+
+fn plan_of(alloc: Global, catalogue: &str, config: &str) -> Result<Plan, NoPlan>
+    ensures certified { IfOk result (λ plan. IsTrue plan.is_certified) }
+    ensures plan { IfOk result (IsCertifiedPlan catalogue.now config.now) }
+    ensures why { IfErr result (IsWhy true (HasFault catalogue.now config.now)) }
+{
     match certified_plan(alloc, catalogue, config) {
         Ok(plan) => Ok(plan),
         Err(SetupFault::Memory) => Err(NoPlan::Memory),
@@ -108,16 +122,15 @@ pub(crate) fn open_plan(
     ensures opened { let old = held_by instruments.old recorders.old readers.old in
         let new = held_by instruments.new recorders.new readers.new in
         result ≡ 0 → Begins plan start run old new }
-    ensures code { (result ≢ 101) × (result ≢ 103) }
+    ensures answer { IsOpenCode result }
+    ensures short { result ≡ 102 → lacks_handles counts.new
+        (length instruments.old) (length recorders.old) (length readers.old) ≡ true }
     ensures instruments { result ≢ 0 → instruments.new ≡ instruments.old }
     ensures recorders { result ≢ 0 → recorders.new ≡ recorders.old }
     ensures readers { result ≢ 0 → readers.new ≡ readers.old }
 {
     *counts = counts_of(&plan);
-    if instruments.len() < counts.instruments
-        || recorders.len() < counts.recorders
-        || readers.len() < counts.readers
-    {
+    if lacks_handles(counts, instruments.len(), recorders.len(), readers.len()) {
         return TOO_SHORT;
     }
     match new_run(alloc, plan, start, run) {
@@ -129,6 +142,13 @@ pub(crate) fn open_plan(
             DONE
         }
     }
+}
+
+// Whether there are fewer handles of some kind than there are to be.
+fn lacks_handles(counts: &Counts, instruments: usize, recorders: usize, readers: usize) -> bool
+    ensures { result ≡ lacks_handles counts.now instruments recorders readers }
+{
+    instruments < counts.instruments || recorders < counts.recorders || readers < counts.readers
 }
 
 fn counts_of(plan: &Plan) -> Counts
@@ -144,7 +164,7 @@ fn counts_of(plan: &Plan) -> Counts
 // Puts what was made into the first places.
 fn place<T: Drop>(places: &mut [T], made: Vec<T>)
     requires { length made.items ≤ length places.old }
-    ensures { places.new ≡ made.items ++ drop (length made.items) places.old }
+    ensures { AreFirst made.items places.old places.new }
 {
     let mut made = made;
     while let Some(one) = made.pop() {

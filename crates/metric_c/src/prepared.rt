@@ -14,7 +14,6 @@ use crate::recorder_handle::RecorderHandle;
 use metric_catalogue::Attr;
 use metric_hosted::{Hosted, HostedRecorder, Prepared};
 use std::alloc::Global;
-use std::mem::replace;
 
 /// Finds the set key of attributes for the instrument of a number, and writes it; the value stays. Nothing else changes.
 #[unsafe(no_mangle)]
@@ -33,14 +32,12 @@ pub extern "C" fn wormweekly_prepare(
     ensures value { prepared.new.value ≡ prepared.old.value }
     ensures recorder { recorder.new.value ≡ recorder.old.value }
 {
-    match replace(recorder, RecorderHandle::empty(alloc)).into_box() {
-        None => NOT_OPEN,
-        Some(own) => {
-            let code = prepare_given(alloc, &own, instrument, texts, given, prepared);
-            *recorder = RecorderHandle::of(own);
-            code
-        }
-    }
+    let Some(own) = recorder.take(alloc) else {
+        return NOT_OPEN;
+    };
+    let code = prepare_given(alloc, &own, instrument, texts, given, prepared);
+    recorder.put(own);
+    code
 }
 
 // Reads the attributes, and writes their set key.
@@ -110,21 +107,17 @@ pub extern "C" fn wormweekly_record_prepared(
     ensures instrument { result ≢ 0 → instrument.new.value ≡ instrument.old.value }
     ensures recorder { result ≢ 0 → recorder.new.value ≡ recorder.old.value }
 {
-    match replace(instrument, InstrumentHandle::empty(alloc)).into_box() {
-        None => NOT_OPEN,
-        Some(mut held) => {
-            let code = match replace(recorder, RecorderHandle::empty(alloc)).into_box() {
-                None => NOT_OPEN,
-                Some(mut own) => {
-                    let code = record_one(&mut held, &mut own, prepared);
-                    *recorder = RecorderHandle::of(own);
-                    code
-                }
-            };
-            *instrument = InstrumentHandle::of(held);
-            code
-        }
-    }
+    let Some(mut held) = instrument.take(alloc) else {
+        return NOT_OPEN;
+    };
+    let Some(mut own) = recorder.take(alloc) else {
+        instrument.put(held);
+        return NOT_OPEN;
+    };
+    let code = record_one(&mut held, &mut own, prepared);
+    recorder.put(own);
+    instrument.put(held);
+    code
 }
 
 fn record_one(held: &mut Hosted, own: &mut HostedRecorder, prepared: &Prepared) -> u32
@@ -157,21 +150,17 @@ pub extern "C" fn wormweekly_record_list(
         (RecordsList list.now count result)) }
 {
     *made = 0;
-    match replace(instrument, InstrumentHandle::empty(alloc)).into_box() {
-        None => NOT_OPEN,
-        Some(mut held) => {
-            let code = match replace(recorder, RecorderHandle::empty(alloc)).into_box() {
-                None => NOT_OPEN,
-                Some(mut own) => {
-                    let code = record_all(&mut held, &mut own, list, made);
-                    *recorder = RecorderHandle::of(own);
-                    code
-                }
-            };
-            *instrument = InstrumentHandle::of(held);
-            code
-        }
-    }
+    let Some(mut held) = instrument.take(alloc) else {
+        return NOT_OPEN;
+    };
+    let Some(mut own) = recorder.take(alloc) else {
+        instrument.put(held);
+        return NOT_OPEN;
+    };
+    let code = record_all(&mut held, &mut own, list, made);
+    recorder.put(own);
+    instrument.put(held);
+    code
 }
 
 fn record_all(

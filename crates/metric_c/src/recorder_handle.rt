@@ -10,6 +10,7 @@ use crate::parts::Parts;
 use metric_hosted::HostedRecorder;
 use std::alloc::Global;
 use std::marker::Model;
+use std::mem::replace;
 use std::ptr::null_mut;
 
 /// A recorder's seat with its plan on the heap that a host holds, or nothing where `at` is null.
@@ -40,7 +41,23 @@ impl RecorderHandle {
         RecorderHandle::of_parts(Parts::of(held))
     }
 
-    pub(crate) fn into_box(self) -> Option<Box<HostedRecorder>>
+    /// Takes out what the handle holds, which is null then.
+    pub(crate) fn take(&mut self, alloc: Global) -> Option<Box<HostedRecorder>>
+        ensures held { MatchOption result (self.old.value ≡ None) (λ held.
+            self.old.value ≡ Some held.value) }
+        ensures null { self.new.value ≡ None }
+    {
+        replace(self, RecorderHandle::empty(alloc)).into_box()
+    }
+
+    /// Puts back what was taken out.
+    pub(crate) fn put(&mut self, held: Box<HostedRecorder>)
+        ensures { self.new.value ≡ Some held.value }
+    {
+        *self = RecorderHandle::of(held);
+    }
+
+    fn into_box(self) -> Option<Box<HostedRecorder>>
         ensures { MatchOption result (self.value ≡ None) (λ held. self.value ≡ Some held.value) }
     {
         match self.into_parts() {

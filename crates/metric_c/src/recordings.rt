@@ -1,5 +1,5 @@
 //! Recordings.
-ghost use Rattle.std.specs.Prelude.{◌≡◌, ◌≢◌, Some, IsSomeAnd, length, map};
+ghost use Rattle.std.specs.Prelude.{◌≡◌, ◌≢◌, IsSomeAnd, length, map};
 ghost use Rattle.metric_c.specs.Attributes.{attributes_from};
 ghost use Rattle.metric_c.specs.Codes.{Changes, IsCodeOf, IsCodeOfRead, WhereBoth};
 ghost use Rattle.metric_c.specs.Recordings.{AnswersGiven, RecordsGiven};
@@ -12,7 +12,6 @@ use crate::recorder_handle::RecorderHandle;
 use metric_catalogue::Attr;
 use metric_hosted::{Hosted, HostedRecorder};
 use std::alloc::Global;
-use std::mem::replace;
 
 /// Makes a recording of a recorder on an instrument (Metrics API, synchronous instruments).
 #[unsafe(no_mangle)]
@@ -33,42 +32,17 @@ pub extern "C" fn wormweekly_record(
     ensures instrument { result ≢ 0 → instrument.new.value ≡ instrument.old.value }
     ensures recorder { result ≢ 0 → recorder.new.value ≡ recorder.old.value }
 {
-    match replace(instrument, InstrumentHandle::empty(alloc)).into_box() {
-        None => NOT_OPEN,
-        Some(mut held) => {
-            let code = record_with(alloc, &mut held, recorder, texts, given, value);
-            *instrument = InstrumentHandle::of(held);
-            code
-        }
-    }
-}
-
-fn record_with(
-    alloc: Global,
-    held: &mut Hosted,
-    recorder: &mut RecorderHandle,
-    texts: &[u8],
-    given: &[Attribute],
-    value: i64,
-) -> u32
-    ensures answer { let read = attributes_from given.now texts.now in
-        WhereBoth (Some held.old) recorder.old.value (result ≡ 100) (λ h own.
-        IsCodeOfRead (length given.now) read (λ attrs. AnswersGiven attrs value h own) result) }
-    ensures done { let seat = recorder.new.value in
-        result ≡ 0 → IsSomeAnd (attributes_from given.now texts.now) (λ attrs.
-        Changes (Some held.old) (Some held.new) recorder.old.value seat
-        (RecordsGiven attrs value)) }
-    ensures instrument { result ≢ 0 → held.new ≡ held.old }
-    ensures recorder { result ≢ 0 → recorder.new.value ≡ recorder.old.value }
-{
-    match replace(recorder, RecorderHandle::empty(alloc)).into_box() {
-        None => NOT_OPEN,
-        Some(mut own) => {
-            let code = record_given(alloc, held, &mut own, texts, given, value);
-            *recorder = RecorderHandle::of(own);
-            code
-        }
-    }
+    let Some(mut held) = instrument.take(alloc) else {
+        return NOT_OPEN;
+    };
+    let Some(mut own) = recorder.take(alloc) else {
+        instrument.put(held);
+        return NOT_OPEN;
+    };
+    let code = record_given(alloc, &mut held, &mut own, texts, given, value);
+    recorder.put(own);
+    instrument.put(held);
+    code
 }
 
 // Reads the attributes, and makes the recording.

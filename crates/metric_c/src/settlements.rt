@@ -1,7 +1,7 @@
 //! The totals at the end.
-ghost use Rattle.std.specs.Prelude.{◌≡◌, ◌≢◌, map, IfOk, Ok, Err};
+ghost use Rattle.std.specs.Prelude.{◌≡◌, ◌≢◌, ◌⊎◌, map, IfErr, IfOk, Ok};
 ghost use Rattle.metric_c.specs.Codes.{WhereHeld};
-ghost use Rattle.metric_c.specs.Settlements.{AllTold, IsSettled, sum_from};
+ghost use Rattle.metric_c.specs.Settlements.{AllTold, AnswersSettle, AnswersTold, IsFirstUntold, TellsNot, number_of_fault, sum_from};
 ghost use Rattle.metric_hosted.specs.Settlements.{TellsOf};
 
 use crate::codes::{AUDIT_MISMATCH, DONE, MEMORY, NOT_OPEN, RECORDER_MISSING, STRANGER};
@@ -10,7 +10,6 @@ use crate::recorder_handle::RecorderHandle;
 use metric_hosted::{Hosted, HostedRecorder, SeatTold};
 use metric_provider::{FinishFault, Total};
 use std::alloc::Global;
-use std::mem::replace;
 
 /// What an instrument comes to: how many recordings, and the sum of their values, as 128 bits without the sign, and 1 where
 /// it is below 0, else 0.
@@ -24,7 +23,8 @@ pub struct TotalOut {
 }
 
 /// Compares an instrument with what all its recorders were told, in any order, and writes its total, which is exactly
-/// that.
+/// that. Refused, it writes nothing, and answers for the first handle whose seat tells nothing, else for what all of them
+/// tell.
 #[unsafe(no_mangle)]
 pub extern "C" fn wormweekly_settle(
     alloc: Global,
@@ -32,21 +32,20 @@ pub extern "C" fn wormweekly_settle(
     recorders: &mut [RecorderHandle],
     total: &mut TotalOut,
 ) -> u32
-    ensures done { let seats = map (λ handle. handle.value) recorders.old in
-        result ≡ 0 → WhereHeld instrument.old.value ⊥ (λ h. IsSettled h seats total.new) }
+    ensures answer { let seats = map (λ handle. handle.value) recorders.old in
+        WhereHeld instrument.old.value (result ≡ 100) (λ h.
+        AnswersSettle h seats total.new result) }
     ensures refused { result ≢ 0 → total.new ≡ total.old }
     ensures instrument { instrument.new.value ≡ instrument.old.value }
     ensures recorders { map (λ handle. handle.value) recorders.new
         ≡ map (λ handle. handle.value) recorders.old }
 {
-    match replace(instrument, InstrumentHandle::empty(alloc)).into_box() {
-        None => NOT_OPEN,
-        Some(held) => {
-            let code = settle_one(alloc, &held, recorders, total);
-            *instrument = InstrumentHandle::of(held);
-            code
-        }
-    }
+    let Some(held) = instrument.take(alloc) else {
+        return NOT_OPEN;
+    };
+    let code = settle_one(alloc, &held, recorders, total);
+    instrument.put(held);
+    code
 }
 
 fn settle_one(
@@ -55,21 +54,29 @@ fn settle_one(
     recorders: &mut [RecorderHandle],
     total: &mut TotalOut,
 ) -> u32
-    ensures done { let seats = map (λ handle. handle.value) recorders.old in
-        result ≡ 0 → IsSettled held.now seats total.new }
+    ensures answer { let seats = map (λ handle. handle.value) recorders.old in
+        AnswersSettle held.now seats total.new result }
     ensures refused { result ≢ 0 → total.new ≡ total.old }
     ensures recorders { map (λ handle. handle.value) recorders.new
         ≡ map (λ handle. handle.value) recorders.old }
 {
     match all_told(alloc, held, recorders) {
         Err(code) => code,
-        Ok(told) => match held.settle(told.as_slice()) {
-            Ok(settled) => {
-                *total = written(settled);
-                DONE
-            }
-            Err(fault) => code_of(fault),
-        },
+        Ok(told) => settle_told(held, told.as_slice(), total),
+    }
+}
+
+// Compares an instrument with what its seats were told.
+fn settle_told(held: &Hosted, told: &[SeatTold], total: &mut TotalOut) -> u32
+    ensures answer { AnswersTold held.now told.now total.new result }
+    ensures refused { result ≢ 0 → total.new ≡ total.old }
+{
+    match held.settle(told) {
+        Ok(settled) => {
+            *total = written(settled);
+            DONE
+        }
+        Err(fault) => code_of(fault),
     }
 }
 
@@ -89,7 +96,7 @@ fn written(total: Total) -> TotalOut
 
 // The number of a fault.
 fn code_of(fault: FinishFault) -> u32
-    ensures { result ≢ 0 }
+    ensures { result ≡ number_of_fault fault }
 {
     match fault {
         FinishFault::RecorderMissing => RECORDER_MISSING,
@@ -107,7 +114,8 @@ fn all_told(
 ) -> Result<Vec<SeatTold>, u32>
     ensures told { let seats = map (λ handle. handle.value) recorders.old in
         IfOk result (λ told. AllTold held.now seats told.items) }
-    ensures code { result ≢ Err 0 }
+    ensures untold { let seats = map (λ handle. handle.value) recorders.old in
+        IfErr result (λ code. IsFirstUntold held.now seats code ⊎ (code ≡ 11)) }
     ensures recorders { map (λ handle. handle.value) recorders.new
         ≡ map (λ handle. handle.value) recorders.old }
 {
@@ -129,18 +137,16 @@ fn all_told(
 fn told_by(alloc: Global, held: &Hosted, recorder: &mut RecorderHandle) -> Result<SeatTold, u32>
     ensures told { IfOk result (λ told.
         WhereHeld recorder.old.value ⊥ (λ own. TellsOf own.plan held.now own.seat (Ok told))) }
-    ensures code { result ≢ Err 0 }
+    ensures untold { IfErr result (TellsNot held.now recorder.old.value) }
     ensures recorder { recorder.new.value ≡ recorder.old.value }
 {
-    match replace(recorder, RecorderHandle::empty(alloc)).into_box() {
-        None => Err(NOT_OPEN),
-        Some(own) => {
-            let told = own.seat.told_of(own.plan.get(), held);
-            *recorder = RecorderHandle::of(own);
-            match told {
-                Ok(told) => Ok(told),
-                Err(fault) => Err(code_of(fault)),
-            }
-        }
+    let Some(own) = recorder.take(alloc) else {
+        return Err(NOT_OPEN);
+    };
+    let told = own.seat.told_of(own.plan.get(), held);
+    recorder.put(own);
+    match told {
+        Ok(told) => Ok(told),
+        Err(fault) => Err(code_of(fault)),
     }
 }

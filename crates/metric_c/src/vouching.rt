@@ -1,5 +1,5 @@
 //! The certified plan of a catalogue, a config and a certificate that somebody made.
-ghost use Rattle.std.specs.Prelude.{IfErr, IfOk, IsTrue, OnOk};
+ghost use Rattle.std.specs.Prelude.{IfErr, IfOk, IsTrue};
 ghost use Rattle.metric_catalogue.specs.Catalogues.{catalogue_of};
 ghost use Rattle.metric_cert.specs.Certificates.{certificate_from};
 ghost use Rattle.metric_views.specs.Configs.{config_of};

@@ -1,9 +1,9 @@
 //! The warnings that a config gets.
-ghost use Rattle.std.specs.Prelude.{◌≡◌, ◌≢◌, ◌++◌, None, IfOk, OnOk};
+ghost use Rattle.std.specs.Prelude.{◌≡◌, ◌≢◌, ◌⊎◌, ◌++◌, IfOk, OnOk};
 ghost use Rattle.std.specs.List.{flat_map};
 ghost use Rattle.metric_c.specs.Codes.{WhereHeld};
 ghost use Rattle.metric_c.specs.Names.{warnings_text};
-ghost use Rattle.metric_c.specs.Texts.{IsTold, IsTooLong};
+ghost use Rattle.metric_c.specs.Texts.{AnswersText};
 ghost use Rattle.metric_lines.specs.Streams.{warning_text};
 
 use crate::codes::{MEMORY, NOT_OPEN};
@@ -13,7 +13,6 @@ use metric_lines::push_warning;
 use metric_plan::Plan;
 use metric_resolve::{Warning, resolve};
 use std::alloc::{AllocError, Global};
-use std::mem::replace;
 
 /// Writes a line for each view of the plan that a recorder is of that does not fit an instrument, and for each collision of
 /// streams (Metrics SDK, View), if there is room for all of them, and their length.
@@ -24,24 +23,30 @@ pub extern "C" fn wormweekly_warnings(
     out: &mut [u8],
     text_length: &mut usize,
 ) -> u32
-    ensures told { result ≡ 0 → WhereHeld recorder.old.value ⊥ (λ own.
-        IsTold (warnings_text own.plan) out.new text_length.new) }
-    ensures short { result ≡ 102 → WhereHeld recorder.old.value ⊥ (λ own.
-        IsTooLong (warnings_text own.plan) out.old text_length.new) }
-    ensures null { result ≡ 100 → recorder.old.value ≡ None }
+    ensures answer { WhereHeld recorder.old.value (result ≡ 100) (λ own.
+        AnswersText (warnings_text own.plan) out.old out.new text_length.new result
+        ⊎ (result ≡ 11)) }
     ensures recorder { recorder.new.value ≡ recorder.old.value }
     ensures refused { result ≢ 0 → out.new ≡ out.old }
+    ensures length { result ≢ 0 → result ≢ 102 → text_length.new ≡ text_length.old }
 {
-    match replace(recorder, RecorderHandle::empty(alloc)).into_box() {
-        None => NOT_OPEN,
-        Some(own) => {
-            let text = warnings_of(alloc, own.plan.get());
-            *recorder = RecorderHandle::of(own);
-            match text {
-                Err(_) => MEMORY,
-                Ok(text) => copy_text(text.as_slice(), out, text_length),
-            }
-        }
+    let Some(own) = recorder.take(alloc) else {
+        return NOT_OPEN;
+    };
+    let code = write_warnings(alloc, own.plan.get(), out, text_length);
+    recorder.put(own);
+    code
+}
+
+fn write_warnings(alloc: Global, plan: &Plan, out: &mut [u8], text_length: &mut usize) -> u32
+    ensures answer { AnswersText (warnings_text plan.now) out.old out.new text_length.new result
+        ⊎ (result ≡ 11) }
+    ensures refused { result ≢ 0 → out.new ≡ out.old }
+    ensures length { result ≢ 0 → result ≢ 102 → text_length.new ≡ text_length.old }
+{
+    match warnings_of(alloc, plan) {
+        Err(_) => MEMORY,
+        Ok(text) => copy_text(text.as_slice(), out, text_length),
     }
 }
 

@@ -12,7 +12,9 @@ use Rattle.metric_cert.specs.declared.reason.Criterion.TheVariants.{InstrumentTy
 use Rattle.metric_cert.specs.declared.reason.Evidence.{Evidence}
 use Rattle.metric_cert.specs.declared.reason.Evidence.TheVariants.{Name}
 use Rattle.metric_cert.specs.declared.reason.SelectionReason.{SelectionReason}
-use Rattle.metric_cert.specs.Valid.{Holds}
+use Rattle.metric_cert.specs.declared.stream.StreamSets.{StreamSets}
+use Rattle.metric_cert.specs.Valid.{Holds, IsListed}
+use Rattle.metric_views.specs.declared.stream.Stream.{Stream}
 use Rattle.metric_resolve.specs.Applying.{is_selected}
 
 -- The criteria beside the name hold one by one.
@@ -37,3 +39,14 @@ ShowSelection contents config reasons =
 abbrev pub AreTotals : Contents → List InstrumentBound → Type 0
 AreTotals contents bounds =
     (number : ℕ) → number < length contents.instruments → IsSomeAnd (slice_get bounds number) (λ bound. bound.total ≡ total_of contents number)
+
+-- The lists of the entries of so many streams are theirs.
+abbrev pub AreListed : Contents → List Stream → List StreamSets → ℕ → Type 0
+AreListed contents streams entries count =
+    (number : ℕ) → number < count → (stream : Stream) (entry : StreamSets) → slice_get streams number ≡ Some stream → slice_get entries number ≡ Some entry
+    → IsListed contents stream entry.by
+
+-- Two streams are of one instrument and keep the same keys.
+pub record IsLike (stream other : Stream) : Type 0 where
+  pub instrument : stream.instrument ≡ other.instrument
+  pub kept : stream.kept ≡ other.kept

@@ -1,11 +1,12 @@
 //! Whether the streams have at most as many series as their limits.
-ghost use Rattle.std.specs.Prelude.{◌≡◌, ◌↔◌, All, IfOk, IsTrue, Some, length};
+ghost use Rattle.std.specs.Prelude.{◌≡◌, ◌↔◌, ◌∷◌, [], All, IfOk, IfSome, IsTrue, Some, length, unwrap_or};
 ghost use Rattle.metric_bounds.specs.Amounts.{total_of};
 ghost use Rattle.metric_bounds.specs.First.{Reports};
 ghost use Rattle.metric_bounds.specs.Sets.{listed_of};
 ghost use Rattle.metric_resolve.specs.Resolved.{IsKnown};
 ghost use Rattle.metric_check.specs.Findings.{HasBound, LimitFinds, SetsFind};
-ghost use Rattle.metric_check.specs.Known.{AreTotals};
+ghost use Rattle.metric_cert.specs.Valid.{IsListed};
+ghost use Rattle.metric_check.specs.Known.{AreListed, AreTotals, IsLike};
 
 use metric_bounds::{listed, product};
 use metric_catalogue::{Catalogue, SetKey};
@@ -13,6 +14,10 @@ use metric_cert::{By, InstrumentBound, StreamSets};
 use metric_plan::CheckFault;
 use metric_views::Stream;
 use std::alloc::{AllocError, Global};
+use std::collections::BTreeMap;
+
+// Where the latest stream of each instrument and view stands: a hint, which is tested where it is used.
+type Places = BTreeMap<[u32; 2], usize>;
 
 // The first fault of the numbers of series. The bounds have the total of each instrument.
 pub(crate) fn check_limits(
@@ -26,11 +31,16 @@ pub(crate) fn check_limits(
     requires known { All (IsKnown catalogue.now) streams.now }
     ensures { Reports CheckFault.Memory (SetsFind catalogue.now streams.now entries.now) result }
 {
+    let mut places: Places = BTreeMap::new(alloc);
     for (number, entry) in entries.iter().enumerate() {
         if number >= streams.len() {
             return Err(CheckFault::BadSets);
         }
-        check_limit(alloc, catalogue, &streams[number], entry, bounds)?;
+        let stream = &streams[number];
+        let place = places.get(&pair_of(stream));
+        let own = earlier_list(catalogue, stream, streams, entries, number, place);
+        check_limit(alloc, catalogue, stream, entry, bounds, own)?;
+        note_place(&mut places, stream, number)?;
     }
     if entries.len() < streams.len() {
         return Err(CheckFault::BadSets);
@@ -38,19 +48,22 @@ pub(crate) fn check_limits(
     Ok(())
 }
 
+// The fault of an entry. The list of its stream is made, unless an earlier stream has it.
 fn check_limit(
     alloc: Global,
     catalogue: &Catalogue,
     stream: &Stream,
     entry: &StreamSets,
     bounds: &[InstrumentBound],
+    own: Option<&[SetKey]>,
 ) -> Result<(), CheckFault>
     requires totals { AreTotals catalogue.now bounds.now }
     requires known { IsKnown catalogue.now stream.now }
+    requires own { IfSome own (λ list. listed_of catalogue.now stream.now ≡ Some list.now) }
     ensures { Reports CheckFault.Memory
         (LimitFinds catalogue.now stream.now entry.now) result }
 {
-    if !has_bound(alloc, catalogue, stream, entry, bounds)? {
+    if !has_bound(alloc, catalogue, stream, entry, bounds, own)? {
         return Err(CheckFault::BadSets);
     }
     if entry.sets > stream.limit {
@@ -66,14 +79,20 @@ fn has_bound(
     stream: &Stream,
     entry: &StreamSets,
     bounds: &[InstrumentBound],
+    own: Option<&[SetKey]>,
 ) -> Result<bool, AllocError>
     requires totals { AreTotals catalogue.now bounds.now }
     requires known { IsKnown catalogue.now stream.now }
+    requires own { IfSome own (λ list. listed_of catalogue.now stream.now ≡ Some list.now) }
     ensures { IfOk result (λ has. IsTrue has ↔ HasBound catalogue.now stream.now entry.now) }
 {
     match &entry.by {
         By::Product => Ok(u128::from(entry.sets) == product(catalogue, stream)),
-        By::List(list) => has_list(alloc, catalogue, stream, list.as_slice(), entry.sets),
+        By::List(list) => {
+            let list = list.as_slice();
+            let is_listed = is_listed(alloc, catalogue, stream, list, own)?;
+            Ok(has_length(is_listed, list, entry.sets))
+        }
         By::Budget => Ok(has_total(catalogue, stream, entry.sets, bounds)),
     }
 }
@@ -89,23 +108,32 @@ fn has_total(catalogue: &Catalogue, stream: &Stream, sets: u32, bounds: &[Instru
     u64::from(sets) == bounds[stream.instrument as usize].total
 }
 
-// Whether a list is that of a stream, and there are as many sets.
-fn has_list(
+// Whether a list is right, and there are as many sets.
+fn has_length(is_right: bool, list: &[SetKey], sets: u32) -> bool
+    ensures { IsTrue result ↔ (IsTrue is_right × (sets ≡ length list.now)) }
+{
+    is_right && sets as usize == list.len()
+}
+
+// Whether a list is that of a stream, which is given, or else made. Both stand in order, so they are compared as they stand.
+fn is_listed(
     alloc: Global,
     catalogue: &Catalogue,
     stream: &Stream,
     list: &[SetKey],
-    sets: u32,
+    own: Option<&[SetKey]>,
 ) -> Result<bool, AllocError>
-    ensures { IfOk result (λ has. IsTrue has
-        ↔ ((listed_of catalogue.now stream.now ≡ Some list.now) × (sets ≡ length list.now))) }
+    requires { IfSome own (λ own. listed_of catalogue.now stream.now ≡ Some own.now) }
+    ensures { IfOk result (λ is. IsTrue is
+        ↔ (listed_of catalogue.now stream.now ≡ Some list.now)) }
 {
-    let is_listed = is_listed(alloc, catalogue, stream, list)?;
-    Ok(is_listed && sets as usize == list.len())
+    match own {
+        Some(own) => Ok(own == list),
+        None => is_made_list(alloc, catalogue, stream, list),
+    }
 }
 
-// Whether a list is that of a stream: both stand in order, so they are compared as they stand.
-fn is_listed(
+fn is_made_list(
     alloc: Global,
     catalogue: &Catalogue,
     stream: &Stream,
@@ -118,4 +146,69 @@ fn is_listed(
         Some(own) => Ok(own.as_slice() == list),
         None => Ok(false),
     }
+}
+
+// The instrument and the view of a stream, for whose earlier streams lists are looked up.
+fn pair_of(stream: &Stream) -> [u32; 2]
+    ensures { result ≡ stream.now.instrument ∷ unwrap_or stream.now.view 4294967295 ∷ [] }
+{
+    [stream.instrument, stream.view.unwrap_or(u32::MAX)]
+}
+
+// Notes where the latest stream of an instrument and a view stands.
+fn note_place(places: &mut Places, stream: &Stream, number: usize) -> Result<(), AllocError> {
+    places.insert(pair_of(stream), number)?;
+    Ok(())
+}
+
+// The list of a stream, where that of the earlier one at a place is the same: so the list of an instrument and a view is made for one
+// reader, and not for each.
+fn earlier_list<'a>(
+    catalogue: &Catalogue,
+    stream: &Stream,
+    streams: &[Stream],
+    entries: &'a [StreamSets],
+    number: usize,
+    place: Option<&usize>,
+) -> Option<&'a [SetKey]>
+    requires { AreListed catalogue.now streams.now entries.now number }
+    ensures { IfSome result (λ list. listed_of catalogue.now stream.now ≡ Some list.now) }
+{
+    let place = *place?;
+    if place >= number {
+        return None;
+    }
+    list_of_like(catalogue, stream, streams.get(place)?, entries.get(place)?)
+}
+
+// The list of a stream, where another one of the same instrument and the same kept keys has it in its entry.
+fn list_of_like<'a>(
+    catalogue: &Catalogue,
+    stream: &Stream,
+    other: &Stream,
+    entry: &'a StreamSets,
+) -> Option<&'a [SetKey]>
+    requires { IsListed catalogue.now other.now entry.now.by }
+    ensures { IfSome result (λ list. listed_of catalogue.now stream.now ≡ Some list.now) }
+{
+    // Only the contract speaks of the catalogue.
+    let _ = catalogue;
+    match &entry.by {
+        By::List(list) => {
+            if is_like(stream, other) {
+                Some(list.as_slice())
+            } else {
+                None
+            }
+        }
+        By::Product | By::Budget => None,
+    }
+}
+
+// Whether two streams are of one instrument and keep the same keys.
+fn is_like(stream: &Stream, other: &Stream) -> bool
+    ensures { IsTrue result → IsLike stream.now other.now }
+{
+    stream.instrument == other.instrument
+        && stream.kept.get().as_slice() == other.kept.get().as_slice()
 }

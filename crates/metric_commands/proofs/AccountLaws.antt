@@ -2,8 +2,8 @@
 use Rattle.std.proofs.Common.{◌≡◌, ℕ, zero, suc, ◌+◌, ◌<◌, ◌≤◌, Bool, true, false, cond, List, [], ◌∷◌, ◌++◌, Option, Some, length, take, replicate, get_or, set, ◌⊎◌, inl, inr, refl, sym, ap, subst, ◌∙◌, append_assoc, arith}
 use Rattle.std.specs.Prelude.{slice_get, slice_index_or, ◌==◌, if◌then◌else◌}
 use Rattle.std.proofs.lemmas.Bool.{ne_eqb, cases_eq}
-use Rattle.std.proofs.lemmas.List.{append-nil, get_or-set_same, get_or-set_other, length-set, length-replicate, get_or_default, take_all}
-use Rattle.std.proofs.lemmas.Option.{get_or_from_slice_get, slice_get-get_or, slice_get_within}
+use Rattle.std.proofs.lemmas.List.{append-nil, get_or-set_same, get_or-set_other, length-set, length-replicate, take_all, take_more}
+use Rattle.std.proofs.lemmas.Option.{get_or_from_slice_get, slice_get-get_or, slice_get_past, slice_get_within}
 use Rattle.metric_book.specs.declared.slip.Slip.{Slip}
 use Rattle.metric_catalogue.specs.declared.contents.Contents.{Contents}
 use Rattle.metric_history.specs.Encoded.{encoded}
@@ -93,6 +93,13 @@ adds_here contents place event reply old new own longer within is adds set_to = 
         ∙ get_or_from_slice_get (set old at longer) i after own found in
         subst (λ (a : Account). AddsToAccount contents i place event reply before a) kept (adds_nothing contents i place event reply before other)
 
+-- the same at a place that is its number
+pub adds_at : (contents : Contents) (place : ℕ) (event : Event) (reply : Reply) (old : List Account) (at : ℕ) (own longer : Account) → at ≡ instrument_of event → at < length old
+    → own ≡ get_or old at own → AddsToAccount contents (instrument_of event) place event reply own longer → AddsToAccounts contents place event reply old (set old at longer)
+adds_at contents place event reply old at own longer is within read adds =
+    subst (λ (n : ℕ). AddsToAccounts contents place event reply old (set old n longer)) (sym is)
+    (adds_here contents place event reply old (set old (instrument_of event) longer) own longer (omega (arith, within, is)) (read ∙ ap (λ (n : ℕ). get_or old n own) is) adds refl)
+
 -- ---- a run, event by event
 
 batches_at-append : (replies : List Reply) (places more : List ℕ) → batches_at replies (places ++ more) ≡ batches_at replies places ++ batches_at replies more
@@ -157,6 +164,14 @@ pub accounts_end : (contents : Contents) (accounts : List Account) (events : Lis
 accounts_end contents accounts events replies n over long told =
     rw (take_all n events over, take_all n replies (omega (arith, over, long))) at told
 
+-- they do not depend on how they are spelt
+pub accounts_as : (contents others : Contents) (replies more : List Reply) (events : List Event) (accounts given : List Account) → contents ≡ others → replies ≡ more → given ≡ accounts
+    → AreAccounts contents replies (grown [] events replies) accounts → AreAccounts others more (grown [] events more) given
+accounts_as contents others replies more events accounts given c r g told =
+    subst (λ (k : Contents). AreAccounts k more (grown [] events more) given) c
+    (subst (λ (l : List Reply). AreAccounts contents l (grown [] events l) given) r
+    (subst (λ (l : List Account). AreAccounts contents replies (grown [] events replies) l) (sym g) told))
+
 -- ---- before the first event
 
 -- what holds of each element and of one more
@@ -184,12 +199,16 @@ accounts_begin contents replies accounts recorders counted one_each each = recor
 }
 
 -- one place more
-pub batches_more : (replies : List Reply) (places : List ℕ) (n place : ℕ) (old new : List Batch) → n < length places → place ≡ get_or places n place
-    → old ≡ batches_at replies (take n places) → new ≡ old ++ batch_at (slice_get replies place) → new ≡ batches_at replies (take (n + 1) places)
-batches_more replies places n place old new some is before more =
+pub batches_more : (replies : List Reply) (places : List ℕ) (n d : ℕ) (old new : List Batch) → n < length places → old ≡ batches_at replies (take n places)
+    → new ≡ old ++ batch_at (slice_get replies (get_or places n d)) → new ≡ batches_at replies (take (n + 1) places)
+batches_more replies places n d old new some before more =
     more
-    ∙ ap (λ (l : List Batch). l ++ batch_at (slice_get replies place)) before
-    ∙ sym (ap (batches_at replies) (take_more places n place some) ∙ batches_at-append replies (take n places) (get_or places n place ∷ [])
-    ∙ ap (λ (l : List Batch). batches_at replies (take n places) ++ l) (append-nil (batch_at (slice_get replies (get_or places n place))) ∙ ap (λ (k : ℕ). batch_at (slice_get replies k)) (sym is)))
+    ∙ ap (λ (l : List Batch). l ++ batch_at (slice_get replies (get_or places n d))) before
+    ∙ sym (ap (batches_at replies) (take_more places n d some) ∙ batches_at-append replies (take n places) (get_or places n d ∷ [])
+    ∙ ap (λ (l : List Batch). batches_at replies (take n places) ++ l) (append-nil (batch_at (slice_get replies (get_or places n d)))))
 
-pub ruleset account_laws = (slips_added, adds_elsewhere, adds_here)
+-- a place that there is not
+pub no_batch : (replies : List Reply) (place : ℕ) (batches : List Batch) → length replies ≤ place → batches ≡ batches ++ batch_at (slice_get replies place)
+no_batch replies place batches over = nothing_more batches _ (ap batch_at (slice_get_past replies place over))
+
+pub ruleset account_laws = (slips_added, adds_elsewhere)

@@ -46,7 +46,8 @@ use Rattle.metric_history.specs.declared.event.Reply.TheVariants.{Accepted, Coll
 use Rattle.metric_plan.specs.PlanFacts.{plan_facts_at}
 use Rattle.metric_plan.specs.Plans.{IsPlan, PlanValue}
 use Rattle.metric_commands.specs.Accounts.{IsAccount, batches_at}
-use Rattle.metric_commands.specs.Audits.{AreSlipsOf, AuditEnds, EndsAudit, SomeFails, batches_by, batches_told, slips_by, slips_told}
+use Rattle.metric_commands.specs.Audits.{AreSlipsOf, AuditEnds, EndsAudit, FailsAudit, SomeFails, batches_by, batches_told, slips_by, slips_told}
+use Rattle.metric_commands.specs.Faults.{from_audit}
 use Rattle.metric_commands.specs.declared.accounts.Account.{Account}
 use Rattle.metric_commands.specs.declared.fault.KitFault.{KitFault}
 use Rattle.metric_commands.specs.declared.fault.KitFault.TheVariants as kit
@@ -619,6 +620,13 @@ ends_as facts start journal replies h i account slips batches told end result a 
       (subst (λ (l : List Batch). Audits own i start journal account.slips.items l result) (copied ∙ all ∙ a.batches)
       (subst (λ (l : List (List Slip)). Audits own i start journal l told result) same (audits own found)));
 }
+
+-- a fault of an audit is why it does not end well
+pub fails_as : (facts : RunFacts) (start : ℕ) (journal : List Entry) (h : History) (i : ℕ) (fault : AuditFault) (end : KitFault) → AuditEnds facts start journal h i (Err fault)
+    → end ≡ from_audit fault → FailsAudit facts start journal h i end
+fails_as facts start journal h i (audits.Slips recorder) end ends is = subst (λ (k : KitFault). FailsAudit facts start journal h i k) (sym is) ((λ same. cc), ends)
+fails_as facts start journal h i (audits.Batch at) end ends is = subst (λ (k : KitFault). FailsAudit facts start journal h i k) (sym is) ((λ same. cc), ends)
+fails_as facts start journal h i audits.Memory end ends is = subst (λ (k : KitFault). FailsAudit facts start journal h i k) (sym is) tt
 
 -- what a run's audits refuse
 pub run_refuses : (plan now : PlanValue) (start : ℕ) (events : List Event) (replies : List Reply) (fault : KitFault) → IsPlan plan → EncodesAllowedSets → KeepsLegal

@@ -1,7 +1,8 @@
 //! What the events and replies of a run tell of each instrument.
-ghost use Rattle.std.specs.Prelude.{◌≡◌, ◌++◌, IfOk, OnOk, [], length};
+ghost use Rattle.std.specs.Prelude.{◌≡◌, ◌++◌, List, IfOk, OnOk, [], length};
 ghost use Rattle.metric_history.specs.Events.{instrument_of};
 ghost use Rattle.metric_history.specs.Legal.{grown};
+ghost use Rattle.metric_history.specs.declared.event.Reply.{Reply as replies_seen};
 ghost use Rattle.metric_commands.specs.Accounts.{AddsToAccount, AddsToAccounts, AreAccounts, IsEmptyAccount, place_of};
 
 use crate::slips::{add_slip, no_slips};
@@ -33,7 +34,8 @@ fn empty_account(alloc: Global, recorders: usize) -> Result<Account, AllocError>
 
 // Those of all instruments.
 fn empty_accounts(alloc: Global, catalogue: &Catalogue) -> Result<Vec<Account>, AllocError>
-    ensures { IfOk result (λ accounts. AreAccounts catalogue.now [] [] accounts.items) }
+    ensures { IfOk result (λ accounts.
+        (told : List replies_seen) → AreAccounts catalogue.now told [] accounts.items) }
 {
     let recorders = catalogue.recorders().len();
     let count = catalogue.instruments().len();

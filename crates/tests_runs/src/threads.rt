@@ -42,7 +42,7 @@ temporality = { counter = 'delta' }
 const TWELVE_EACH: ThreadsOptions = ThreadsOptions { each: 12 };
 
 // How often the threads run.
-const RUNS: u32 = 50;
+const RUNS: u32 = 200;
 
 // What each instrument comes to: its recordings, how many batches the readers were told, and what its audit answers.
 const TOLD: &str = "20 recordings of 60, 16 batches: done

@@ -15,6 +15,8 @@ pub enum Refusal {
     UnknownValue,
     /// A required key is missing.
     MissingKey,
+    /// The instrument does not allow this combination of values.
+    Combination,
     /// The value is outside the instrument's range.
     ValueRange,
     /// The instrument is closed.
@@ -37,6 +39,7 @@ impl Refusal {
             4 => Refusal::UnknownKey,
             5 => Refusal::UnknownValue,
             6 => Refusal::MissingKey,
+            13 => Refusal::Combination,
             7 => Refusal::ValueRange,
             8 => Refusal::Closed,
             9 => Refusal::Budget,
@@ -55,6 +58,7 @@ impl fmt::Display for Refusal {
             Refusal::UnknownKey => write!(f, "the instrument does not declare a key"),
             Refusal::UnknownValue => write!(f, "a key does not declare its value"),
             Refusal::MissingKey => write!(f, "a required key is missing"),
+            Refusal::Combination => write!(f, "the instrument does not allow this combination of values"),
             Refusal::ValueRange => write!(f, "the value is outside the instrument's range"),
             Refusal::Closed => write!(f, "the instrument is closed"),
             Refusal::Budget => write!(f, "the recorder's budget is spent"),

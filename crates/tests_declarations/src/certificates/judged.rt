@@ -1,5 +1,5 @@
 //! How texts are judged as certificates.
-use crate::certificates::listed::{MIXED, ONE_KEY, PAIRS, RARE_PAIRS};
+use crate::certificates::listed::{FOLDED, MIXED, ONE_KEY, PAIRS, RARE_PAIRS};
 use crate::certificates::samples::{
     CRITERIA, FOUR_KINDS, FULL, NO_INSTRUMENTS, NOTHING, SELDOM, Sample, TWO_COUNTERS, TWO_READERS,
     WIDE_GAUGE,
@@ -64,6 +64,7 @@ const JUDGED: &[(Sample, &str)] = &[
     (PAIRS, "accepted"),
     (ONE_KEY, "accepted"),
     (RARE_PAIRS, "accepted"),
+    (FOLDED, "accepted"),
     (MIXED, "accepted"),
     (TIGHT, "9 LimitExceeded"),
 ];

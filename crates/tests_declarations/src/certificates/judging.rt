@@ -1,6 +1,6 @@
 //! Certificates that are altered in one place: each is accepted exactly where it is valid all the same.
 use crate::certificates::altering::altered;
-use crate::certificates::listed::{MIXED, PAIRS, RARE_PAIRS};
+use crate::certificates::listed::{FOLDED, PAIRS, RARE_PAIRS};
 use crate::certificates::made::made;
 use crate::certificates::plain::is_valid;
 use crate::certificates::samples::{FOUR_KINDS, NO_INSTRUMENTS, Sample, TWO_COUNTERS, TWO_READERS};
@@ -11,15 +11,9 @@ use metric_check::check;
 use std::alloc::Global;
 use std::test::Fail;
 
-const DECLARED: &[Sample] = &[
-    TWO_COUNTERS,
-    TWO_READERS,
-    FOUR_KINDS,
-    NO_INSTRUMENTS,
-    PAIRS,
-    RARE_PAIRS,
-    MIXED,
-];
+const DECLARED: &[Sample] = &[TWO_COUNTERS, TWO_READERS, FOUR_KINDS, NO_INSTRUMENTS];
+
+const LISTED: &[Sample] = &[PAIRS, RARE_PAIRS, FOLDED];
 
 // How many texts are certificates that are valid and accepted, or neither, and how many are judged wrongly.
 #[derive(Clone, Copy)]
@@ -79,13 +73,29 @@ fn altered_of(alloc: Global, sample: &Sample) -> Result<Vec<String>, Fail> {
     Ok(altered(alloc, text.as_str())?)
 }
 
+// How many certificates of samples are judged wrongly, each altered in one place everywhere. A sample of which none is accepted, or
+// none refused, counts as one.
+fn misjudged(alloc: Global, samples: &[Sample]) -> Result<u32, Fail> {
+    let mut misjudged: u32 = 0;
+    for sample in samples {
+        let texts = altered_of(alloc, sample)?;
+        let counts = counts_of(alloc, sample, &texts)?;
+        misjudged = misjudged.saturating_add(counts.misjudged);
+        if counts.accepted == 0 || counts.refused == 0 {
+            misjudged = misjudged.saturating_add(1);
+        }
+    }
+    Ok(misjudged)
+}
+
 #[test]
 fn what_is_altered_is_accepted_where_valid(rt: HostRuntime) -> Result<(), Fail> {
-    for sample in DECLARED {
-        let texts = altered_of(rt.alloc(), sample)?;
-        let counts = counts_of(rt.alloc(), sample, &texts)?;
-        assert_equal(&rt, counts.misjudged, 0);
-        assert!(rt; counts.accepted > 0 && counts.refused > 0);
-    }
+    assert_equal(&rt, misjudged(rt.alloc(), DECLARED)?, 0);
+    Ok(())
+}
+
+#[test]
+fn what_is_altered_of_lists_is_accepted_where_valid(rt: HostRuntime) -> Result<(), Fail> {
+    assert_equal(&rt, misjudged(rt.alloc(), LISTED)?, 0);
     Ok(())
 }

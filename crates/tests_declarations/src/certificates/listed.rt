@@ -66,6 +66,35 @@ bound = [{ instrument = 0, total = "2", amount = "18", low = "0", high = "18" }]
 order = [{ reader = 0, streams = [0] }]"#,
 };
 
+// Rows that are not in order, and that fall together where one key alone is kept.
+pub(crate) const FOLDED: Sample = Sample {
+    catalogue: r#"
+format = 2
+[[meter]]
+name = "m"
+[[meter.instrument]]
+name = "k"
+kind = "counter"
+range = [0, 9]
+key = [{ name = "a", values = [1, 2], optional = true }, { name = "b", values = ["x", "y", "z"] }]
+allowed = [[2, 3], [0, 1], [2, 1]]
+"#,
+    config: r#"
+format = 1
+reader = [{ name = "main" }]
+view = [{ keep = ["a"], stream_name = "few", limit = 2 }, { limit = 3 }]
+"#,
+    certificate: r#"
+format = 2
+reason = [{ view = 0, instrument = 0, takes = [1] }, { view = 1, instrument = 0, takes = [1] }]
+stream = [
+    { reader = 0, instrument = 0, view = 0, by = "list", sets = 2, list = [[0, 0, 0, 0, 0, 0, 0, 0], [2, 0, 0, 0, 0, 0, 0, 0]] },
+    { reader = 0, instrument = 0, view = 1, by = "list", sets = 3, list = [[0, 1, 0, 0, 0, 0, 0, 0], [2, 1, 0, 0, 0, 0, 0, 0], [2, 3, 0, 0, 0, 0, 0, 0]] },
+]
+bound = [{ instrument = 0, total = "0", amount = "0", low = "0", high = "0" }]
+order = [{ reader = 0, streams = [0, 1] }]"#,
+};
+
 // Keys that may be left out, rows that are not in order and that fall together where a key is not kept, an instrument that
 // lists no combinations, and one that allows none.
 pub(crate) const MIXED: Sample = Sample {

@@ -1,5 +1,5 @@
 //! What is made for a catalogue and a config.
-use crate::certificates::listed::{MIXED, ONE_KEY, PAIRS, RARE_PAIRS};
+use crate::certificates::listed::{FOLDED, MIXED, ONE_KEY, PAIRS, RARE_PAIRS};
 use crate::certificates::printed::rewritten;
 use crate::certificates::samples::{
     CRITERIA, FOUR_KINDS, FULL, NO_INSTRUMENTS, NOTHING, PLAIN, SELDOM, Sample, TWO_COUNTERS,
@@ -37,6 +37,7 @@ const MADE: &[Sample] = &[
     PAIRS,
     ONE_KEY,
     RARE_PAIRS,
+    FOLDED,
     MIXED,
 ];
 

@@ -4,7 +4,7 @@ use Rattle.std.specs.Prelude.{slice_get}
 use Rattle.std.proofs.lemmas.List.{length_push, map-append}
 use Rattle.metric_hosted.specs.Hosts.{HostedValue}
 use Rattle.metric_c.specs.declared.instrument_handle.InstrumentHandle.{InstrumentHandle}
-use Rattle.metric_c.specs.Opening.{HoldsNew, IsNewInstrument, instruments_in}
+use Rattle.metric_c.specs.Opening.{HoldsNew, instruments_in}
 use Rattle.metric_c.proofs.EachLaws.{each_push}
 use Rattle.metric_c.proofs.opening.new_instruments.Goals as goal
 

@@ -1,5 +1,5 @@
 -- one more is put
-use Rattle.std.proofs.Common.{rules, ◌≡◌, length, ap, ◌∙◌, arith}
+use Rattle.std.proofs.Common.{rules, ◌≡◌, length, ap, ◌∙◌}
 use Rattle.std.specs.Prelude.{slice_set}
 use Rattle.metric_c.proofs.PlaceLaws.{place_step}
 use Rattle.metric_c.proofs.opening.place.Goals as goal

@@ -1,5 +1,5 @@
 -- the handles hold what they held, and those so far have told
-use Rattle.std.proofs.Common.{◌≡◌, map, take}
+use Rattle.std.proofs.Common.{◌≡◌, take}
 use Rattle.metric_c.proofs.ToldLaws.{seats_of}
 use Rattle.metric_c.specs.Settlements.{AllTold}
 use Rattle.metric_c.proofs.settlements.all_told.Given as goal

@@ -1,8 +1,10 @@
--- slices are equal where they have the same sets
-use Rattle.std.proofs.Common.{◌≡◌, Bool, Some, ap, sym, subst, ◌∙◌}
+-- a list is the stream's where it is equal to the one that is given
+use Rattle.std.proofs.Common.{◌≡◌, Some, IfSome, subst}
+use Rattle.metric_bounds.specs.Sets.{listed_of}
 use Rattle.metric_check.proofs.Bounded.{same_list}
 use Rattle.metric_check.proofs.limits.is_listed.Goals as goal
 
 pub returns-in-Some : goal.returns-in-Some
 returns-in-Some c =
-    same_list _ c.as_slice.result.now c.args.list.now c.eq.result (sym c.in_ok-own.ensures ∙ c.in-Some.is ∙ ap (λ list. Some list) (sym c.as_slice.ensures)) c.eq.ensures
+    let given = subst (λ o. IfSome o (λ own. listed_of c.args.catalogue.now c.args.stream.now ≡ Some own.now)) c.in-Some.is c.requires in
+    same_list (listed_of c.args.catalogue.now c.args.stream.now) c.in-Some.own.now c.args.list.now c.eq.result given c.eq.ensures

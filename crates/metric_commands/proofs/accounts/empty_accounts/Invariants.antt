@@ -5,7 +5,7 @@ use Rattle.metric_commands.specs.Accounts.{IsEmptyAccount}
 use Rattle.metric_commands.specs.declared.accounts.Account.{Account}
 use Rattle.metric_commands.proofs.accounts.empty_accounts.Given as goal
 
-abbrev pub invariant-loop-_turn : goal.invariant-loop-_turn
-invariant-loop-_turn l =
+abbrev pub invariant-loop-turn : goal.invariant-loop-turn
+invariant-loop-turn l =
     (length l.accounts.items ≡ l._turn)
     × ((i : ℕ) (account : Account) → slice_get l.accounts.items i ≡ Some account → IsEmptyAccount l.recorders account)
