@@ -1,0 +1,6 @@
+mod EdgeLaws
+mod Lists
+pub mod Mapped
+mod Numbers
+mod Refusing
+mod Rooms

@@ -1,0 +1,4 @@
+pub mod Edges
+pub mod Explanations
+pub mod Headrooms
+pub mod Limits
