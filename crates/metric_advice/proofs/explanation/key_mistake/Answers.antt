@@ -1,5 +1,6 @@
 -- a key that is not declared, or the next mistake
-use Rattle.std.proofs.Common.{find, map, not, sym, ap, ◌∙◌}
+use Rattle.std.proofs.Common.{w64, ℤ, find, map, not, sym, ap, ◌∙◌}
+use Rattle.std.proofs.lemmas.Int.{to_z-of_z}
 use Rattle.std.specs.Option.{option_map}
 use Rattle.metric_catalogue.specs.Attributes.{given_by}
 use Rattle.metric_catalogue.specs.Encoding.{Given, is_declared}
@@ -21,6 +22,6 @@ unfolding key_mistake
 returns-in-None c =
     let test = λ (given : Given). not (is_declared c.args.instrument.now.keys given) in
     let attrs = map given_by c.args.attrs.now in
-    c.value_mistake.ensures
+    c.value_mistake.ensures ∙ ap (λ (v : ℤ). value_mistake c.args.instrument.now attrs v) (to_z-of_z w64 c.args.value c.ranges.value)
     ∙ found_later (λ given. UnknownKey given.0) (find test attrs) (value_mistake c.args.instrument.now attrs c.args.value)
     (find-map test given_by c.args.attrs.now ∙ ap (option_map given_by) (sym c.in-None.ensures))

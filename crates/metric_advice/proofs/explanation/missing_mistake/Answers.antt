@@ -1,5 +1,6 @@
 -- a key that is missing, or the range
-use Rattle.std.proofs.Common.{◌≡◌, ℕ, List, Some, None, find, map, not, sym, ap, subst, ◌∙◌}
+use Rattle.std.proofs.Common.{w64, ℤ, ◌≡◌, ℕ, List, Some, None, find, map, not, sym, ap, subst, ◌∙◌}
+use Rattle.std.proofs.lemmas.Int.{to_z-of_z}
 use Rattle.metric_catalogue.specs.Attributes.{given_by}
 use Rattle.metric_catalogue.specs.Encoding.{is_complete}
 use Rattle.metric_catalogue.specs.declared.contents.Key.{Key}
@@ -22,6 +23,6 @@ unfolding missing_mistake
 returns-in-None c =
     let test = λ (key : Key). not (is_complete (map given_by c.args.attrs.now) key) in
     let instrument = c.args.instrument.now in
-    c.range_mistake.ensures
+    c.range_mistake.ensures ∙ ap (λ (v : ℤ). range_mistake instrument v) (to_z-of_z w64 c.args.value c.ranges.value)
     ∙ found_later (λ k. MissingKey k.name) (find test instrument.keys) (range_mistake instrument c.args.value)
     (sym (subst (λ (keys : List Key). None ≡ find test keys) c.as_slice.ensures.items c.in-None.ensures))

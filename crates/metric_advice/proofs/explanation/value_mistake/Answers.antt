@@ -1,5 +1,6 @@
 -- a value that is not declared, or the next mistake
-use Rattle.std.proofs.Common.{find, map, not, sym, ap, ◌∙◌}
+use Rattle.std.proofs.Common.{w64, ℤ, find, map, not, sym, ap, ◌∙◌}
+use Rattle.std.proofs.lemmas.Int.{to_z-of_z}
 use Rattle.std.specs.Option.{option_map}
 use Rattle.metric_catalogue.specs.Attributes.{given_by}
 use Rattle.metric_catalogue.specs.Encoding.{Given, has_declared_value}
@@ -21,6 +22,6 @@ unfolding value_mistake
 returns-in-None c =
     let test = λ (given : Given). not (has_declared_value c.args.instrument.now.keys given) in
     let attrs = map given_by c.args.attrs.now in
-    c.missing_mistake.ensures
+    c.missing_mistake.ensures ∙ ap (λ (v : ℤ). missing_mistake c.args.instrument.now attrs v) (to_z-of_z w64 c.args.value c.ranges.value)
     ∙ found_later (λ given. UnknownValue given.0 given.1) (find test attrs) (missing_mistake c.args.instrument.now attrs c.args.value)
     (find-map test given_by c.args.attrs.now ∙ ap (option_map given_by) (sym c.in-None.ensures))
