@@ -14,7 +14,7 @@ use Rattle.metric_audit.specs.Replays.{FindsWrong, GoesOn, IsFirstStrange, IsFir
 use Rattle.metric_book.specs.Journals.{Standing}
 use Rattle.metric_facts.specs.declared.facts.FactsFields.{FactsFields as Facts}
 use Rattle.metric_facts.specs.declared.facts.NumberedStream.{NumberedStream}
-use Rattle.metric_facts.specs.Facts.{in_bounds, is_delta, is_full_set, is_of_reader}
+use Rattle.metric_facts.specs.Facts.{in_bounds, is_allowed_set, is_delta, is_of_reader}
 use Rattle.metric_facts.specs.Products.{AreDense, IsDense}
 use Rattle.metric_history.specs.declared.batch.Batch.{Batch}
 use Rattle.metric_history.specs.declared.entry.Entry.{Entry}
@@ -67,7 +67,7 @@ each-own : (facts : Facts) (reader r mark : ℕ) → r ≡ reader → (entries j
     → each_may_follow (facts_of_reader facts reader) r mark journal entries ≡ each_may_follow facts r mark journal entries
 each-own facts reader r mark same [] journal = refl
 each-own facts reader r mark same (entry ∷ entries) journal =
-    ap (λ (ss : List NumberedStream). (is_full_set facts.keys entry.set && (in_bounds facts entry.value && list_all (λ (s : NumberedStream). fits_stream s.stream (window (is_delta facts r) mark journal) entry) ss))
+    ap (λ (ss : List NumberedStream). (is_allowed_set facts entry.set && (in_bounds facts entry.value && list_all (λ (s : NumberedStream). fits_stream s.stream (window (is_delta facts r) mark journal) entry) ss))
     && each_may_follow (facts_of_reader facts reader) r mark (journal ++ entry ∷ []) entries) (own-streams facts reader r same)
     ∙ ap (λ (b : Bool). may_follow facts r mark journal entry && b) (each-own facts reader r mark same entries (journal ++ entry ∷ []))
 

@@ -11,7 +11,7 @@ use Rattle.metric_audit.specs.Replays.{IsReplayed, JudgesBatch, ReportsPoints, T
 use Rattle.metric_book.specs.Journals.{MovesMark, Standing}
 use Rattle.metric_facts.specs.declared.facts.FactsFields.{FactsFields as Facts}
 use Rattle.metric_facts.specs.declared.facts.NumberedStream.{NumberedStream}
-use Rattle.metric_facts.specs.Facts.{in_bounds, is_delta, is_full_set, is_of_reader}
+use Rattle.metric_facts.specs.Facts.{in_bounds, is_allowed_set, is_delta, is_of_reader}
 use Rattle.metric_history.specs.declared.batch.Batch.{Batch}
 use Rattle.metric_history.specs.declared.batch.StreamPoints.{StreamPoints}
 use Rattle.metric_history.specs.declared.entry.Entry.{Entry}
@@ -61,7 +61,7 @@ pub takes-follows : (facts : Facts) (marks : List ℕ) (reader mark : ℕ) (entr
     → may_take_each facts marks journal entries ≡ each_may_follow facts reader mark journal entries
 takes-follows facts marks reader mark [] journal own all = refl
 takes-follows facts marks reader mark (entry ∷ entries) journal own all =
-    ap (λ (b : Bool). (is_full_set facts.keys entry.set && (in_bounds facts entry.value && b)) && may_take_each facts marks (journal ++ entry ∷ []) entries)
+    ap (λ (b : Bool). (is_allowed_set facts entry.set && (in_bounds facts entry.value && b)) && may_take_each facts marks (journal ++ entry ∷ []) entries)
     (fits-streams facts marks reader mark journal entry own facts.streams all)
     ∙ ap (λ (b : Bool). may_follow facts reader mark journal entry && b) (takes-follows facts marks reader mark entries (journal ++ entry ∷ []) own all)
 

@@ -3,7 +3,7 @@ use Rattle.std.specs.Prelude.{◌≡◌, ◌<◌, ℕ, Bool, true, ◌&&◌, ◌
 use Rattle.std.specs.List.{list_all}
 use Rattle.metric_facts.specs.declared.facts.FactsFields.{FactsFields as Facts}
 use Rattle.metric_facts.specs.declared.facts.NumberedStream.{NumberedStream}
-use Rattle.metric_facts.specs.Facts.{in_bounds, is_delta, is_full_set, is_of_reader}
+use Rattle.metric_facts.specs.Facts.{in_bounds, is_allowed_set, is_delta, is_of_reader}
 use Rattle.metric_history.specs.declared.batch.Batch.{Batch}
 use Rattle.metric_history.specs.declared.entry.Entry.{Entry}
 use Rattle.metric_history.specs.Points.{reported}
@@ -22,10 +22,10 @@ abbrev pub fits_reader : Facts → ℕ → ℕ → List Entry → Entry → Bool
 fits_reader facts reader mark before entry =
     list_all (λ (s : NumberedStream). fits_stream s.stream (window (is_delta facts reader) mark before) entry) (filter (is_of_reader reader) facts.streams)
 
--- whether a recording may follow those before it: of a full set, with a value in range, and it keeps the reader's series in range
+-- whether a recording may follow those before it: of an allowed set, with a value in range, and it keeps the reader's series in range
 abbrev pub may_follow : Facts → ℕ → ℕ → List Entry → Entry → Bool
 may_follow facts reader mark before entry =
-    is_full_set facts.keys entry.set && (in_bounds facts entry.value && fits_reader facts reader mark before entry)
+    is_allowed_set facts entry.set && (in_bounds facts entry.value && fits_reader facts reader mark before entry)
 
 -- whether each recording may follow those before it, of which these came before the first
 abbrev pub each_may_follow : Facts → ℕ → ℕ → List Entry → List Entry → Bool

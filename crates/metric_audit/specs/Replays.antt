@@ -5,7 +5,7 @@ use Rattle.metric_audit.specs.Batches.{FollowsRightly, IsRight, IsRightAt}
 use Rattle.metric_book.specs.Journals.{Standing, window_of}
 use Rattle.metric_facts.specs.declared.facts.FactsFields.{FactsFields as Facts}
 use Rattle.metric_facts.specs.declared.facts.NumberedStream.{NumberedStream}
-use Rattle.metric_facts.specs.Facts.{in_bounds, is_full_set, is_of_reader}
+use Rattle.metric_facts.specs.Facts.{in_bounds, is_allowed_set, is_of_reader}
 use Rattle.metric_history.specs.declared.batch.Batch.{Batch}
 use Rattle.metric_history.specs.declared.batch.StreamPoints.{StreamPoints}
 use Rattle.metric_history.specs.declared.entry.Entry.{Entry}
@@ -26,7 +26,7 @@ are_of_reader facts reader = list_all (is_of_reader reader) facts.streams
 -- whether a book in which each reader has its mark takes a recording after a journal
 abbrev pub may_take : Facts → List ℕ → List Entry → Entry → Bool
 may_take facts marks journal entry =
-    is_full_set facts.keys entry.set && (in_bounds facts entry.value && fits_all facts (slice_index marks) journal entry)
+    is_allowed_set facts entry.set && (in_bounds facts entry.value && fits_all facts (slice_index marks) journal entry)
 
 -- whether it takes each recording after those before it
 abbrev pub may_take_each : Facts → List ℕ → List Entry → List Entry → Bool

@@ -19,8 +19,8 @@ use std::alloc::Global;
 /// The journal is the instrument's accepted recordings since the start, in nanoseconds, oldest first. The slips stand in
 /// the order of the recorders. Batches of several readers may stand in any order, those of one reader in the order in
 /// which they were told. `Slips` comes before `Batch`: the least recorder whose slips are others, then the place of the
-/// first batch that is wrong. No batch is right that adds a recording which no run can have accepted: of no full set of the
-/// instrument, with a value out of range, or one that takes a series of the reader out of range. An entry of a recorder
+/// first batch that is wrong. No batch is right that adds a recording which no run can have accepted: of no set that the
+/// instrument allows, with a value out of range, or one that takes a series of the reader out of range. An entry of a recorder
 /// that the catalogue lacks is a fault of its slips, since it has none.
 ///
 /// The journal is read once for the slips, and again once for each reader that has batches.

@@ -56,6 +56,7 @@ pub(crate) fn facts_of_reader(
             certified: facts.certified,
             instrument: facts.instrument,
             keys: Items::from_vec(Vec::from_slice(alloc, facts.keys.as_slice())?),
+            allowed: facts.allowed.copy(alloc)?,
             lo: facts.lo,
             hi: facts.hi,
             budgets: Items::from_vec(Vec::from_slice(alloc, facts.budgets.as_slice())?),

@@ -1,14 +1,14 @@
 //! The journal of one reader, read again.
 ghost use Rattle.std.specs.Prelude.{◌≡◌, ◌<◌, ◌&&◌, true, length, IfOk, OnOk, [], ◌∷◌};
 ghost use Rattle.metric_audit.specs.Batches.{is_headed};
-ghost use Rattle.metric_facts.specs.Facts.{in_bounds, is_full_set};
+ghost use Rattle.metric_facts.specs.Facts.{in_bounds, is_allowed_set};
 ghost use Rattle.metric_audit.specs.Replays.{GoesOn, HasRoomFor, IsFirstWrongOf, IsReplayed, JudgesBatch, ReportsPoints, TakesWhereIt, are_of_reader};
 ghost use Rattle.metric_book.specs.Journals.{HasReader, MovesMark, no_marks};
 
 use crate::same::are_same_streams;
 use metric_book::Book;
 use metric_catalogue::Refusal;
-use metric_facts::{Facts, is_full_set};
+use metric_facts::{Facts, is_allowed_set};
 use metric_history::{Batch, Entry, StreamPoints};
 use std::alloc::{AllocError, Global};
 
@@ -30,12 +30,12 @@ struct Last {
     time: u64,
 }
 
-// Whether a recording is of a full set, with a value in range.
+// Whether a recording is of a set that the instrument allows, with a value in range.
 fn is_admitted(facts: &Facts, entry: &Entry) -> bool
     ensures { result
-        ≡ (is_full_set facts.now.keys entry.now.set && in_bounds facts.now entry.now.value) }
+        ≡ (is_allowed_set facts.now entry.now.set && in_bounds facts.now entry.now.value) }
 {
-    is_full_set(facts.keys.as_slice(), &entry.set) && facts.admits(&entry.value)
+    is_allowed_set(facts, &entry.set) && facts.admits(&entry.value)
 }
 
 // Takes a recording, where it may follow.

@@ -1,10 +1,10 @@
 //! Recordings into the cell of an instrument, with their set keys in hand.
 ghost use Rattle.std.specs.Prelude.{◌≡◌, ◌<◌, true, length, All, IsTrue};
-ghost use Rattle.metric_facts.specs.Facts.{in_bounds, is_full_set};
+ghost use Rattle.metric_facts.specs.Facts.{in_bounds, is_allowed_set};
 
 use crate::inputs::{set_of, value_of, values_for};
 use metric_core::Cell;
-use metric_facts::{Facts, is_full_set};
+use metric_facts::{Facts, is_allowed_set};
 use metric_sdk::{Batch, Marked, Measurement, Plan};
 use std::alloc::{AllocError, Global};
 
@@ -31,7 +31,7 @@ pub(crate) struct Instrument {
     cell: Cell<Marked>,
     recordings: Vec<Measurement>,
     ghost recorder: { 0 < length cell.facts.budgets },
-    ghost sets: { All (λ r. is_full_set cell.facts.keys r.set ≡ true) recordings.items },
+    ghost sets: { All (λ r. is_allowed_set cell.facts r.set ≡ true) recordings.items },
     ghost values: { All (λ r. in_bounds cell.facts r.value ≡ true) recordings.items },
 }
 
@@ -76,7 +76,7 @@ impl Instrument {
 // Makes each recording once by the first recorder. How many were accepted.
 fn record_all(cell: &mut Cell<Marked>, recordings: &[Measurement]) -> u64
     requires recorder { 0 < length cell.old.facts.budgets }
-    requires sets { All (λ r. is_full_set cell.old.facts.keys r.set ≡ true) recordings.now }
+    requires sets { All (λ r. is_allowed_set cell.old.facts r.set ≡ true) recordings.now }
     requires values { All (λ r. in_bounds cell.old.facts r.value ≡ true) recordings.now }
     ensures { cell.new.facts ≡ cell.old.facts }
 {
@@ -89,16 +89,15 @@ fn record_all(cell: &mut Cell<Marked>, recordings: &[Measurement]) -> u64
     accepted
 }
 
-// Whether each recording has a full set key and a value in range.
+// Whether each recording has an allowed set key and a value in range.
 fn are_sound(facts: &Facts, recordings: &[Measurement]) -> bool
     ensures sets { IsTrue result →
-        All (λ r. is_full_set facts.now.keys r.set ≡ true) recordings.now }
+        All (λ r. is_allowed_set facts.now r.set ≡ true) recordings.now }
     ensures values { IsTrue result → All (λ r. in_bounds facts.now r.value ≡ true) recordings.now }
 {
-    let keys = facts.keys.as_slice();
     recordings
         .iter()
-        .all(|recording| is_full_set(keys, &recording.set))
+        .all(|recording| is_allowed_set(facts, &recording.set))
         && recordings
             .iter()
             .all(|recording| facts.admits(&recording.value))

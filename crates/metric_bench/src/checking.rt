@@ -222,7 +222,7 @@ fn views_in(alloc: Global, text: &str) -> anyhow::Result<u64> {
 
 fn streams_in(alloc: Global, text: &str) -> anyhow::Result<u64> {
     let certificate = Certificate::read(alloc, text)?;
-    Ok(certificate.streams.len() as u64)
+    Ok(certificate.claims().streams.len() as u64)
 }
 
 fn start_once<R: Wait + Clock>(

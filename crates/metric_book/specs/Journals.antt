@@ -1,5 +1,6 @@
 -- What the calls of a book do, for every journal for which it stands.
 use Rattle.std.specs.Prelude.{◌≡◌, ◌≢◌, ◌<◌, ◌+◌, ◌^◌, ℕ, Bool, true, false, List, [], ◌∷◌, ◌++◌, Some, Result, Ok, Err, length, replicate, slice_get, slice_index, slice_set, if◌then◌else◌}
+use Rattle.metric_combinations.specs.Combinations.{permits}
 use Rattle.metric_book.specs.declared.book.Window.{Window}
 use Rattle.metric_catalogue.specs.declared.refusal.Refusal.{Refusal}
 use Rattle.metric_catalogue.specs.declared.refusal.Refusal.TheVariants.{SumRange, Memory}
@@ -21,9 +22,10 @@ no_marks facts = replicate (length facts.delta) 0
 abbrev pub BeginsJournal : Standing → RunFacts → ℕ → Type 0
 BeginsJournal stands run instrument = (facts : Facts) → slice_get run.instruments instrument ≡ Some facts → stands facts [] (no_marks facts)
 
--- a recording may be the next: of a full set, with a value in range, and counted by a u64
+-- a recording may be the next: of a full set that is allowed, with a value in range, and counted by a u64
 pub record MayFollow (facts : Facts) (journal : List Entry) (entry : Entry) : Type 0 where
   pub full : is_full_set facts.keys entry.set ≡ true
+  pub allowed : permits facts.allowed entry.set ≡ true
   pub value : in_bounds facts entry.value ≡ true
   pub counted : length journal + 1 < 2 ^ 64
 

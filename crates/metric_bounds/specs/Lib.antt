@@ -4,5 +4,8 @@ pub mod FindingLaws
 pub mod First
 pub mod FirstLaws
 pub mod Safe
+pub mod KeptLaws
+pub mod Listing
+pub mod SetLaws
 pub mod Sets
 pub mod Sums

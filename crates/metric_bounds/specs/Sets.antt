@@ -1,5 +1,7 @@
 -- How many distinct sets of attributes a stream may see.
-use Rattle.std.specs.Prelude.{ℕ, ◌+◌, ◌*◌, Bool, if◌then◌else◌, List, [], ◌∷◌, length, Option, Some, None, slice_get}
+use Rattle.std.specs.Prelude.{◌≡◌, ℕ, ◌+◌, ◌*◌, Bool, if◌then◌else◌, List, [], ◌∷◌, length, Option, Some, None, slice_get}
+use Rattle.std.specs.Option.{option_map}
+use Rattle.metric_combinations.specs.Restrictions.{restrictions}
 use Rattle.metric_catalogue.specs.declared.contents.Contents.{Contents}
 use Rattle.metric_catalogue.specs.declared.contents.Instrument.{Instrument}
 use Rattle.metric_catalogue.specs.declared.contents.Key.{Key}
@@ -14,15 +16,39 @@ abbrev pub factor_of : Bool → Key → ℕ
 factor_of kept key = if kept then choices_of key else 1
 
 -- the product over the keys, of which each is kept or not
-abbrev pub sets_over : List Bool → List Key → ℕ
-sets_over [] keys = 1
-sets_over (flag ∷ kept) [] = 1
-sets_over (flag ∷ kept) (key ∷ keys) = factor_of flag key * sets_over kept keys
+abbrev pub product_over : List Bool → List Key → ℕ
+product_over [] keys = 1
+product_over (flag ∷ kept) [] = 1
+product_over (flag ∷ kept) (key ∷ keys) = factor_of flag key * product_over kept keys
 
-abbrev pub sets_within : Stream → Option Instrument → ℕ
-sets_within stream None = 1
-sets_within stream (Some instrument) = sets_over stream.kept instrument.keys
+abbrev pub product_within : Stream → Option Instrument → ℕ
+product_within stream None = 1
+product_within stream (Some instrument) = product_over stream.kept instrument.keys
 
--- how many distinct sets of the kept keys recordings of a stream may have
+-- how many distinct sets of the kept keys there are, whichever combinations are allowed
+unfoldable pub product_of : Contents → Stream → ℕ
+product_of contents stream = product_within stream (slice_get contents.instruments stream.instrument)
+
+abbrev pub list_within : Stream → Option Instrument → Option (List (List ℕ))
+list_within stream None = None
+list_within stream (Some instrument) = option_map (restrictions stream.kept) instrument.allowed
+
+-- the distinct sets of the kept keys that the allowed combinations leave, rising, where the instrument lists its combinations
+unfoldable pub listed_of : Contents → Stream → Option (List (List ℕ))
+listed_of contents stream = list_within stream (slice_get contents.instruments stream.instrument)
+
+abbrev pub count_or : ℕ → Option (List (List ℕ)) → ℕ
+count_or other None = other
+count_or other (Some list) = length list
+
+-- how many distinct sets of the kept keys recordings of a stream may have: as many as are listed, or else the product
 unfoldable pub sets_of : Contents → Stream → ℕ
-sets_of contents stream = sets_within stream (slice_get contents.instruments stream.instrument)
+sets_of contents stream = count_or (product_of contents stream) (listed_of contents stream)
+
+abbrev pub FlagsEach : Stream → Option Instrument → Type 0
+FlagsEach stream None = Unit {0}
+FlagsEach stream (Some instrument) = length stream.kept ≡ length instrument.keys
+
+-- The stream says of each key of its instrument whether it is kept.
+abbrev pub FlagsKeys : Contents → Stream → Type 0
+FlagsKeys contents stream = FlagsEach stream (slice_get contents.instruments stream.instrument)

@@ -5,9 +5,10 @@
 #![tactic(auto)]
 
 mod amounts;
+pub mod laws;
 mod products;
 mod sums;
 
 pub use amounts::{amount, high, low, total, totals};
-pub use products::sets;
+pub use products::{listed, product};
 pub use sums::summed;

@@ -1,25 +1,42 @@
 //! How many distinct sets of attributes a stream may see.
-ghost use Rattle.std.specs.Prelude.{◌≡◌, ◌≤◌, ◌^◌, ◌<◌, length};
-ghost use Rattle.metric_bounds.specs.Sets.{factor_of, sets_of, sets_over};
+ghost use Rattle.std.specs.Prelude.{◌≡◌, ◌≤◌, ◌^◌, ◌<◌, length, IfOk};
+ghost use Rattle.std.specs.Option.{option_map};
+ghost use Rattle.metric_combinations.specs.Restrictions.{restrictions};
+ghost use Rattle.metric_bounds.specs.Sets.{FlagsKeys, factor_of, listed_of, product_of, product_over, sets_of};
 
-use metric_catalogue::{Catalogue, Key};
+use metric_base::Items;
+use metric_catalogue::{Catalogue, Instrument, Key, SetKey};
 use metric_views::Stream;
+use std::alloc::{AllocError, Global};
 
-/// How many distinct sets of the kept keys recordings of a stream may have: the product over the keys that
-/// it keeps of the number of declared values, one more where the key may be left out. At most 1001^8.
-#[tactic(auto, unfolding(crate::specs::Sets::sets_of))]
-pub fn sets(catalogue: &Catalogue, stream: &Stream) -> u128
-    ensures { result ≡ sets_of catalogue.now stream.now }
+/// How many distinct sets of the kept keys there are, whichever combinations the instrument allows: the product over the
+/// keys that a stream keeps of the number of declared values, one more where the key may be left out. At most 1001^8.
+///
+/// A stream that says of each key whether it is kept, as those of a config do, sees no more sets than that, whichever
+/// combinations its instrument lists.
+pub fn product(catalogue: &Catalogue, stream: &Stream) -> u128
+    ensures product { result ≡ product_of catalogue.now stream.now }
+    ensures most { FlagsKeys catalogue.now stream.now
+        → sets_of catalogue.now stream.now ≤ result }
+{
+    // That lists of combinations only take away rests on what each catalogue keeps.
+    let _ = catalogue.instruments();
+    product_of(catalogue, stream)
+}
+
+#[tactic(auto, unfolding(crate::specs::Sets::product_of))]
+fn product_of(catalogue: &Catalogue, stream: &Stream) -> u128
+    ensures { result ≡ product_of catalogue.now stream.now }
 {
     match catalogue.instruments().get(stream.instrument as usize) {
-        Some(instrument) => sets_over(stream.kept.get().as_slice(), instrument.keys.as_slice()),
+        Some(instrument) => product_over(stream.kept.get().as_slice(), instrument.keys.as_slice()),
         None => 1,
     }
 }
 
-fn sets_over(kept: &[bool], keys: &[Key]) -> u128
+fn product_over(kept: &[bool], keys: &[Key]) -> u128
     requires { length keys.now ≤ 8 }
-    ensures exact { result ≡ sets_over kept.now keys.now }
+    ensures exact { result ≡ product_over kept.now keys.now }
     ensures bounded { result ≤ 1001 ^ length keys.now }
 {
     let Some((flag, kept)) = kept.split_first() else {
@@ -28,7 +45,7 @@ fn sets_over(kept: &[bool], keys: &[Key]) -> u128
     let Some((key, keys)) = keys.split_first() else {
         return 1;
     };
-    factor_of(*flag, key) * sets_over(kept, keys)
+    factor_of(*flag, key) * product_over(kept, keys)
 }
 
 fn factor_of(kept: bool, key: &Key) -> u128
@@ -40,4 +57,39 @@ fn factor_of(kept: bool, key: &Key) -> u128
     }
     let values = key.values.len() as u128;
     if key.optional { values + 1 } else { values }
+}
+
+/// The distinct sets of the kept keys that the allowed combinations of a stream's instrument leave, in strictly rising
+/// order, where the instrument lists its combinations: recordings of the stream have no other series. Fails only where
+/// memory is refused.
+#[tactic(auto, unfolding(crate::specs::Sets::listed_of))]
+pub fn listed(
+    alloc: Global,
+    catalogue: &Catalogue,
+    stream: &Stream,
+) -> Result<Option<Items<SetKey>>, AllocError>
+    ensures { IfOk result (λ list. list ≡ listed_of catalogue.now stream.now) }
+{
+    match catalogue.instruments().get(stream.instrument as usize) {
+        Some(instrument) => list_of(alloc, instrument, stream.kept.get().as_slice()),
+        None => Ok(None),
+    }
+}
+
+// The same of an instrument and the flags of the kept keys.
+fn list_of(
+    alloc: Global,
+    instrument: &Instrument,
+    kept: &[bool],
+) -> Result<Option<Items<SetKey>>, AllocError>
+    ensures { IfOk result (λ list. list
+        ≡ option_map (restrictions kept.now) instrument.now.allowed) }
+{
+    match &instrument.allowed {
+        Some(allowed) => {
+            let list = allowed.restrictions(alloc, kept)?;
+            Ok(Some(list))
+        }
+        None => Ok(None),
+    }
 }

@@ -1,5 +1,6 @@
 -- The names of fields in the code are those of the definitions.
-use Rattle.std.proofs.Common.{◌≡◌, map, refl}
+use Rattle.std.proofs.Common.{◌≡◌, ℕ, Bool, true, false, List, [], ◌∷◌, map, take, codes, refl, sym, ap, ◌∙◌}
+use Rattle.std.specs.Prelude.{◌==◌, if◌then◌else◌}
 use Rattle.metric_catalogue.specs.declared.catalogue.TheConstants.{TOP_FIELDS}
 use Rattle.metric_catalogue.specs.declared.instruments.TheConstants.{INSTRUMENT_FIELDS}
 use Rattle.metric_catalogue.specs.declared.keys.TheConstants.{KEY_FIELDS}
@@ -15,9 +16,17 @@ pub budget_fields-are : map (λ name. name.now) BUDGET_FIELDS ≡ budget_fields
 unfolding budget_fields
 budget_fields-are = refl
 
-pub instrument_fields-are : map (λ name. name.now) INSTRUMENT_FIELDS ≡ instrument_fields
-unfolding instrument_fields
-instrument_fields-are = refl
+-- the fields that each format has, and the one that only a later one has
+fields_if : Bool → List (List ℕ)
+fields_if first = codes "name" ∷ codes "kind" ∷ codes "unit" ∷ codes "description" ∷ codes "range" ∷ codes "boundaries" ∷ codes "key" ∷ (if first then [] else codes "allowed" ∷ [])
+
+pub first_fields-are : (format : ℕ) → (format == 1) ≡ true → map (λ name. name.now) (take 7 INSTRUMENT_FIELDS) ≡ instrument_fields format
+unfolding instrument_fields fields_if
+first_fields-are format first = let read : map (λ name. name.now) (take 7 INSTRUMENT_FIELDS) ≡ fields_if true = refl in read ∙ ap fields_if (sym first)
+
+pub instrument_fields-are : (format : ℕ) → (format == 1) ≡ false → map (λ name. name.now) INSTRUMENT_FIELDS ≡ instrument_fields format
+unfolding instrument_fields fields_if
+instrument_fields-are format later = let read : map (λ name. name.now) INSTRUMENT_FIELDS ≡ fields_if false = refl in read ∙ ap fields_if (sym later)
 
 pub key_fields-are : map (λ name. name.now) KEY_FIELDS ≡ key_fields
 unfolding key_fields
@@ -35,4 +44,4 @@ pub top_fields-are : map (λ name. name.now) TOP_FIELDS ≡ top_fields
 unfolding top_fields
 top_fields-are = refl
 
-pub ruleset field_names = (budget_fields-are, instrument_fields-are, key_fields-are, meter_fields-are, recorder_fields-are, top_fields-are)
+pub ruleset field_names = (budget_fields-are, first_fields-are, instrument_fields-are, key_fields-are, meter_fields-are, recorder_fields-are, top_fields-are)

@@ -4,7 +4,10 @@ mod Words
 mod Numbered
 mod SoundLists
 mod SoundKeys
+mod SoundRows
 mod SoundInstruments
+mod PlainFiles
+mod Rows
 mod EachMore
 mod SoundCatalogues
 pub mod Mapped

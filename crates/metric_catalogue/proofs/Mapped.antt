@@ -37,11 +37,11 @@ entry_put front p entry len within =
     ap (λ (zeros : List ℕ). slice_set (front ++ zeros) p entry) left ∙ seam ∙ sym (append_assoc front (entry ∷ []) (replicate (8 - (p + 1)) 0))
 
 -- one more entry of a set key
-pub entry_more : (f : Key → ℕ) (keys : List Key) (p : ℕ) (key : Key) → p < length keys → length keys ≤ 8 → key ≡ get_or keys p key
+pub entry_more : {X : Type 0} (f : X → ℕ) (keys : List X) (p : ℕ) (key : X) → p < length keys → length keys ≤ 8 → key ≡ get_or keys p key
     → slice_set (map f (take p keys) ++ replicate (8 - p) 0) p (f key) ≡ map f (take (p + 1) keys) ++ replicate (8 - (p + 1)) 0
-entry_more f keys p key within few is =
+entry_more {X} f keys p key within few is =
     let len : length (map f (take p keys)) ≡ p = length-map (take p keys) f ∙ length-take-le p keys (omega arith) in
-    let more : take (p + 1) keys ≡ take p keys ++ key ∷ [] = take_more keys p key within ∙ ap (λ (k : Key). take p keys ++ k ∷ []) (sym is) in
+    let more : take (p + 1) keys ≡ take p keys ++ key ∷ [] = take_more keys p key within ∙ ap (λ (k : X). take p keys ++ k ∷ []) (sym is) in
     let mapped : map f (take (p + 1) keys) ≡ map f (take p keys) ++ f key ∷ [] = ap (map f) more ∙ map-append f (take p keys) (key ∷ []) in
     entry_put (map f (take p keys)) p (f key) len (omega arith) ∙ ap (λ (front : List ℕ). front ++ replicate (8 - (p + 1)) 0) (sym mapped)
 

@@ -13,7 +13,7 @@ use Rattle.metric_catalogue.specs.declared.contents.Instrument.{Instrument}
 use Rattle.metric_catalogue.specs.declared.contents.Key.{Key}
 use Rattle.metric_catalogue.specs.declared.refusal.Refusal.{Refusal}
 use Rattle.metric_catalogue.specs.declared.refusal.Refusal.TheVariants.{UnknownInstrument, DuplicateKey, UnknownKey, UnknownValue, MissingKey}
-use Rattle.metric_catalogue.specs.Encoding.{Given, encode_of, entry_at, entry_of, has_declared_value, has_repeated_key, is_complete, is_declared, is_of, set_of}
+use Rattle.metric_catalogue.specs.Encoding.{Given, allowed_set, encode_of, entry_at, entry_of, has_declared_value, has_repeated_key, is_complete, is_declared, is_of, permitted, set_of}
 use Rattle.metric_catalogue.specs.Places.{place, same_value}
 use Rattle.metric_catalogue.proofs.Differing.{neither, repeated_same}
 use Rattle.metric_catalogue.proofs.SameValues.{same_value-Decides}
@@ -153,9 +153,10 @@ module _ (xs ys : List Given) (perm : IsPermutation xs ys) where
   set_of_by false e keys = λ i. steps (repeated_same xs ys perm i) (all_same (is_declared keys) i) (all_same (has_declared_value keys) i) (complete_same keys i)
       (map (λ key. unwrap_or (entry_same e key i) 0) keys ++ replicate (8 - length keys) 0)
 
-  encode_by : (o : Option Instrument) → (require_some o UnknownInstrument >>= λ instrument. set_of instrument.keys xs) ≡ (require_some o UnknownInstrument >>= λ instrument. set_of instrument.keys ys)
+  encode_by : (o : Option Instrument) → (require_some o UnknownInstrument >>= λ instrument. allowed_set instrument xs) ≡ (require_some o UnknownInstrument >>= λ instrument. allowed_set instrument ys)
+  unfolding allowed_set
   encode_by None = refl
-  encode_by (Some instrument) = set_of_by (has_repeated_key xs) refl instrument.keys
+  encode_by (Some instrument) = λ i. set_of_by (has_repeated_key xs) refl instrument.keys i >>= permitted instrument.allowed
 
   -- the same set key, or the same refusal
   pub encode_same : (instruments : List Instrument) (number : ℕ) → encode_of instruments number xs ≡ encode_of instruments number ys

@@ -1,12 +1,12 @@
 -- What is read as a catalogue is sound.
-use Rattle.std.proofs.Common.{◌≡◌, ◌≢◌, ℕ, ℤ, pos, negsuc, ◌+◌, ◌-◌, ◌<◌, ◌≤◌, ◌^◌, Bool, true, false, not, cond, List, [], ◌∷◌, ◌++◌, length, get_or, Option, Some, None, Ok, refl, sym, ap, subst, ◌∙◌, arith, codes, nat_lt, eq-eqb, true≢false}
+use Rattle.std.proofs.Common.{◌≡◌, ◌≢◌, ℕ, ℤ, pos, negsuc, ◌+◌, ◌-◌, ◌<◌, ◌≤◌, ◌^◌, ◌⊎◌, Bool, true, false, not, cond, List, [], ◌∷◌, ◌++◌, length, get_or, Some, None, Ok, refl, sym, ap, subst, ◌∙◌, arith, codes, nat_lt, eq-eqb, true≢false}
 use Rattle.std.proofs.lemmas.Bool.Decides.{nat_tests}
 use Rattle.std.proofs.lemmas.List.{length-append}
 use Rattle.std.proofs.lemmas.Slice.Eq.{bytes_eq-Decides}
 use Rattle.std.specs.List.{list_any}
 use Rattle.std.specs.Str.{bytes_eq}
 use Rattle.toml.specs.Data.{Members}
-use Rattle.metric_base.specs.Steps.{require_some, in_turn, each}
+use Rattle.metric_base.specs.Steps.{in_turn, each}
 use Rattle.metric_base.specs.StepLaws.{after_ok, require_ok, ok_is}
 use Rattle.metric_table.specs.Fields.{only, tables_field}
 use Rattle.metric_catalogue.specs.declared.contents.Budget.{Budget}
@@ -26,14 +26,10 @@ use Rattle.metric_catalogue.specs.Meters.{is_meter, meter_of, only_meter_fields,
 use Rattle.metric_catalogue.specs.Recorders.{amount_field, amount_from, budget_fields, budget_of, budgeted, budgets_field, is_budget, is_recorder, number_below, number_field, recorder_fields, recorder_name, recorder_of}
 use Rattle.metric_catalogue.specs.Sound.{AreInstrumentsApart, IsLabel, IsSound, IsSoundBudget, IsSoundInstrument, IsSoundList, IsSoundMeter, IsSoundRecorder}
 use Rattle.metric_catalogue.specs.Texts.{free_text, needed_text}
+use Rattle.metric_catalogue.proofs.PlainFiles.{format_made, meters_plain, some_made}
 use Rattle.metric_catalogue.proofs.SoundInstruments.{instrument_made}
 use Rattle.metric_catalogue.proofs.SoundKeys.{free_made, label_made, needed_made}
 use Rattle.metric_catalogue.proofs.SoundLists.{AreSound, IsNext, apart_by, each_length, each_sound, made_sound, sound_none, sound_push, tables_few, texts_apart}
-
--- a needed value that was there
-some_made : {A E : Type 0} (o : Option A) (e : E) (x : A) → require_some o e ≡ Ok x → o ≡ Some x
-some_made None e x h = absurd cc
-some_made (Some y) e x h = ap Some (ok_is y x (Ok y) refl h)
 
 -- the meters so far, and their instruments
 record IsSoundSoFar (m : Metered) : Type 0 where
@@ -76,27 +72,28 @@ one_more meters instrument sound = record {
   not_negative = sound.not_negative;
   advice = sound.advice;
   keys = sound.keys;
+  allowed = sound.allowed;
 }
 
-meter_made : (before : Metered) (table : Members) (after : Metered) → with_meter before table ≡ Ok after → IsSoundSoFar before → IsSoundSoFar after × (length after.meters ≡ length before.meters + 1)
+meter_made : (format : ℕ) (before : Metered) (table : Members) (after : Metered) → with_meter format before table ≡ Ok after → IsSoundSoFar before → IsSoundSoFar after × (length after.meters ≡ length before.meters + 1)
 unfolding with_meter
-meter_made before table after e0 so_far =
+meter_made format before table after e0 so_far =
     let at = place.Meter (length before.meters) in
     let number = length before.meters in
     after_ok (meter_of at table) _ after e0 (λ meter textual e1.
     after_ok (tables_field (faults_at at) (512 - length before.instruments) (codes "instrument") table) _ after e1 (λ tables listed e2.
     let (new, e3) = require_ok (not (list_any (is_meter meter) before.meters)) (At DuplicateMeter at) _ after e2 in
-    after_ok (each (instrument_of number) before.instruments tables) _ after e3 (λ instruments made e4.
+    after_ok (each (instrument_of format number) before.instruments tables) _ after e3 (λ instruments made e4.
     let all : Metered = record { meters = before.meters ++ meter ∷ []; instruments = instruments } in
     let long : length all.meters ≡ number + 1 = length-append before.meters (meter ∷ []) in
     let short = tables_few (faults_at at) (512 - length before.instruments) (codes "instrument") table tables listed in
-    let count = each_length (instrument_of number) before.instruments tables instruments made in
+    let count = each_length (instrument_of format number) before.instruments tables instruments made in
     let few = so_far.few in
     let earlier : AreSound (IsSoundInstrument (number + 1)) AreInstrumentsApart before.instruments = record {
       each = λ k d within. one_more number (get_or before.instruments k d) (so_far.instruments.each k d within);
       apart = so_far.instruments.apart;
     } in
-    let later = each_sound (IsSoundInstrument (number + 1)) AreInstrumentsApart (instrument_of number) (instrument_made number (number + 1) (omega arith)) before.instruments tables instruments made earlier in
+    let later = each_sound (IsSoundInstrument (number + 1)) AreInstrumentsApart (instrument_of format number) (instrument_made format number (number + 1) (omega arith)) before.instruments tables instruments made earlier in
     let next : IsNext IsSoundMeter (λ m o. m ≢ o) before.meters meter = record {
       sound = texts_made at table meter textual;
       apart = apart_by (λ m o. m ≢ o) (is_meter meter) before.meters meter (meters_apart meter) new;
@@ -110,15 +107,15 @@ meter_made before table after e0 so_far =
     (subst IsSoundSoFar same sound, subst (λ (m : Metered). length m.meters ≡ number + 1) same long))))
 
 -- all the meters of a file
-meters_made : (before : Metered) (tables : List Members) (after : Metered) → in_turn with_meter before tables ≡ Ok after → IsSoundSoFar before → IsSoundSoFar after × (length after.meters ≡ length before.meters + length tables)
-meters_made before [] after e so_far =
+meters_made : (format : ℕ) (before : Metered) (tables : List Members) (after : Metered) → in_turn (with_meter format) before tables ≡ Ok after → IsSoundSoFar before → IsSoundSoFar after × (length after.meters ≡ length before.meters + length tables)
+meters_made format before [] after e so_far =
     let same = ok_is before after (Ok before) refl e in
     let none : length before.meters ≡ length before.meters + 0 = omega arith in
     (subst IsSoundSoFar same so_far, subst (λ (m : Metered). length m.meters ≡ length before.meters + 0) same none)
-meters_made before (table ∷ tables) after e so_far =
-    after_ok (with_meter before table) _ after e (λ next made rest.
-    let (sound, one) = meter_made before table next made so_far in
-    let (all, more) = meters_made next tables after rest sound in
+meters_made format before (table ∷ tables) after e so_far =
+    after_ok (with_meter format before table) _ after e (λ next made rest.
+    let (sound, one) = meter_made format before table next made so_far in
+    let (all, more) = meters_made format next tables after rest sound in
     (all, omega arith))
 
 below_made : (count : ℕ) (z : ℤ) (n : ℕ) → number_below count z ≡ Some n → n < count
@@ -195,11 +192,12 @@ recorder_made count before table recorder e0 =
     } in
     subst (IsNext (IsSoundRecorder count) (λ o r. o.name ≢ r.name) before) (ok_is made recorder (Ok made) refl e2) next))
 
--- what a few tables declare
-declared_made : (meters recorders : List Members) (c : Contents) → length meters ≤ 64 → length recorders ≤ 64 → contents_declared meters recorders ≡ Ok c → IsSound c
+-- what a few tables declare in a format
+declared_made : (format : ℕ) (meters recorders : List Members) (c : Contents) → (format ≡ 1) ⊎ (format ≡ 2) → length meters ≤ 64 → length recorders ≤ 64
+    → contents_declared format meters recorders ≡ Ok c → IsSound c
 unfolding contents_declared
-declared_made meters recorders c few_meters few_recorders e0 =
-    after_ok (in_turn with_meter nothing_metered meters) _ c e0 (λ metered made e1.
+declared_made format meters recorders c known few_meters few_recorders e0 =
+    after_ok (in_turn (with_meter format) nothing_metered meters) _ c e0 (λ metered made e1.
     after_ok (each (recorder_of (length metered.instruments)) [] recorders) _ c e1 (λ declared recorded e2.
     let count = length metered.instruments in
     let first : IsSoundSoFar nothing_metered = record {
@@ -207,9 +205,11 @@ declared_made meters recorders c few_meters few_recorders e0 =
       instruments = sound_none (IsSoundInstrument 0) AreInstrumentsApart;
       few = omega arith;
     } in
-    let (all, long) = meters_made nothing_metered meters metered made first in
-    let read : Contents = record { meters = metered.meters; instruments = metered.instruments; recorders = declared } in
+    let (all, long) = meters_made format nothing_metered meters metered made first in
+    let read : Contents = record { format = format; meters = metered.meters; instruments = metered.instruments; recorders = declared } in
     let sound : IsSound read = record {
+      format = known;
+      plain = meters_plain format meters metered made;
       meters = record { few = omega arith; each = all.meters.each; apart = all.meters.apart };
       instruments = record { few = all.few; each = all.instruments.each; apart = all.instruments.apart };
       recorders = made_sound 64 (IsSoundRecorder count) (λ o r. o.name ≢ r.name) (recorder_of count) (recorder_made count) recorders declared recorded few_recorders;
@@ -219,9 +219,9 @@ declared_made meters recorders c few_meters few_recorders e0 =
 pub contents_made : (table : Members) (c : Contents) → contents_of table ≡ Ok c → IsSound c
 unfolding contents_of
 contents_made table c e0 =
-    after_ok (format_of_top table) _ c e0 (λ _ _ e1.
+    after_ok (format_of_top table) _ c e0 (λ format told e1.
     after_ok (tables_field (faults_at place.Top) 64 (codes "meter") table) _ c e1 (λ meters metered e2.
     after_ok (tables_field (faults_at place.Top) 64 (codes "recorder") table) _ c e2 (λ recorders recorded e3.
     let few_meters = tables_few (faults_at place.Top) 64 (codes "meter") table meters metered in
     let few_recorders = tables_few (faults_at place.Top) 64 (codes "recorder") table recorders recorded in
-    declared_made meters recorders c few_meters few_recorders e3)))
+    declared_made format meters recorders c (format_made table format told) few_meters few_recorders e3)))

@@ -6,7 +6,7 @@ use Rattle.std.specs.List.{list_any}
 use Rattle.std.specs.Str.{bytes_eq}
 use Rattle.toml.specs.Data.{Data, Members, get_member}
 use Rattle.metric_base.specs.Boundaries.{is_rising}
-use Rattle.metric_base.specs.Steps.{with_fault}
+use Rattle.metric_base.specs.Steps.{each, with_fault}
 use Rattle.metric_base.specs.StepLaws.{after_ok, require_ok, ok_is}
 use Rattle.metric_names.specs.NameLaws.{name_of-IsName, unit_of-IsUnit}
 use Rattle.metric_names.specs.Names.{folded, IsName, IsSameName, name_of}
@@ -21,12 +21,14 @@ use Rattle.metric_catalogue.specs.declared.fault.CatalogueFault.TheVariants.{At}
 use Rattle.metric_catalogue.specs.declared.fault.CataloguePlace.{CataloguePlace}
 use Rattle.metric_catalogue.specs.declared.fault.CataloguePlace.TheVariants as place
 use Rattle.metric_catalogue.specs.Faults.{faults_at}
-use Rattle.metric_catalogue.specs.Instruments.{advice_field, boundaries_of, boundaries_within, head_of, instrument_name, instrument_of, is_instrument, is_range, keys_field, kind_field, only_instrument_fields, pair_field, range_field, unit_field}
+use Rattle.metric_catalogue.specs.Instruments.{advice_field, boundaries_of, boundaries_within, head_of, instrument_name, instrument_of, is_instrument, is_range, kind_field, only_instrument_fields, pair_field, range_field, sets_field, unit_field}
+use Rattle.metric_catalogue.specs.Allowed.{allowed_field, allowed_of}
 use Rattle.metric_catalogue.specs.Keys.{key_of}
 use Rattle.metric_catalogue.specs.Kinds.{is_monotonic}
-use Rattle.metric_catalogue.specs.Sound.{AreBoundaries, AreInstrumentsApart, IsFreeText, IsSoundInstrument, IsSoundKey, IsSoundList}
+use Rattle.metric_catalogue.specs.Sound.{AreBoundaries, AreInstrumentsApart, AreSoundRows, IsFreeText, IsSoundInstrument, IsSoundKey, IsSoundList}
 use Rattle.metric_catalogue.specs.Texts.{free_text}
 use Rattle.metric_catalogue.proofs.SoundKeys.{free_made, key_made}
+use Rattle.metric_catalogue.proofs.SoundRows.{allowed_made, rows_few}
 use Rattle.metric_catalogue.proofs.SoundLists.{IsNext, apart_by, each_length, list_few, made_sound, tables_few}
 
 -- what a range is
@@ -74,10 +76,10 @@ told f (Ok t) text e = ap Ok (ok_is t text (Ok t) refl e)
 told f (Err d) text e = absurd cc
 
 -- what is read as a name or a unit is one
-name_made : (at : CataloguePlace) (table : Members) (name : List ℕ) → instrument_name at table ≡ Ok name → IsName name
+name_made : (format : ℕ) (at : CataloguePlace) (table : Members) (name : List ℕ) → instrument_name format at table ≡ Ok name → IsName name
 unfolding instrument_name
-name_made at table name e0 =
-    after_ok (only_instrument_fields at table) _ name e0 (λ _ _ e1.
+name_made format at table name e0 =
+    after_ok (only_instrument_fields format at table) _ name e0 (λ _ _ e1.
     after_ok (text_field (faults_at at) (codes "name") table) _ name e1 (λ text _ e2.
     name_of-IsName text name (told (λ _. At BadName at) (name_of text) name e2)))
 
@@ -93,15 +95,15 @@ record IsSoundHead (head : Head) : Type 0 where
   unit : IsUnit head.unit
   description : IsFreeText head.description
 
-head_made : (at : CataloguePlace) (table : Members) (head : Head) → head_of at table ≡ Ok head → IsSoundHead head
+head_made : (format : ℕ) (at : CataloguePlace) (table : Members) (head : Head) → head_of format at table ≡ Ok head → IsSoundHead head
 unfolding head_of
-head_made at table head e0 =
-    after_ok (instrument_name at table) _ head e0 (λ name named e1.
+head_made format at table head e0 =
+    after_ok (instrument_name format at table) _ head e0 (λ name named e1.
     after_ok (kind_field at table) _ head e1 (λ kind _ e2.
     after_ok (unit_field at table) _ head e2 (λ unit united e3.
     after_ok (free_text at (codes "description") table) _ head e3 (λ description described e4.
     let made : Head = record { name = name; kind = kind; unit = unit; description = description } in
-    let sound : IsSoundHead made = record { name = name_made at table name named; unit = unit_made at table unit united; description = free_made at (codes "description") table description described } in
+    let sound : IsSoundHead made = record { name = name_made format at table name named; unit = unit_made at table unit united; description = free_made at (codes "description") table description described } in
     subst IsSoundHead (ok_is made head (Ok made) refl e4) sound))))
 
 -- an instrument of another name without case, or of another meter
@@ -111,28 +113,39 @@ names_apart meter name other e same_meter same_name =
     let two : bytes_eq (folded other.name) (folded name) ≡ true = (bytes_eq-Decides (folded other.name) (folded name)).1 same_name in
     true≢false (sym (rw (one, two) refl) ∙ e)
 
--- keys of distinct names, of an instrument whose name is not taken
-keys_made : (at : CataloguePlace) (is_taken : Bool) (table : Members) (keys : List Key) → keys_field at is_taken table ≡ Ok keys
-    → (not is_taken ≡ true) × IsSoundList 8 IsSoundKey (λ o k. o.name ≢ k.name) keys
-unfolding keys_field
-keys_made at is_taken table keys e0 =
-    after_ok (tables_field (faults_at at) 8 (codes "key") table) _ keys e0 (λ tables listed e1.
-    let (new, e2) = require_ok (not is_taken) (At DuplicateInstrument at) _ keys e1 in
-    (new, made_sound 8 IsSoundKey (λ o k. o.name ≢ k.name) (key_of at) (key_made at) tables keys e2 (tables_few (faults_at at) 8 (codes "key") table tables listed)))
+-- keys of distinct names, and combinations of these keys
+record AreSoundSets (sets : List Key × Option (List (List ℕ))) : Type 0 where
+  keys : IsSoundList 8 IsSoundKey (λ o k. o.name ≢ k.name) sets.0
+  allowed : IfSome sets.1 (AreSoundRows sets.0)
 
-pub instrument_made : (meter meters : ℕ) → meter < meters → (before : List Instrument) (table : Members) (instrument : Instrument) → instrument_of meter before table ≡ Ok instrument
+-- those of an instrument whose name is not taken
+sets_made : (at : CataloguePlace) (is_taken : Bool) (table : Members) (sets : List Key × Option (List (List ℕ))) → sets_field at is_taken table ≡ Ok sets
+    → (not is_taken ≡ true) × AreSoundSets sets
+unfolding sets_field
+sets_made at is_taken table sets e0 =
+    after_ok (tables_field (faults_at at) 8 (codes "key") table) _ sets e0 (λ tables listed e1.
+    after_ok (allowed_field at table) _ sets e1 (λ rows told_rows e2.
+    let (new, e3) = require_ok (not is_taken) (At DuplicateInstrument at) _ sets e2 in
+    after_ok (each (key_of at) [] tables) _ sets e3 (λ keys keyed e4.
+    after_ok (allowed_of at keys rows) _ sets e4 (λ allowed combined e5.
+    let sound_keys = made_sound 8 IsSoundKey (λ o k. o.name ≢ k.name) (key_of at) (key_made at) tables keys keyed (tables_few (faults_at at) 8 (codes "key") table tables listed) in
+    let made : List Key × Option (List (List ℕ)) = (keys, allowed) in
+    let sound : AreSoundSets made = record { keys = sound_keys; allowed = allowed_made at keys sound_keys.few rows (rows_few at table rows told_rows) allowed combined } in
+    (new, subst AreSoundSets (ok_is made sets (Ok made) refl e5) sound)))))
+
+pub instrument_made : (format meter meters : ℕ) → meter < meters → (before : List Instrument) (table : Members) (instrument : Instrument) → instrument_of format meter before table ≡ Ok instrument
     → IsNext (IsSoundInstrument meters) AreInstrumentsApart before instrument
 unfolding instrument_of
-instrument_made meter meters known before table instrument e0 =
+instrument_made format meter meters known before table instrument e0 =
     let at = place.Instrument (length before) in
-    after_ok (head_of at table) _ instrument e0 (λ head headed e1.
+    after_ok (head_of format at table) _ instrument e0 (λ head headed e1.
     after_ok (range_field at head.kind table) _ instrument e1 (λ range ranged e2.
     after_ok (advice_field at table) _ instrument e2 (λ advice advised e3.
-    after_ok (keys_field at (list_any (is_instrument meter head.name) before) table) _ instrument e3 (λ keys keyed e4.
-    let (new, sound_keys) = keys_made at (list_any (is_instrument meter head.name) before) table keys keyed in
+    after_ok (sets_field at (list_any (is_instrument meter head.name) before) table) _ instrument e3 (λ sets keyed e4.
+    let (new, sound_sets) = sets_made at (list_any (is_instrument meter head.name) before) table sets keyed in
     let (ordered, not_negative) = range_is head.kind range.0 range.1 (range_made at head.kind table range ranged) in
-    let sound_head = head_made at table head headed in
-    let made : Instrument = record { meter = meter; name = head.name; kind = head.kind; unit = head.unit; description = head.description; lo = range.0; hi = range.1; advice = advice; keys = keys } in
+    let sound_head = head_made format at table head headed in
+    let made : Instrument = record { meter = meter; name = head.name; kind = head.kind; unit = head.unit; description = head.description; lo = range.0; hi = range.1; advice = advice; keys = sets.0; allowed = sets.1 } in
     let next : IsNext (IsSoundInstrument meters) AreInstrumentsApart before made = record {
       sound = record {
         known = known;
@@ -142,7 +155,8 @@ instrument_made meter meters known before table instrument e0 =
         ordered = ordered;
         not_negative = not_negative;
         advice = advice_made at table advice advised;
-        keys = sound_keys;
+        keys = sound_sets.keys;
+        allowed = sound_sets.allowed;
       };
       apart = apart_by AreInstrumentsApart (is_instrument meter head.name) before made (names_apart meter head.name) new;
     } in

@@ -3,7 +3,7 @@ use Rattle.std.specs.Prelude.{ℕ, List, [], ◌∷◌, length, Result, Ok, code
 use Rattle.toml.specs.Data.{Members}
 use Rattle.toml.specs.Parse.{parse_document}
 use Rattle.metric_base.specs.Steps.{◌>>=◌, require_some, in_turn, each}
-use Rattle.metric_table.specs.Fields.{only, format_field, tables_field}
+use Rattle.metric_table.specs.Fields.{only, format_up_to, tables_field}
 use Rattle.metric_catalogue.specs.declared.contents.Contents.{Contents}
 use Rattle.metric_catalogue.specs.declared.meters.Metered.{Metered}
 use Rattle.metric_catalogue.specs.declared.fault.CatalogueFault.{CatalogueFault}
@@ -20,26 +20,26 @@ top_fields = codes "format" ∷ codes "meter" ∷ codes "recorder" ∷ []
 abbrev pub nothing_metered : Metered
 nothing_metered = record { meters = []; instruments = [] }
 
--- the top table has no other fields, and this format
-unfoldable pub format_of_top : Members → Result (Unit {0}) CatalogueFault
+-- the format of a top table with no other fields
+unfoldable pub format_of_top : Members → Result ℕ CatalogueFault
 format_of_top table = do
   _ ← only (faults_at Top) top_fields table
-  format_field (faults_at Top) table
+  format_up_to (faults_at Top) 2 table
 
--- the contents that the tables of the meters and those of the recorders declare
-unfoldable pub contents_declared : List Members → List Members → Result Contents CatalogueFault
-contents_declared meters recorders = do
-  metered ← in_turn with_meter nothing_metered meters
+-- the contents that the tables of the meters and those of the recorders declare in this format
+unfoldable pub contents_declared : ℕ → List Members → List Members → Result Contents CatalogueFault
+contents_declared format meters recorders = do
+  metered ← in_turn (with_meter format) nothing_metered meters
   declared ← each (recorder_of (length metered.instruments)) [] recorders
-  Ok (record { meters = metered.meters; instruments = metered.instruments; recorders = declared })
+  Ok (record { format = format; meters = metered.meters; instruments = metered.instruments; recorders = declared })
 
 -- the contents of a catalogue's table
 unfoldable pub contents_of : Members → Result Contents CatalogueFault
 contents_of table = do
-  _ ← format_of_top table
+  format ← format_of_top table
   meters ← tables_field (faults_at Top) 64 (codes "meter") table
   recorders ← tables_field (faults_at Top) 64 (codes "recorder") table
-  contents_declared meters recorders
+  contents_declared format meters recorders
 
 -- the table that a text in TOML is
 abbrev pub document_of : List ℕ → Result Members CatalogueFault

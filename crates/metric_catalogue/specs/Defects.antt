@@ -1,7 +1,7 @@
 -- How the defect of a fault is printed.
 use Rattle.std.specs.Prelude.{ℕ, codes, List}
 use Rattle.metric_catalogue.specs.declared.fault.CatalogueDefect.{CatalogueDefect}
-use Rattle.metric_catalogue.specs.declared.fault.CatalogueDefect.TheVariants.{MissingField, WrongKind, UnknownField, BadName, BadUnit, DuplicateMeter, DuplicateInstrument, DuplicateKey, DuplicateValue, ReservedKey, BadRange, BadBoundaries, UnknownInstrument, DuplicateRecorder, DuplicateBudget, TooMany}
+use Rattle.metric_catalogue.specs.declared.fault.CatalogueDefect.TheVariants.{MissingField, WrongKind, UnknownField, BadName, BadUnit, DuplicateMeter, DuplicateInstrument, DuplicateKey, DuplicateValue, ReservedKey, BadRange, BadBoundaries, UnknownInstrument, DuplicateRecorder, DuplicateBudget, TooMany, BadCombination, DuplicateCombination}
 
 -- its number among the faults, and its name
 abbrev pub defect_text : CatalogueDefect → List ℕ
@@ -21,3 +21,5 @@ defect_text UnknownInstrument = codes "14 UnknownInstrument"
 defect_text DuplicateRecorder = codes "15 DuplicateRecorder"
 defect_text DuplicateBudget = codes "16 DuplicateBudget"
 defect_text TooMany = codes "17 TooMany"
+defect_text BadCombination = codes "19 BadCombination"
+defect_text DuplicateCombination = codes "20 DuplicateCombination"

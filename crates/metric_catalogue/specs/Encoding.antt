@@ -5,11 +5,12 @@ use Rattle.std.specs.Option.{option_map}
 use Rattle.std.specs.List.Sorted.{IsPermutation}
 use Rattle.std.specs.Str.{bytes_eq}
 use Rattle.metric_base.specs.Steps.{◌>>=◌, require, require_some}
+use Rattle.metric_combinations.specs.Combinations.{permits}
 use Rattle.metric_names.specs.declared.value.AttrValue.{AttrValue}
 use Rattle.metric_catalogue.specs.declared.contents.Instrument.{Instrument}
 use Rattle.metric_catalogue.specs.declared.contents.Key.{Key}
 use Rattle.metric_catalogue.specs.declared.refusal.Refusal.{Refusal}
-use Rattle.metric_catalogue.specs.declared.refusal.Refusal.TheVariants.{UnknownInstrument, DuplicateKey, UnknownKey, UnknownValue, MissingKey}
+use Rattle.metric_catalogue.specs.declared.refusal.Refusal.TheVariants.{UnknownInstrument, DuplicateKey, UnknownKey, UnknownValue, MissingKey, Combination}
 use Rattle.metric_catalogue.specs.Keys.{is_key}
 use Rattle.metric_catalogue.specs.Places.{place}
 
@@ -68,11 +69,23 @@ set_of keys attrs = do
   _ ← require (list_all (is_complete attrs) keys) MissingKey
   Ok (set_key keys attrs)
 
+-- a set key, where it is one of the combinations
+abbrev pub permitted : Option (List (List ℕ)) → List ℕ → Result (List ℕ) Refusal
+permitted allowed set = do
+  _ ← require (permits allowed set) Combination
+  Ok set
+
+-- the set key that the attributes name, where the instrument allows the combination of their values
+unfoldable pub allowed_set : Instrument → List Given → Result (List ℕ) Refusal
+allowed_set instrument attrs = do
+  set ← set_of instrument.keys attrs
+  permitted instrument.allowed set
+
 -- the set key of attributes for the instrument of this number
 unfoldable pub encode_of : List Instrument → ℕ → List Given → Result (List ℕ) Refusal
 encode_of instruments number attrs = do
   instrument ← require_some (slice_get instruments number) UnknownInstrument
-  set_of instrument.keys attrs
+  allowed_set instrument attrs
 
 -- Attributes in another order name the same set key, or get the same refusal.
 abbrev pub IgnoresOrder : Type 0

@@ -1,5 +1,5 @@
 -- The instruments of a meter.
-use Rattle.std.specs.Prelude.{ℕ, ℤ, pos, Bool, not, ◌&&◌, ◌||◌, ◌==◌, List, [], ◌∷◌, length, Option, Some, None, Result, Ok, Err, int_le, unwrap_or, codes}
+use Rattle.std.specs.Prelude.{ℕ, ℤ, pos, Bool, not, ◌&&◌, ◌||◌, ◌==◌, if◌then◌else◌, List, [], ◌∷◌, length, Option, Some, None, Result, Ok, Err, int_le, unwrap_or, codes}
 use Rattle.std.specs.List.{list_any}
 use Rattle.std.specs.Str.{bytes_eq}
 use Rattle.toml.specs.Data.{Data, Members, get_member}
@@ -16,26 +16,27 @@ use Rattle.metric_catalogue.specs.declared.fault.CatalogueDefect.TheVariants.{Wr
 use Rattle.metric_catalogue.specs.declared.fault.CatalogueFault.TheVariants.{At}
 use Rattle.metric_catalogue.specs.declared.fault.CataloguePlace.{CataloguePlace}
 use Rattle.metric_catalogue.specs.declared.fault.CataloguePlace.TheVariants as place
-use Rattle.metric_catalogue.specs.Faults.{faults_at, pair_faults_at}
 use Rattle.metric_base.specs.Boundaries.{is_rising}
+use Rattle.metric_catalogue.specs.Allowed.{allowed_field, allowed_of}
+use Rattle.metric_catalogue.specs.Faults.{faults_at, pair_faults_at}
 use Rattle.metric_catalogue.specs.Kinds.{kind_named, is_monotonic}
 use Rattle.metric_catalogue.specs.Texts.{free_text}
 use Rattle.metric_catalogue.specs.Keys.{key_of}
 
--- the fields of an instrument's table
-unfoldable pub instrument_fields : List (List ℕ)
-instrument_fields =
+-- the fields of an instrument's table in this format
+unfoldable pub instrument_fields : ℕ → List (List ℕ)
+instrument_fields format =
     codes "name" ∷ codes "kind" ∷ codes "unit" ∷ codes "description" ∷
-    codes "range" ∷ codes "boundaries" ∷ codes "key" ∷ []
+    codes "range" ∷ codes "boundaries" ∷ codes "key" ∷ (if format == 1 then [] else codes "allowed" ∷ [])
 
 -- an instrument has no other fields
-unfoldable pub only_instrument_fields : CataloguePlace → Members → Result (Unit {0}) CatalogueFault
-only_instrument_fields at table = only (faults_at at) instrument_fields table
+unfoldable pub only_instrument_fields : ℕ → CataloguePlace → Members → Result (Unit {0}) CatalogueFault
+only_instrument_fields format at table = only (faults_at at) (instrument_fields format) table
 
 -- the name of an instrument, of a table with no other fields
-unfoldable pub instrument_name : CataloguePlace → Members → Result (List ℕ) CatalogueFault
-instrument_name at table = do
-  _ ← only_instrument_fields at table
+unfoldable pub instrument_name : ℕ → CataloguePlace → Members → Result (List ℕ) CatalogueFault
+instrument_name format at table = do
+  _ ← only_instrument_fields format at table
   text ← text_field (faults_at at) (codes "name") table
   with_fault (λ _. At BadName at) (name_of text)
 
@@ -52,9 +53,9 @@ unit_field at table = do
   with_fault (λ _. At BadUnit at) (unit_of (unwrap_or text []))
 
 -- what names and describes an instrument
-unfoldable pub head_of : CataloguePlace → Members → Result Head CatalogueFault
-head_of at table = do
-  name ← instrument_name at table
+unfoldable pub head_of : ℕ → CataloguePlace → Members → Result Head CatalogueFault
+head_of format at table = do
+  name ← instrument_name format at table
   kind ← kind_field at table
   unit ← unit_field at table
   description ← free_text at (codes "description") table
@@ -108,19 +109,22 @@ advice_field at table = boundaries_within at (get_member (codes "boundaries") ta
 abbrev pub is_instrument : ℕ → List ℕ → Instrument → Bool
 is_instrument meter name instrument = (instrument.meter == meter) && bytes_eq (folded instrument.name) (folded name)
 
--- the keys of an instrument, unless its name is taken
-unfoldable pub keys_field : CataloguePlace → Bool → Members → Result (List Key) CatalogueFault
-keys_field at is_taken table = do
+-- the keys of an instrument, and the combinations of their values that it allows where it lists them, unless its name is taken
+unfoldable pub sets_field : CataloguePlace → Bool → Members → Result (List Key × Option (List (List ℕ))) CatalogueFault
+sets_field at is_taken table = do
   tables ← tables_field (faults_at at) 8 (codes "key") table
+  rows ← allowed_field at table
   _ ← require (not is_taken) (At DuplicateInstrument at)
-  each (key_of at) [] tables
+  keys ← each (key_of at) [] tables
+  allowed ← allowed_of at keys rows
+  Ok (keys, allowed)
 
--- one more instrument of a meter, after those of the file before it
-unfoldable pub instrument_of : ℕ → List Instrument → Members → Result Instrument CatalogueFault
-instrument_of meter before table = do
+-- one more instrument of a meter in a file of this format, after those of the file before it
+unfoldable pub instrument_of : ℕ → ℕ → List Instrument → Members → Result Instrument CatalogueFault
+instrument_of format meter before table = do
   let at = place.Instrument (length before)
-  head ← head_of at table
+  head ← head_of format at table
   range ← range_field at head.kind table
   advice ← advice_field at table
-  keys ← keys_field at (list_any (is_instrument meter head.name) before) table
-  Ok (record { meter = meter; name = head.name; kind = head.kind; unit = head.unit; description = head.description; lo = range.0; hi = range.1; advice = advice; keys = keys })
+  sets ← sets_field at (list_any (is_instrument meter head.name) before) table
+  Ok (record { meter = meter; name = head.name; kind = head.kind; unit = head.unit; description = head.description; lo = range.0; hi = range.1; advice = advice; keys = sets.0; allowed = sets.1 })

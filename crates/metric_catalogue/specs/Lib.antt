@@ -10,6 +10,8 @@ pub mod Defects
 pub mod Texts
 pub mod Kinds
 pub mod Keys
+pub mod KeySets
+pub mod Allowed
 pub mod Instruments
 pub mod Meters
 pub mod Recorders

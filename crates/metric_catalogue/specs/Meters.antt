@@ -37,12 +37,12 @@ meter_of at table = do
 abbrev pub is_meter : Meter → Meter → Bool
 is_meter meter other = bytes_eq other.name meter.name && (bytes_eq other.version meter.version && bytes_eq other.schema_url meter.schema_url)
 
--- one more meter with its instruments, of which a file has at most 512
-unfoldable pub with_meter : Metered → Members → Result Metered CatalogueFault
-with_meter before table = do
+-- one more meter with its instruments in a file of this format, which has at most 512
+unfoldable pub with_meter : ℕ → Metered → Members → Result Metered CatalogueFault
+with_meter format before table = do
   let at = place.Meter (length before.meters)
   meter ← meter_of at table
   tables ← tables_field (faults_at at) (512 - length before.instruments) (codes "instrument") table
   _ ← require (not (list_any (is_meter meter) before.meters)) (At DuplicateMeter at)
-  instruments ← each (instrument_of (length before.meters)) before.instruments tables
+  instruments ← each (instrument_of format (length before.meters)) before.instruments tables
   Ok (record { meters = before.meters ++ meter ∷ []; instruments = instruments })

@@ -2,7 +2,7 @@
 use Rattle.std.specs.Prelude.{ℕ, List, codes, ◌++◌}
 use Rattle.std.specs.Fmt.{decimal}
 use Rattle.metric_catalogue.specs.declared.refusal.Refusal.{Refusal}
-use Rattle.metric_catalogue.specs.declared.refusal.Refusal.TheVariants.{Stranger, UnknownInstrument, UnknownRecorder, UnknownReader, DuplicateKey, UnknownKey, UnknownValue, MissingKey, ValueRange, Closed, Budget, SumRange, Memory}
+use Rattle.metric_catalogue.specs.declared.refusal.Refusal.TheVariants.{Stranger, UnknownInstrument, UnknownRecorder, UnknownReader, DuplicateKey, UnknownKey, UnknownValue, MissingKey, Combination, ValueRange, Closed, Budget, SumRange, Memory}
 
 abbrev pub number_of : Refusal → ℕ
 number_of UnknownInstrument = 1
@@ -18,6 +18,7 @@ number_of Budget = 9
 number_of SumRange = 10
 number_of Memory = 11
 number_of Stranger = 12
+number_of Combination = 13
 
 abbrev pub name_of : Refusal → List ℕ
 name_of UnknownInstrument = codes "UnknownInstrument"
@@ -27,6 +28,7 @@ name_of DuplicateKey = codes "DuplicateKey"
 name_of UnknownKey = codes "UnknownKey"
 name_of UnknownValue = codes "UnknownValue"
 name_of MissingKey = codes "MissingKey"
+name_of Combination = codes "Combination"
 name_of ValueRange = codes "ValueRange"
 name_of Closed = codes "Closed"
 name_of Budget = codes "Budget"

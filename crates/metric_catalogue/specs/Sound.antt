@@ -1,5 +1,5 @@
 -- What holds of every catalogue.
-use Rattle.std.specs.Prelude.{◌≡◌, ◌≢◌, ℕ, ℤ, pos, ◌<◌, ◌^◌, ◌≤◌, ◌≤ℤ◌, All, AllPairs, IfSome, IsTrue, List, codes, length, true}
+use Rattle.std.specs.Prelude.{◌≡◌, ◌≢◌, ℕ, ℤ, pos, ◌⊎◌, ◌<◌, ◌^◌, ◌≤◌, ◌≤ℤ◌, All, AllPairs, IfSome, IsTrue, List, None, codes, length, true}
 use Rattle.std.specs.Str.{chars}
 use Rattle.metric_base.specs.Boundaries.{is_rising}
 use Rattle.metric_names.specs.Names.{IsName, IsSameName}
@@ -12,6 +12,7 @@ use Rattle.metric_catalogue.specs.declared.contents.Instrument.{Instrument}
 use Rattle.metric_catalogue.specs.declared.contents.Key.{Key}
 use Rattle.metric_catalogue.specs.declared.contents.Meter.{Meter}
 use Rattle.metric_catalogue.specs.declared.contents.Recorder.{Recorder}
+use Rattle.metric_catalogue.specs.KeySets.{is_key_set}
 use Rattle.metric_catalogue.specs.Kinds.{is_monotonic}
 
 -- A list has at most so many elements, a fact holds of each, and any two are apart.
@@ -53,6 +54,15 @@ pub record AreBoundaries (boundaries : List ℤ) : Type 0 where
   pub few : length boundaries ≤ 128
   pub rising : is_rising boundaries ≡ true
 
+-- A row of allowed combinations is a full set of the keys, and as long as a set key.
+pub record IsSoundRow (keys : List Key) (row : List ℕ) : Type 0 where
+  pub full : is_key_set keys row ≡ true
+  pub long : length row ≡ 8
+
+-- Allowed combinations are at most 4,096 distinct rows.
+abbrev pub AreSoundRows : List Key → List (List ℕ) → Type 0
+AreSoundRows keys rows = IsSoundList 4096 (IsSoundRow keys) (λ row other. row ≢ other) rows
+
 -- An instrument is of one of so many meters. Its range is not empty, and has no negative value where sums only rise. It has at
 -- most 8 keys of distinct names.
 pub record IsSoundInstrument (meters : ℕ) (instrument : Instrument) : Type 0 where
@@ -64,6 +74,7 @@ pub record IsSoundInstrument (meters : ℕ) (instrument : Instrument) : Type 0 w
   pub not_negative : IsTrue (is_monotonic instrument.kind) → pos 0 ≤ℤ instrument.lo
   pub advice : IfSome instrument.advice AreBoundaries
   pub keys : IsSoundList 8 IsSoundKey (λ key other. key.name ≢ other.name) instrument.keys
+  pub allowed : IfSome instrument.allowed (AreSoundRows instrument.keys)
 
 -- Two instruments of one meter have names that differ without case.
 abbrev pub AreInstrumentsApart : Instrument → Instrument → Type 0
@@ -79,8 +90,10 @@ pub record IsSoundRecorder (instruments : ℕ) (recorder : Recorder) : Type 0 wh
   pub name : IsLabel recorder.name
   pub budgets : IsSoundList 512 (IsSoundBudget instruments) (λ budget other. budget.instrument ≢ other.instrument) recorder.budgets
 
--- There are at most 64 meters, 512 instruments and 64 recorders. Meters differ in name, version or schema URL, recorders in name.
+-- The format is 1, in which no instrument lists combinations, or 2. There are at most 64 meters, 512 instruments and 64 recorders. Meters differ in name, version or schema URL, recorders in name.
 pub record IsSound (c : Contents) : Type 0 where
+  pub format : (c.format ≡ 1) ⊎ (c.format ≡ 2)
+  pub plain : c.format ≡ 1 → All (λ instrument. instrument.allowed ≡ None) c.instruments
   pub meters : IsSoundList 64 IsSoundMeter (λ meter other. meter ≢ other) c.meters
   pub instruments : IsSoundList 512 (IsSoundInstrument (length c.meters)) AreInstrumentsApart c.instruments
   pub recorders : IsSoundList 64 (IsSoundRecorder (length c.instruments)) (λ recorder other. recorder.name ≢ other.name) c.recorders

@@ -20,7 +20,7 @@ use crate::recorders::recorders_of;
 use crate::refusal::Refusal;
 use crate::texts::faults_at;
 use metric_base::{Few, Items};
-use metric_table::{format_field, only, tables_field};
+use metric_table::{format_up_to, only, tables_field};
 use std::alloc::Global;
 use std::marker::Model;
 use toml::Table;
@@ -58,6 +58,14 @@ impl Catalogue {
         let table = document(alloc, text)?;
         let contents = contents_of(alloc, &table)?;
         Ok(Catalogue { contents })
+    }
+
+    /// The format of the file: 1, or 2, in which an instrument may list its combinations.
+    pub fn format(&self) -> u8
+        ensures format { result ≡ self.now.format }
+        ensures sound { IsSound self.now }
+    {
+        self.contents.format
     }
 
     /// The meters in the order of the file.
@@ -98,9 +106,9 @@ impl Catalogue {
     }
 
     /// The set key that the attributes name for the instrument of this number, in any order, or the
-    /// first refusal of `UnknownInstrument`, `DuplicateKey`, `UnknownKey`, `UnknownValue` and
-    /// `MissingKey`, each tried over the whole list before the next. Takes no memory, and only one pass
-    /// where the attributes stand in the declared order of their keys.
+    /// first refusal of `UnknownInstrument`, `DuplicateKey`, `UnknownKey`, `UnknownValue`,
+    /// `MissingKey`, each tried over the whole list before the next, and `Combination`. Takes no memory, and
+    /// only one pass where the attributes stand in the declared order of their keys.
     pub fn encode(&self, instrument: u32, attrs: &[Attr<'_>]) -> Result<SetKey, Refusal>
         ensures { result ≡ encode_of self.now.instruments instrument (map given_by attrs.now) }
     {
@@ -173,39 +181,41 @@ fn document(alloc: Global, text: &str) -> Result<Table, CatalogueFault>
 fn contents_of(alloc: Global, table: &Table) -> Result<Contents, CatalogueFault>
     ensures { Gives CatalogueFault.Memory result (contents_of (table_view table.now)) }
 {
-    format_of_top(table)?;
+    let format = format_of_top(table)?;
     let faults = faults_at(CataloguePlace::Top);
     let meters = tables_field(alloc, table, "meter", 64, &faults)?;
     let recorders = tables_field(alloc, table, "recorder", 64, &faults)?;
-    contents_declared(alloc, meters.as_slice(), recorders.as_slice())
+    contents_declared(alloc, format, meters.as_slice(), recorders.as_slice())
 }
 
-// The contents that the tables of the meters and those of the recorders declare.
+// The contents that the tables of the meters and those of the recorders declare in this format.
 #[tactic(auto, unfolding(crate::specs::Catalogues::contents_declared))]
 fn contents_declared(
     alloc: Global,
+    format: u8,
     meters: &[&Table],
     recorders: &[&Table],
 ) -> Result<Contents, CatalogueFault>
     requires meters { length meters.now ≤ 64 }
     requires recorders { length recorders.now ≤ 64 }
-    ensures { Gives CatalogueFault.Memory result (contents_declared
+    ensures { Gives CatalogueFault.Memory result (contents_declared format
         (map (λ t. table_view t.now) meters.now) (map (λ t. table_view t.now) recorders.now)) }
 {
-    let metered = metered_of(alloc, meters)?;
+    let metered = metered_of(alloc, meters, format)?;
     let count = metered.instruments.len() as u32;
     let recorders = recorders_of(alloc, recorders, count)?;
     Ok(Contents {
+        format,
         meters: Few::from_items(metered.meters),
         instruments: Few::from_items(metered.instruments),
         recorders: Few::from_items(recorders),
     })
 }
 
-fn metered_of(alloc: Global, tables: &[&Table]) -> Result<Metered, CatalogueFault>
+fn metered_of(alloc: Global, tables: &[&Table], format: u8) -> Result<Metered, CatalogueFault>
     requires { length tables.now ≤ 64 }
     ensures exact { Gives CatalogueFault.Memory result
-        (in_turn with_meter nothing_metered (map (λ t. table_view t.now) tables.now)) }
+        (in_turn (with_meter format) nothing_metered (map (λ t. table_view t.now) tables.now)) }
     ensures meters { IfOk result (λ metered. length metered.meters ≤ 64) }
     ensures instruments { IfOk result (λ metered. length metered.instruments ≤ 512) }
 {
@@ -213,15 +223,15 @@ fn metered_of(alloc: Global, tables: &[&Table]) -> Result<Metered, CatalogueFaul
         meters: Items::new(alloc),
         instruments: Items::new(alloc),
     };
-    add_meters(alloc, &mut metered, tables)?;
+    add_meters(alloc, &mut metered, tables, format)?;
     Ok(metered)
 }
 
 #[tactic(auto, unfolding(crate::specs::Catalogues::format_of_top), using(crate::proofs::FieldNames::field_names))]
-fn format_of_top(table: &Table) -> Result<(), CatalogueFault>
+fn format_of_top(table: &Table) -> Result<u8, CatalogueFault>
     ensures { result ≡ format_of_top (table_view table.now) }
 {
     let faults = faults_at(CataloguePlace::Top);
     only(table, &TOP_FIELDS, &faults)?;
-    format_field(table, &faults)
+    format_up_to(table, 2, &faults)
 }

@@ -1,6 +1,7 @@
 //! What a catalogue declares.
 use crate::values::Values;
 use metric_base::{Boundaries, Few, Shared, Text};
+use metric_combinations::Combinations;
 use metric_names::{Name, Unit};
 
 /// The kind of an instrument (Metrics API, instrument kinds).
@@ -48,6 +49,8 @@ pub struct Instrument {
     pub advice: Option<Shared<Boundaries>>,
     /// The attribute keys that recordings may have, in declared order.
     pub keys: Few<Key, 8>,
+    /// The combinations of their values that recordings may have, where the file lists them.
+    pub allowed: Option<Combinations>,
 }
 
 impl Drop for Instrument {
@@ -63,6 +66,7 @@ impl Drop for Instrument {
             hi: _,
             advice: _advice,
             keys: _keys,
+            allowed: _allowed,
         } = self;
     }
 }
@@ -98,6 +102,8 @@ pub struct Recorder {
 
 /// All that a catalogue declares, each list in the order of the file.
 pub struct Contents {
+    /// The format of the file: 1, or 2, in which an instrument may list its combinations.
+    pub format: u8,
     /// The meters.
     pub meters: Few<Meter, 64>,
     /// The instruments of all meters.
@@ -110,6 +116,7 @@ impl Drop for Contents {
     // A call of its own, so that what owns a catalogue does not carry the steps of dropping each part.
     fn drop(self) {
         let Contents {
+            format: _,
             meters: _meters,
             instruments: _instruments,
             recorders: _recorders,

@@ -5,7 +5,7 @@ ghost use Rattle.std.specs.Option.{option_copied, option_map};
 ghost use Rattle.metric_names.specs.Values.{value_of};
 ghost use Rattle.metric_catalogue.specs.Attributes.{given_by_owned};
 ghost use Rattle.metric_catalogue.specs.ByKeys.{is_allowed};
-ghost use Rattle.metric_catalogue.specs.Encoding.{IgnoresOrder, encode_of, entry_at, entry_with, has_declared_value, has_repeated_key, is_complete, is_declared, is_of, set_key, set_of};
+ghost use Rattle.metric_catalogue.specs.Encoding.{IgnoresOrder, encode_of, entry_at, entry_with, has_declared_value, has_repeated_key, is_complete, is_declared, is_of, permitted, set_key, set_of};
 ghost use Rattle.metric_catalogue.specs.InOrder.{AreKeysApart, entry_in_order, set_in_order};
 ghost use Rattle.metric_catalogue.specs.Keys.{is_key};
 
@@ -13,6 +13,7 @@ use crate::attributes::{Attribute, OwnedAttr};
 use crate::contents::{Instrument, Key};
 use crate::refusal::Refusal;
 use crate::repeats::{has_repeated_key, has_repeated_key_with_room, is_given};
+use metric_combinations::permits;
 use metric_names::ValueRef;
 
 /// For each declared key 0 where it is absent, else one plus the number of its value; 0 in the places
@@ -20,7 +21,7 @@ use metric_names::ValueRef;
 pub type SetKey = [u16; 8];
 
 // The set key of attributes for the instrument of this number, or the first refusal.
-#[tactic(auto, unfolding(crate::specs::Encoding::encode_of))]
+#[tactic(auto, unfolding(crate::specs::Encoding::encode_of, crate::specs::Encoding::allowed_set))]
 pub(crate) fn encode_of<A: Attribute>(
     instruments: &[Instrument],
     instrument: u32,
@@ -30,7 +31,10 @@ pub(crate) fn encode_of<A: Attribute>(
     ensures { result ≡ encode_of instruments.now instrument (map A.given attrs.now) }
 {
     match instruments.get(instrument as usize) {
-        Some(instrument) => set_of(instrument.keys.as_slice(), attrs),
+        Some(instrument) => {
+            let set = set_of(instrument.keys.as_slice(), attrs)?;
+            allowed(instrument, set)
+        }
         None => Err(Refusal::UnknownInstrument),
     }
 }
@@ -42,7 +46,7 @@ pub fn encode_ignores_order()
 {}
 
 // The same by way of a room that holds as many keys as there are attributes.
-#[tactic(auto, unfolding(crate::specs::Encoding::encode_of))]
+#[tactic(auto, unfolding(crate::specs::Encoding::encode_of, crate::specs::Encoding::allowed_set))]
 pub(crate) fn encode_with_room<'a>(
     instruments: &[Instrument],
     instrument: u32,
@@ -55,8 +59,23 @@ pub(crate) fn encode_with_room<'a>(
     ensures room { vec_capacity room.new ≡ vec_capacity room.old }
 {
     match instruments.get(instrument as usize) {
-        Some(instrument) => set_with_room(instrument.keys.as_slice(), attrs, room),
+        Some(instrument) => {
+            let set = set_with_room(instrument.keys.as_slice(), attrs, room)?;
+            allowed(instrument, set)
+        }
         None => Err(Refusal::UnknownInstrument),
+    }
+}
+
+// A set key that the instrument allows.
+#[inline(always)]
+fn allowed(instrument: &Instrument, set: SetKey) -> Result<SetKey, Refusal>
+    ensures { result ≡ permitted instrument.now.allowed set }
+{
+    if permits(&instrument.allowed, &set) {
+        Ok(set)
+    } else {
+        Err(Refusal::Combination)
     }
 }
 

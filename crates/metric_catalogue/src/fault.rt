@@ -52,6 +52,10 @@ pub enum CatalogueDefect {
     DuplicateBudget,
     /// A list or a text is longer than its limit.
     TooMany,
+    /// A row of allowed combinations has not one entry for each key, or one that the key does not have.
+    BadCombination,
+    /// A row of allowed combinations stands twice.
+    DuplicateCombination,
 }
 
 /// Why a text is no catalogue.
@@ -103,6 +107,8 @@ impl fmt::Display for CatalogueDefect {
             CatalogueDefect::DuplicateRecorder => "15 DuplicateRecorder",
             CatalogueDefect::DuplicateBudget => "16 DuplicateBudget",
             CatalogueDefect::TooMany => "17 TooMany",
+            CatalogueDefect::BadCombination => "19 BadCombination",
+            CatalogueDefect::DuplicateCombination => "20 DuplicateCombination",
         })
     }
 }

@@ -4,13 +4,15 @@ ghost use Rattle.std.specs.List.{list_any};
 ghost use Rattle.toml.specs.View.{table_view, view};
 ghost use Rattle.metric_base.specs.Steps.{Gives, Advances, each};
 ghost use Rattle.metric_catalogue.specs.Texts.{free_text};
-ghost use Rattle.metric_catalogue.specs.Instruments.{advice_field, boundaries_of, head_of, instrument_name, instrument_of, is_instrument, is_range, keys_field, kind_field, only_instrument_fields, pair_field, pair_of, range_field, unit_field};
+ghost use Rattle.metric_catalogue.specs.Instruments.{advice_field, boundaries_of, head_of, instrument_name, instrument_of, is_instrument, is_range, kind_field, only_instrument_fields, pair_field, pair_of, range_field, sets_field, unit_field};
 
+use crate::allowed::{allowed_field, allowed_of};
 use crate::contents::{Instrument, Key, Kind};
 use crate::fault::{CatalogueDefect, CatalogueFault, CataloguePlace};
 use crate::keys::keys_of;
 use crate::texts::{faults_at, free_text, pair_faults_at};
 use metric_base::{Boundaries, Few, Items, Shared, Text, is_rising};
+use metric_combinations::Combinations;
 use metric_names::{Name, NameFault, Unit, UnitFault};
 use metric_table::{
     integer_of, integers_of, list_of, member, only, optional_text, required, tables_field,
@@ -19,8 +21,8 @@ use metric_table::{
 use std::alloc::Global;
 use toml::{Table, Value};
 
-// The fields of an instrument's table.
-const INSTRUMENT_FIELDS: [&str; 7] = [
+// The fields of an instrument's table, of which format 1 has all but the last.
+const INSTRUMENT_FIELDS: [&str; 8] = [
     "name",
     "kind",
     "unit",
@@ -28,6 +30,7 @@ const INSTRUMENT_FIELDS: [&str; 7] = [
     "range",
     "boundaries",
     "key",
+    "allowed",
 ];
 
 // What names and describes an instrument.
@@ -57,7 +60,7 @@ impl Head {
         meter: u32,
         range: (i64, i64),
         advice: Option<Shared<Boundaries>>,
-        keys: Few<Key, 8>,
+        sets: (Few<Key, 8>, Option<Combinations>),
     ) -> Instrument
         ensures { result ≡ record {
           meter = meter;
@@ -68,7 +71,8 @@ impl Head {
           lo = range.0;
           hi = range.1;
           advice = advice;
-          keys = keys;
+          keys = sets.0;
+          allowed = sets.1;
         } }
     {
         let Head {
@@ -78,6 +82,7 @@ impl Head {
             description,
         } = self;
         let (lo, hi) = range;
+        let (keys, allowed) = sets;
         Instrument {
             meter,
             name,
@@ -88,6 +93,7 @@ impl Head {
             hi,
             advice,
             keys,
+            allowed,
         }
     }
 }
@@ -97,16 +103,17 @@ impl Head {
 pub(crate) fn add_instruments(
     alloc: Global,
     tables: &[&Table],
+    format: u8,
     meter: u32,
     instruments: &mut Items<Instrument>,
 ) -> Result<(), CatalogueFault>
     requires { length instruments.old + length tables.now ≤ 512 }
     ensures exact { Advances CatalogueFault.Memory result instruments.new
-        (each (instrument_of meter) instruments.old (map (λ t. table_view t.now) tables.now)) }
+        (each (instrument_of format meter) instruments.old (map (λ t. table_view t.now) tables.now)) }
     ensures few { length instruments.new ≤ length instruments.old + length tables.now }
 {
     for table in tables {
-        let instrument = instrument_of(alloc, table, meter, instruments.as_slice())?;
+        let instrument = instrument_of(alloc, table, format, meter, instruments.as_slice())?;
         instruments.push(instrument)?;
     }
     Ok(())
@@ -115,39 +122,43 @@ pub(crate) fn add_instruments(
 fn instrument_of(
     alloc: Global,
     table: &Table,
+    format: u8,
     meter: u32,
     before: &[Instrument],
 ) -> Result<Instrument, CatalogueFault>
     requires { length before.now < 512 }
     ensures { Gives CatalogueFault.Memory result
-        (instrument_of meter before.now (table_view table.now)) }
+        (instrument_of format meter before.now (table_view table.now)) }
 {
     let at = CataloguePlace::Instrument(before.len() as u32);
-    let head = head_of(alloc, table, at)?;
+    let head = head_of(alloc, table, format, at)?;
     let range = range_field(table, head.kind, at)?;
     let advice = advice_field(alloc, table, at)?;
     let is_taken = has_instrument(before, meter, head.name.get());
-    let keys = keys_field(alloc, table, at, is_taken)?;
-    Ok(head.instrument(meter, range, advice, keys))
+    let sets = sets_field(alloc, table, at, is_taken)?;
+    Ok(head.instrument(meter, range, advice, sets))
 }
 
-// The keys of an instrument, unless its name is taken, which is told before a fault of a key.
-#[tactic(auto, unfolding(crate::specs::Instruments::keys_field))]
-fn keys_field(
+// The keys of an instrument, and the combinations that it allows where it lists them. That its name is taken is told
+// before a fault of a key or a row.
+#[tactic(auto, unfolding(crate::specs::Instruments::sets_field))]
+fn sets_field(
     alloc: Global,
     table: &Table,
     at: CataloguePlace,
     is_taken: bool,
-) -> Result<Few<Key, 8>, CatalogueFault>
+) -> Result<(Few<Key, 8>, Option<Combinations>), CatalogueFault>
     ensures { Gives CatalogueFault.Memory result
-        (keys_field at is_taken (table_view table.now)) }
+        (sets_field at is_taken (table_view table.now)) }
 {
     let tables = tables_field(alloc, table, "key", 8, &faults_at(at))?;
+    let rows = allowed_field(table, at)?;
     if is_taken {
         return Err(CatalogueFault::At(CatalogueDefect::DuplicateInstrument, at));
     }
     let keys = keys_of(alloc, tables.as_slice(), at)?;
-    Ok(Few::from_items(keys))
+    let allowed = allowed_of(alloc, rows, keys.as_slice(), at)?;
+    Ok((Few::from_items(keys), allowed))
 }
 
 fn has_instrument(instruments: &[Instrument], meter: u32, name: &Name) -> bool
@@ -165,10 +176,15 @@ fn is_instrument(instrument: &Instrument, meter: u32, name: &Name) -> bool
 }
 
 #[tactic(auto, unfolding(crate::specs::Instruments::head_of))]
-fn head_of(alloc: Global, table: &Table, at: CataloguePlace) -> Result<Head, CatalogueFault>
-    ensures { Gives CatalogueFault.Memory result (head_of at (table_view table.now)) }
+fn head_of(
+    alloc: Global,
+    table: &Table,
+    format: u8,
+    at: CataloguePlace,
+) -> Result<Head, CatalogueFault>
+    ensures { Gives CatalogueFault.Memory result (head_of format at (table_view table.now)) }
 {
-    let name = instrument_name(alloc, table, at)?;
+    let name = instrument_name(alloc, table, format, at)?;
     let kind = kind_field(table, at)?;
     let unit = unit_field(alloc, table, at)?;
     let description = description_field(alloc, table, at)?;
@@ -181,21 +197,31 @@ fn head_of(alloc: Global, table: &Table, at: CataloguePlace) -> Result<Head, Cat
 }
 
 #[tactic(auto, unfolding(crate::specs::Instruments::only_instrument_fields), using(crate::proofs::FieldNames::field_names))]
-fn only_instrument_fields(table: &Table, at: CataloguePlace) -> Result<(), CatalogueFault>
-    ensures { result ≡ only_instrument_fields at (table_view table.now) }
+fn only_instrument_fields(
+    table: &Table,
+    format: u8,
+    at: CataloguePlace,
+) -> Result<(), CatalogueFault>
+    ensures { result ≡ only_instrument_fields format at (table_view table.now) }
 {
-    only(table, &INSTRUMENT_FIELDS, &faults_at(at))
+    let faults = faults_at(at);
+    if format == 1 {
+        only(table, &INSTRUMENT_FIELDS[..7], &faults)
+    } else {
+        only(table, &INSTRUMENT_FIELDS, &faults)
+    }
 }
 
 #[tactic(auto, unfolding(crate::specs::Instruments::instrument_name))]
 fn instrument_name(
     alloc: Global,
     table: &Table,
+    format: u8,
     at: CataloguePlace,
 ) -> Result<Shared<Name>, CatalogueFault>
-    ensures { Gives CatalogueFault.Memory result (instrument_name at (table_view table.now)) }
+    ensures { Gives CatalogueFault.Memory result (instrument_name format at (table_view table.now)) }
 {
-    only_instrument_fields(table, at)?;
+    only_instrument_fields(table, format, at)?;
     let text = text_field(table, "name", &faults_at(at))?;
     match Name::parse(alloc, text) {
         Ok(name) => Ok(Shared::new(alloc, name)?),

@@ -1,6 +1,7 @@
 //! The catalogue of instruments: its TOML form, its limits, and the set key of a recording's attributes.
 #![tactic(auto)]
 
+mod allowed;
 mod attributes;
 mod catalogue;
 mod contents;

@@ -29,27 +29,33 @@ pub(crate) fn add_meters(
     alloc: Global,
     metered: &mut Metered,
     tables: &[&Table],
+    format: u8,
 ) -> Result<(), CatalogueFault>
     requires meters { length metered.old.meters + length tables.now ≤ 64 }
     requires instruments { length metered.old.instruments ≤ 512 }
     ensures exact { Advances CatalogueFault.Memory result metered.new
-        (in_turn with_meter metered.old (map (λ t. table_view t.now) tables.now)) }
+        (in_turn (with_meter format) metered.old (map (λ t. table_view t.now) tables.now)) }
     ensures meters { OnOk result
         (length metered.new.meters ≡ length metered.old.meters + length tables.now) }
     ensures instruments { OnOk result (length metered.new.instruments ≤ 512) }
 {
     for table in tables {
-        add_meter(alloc, metered, table)?;
+        add_meter(alloc, metered, table, format)?;
     }
     Ok(())
 }
 
 #[tactic(auto, unfolding(crate::specs::Meters::with_meter))]
-fn add_meter(alloc: Global, metered: &mut Metered, table: &Table) -> Result<(), CatalogueFault>
+fn add_meter(
+    alloc: Global,
+    metered: &mut Metered,
+    table: &Table,
+    format: u8,
+) -> Result<(), CatalogueFault>
     requires meters { length metered.old.meters < 64 }
     requires instruments { length metered.old.instruments ≤ 512 }
     ensures exact { Advances CatalogueFault.Memory result metered.new
-        (with_meter metered.old (table_view table.now)) }
+        (with_meter format metered.old (table_view table.now)) }
     ensures meters { OnOk result (length metered.new.meters ≡ length metered.old.meters + 1) }
     ensures instruments { OnOk result (length metered.new.instruments ≤ 512) }
 {
@@ -59,7 +65,8 @@ fn add_meter(alloc: Global, metered: &mut Metered, table: &Table) -> Result<(), 
     let most = 512 - metered.instruments.len();
     let tables = tables_field(alloc, table, "instrument", most, &faults_at(at))?;
     put_meter(&mut metered.meters, meter, at)?;
-    add_instruments(alloc, tables.as_slice(), number, &mut metered.instruments)
+    let instruments = &mut metered.instruments;
+    add_instruments(alloc, tables.as_slice(), format, number, instruments)
 }
 
 // Puts a meter last, unless it is there already.

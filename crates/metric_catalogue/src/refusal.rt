@@ -24,6 +24,8 @@ pub enum Refusal {
     UnknownValue,
     /// A required key is missing.
     MissingKey,
+    /// The instrument does not allow the combination of values.
+    Combination,
     /// The value is outside the instrument's range.
     ValueRange,
     /// The instrument is closed.
@@ -49,6 +51,7 @@ impl Refusal {
             Refusal::UnknownKey => 4,
             Refusal::UnknownValue => 5,
             Refusal::MissingKey => 6,
+            Refusal::Combination => 13,
             Refusal::ValueRange => 7,
             Refusal::Closed => 8,
             Refusal::Budget => 9,
@@ -70,6 +73,7 @@ impl Refusal {
             Refusal::UnknownKey => "UnknownKey",
             Refusal::UnknownValue => "UnknownValue",
             Refusal::MissingKey => "MissingKey",
+            Refusal::Combination => "Combination",
             Refusal::ValueRange => "ValueRange",
             Refusal::Closed => "Closed",
             Refusal::Budget => "Budget",

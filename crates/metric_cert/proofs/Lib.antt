@@ -11,4 +11,6 @@ mod Numbered
 mod Collided
 mod Rising
 mod Holding
+mod Entries
+mod Formatted
 mod Validity

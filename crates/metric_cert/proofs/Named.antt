@@ -19,6 +19,7 @@ use Rattle.metric_resolve.specs.Applying.{meter_at}
 use Rattle.metric_resolve.specs.Collisions.{identity_of, identity_with}
 use Rattle.metric_resolve.specs.Laws.{IsOwn}
 use Rattle.metric_resolve.specs.Resolved.{streams_of}
+use Rattle.metric_bounds.specs.KeptLaws.{own_flags}
 use Rattle.metric_cert.specs.Making.{IsNamed}
 
 -- an instrument of which a stream is made
@@ -58,7 +59,7 @@ unfolding identity_of
 named contents config sound stream own =
     let known = known_instrument contents config stream.reader stream.instrument stream.view (Kept stream) own.filled in
     meter_there contents sound stream.instrument known
-    (λ m at. record { known = known; own = identity_with stream m; is = ap (option_map (identity_with stream)) at })
+    (λ m at. record { known = known; flags = own_flags contents config stream own; own = identity_with stream m; is = ap (option_map (identity_with stream)) at })
 
 pub all_named : (contents : Contents) (config : Config) → IsSound contents
     → ((stream : Stream) → Contains (streams_of contents config) stream → IsOwn contents config stream) → All (IsNamed contents) (streams_of contents config)

@@ -1,7 +1,8 @@
 -- The text that is made piece by piece is read as the certificate.
-use Rattle.std.proofs.Common.{◌≡◌, ℕ, pos, ◌^◌, ◌≤◌, ◌==◌, Bool, true, false, cond, codes, List, [], ◌∷◌, ◌++◌, length, Some, Result, Ok, Err, is_ok, refl, sym, ap, subst, ◌∙◌, arith, lit≤, append_assoc, append-nil, length-append}
+use Rattle.std.proofs.Common.{◌≡◌, ℕ, pos, ◌^◌, ◌≤◌, ◌==◌, ◌||◌, ◌&&◌, not, ◌⊎◌, inl, inr, Bool, true, false, cond, codes, List, [], ◌∷◌, ◌++◌, length, Some, Result, Ok, Err, is_ok, refl, sym, ap, subst, ◌∙◌, arith, lit≤, append_assoc, append-nil, length-append}
 use Rattle.std.specs.Prelude.{OnOk}
-use Rattle.std.proofs.lemmas.Bool.{and_parts}
+use Rattle.std.specs.List.{list_any}
+use Rattle.std.proofs.lemmas.Bool.{and_parts, eqb-true}
 use Rattle.std.proofs.lemmas.Bool.Decides.{nat_tests}
 use Rattle.toml.specs.Data.{Data, Items, Members, integer, array, table, string, float, boolean, datetime, item, no_items, member, no_members, members_depth, has_valid_dates, items_have_valid_dates, members_have_valid_dates, members_are_sorted}
 use Rattle.toml.specs.Parse.{parse_document}
@@ -12,10 +13,11 @@ use Rattle.toml.specs.declared.value.Value.{Value}
 use Rattle.toml.proofs.Lines.{IsLinesText-append, elements-last}
 use Rattle.toml.proofs.ReadBack.{parse_document-printed}
 use Rattle.metric_table.specs.Fields.{field, only, table_of}
-use Rattle.metric_cert.specs.declared.certificate.Certificate.{Certificate}
+use Rattle.metric_cert.specs.declared.claims.Claims.{Claims}
 use Rattle.metric_cert.specs.declared.fault.CertFault.{CertFault}
 use Rattle.metric_cert.specs.Bounds.{bound_of}
-use Rattle.metric_cert.specs.Certificates.{certificate_from, certificate_of, format_of, parts_of}
+use Rattle.metric_cert.specs.Certificates.{certificate_from, certificate_of, claims_of}
+use Rattle.metric_cert.specs.Formats.{has_list, is_formatted}
 use Rattle.metric_cert.specs.Orders.{order_of}
 use Rattle.metric_cert.specs.Printing.{AppendsEntries, AppendsEntry, AppendsLines, AppendsLists, IsFieldText, pair, pair_of, pair_where, pairs_of}
 use Rattle.metric_cert.specs.Reading.{needed, table_as, tables_as}
@@ -125,15 +127,29 @@ entries_more step levels name xs more x a b c grown old new =
 -- ---- the certificate
 
 -- the table of a certificate
-abbrev whole : Data → Data → Data → Data → Members
-whole bounds orders reasons streams =
-    member (codes "bound") bounds (member (codes "format") (integer (pos 1)) (member (codes "order") orders (member (codes "reason") reasons (member (codes "stream") streams no_members))))
+abbrev whole : ℕ → Data → Data → Data → Data → Members
+whole format bounds orders reasons streams =
+    member (codes "bound") bounds (member (codes "format") (integer (pos format)) (member (codes "order") orders (member (codes "reason") reasons (member (codes "stream") streams no_members))))
 
-certificate_read : (certificate : Certificate) (bounds orders reasons streams : Data) → tables_as bound_of bounds ≡ Ok certificate.bounds
+-- a format that there is is 1 or 2
+some_format : (format : ℕ) (lists : Bool) → (format == 2 || (format == 1 && not lists)) ≡ true → format ≤ 2
+some_format format lists formatted =
+    elim (or_parts (format == 2) (format == 1 && not lists) formatted) [
+      | inl second ↦ let is : format ≡ 2 = eqb-true format 2 second in omega (arith, is)
+      | inr first ↦ let is : format ≡ 1 = eqb-true format 1 (and_parts (format == 1) (not lists) first).0 in omega (arith, is)
+    ]
+  where
+    or_parts : (a b : Bool) → (a || b) ≡ true → (a ≡ true) ⊎ (b ≡ true)
+    or_parts true b e = inl refl
+    or_parts false b e = inr e
+
+certificate_read : (certificate : Claims) (bounds orders reasons streams : Data) → tables_as bound_of bounds ≡ Ok certificate.bounds
     → tables_as order_of orders ≡ Ok certificate.orders → tables_as reason_of reasons ≡ Ok certificate.reasons → tables_as stream_of streams ≡ Ok certificate.streams
-    → certificate_of (whole bounds orders reasons streams) ≡ Ok certificate
-unfolding certificate_of parts_of format_of only needed field
-certificate_read certificate bounds orders reasons streams b o r s = rw (whole_of-pos (2 ^ 32) 1 (lit≤ tt), b, o, r, s) refl
+    → is_formatted certificate ≡ true → certificate_of (whole certificate.format bounds orders reasons streams) ≡ Ok certificate
+unfolding certificate_of claims_of only needed field
+certificate_read certificate bounds orders reasons streams b o r s formatted =
+    let known = some_format certificate.format (list_any has_list certificate.streams) formatted in
+    rw (whole_of-pos (2 ^ 16) certificate.format (omega (arith, known)), b, o, r, s, formatted) refl
 
 -- A list is above the headers where it is empty.
 list_pairs : {X : Type 0} (xs : List X) (values : List Value) (name : List ℕ) (ms : Members) → length values ≡ length xs → are_tables (items_view values) ≡ true
@@ -157,7 +173,7 @@ list_lines bounds orders reasons streams =
     elements ([], codes "bound") (items_view bounds) ++ (elements ([], codes "order") (items_view orders)
     ++ (elements ([], codes "reason") (items_view reasons) ++ (elements ([], codes "stream") (items_view streams) ++ [])))
 
-lists_appended : (certificate : Certificate) (a b : List ℕ) (lists : AppendsLists certificate a b)
+lists_appended : (certificate : Claims) (a b : List ℕ) (lists : AppendsLists certificate a b)
     → AppendsLines (list_lines lists.bounds.values lists.orders.values lists.reasons.values lists.streams.values) a b
 lists_appended certificate a b lists =
     lines_then _ _ a lists.with_bounds b lists.bounds.lines
@@ -165,15 +181,15 @@ lists_appended certificate a b lists =
     (lines_then _ _ lists.with_orders lists.with_reasons b lists.reasons.lines
     (lines_then _ _ lists.with_reasons b b lists.streams.lines (lines_none b))))
 
-pairs_whole : (certificate : Certificate) (bounds orders reasons streams : List Value) → length bounds ≡ length certificate.bounds → length orders ≡ length certificate.orders
+pairs_whole : (certificate : Claims) (bounds orders reasons streams : List Value) → length bounds ≡ length certificate.bounds → length orders ≡ length certificate.orders
     → length reasons ≡ length certificate.reasons → length streams ≡ length certificate.streams → are_tables (items_view bounds) ≡ true → are_tables (items_view orders) ≡ true
     → are_tables (items_view reasons) ≡ true → are_tables (items_view streams) ≡ true
-    → pairs (whole (array (items_view bounds)) (array (items_view orders)) (array (items_view reasons)) (array (items_view streams))) ≡ pairs_of certificate
+    → pairs (whole certificate.format (array (items_view bounds)) (array (items_view orders)) (array (items_view reasons)) (array (items_view streams))) ≡ pairs_of certificate
 pairs_whole certificate bounds orders reasons streams b o r s are_bounds are_orders are_reasons are_streams =
     let from_streams = member (codes "stream") (array (items_view streams)) no_members in
     let from_reasons = member (codes "reason") (array (items_view reasons)) from_streams in
     let from_orders = member (codes "order") (array (items_view orders)) from_reasons in
-    let from_format = member (codes "format") (integer (pos 1)) from_orders in
+    let from_format = member (codes "format") (integer (pos certificate.format)) from_orders in
     rw (
       list_pairs certificate.bounds bounds (codes "bound") from_format b are_bounds,
       list_pairs certificate.orders orders (codes "order") from_reasons o are_orders,
@@ -182,27 +198,27 @@ pairs_whole certificate bounds orders reasons streams b o r s are_bounds are_ord
       append-nil (pair_of certificate.streams (codes "stream")),
     ) refl
 
-sections_whole : (bounds orders reasons streams : List Value) → are_tables (items_view bounds) ≡ true → are_tables (items_view orders) ≡ true
+sections_whole : (format : ℕ) (bounds orders reasons streams : List Value) → are_tables (items_view bounds) ≡ true → are_tables (items_view orders) ≡ true
     → are_tables (items_view reasons) ≡ true → are_tables (items_view streams) ≡ true
-    → sections [] (whole (array (items_view bounds)) (array (items_view orders)) (array (items_view reasons)) (array (items_view streams))) ≡ list_lines bounds orders reasons streams
-sections_whole bounds orders reasons streams b o r s = rw (b, o, r, s) refl
+    → sections [] (whole format (array (items_view bounds)) (array (items_view orders)) (array (items_view reasons)) (array (items_view streams))) ≡ list_lines bounds orders reasons streams
+sections_whole format bounds orders reasons streams b o r s = rw (b, o, r, s) refl
 
-pub certificate_printed : (certificate : Certificate) (start middle text : List ℕ) → start ≡ [] → AppendsLines (pairs_of certificate) start middle
-    → AppendsLists certificate middle text → certificate_from text ≡ Ok certificate
-certificate_printed certificate start middle text empty above lists =
+pub certificate_printed : (certificate : Claims) (start middle text : List ℕ) → start ≡ [] → AppendsLines (pairs_of certificate) start middle
+    → AppendsLists certificate middle text → is_formatted certificate ≡ true → certificate_from text ≡ Ok certificate
+certificate_printed certificate start middle text empty above lists formatted =
     let bounds = array (items_view lists.bounds.values) in
     let orders = array (items_view lists.orders.values) in
     let reasons = array (items_view lists.reasons.values) in
     let streams = array (items_view lists.streams.values) in
-    let fields = whole bounds orders reasons streams in
+    let fields = whole certificate.format bounds orders reasons streams in
     let lines = lines_then _ _ start middle text above (lists_appended certificate middle text lists) in
     let same : text ≡ lines.text = lines.appended ∙ ap (λ t. t ++ lines.text) empty in
     let pairs_same = pairs_whole certificate (lists.bounds.values) (lists.orders.values) (lists.reasons.values) (lists.streams.values) lists.bounds.count lists.orders.count lists.reasons.count lists.streams.count
     lists.bounds.tabled lists.orders.tabled lists.reasons.tabled lists.streams.tabled in
-    let sections_same = sections_whole lists.bounds.values lists.orders.values lists.reasons.values lists.streams.values lists.bounds.tabled lists.orders.tabled lists.reasons.tabled lists.streams.tabled in
+    let sections_same = sections_whole certificate.format lists.bounds.values lists.orders.values lists.reasons.values lists.streams.values lists.bounds.tabled lists.orders.tabled lists.reasons.tabled lists.streams.tabled in
     let expressions_same : expressions fields ≡ pairs_of certificate ++ list_lines lists.bounds.values lists.orders.values lists.reasons.values lists.streams.values =
     rw (pairs_same, sections_same) refl in
-    let spelled = unstarted (length certificate.bounds == 0) (codes "bound") ([], codes "format") (integer (pos 1)) _ _ lines.text lines.spelled in
+    let spelled = unstarted (length certificate.bounds == 0) (codes "bound") ([], codes "format") (integer (pos certificate.format)) _ _ lines.text lines.spelled in
     let doc : IsDocumentText false fields lines.text = subst (λ es. IsLinesText false false es lines.text) (sym expressions_same) spelled in
     let deep : members_depth fields ≤ 80 = omega (arith, lists.bounds.printable.shallow, lists.orders.printable.shallow, lists.reasons.printable.shallow, lists.streams.printable.shallow) in
     let dated : members_have_valid_dates fields ≡ true = rw (lists.bounds.dated, lists.orders.dated, lists.reasons.dated, lists.streams.dated) refl in
@@ -212,4 +228,4 @@ certificate_printed certificate start middle text empty above lists =
     (certificate_read certificate bounds orders reasons streams (list_of-array (table_as bound_of) bounds lists.bounds.values certificate.bounds refl lists.bounds.reads)
     (list_of-array (table_as order_of) orders lists.orders.values certificate.orders refl lists.orders.reads)
     (list_of-array (table_as reason_of) reasons lists.reasons.values certificate.reasons refl lists.reasons.reads)
-    (list_of-array (table_as stream_of) streams lists.streams.values certificate.streams refl lists.streams.reads))
+    (list_of-array (table_as stream_of) streams lists.streams.values certificate.streams refl lists.streams.reads) formatted)

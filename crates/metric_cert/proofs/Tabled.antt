@@ -1,5 +1,5 @@
 -- A table whose fields were put one after the other is read as what they were put for.
-use Rattle.std.proofs.Common.{◌≡◌, ℕ, ◌+◌, ◌^◌, true, ◌&&◌, codes, List, Option, Some, None, Result, Ok, Err, Ordering, Less, Equal, Greater, refl, ap, ◌∙◌, arith, ◌≤◌, lit≤}
+use Rattle.std.proofs.Common.{◌≡◌, ℕ, ◌+◌, ◌^◌, true, ◌&&◌, codes, List, Option, Some, None, Result, Ok, Err, Ordering, Less, Equal, Greater, refl, ap, subst, ◌∙◌, arith, ◌≤◌, lit≤}
 use Rattle.std.specs.Prelude.{OnOk}
 use Rattle.std.proofs.lemmas.Bool.{and_parts}
 use Rattle.std.proofs.lemmas.Cmp.{nat_list_cmp_total}
@@ -15,14 +15,16 @@ use Rattle.metric_cert.specs.declared.reason.Criterion.{Criterion}
 use Rattle.metric_cert.specs.declared.reason.Criterion.TheVariants.{InstrumentType, InstrumentUnit, MeterName, MeterVersion, MeterSchemaUrl}
 use Rattle.metric_cert.specs.declared.reason.Evidence.{Evidence}
 use Rattle.metric_cert.specs.declared.reason.Evidence.TheVariants.{Name, Miss}
+use Rattle.metric_cert.specs.declared.stream.BoundWord.{BoundWord}
+use Rattle.metric_cert.specs.declared.stream.BoundWord.TheVariants as words
 use Rattle.metric_cert.specs.declared.stream.By.{By}
-use Rattle.metric_cert.specs.declared.stream.By.TheVariants.{Product, Budget}
+use Rattle.metric_cert.specs.declared.stream.By.TheVariants as by
 use Rattle.metric_cert.specs.Bounds.{bound_of}
-use Rattle.metric_cert.specs.Names.{by_name, by_of, criterion_name, criterion_of}
+use Rattle.metric_cert.specs.Names.{criterion_name, criterion_of, word_for, word_name, word_of}
 use Rattle.metric_cert.specs.Orders.{order_of}
 use Rattle.metric_cert.specs.Reading.{decimal_of, list_of, needed, optional, signed_decimal_of, whole_of}
 use Rattle.metric_cert.specs.Reasons.{PutsEvidence, evidence_of, reason_of}
-use Rattle.metric_cert.specs.Streams.{stream_of}
+use Rattle.metric_cert.specs.Streams.{PutsList, by_of, stream_of}
 use Rattle.metric_cert.specs.Writing.{IsPrintable, Puts, PutsGiven, with_member}
 
 criterion_read : (criterion : Criterion) → criterion_of (string (criterion_name criterion)) ≡ Ok criterion
@@ -36,13 +38,14 @@ criterion_read MeterSchemaUrl = refl
 pub criterion_written : (criterion : Criterion) (d : Data) → d ≡ string (criterion_name criterion) → criterion_of d ≡ Ok criterion
 criterion_written criterion d is = rw is (criterion_read criterion)
 
-by_read : (by : By) → by_of (string (by_name by)) ≡ Ok by
-unfolding by_of text_of
-by_read Product = refl
-by_read Budget = refl
+word_read : (word : BoundWord) → word_of (string (word_name word)) ≡ Ok word
+unfolding word_of text_of
+word_read words.Product = refl
+word_read words.List = refl
+word_read words.Budget = refl
 
-pub by_written : (by : By) (d : Data) → d ≡ string (by_name by) → by_of d ≡ Ok by
-by_written by d is = rw is (by_read by)
+pub word_written : (word : BoundWord) (d : Data) → d ≡ string (word_name word) → word_of d ≡ Ok word
+word_written word d is = rw is (word_read word)
 
 pub order_written : (order : ReaderOrder) (none one two : Members) → none ≡ no_members → Puts (whole_of (2 ^ 32)) 0 (codes "reader") order.reader none one
     → Puts (list_of (whole_of (2 ^ 32))) 1 (codes "streams") order.streams one two → order_of two ≡ Ok order
@@ -68,16 +71,28 @@ reason_written view instrument (Name (Rows rows)) none one two three start p q r
 reason_written view instrument (Miss criterion) none one two three start p q r =
     rw (r.put, q.put, p.put, start, p.reads, q.reads, r.reads) refl
 
-pub stream_written : (reader instrument : ℕ) (view : Option ℕ) (by : By) (sets : ℕ) (none one two three four five : Members) → none ≡ no_members
+-- a word was put
+pub word_put : (word own : BoundWord) (before after : Members) → word ≡ own → Puts word_of 0 (codes "by") word before after → Puts word_of 0 (codes "by") own before after
+word_put word own before after is put = subst (λ (w : BoundWord). Puts word_of 0 (codes "by") w before after) is put
+
+pub stream_written : (reader instrument : ℕ) (view : Option ℕ) (by : By) (sets : ℕ) (none one two three four five six : Members) → none ≡ no_members
     → Puts (whole_of (2 ^ 32)) 0 (codes "reader") reader none one → Puts (whole_of (2 ^ 32)) 0 (codes "instrument") instrument one two
-    → PutsGiven (whole_of (2 ^ 32)) 0 (codes "view") view two three → Puts by_of 0 (codes "by") by three four
-    → Puts (whole_of (2 ^ 32)) 0 (codes "sets") sets four five
-    → stream_of five ≡ Ok (record { reader = reader; instrument = instrument; view = view; by = by; sets = sets })
-unfolding stream_of only needed optional field
-stream_written reader instrument None by sets none one two three four five start p q r s t =
-    rw (t.put, s.put, r, q.put, p.put, start, p.reads, q.reads, s.reads, t.reads) refl
-stream_written reader instrument (Some view) by sets none one two three four five start p q r s t =
-    rw (t.put, s.put, r.put, q.put, p.put, start, p.reads, q.reads, r.reads, s.reads, t.reads) refl
+    → PutsGiven (whole_of (2 ^ 32)) 0 (codes "view") view two three → Puts word_of 0 (codes "by") (word_for by) three four
+    → PutsList by four five → Puts (whole_of (2 ^ 32)) 0 (codes "sets") sets five six
+    → stream_of six ≡ Ok (record { reader = reader; instrument = instrument; view = view; by = by; sets = sets })
+unfolding stream_of by_of only needed optional field
+stream_written reader instrument None by.Product sets none one two three four five six start p q r s l t =
+    rw (t.put, l, s.put, r, q.put, p.put, start, p.reads, q.reads, s.reads, t.reads) refl
+stream_written reader instrument None by.Budget sets none one two three four five six start p q r s l t =
+    rw (t.put, l, s.put, r, q.put, p.put, start, p.reads, q.reads, s.reads, t.reads) refl
+stream_written reader instrument None (by.List list) sets none one two three four five six start p q r s l t =
+    rw (t.put, l.put, s.put, r, q.put, p.put, start, p.reads, q.reads, s.reads, l.reads, t.reads) refl
+stream_written reader instrument (Some view) by.Product sets none one two three four five six start p q r s l t =
+    rw (t.put, l, s.put, r.put, q.put, p.put, start, p.reads, q.reads, r.reads, s.reads, t.reads) refl
+stream_written reader instrument (Some view) by.Budget sets none one two three four five six start p q r s l t =
+    rw (t.put, l, s.put, r.put, q.put, p.put, start, p.reads, q.reads, r.reads, s.reads, t.reads) refl
+stream_written reader instrument (Some view) (by.List list) sets none one two three four five six start p q r s l t =
+    rw (t.put, l.put, s.put, r.put, q.put, p.put, start, p.reads, q.reads, r.reads, s.reads, l.reads, t.reads) refl
 
 -- A table stays printable as a field is put into it.
 pub none_printable : (none : Members) (most : ℕ) → none ≡ no_members → IsPrintable (most + 1) (table none)
@@ -140,6 +155,11 @@ pub evidence_printable : (evidence : Evidence) (before after : Members) → IsPr
 evidence_printable (Name (Takes takes)) before after old p = put_printable 2 (lit≤ tt) old p
 evidence_printable (Name (Rows rows)) before after old p = put_printable 2 (lit≤ tt) old p
 evidence_printable (Miss criterion) before after old p = put_printable 2 (lit≤ tt) old p
+
+pub list_printable : (by : By) (before after : Members) → IsPrintable 3 (table before) → PutsList by before after → IsPrintable 3 (table after)
+list_printable by.Product before after old p = rw p old
+list_printable (by.List list) before after old p = put_printable 2 (lit≤ tt) old p
+list_printable by.Budget before after old p = rw p old
 
 pub when_ok : {X E : Type 0} {P Q : Type 0} (r : Result X E) → OnOk r P → (P → Q) → OnOk r Q
 when_ok (Ok x) p next = next p

@@ -1,8 +1,7 @@
 -- What the maker gives for what is safe is valid.
-use Rattle.std.proofs.Common.{◌≡◌, ◌≢◌, ℕ, Bool, true, false, cond, List, Option, Some, None, Result, Ok, Err, inr, refl, sym, subst, ◌∙◌, arith}
+use Rattle.std.proofs.Common.{◌≡◌, ◌≢◌, ℕ, Bool, true, false, List, Option, Some, None, Result, Ok, Err, inr, refl, sym, subst, ◌∙◌}
 use Rattle.std.specs.List.{AllZip}
-use Rattle.std.specs.Prelude.{IfOk, IsOkUnless, nat_le, slice_get}
-use Rattle.std.proofs.lemmas.Bool.{leb-true, leb-false}
+use Rattle.std.specs.Prelude.{IfOk, IsOkUnless, slice_get}
 use Rattle.std.proofs.lemmas.List.Elements.{All-weaker}
 use Rattle.metric_glob.specs.Reasons.{Confirms}
 use Rattle.metric_glob.specs.declared.reason.Reason.{Reason}
@@ -16,13 +15,11 @@ use Rattle.metric_views.specs.declared.config.View.{View}
 use Rattle.metric_views.specs.declared.stream.Stream.{Stream}
 use Rattle.metric_resolve.specs.Applying.{meter_at}
 use Rattle.metric_resolve.specs.Resolved.{streams_of}
-use Rattle.metric_bounds.specs.Amounts.{total_of}
 use Rattle.metric_bounds.specs.Finding.{InstrumentsFind, LimitsFind, SafetyFinds}
 use Rattle.metric_bounds.specs.FindingLaws.{SafetyFinds-IsSingle, none_from_safe, safe_from_none}
 use Rattle.metric_bounds.specs.First.{Reports, Then}
 use Rattle.metric_bounds.specs.Safe.{AreDistinct, IsSafe, SetsFit}
-use Rattle.metric_bounds.specs.Sets.{sets_of}
-use Rattle.metric_cert.specs.declared.certificate.Certificate.{Certificate}
+use Rattle.metric_cert.specs.declared.claims.Claims.{Claims}
 use Rattle.metric_cert.specs.declared.make_fault.MakeFault.{MakeFault}
 use Rattle.metric_cert.specs.declared.make_fault.MakeFault.TheVariants.{Collision, LimitExceeded, SumLow, SumHigh, CountRange, AmountRange, Memory}
 use Rattle.metric_cert.specs.declared.reason.Criterion.{Criterion}
@@ -30,10 +27,10 @@ use Rattle.metric_cert.specs.declared.reason.Criterion.TheVariants.{InstrumentTy
 use Rattle.metric_cert.specs.declared.reason.Evidence.{Evidence}
 use Rattle.metric_cert.specs.declared.reason.Evidence.TheVariants.{Name}
 use Rattle.metric_cert.specs.declared.reason.SelectionReason.{SelectionReason}
-use Rattle.metric_cert.specs.declared.stream.By.TheVariants.{Product, Budget}
 use Rattle.metric_cert.specs.declared.stream.StreamSets.{StreamSets}
-use Rattle.metric_cert.specs.Making.{IsEvidenceBy, IsMade, IsMadeBy, IsMadeEvidence, IsMadeFor, IsMadeReason, IsMadeWith, entry_of, entry_with, first_miss, holds, make_faults, or_else}
+use Rattle.metric_cert.specs.Making.{IsEvidenceBy, IsMade, IsMadeBy, IsMadeEvidence, IsMadeFor, IsMadeReason, IsMadeWith, entry_of, first_miss, holds, make_faults, or_else}
 use Rattle.metric_cert.specs.Valid.{Holds, IsEntryOf, IsReasonOf, IsTrueEvidence, IsTrueOf, IsValid, all_pairs, pattern_for}
+use Rattle.metric_cert.proofs.Entries.{true_entry}
 use Rattle.metric_cert.proofs.Holding.{holds-Decides}
 use Rattle.metric_cert.proofs.Pairs.{AllZip-mapped, AllZip-weaker}
 
@@ -116,18 +113,7 @@ true_reason contents config pair reason made = record {
       (true_of reason.evidence (slice_get config.views pair.0) contents pair.1 made.evidence));
 }
 
--- the entry of a stream that is within its limit
-true_entry : (contents : Contents) (stream : Stream) → SetsFit contents stream → IsEntryOf contents stream (entry_of contents stream)
-true_entry contents stream fit = by (nat_le (sets_of contents stream) stream.limit) refl
-  where
-    by : (b : Bool) → nat_le (sets_of contents stream) stream.limit ≡ b
-        → IsEntryOf contents stream (cond b (entry_with stream Product (sets_of contents stream)) (entry_with stream Budget (total_of contents stream.instrument)))
-    by true e = record { reader = refl; instrument = refl; view = refl; sets = refl; limited = leb-true (sets_of contents stream) stream.limit e }
-    by false e =
-        let above = leb-false (sets_of contents stream) stream.limit e in
-        record { reader = refl; instrument = refl; view = refl; sets = refl; limited = omega arith }
-
-pub valid_of : (contents : Contents) (config : Config) (certificate : Certificate) → IsSafe contents config → IsMade contents config certificate → IsValid contents config certificate
+pub valid_of : (contents : Contents) (config : Config) (certificate : Claims) → IsSafe contents config → IsMade contents config certificate → IsValid contents config certificate
 valid_of contents config certificate safe made = record {
   reasons = AllZip-weaker (IsMadeReason contents config) (IsReasonOf contents config) (true_reason contents config) (all_pairs contents config) certificate.reasons made.reasons;
   streams =
@@ -139,12 +125,12 @@ valid_of contents config certificate safe made = record {
 }
 
 -- what an answer of the maker says of safety
-pub record Answered (contents : Contents) (config : Config) (r : Result Certificate MakeFault) : Type 0 where
+pub record Answered (contents : Contents) (config : Config) (r : Result Claims MakeFault) : Type 0 where
   pub valid : IfOk r (IsValid contents config)
   pub safe : IfOk r (λ _. IsSafe contents config)
   pub accepts : IsSafe contents config → IsOkUnless r Memory
 
-pub answered : (contents : Contents) (config : Config) (r : Result Certificate MakeFault) → IfOk r (IsMade contents config)
+pub answered : (contents : Contents) (config : Config) (r : Result Claims MakeFault) → IfOk r (IsMade contents config)
     → Reports Memory (SafetyFinds make_faults contents (streams_of contents config)) r → Answered contents config r
 answered contents config (Ok certificate) made found =
     let safe = safe_from_none make_faults contents (streams_of contents config) found in
@@ -165,14 +151,14 @@ answered contents config (Err fault) made found = record { valid = tt; safe = tt
     by Memory h = refl
 
 -- the same of the certificate for streams of distinct identities
-pub concluded : (contents : Contents) (config : Config) (streams : List Stream) (r : Result Certificate MakeFault) → streams ≡ streams_of contents config → AreDistinct contents streams
+pub concluded : (contents : Contents) (config : Config) (streams : List Stream) (r : Result Claims MakeFault) → streams ≡ streams_of contents config → AreDistinct contents streams
     → IfOk r (IsMadeFor contents config streams) → Reports Memory (Then (InstrumentsFind make_faults contents streams) (LimitsFind make_faults contents streams)) r
     → Answered contents config r
 concluded contents config streams r is distinct made found =
     answered contents config r (subst (λ (s : List Stream). IfOk r (IsMadeFor contents config s)) is made)
     (subst (λ (s : List Stream). Reports Memory (SafetyFinds make_faults contents s) r) is (whole r found))
   where
-    whole : (r : Result Certificate MakeFault) → Reports Memory (Then (InstrumentsFind make_faults contents streams) (LimitsFind make_faults contents streams)) r
+    whole : (r : Result Claims MakeFault) → Reports Memory (Then (InstrumentsFind make_faults contents streams) (LimitsFind make_faults contents streams)) r
         → Reports Memory (SafetyFinds make_faults contents streams) r
     whole (Ok certificate) found = (distinct, found)
     whole (Err fault) found = λ other. inr (distinct, found other)

@@ -1,5 +1,5 @@
 -- What is written is read as itself.
-use Rattle.std.proofs.Common.{ℤ, pos, true, nat_lt, ◌≡◌, ℕ, ◌+◌, ◌≤◌, ◌<◌, ◌^◌, List, [], ◌∷◌, ◌++◌, map, Result, Ok, Err, String, Global, Ordering, Less, Equal, Greater, string_bytes, refl, ap, arith, lit≤}
+use Rattle.std.proofs.Common.{ℤ, pos, true, nat_lt, ◌≡◌, ℕ, ◌+◌, ◌≤◌, ◌<◌, ◌^◌, List, [], ◌∷◌, ◌++◌, ◌==◌, length, map, Result, Ok, Err, String, Global, Ordering, Less, Equal, Greater, string_bytes, refl, ap, arith, lit≤}
 use Rattle.std.specs.Prelude.{FitsSigned}
 use Rattle.std.specs.Int.{w128}
 use Rattle.std.specs.BTreeMap.{insert_entry}
@@ -10,6 +10,7 @@ use Rattle.toml.specs.Data.{Data, Members, member, integer, string, array, table
 use Rattle.toml.specs.View.{items_of, items_view, members_view, view}
 use Rattle.toml.specs.declared.value.Value.{Value}
 use Rattle.toml.proofs.Views.{Entry, items_are_sorted-last}
+use Rattle.std.proofs.lemmas.Bool.{eq-eqb}
 use Rattle.std.proofs.lemmas.Bool.Decides.{nat_tests}
 use mathlib.Core.List.{map-append}
 use Rattle.metric_base.specs.Steps.{◌>>=◌, in_turn, with_next}
@@ -18,6 +19,7 @@ use Rattle.metric_text.specs.ReadingLaws.{number_of-text}
 use Rattle.metric_cert.specs.declared.fault.CertFault.{CertFault}
 use Rattle.metric_cert.proofs.Spelled.{wide_of-text}
 use Rattle.metric_cert.specs.Reading.{decimal_of, list_of, signed_decimal_of, table_as, values_of, whole_of}
+use Rattle.metric_cert.specs.Streams.{set_key_of}
 use Rattle.metric_cert.specs.Writing.{IsPrintable, with_member}
 
 pub decimal_of-decimal : (n : ℕ) → n < 2 ^ 64 → decimal_of (string (decimal n)) ≡ Ok n
@@ -45,6 +47,13 @@ pub list_of-array : {X : Type 0} (step : Data → Result X CertFault) (d : Data)
     → each_alone step (map view values) ≡ Ok xs → list_of step d ≡ Ok xs
 unfolding list_of values_of
 list_of-array step d values xs is read = rw (is, items_values-items_of (map view values)) read
+
+pub set_key_of-array : (d : Data) (values : List Value) (set : List ℕ) → d ≡ array (items_view values) → each_alone (whole_of (2 ^ 16)) (map view values) ≡ Ok set
+    → length set ≡ 8 → set_key_of d ≡ Ok set
+unfolding set_key_of
+set_key_of-array d values set is read long =
+    let test : (length set == 8) ≡ true = eq-eqb (length set) 8 long in
+    rw (list_of-array (whole_of (2 ^ 16)) d values set is read, test) refl
 
 pub table_as-table : {X : Type 0} (step : Members → Result X CertFault) (d : Data) (fields : Members) (x : X) → d ≡ table fields
     → step fields ≡ Ok x → table_as step d ≡ Ok x

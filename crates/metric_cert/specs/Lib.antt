@@ -1,6 +1,7 @@
 pub mod Bounds
 pub mod Certificates
 pub mod Decimals
+pub mod Formats
 pub mod Making
 pub mod Names
 pub mod Ordering

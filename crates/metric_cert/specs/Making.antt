@@ -1,5 +1,5 @@
 -- How a certificate is made: which evidence, which numbers and which faults the maker chooses.
-use Rattle.std.specs.Prelude.{◌≡◌, ◌<◌, ℕ, pos, Bool, true, false, length, if◌then◌else◌, List, ◌++◌, map, nat_le, Option, Some, None, slice_get}
+use Rattle.std.specs.Prelude.{◌≡◌, ◌<◌, ℕ, pos, Bool, true, false, length, if◌then◌else◌, List, ◌++◌, map, nat_le, Option, Some, None, slice_get, unwrap_or}
 use Rattle.std.specs.List.{AllZip}
 use Rattle.metric_glob.specs.Reasons.{Confirms}
 use Rattle.metric_glob.specs.declared.reason.Reason.{Reason}
@@ -18,10 +18,10 @@ use Rattle.metric_resolve.specs.declared.warning.Warning.TheVariants as warnings
 use Rattle.metric_resolve.specs.Resolved.{streams_of}
 use Rattle.metric_bounds.specs.Amounts.{amount_with, high_with, low_with, total_of}
 use Rattle.metric_bounds.specs.Finding.{SafetyFaults}
-use Rattle.metric_bounds.specs.Sets.{sets_of}
+use Rattle.metric_bounds.specs.Sets.{FlagsKeys, listed_of, product_of}
 use Rattle.metric_cert.specs.Valid.{IsBoundAt, IsOrderOf, all_pairs, pattern_for}
 use Rattle.metric_cert.specs.declared.bound.InstrumentBound.{InstrumentBound}
-use Rattle.metric_cert.specs.declared.certificate.Certificate.{Certificate}
+use Rattle.metric_cert.specs.declared.claims.Claims.{Claims}
 use Rattle.metric_cert.specs.declared.make_fault.MakeFault.{MakeFault}
 use Rattle.metric_cert.specs.declared.make_fault.MakeFault.TheVariants as faults
 use Rattle.metric_cert.specs.declared.reason.Criterion.{Criterion}
@@ -30,7 +30,7 @@ use Rattle.metric_cert.specs.declared.reason.Evidence.{Evidence}
 use Rattle.metric_cert.specs.declared.reason.Evidence.TheVariants.{Name, Miss}
 use Rattle.metric_cert.specs.declared.reason.SelectionReason.{SelectionReason}
 use Rattle.metric_cert.specs.declared.stream.By.{By}
-use Rattle.metric_cert.specs.declared.stream.By.TheVariants.{Product, Budget}
+use Rattle.metric_cert.specs.declared.stream.By.TheVariants as by
 use Rattle.metric_cert.specs.declared.stream.StreamSets.{StreamSets}
 
 -- the faults by which the maker names what is not safe
@@ -120,26 +120,37 @@ pub record AddsReasons (contents : Contents) (number : ℕ) (view : View) (befor
   pub is : after ≡ before ++ added
   pub each : AllZip (IsReasonFor contents number view) (all_instruments contents) added
 
--- a stream with what bounds its series: the sets that it may see where they are within its limit, else its budgets
+-- a stream by its list, where there is one within its limit
+abbrev pub entry_by_list : Stream → Option (List (List ℕ)) → Option StreamSets
+entry_by_list stream None = None
+entry_by_list stream (Some list) = if nat_le (length list) stream.limit then Some (entry_with stream (by.List list) (length list)) else None
+
+-- a stream whose product is past its limit: by its list, or else by the budgets
+abbrev pub entry_past : Contents → Stream → StreamSets
+entry_past contents stream =
+    unwrap_or (entry_by_list stream (listed_of contents stream)) (entry_with stream by.Budget (total_of contents stream.instrument))
+
+-- a stream with what bounds its series: the product where that is within its limit, then the list, then the budgets
 abbrev pub entry_of : Contents → Stream → StreamSets
 entry_of contents stream =
-    if nat_le (sets_of contents stream) stream.limit then entry_with stream Product (sets_of contents stream)
-    else entry_with stream Budget (total_of contents stream.instrument)
+    if nat_le (product_of contents stream) stream.limit then entry_with stream by.Product (product_of contents stream) else entry_past contents stream
 
 -- what the maker gives for these streams
-pub record IsMadeFor (contents : Contents) (config : Config) (streams : List Stream) (certificate : Certificate) : Type 0 where
+pub record IsMadeFor (contents : Contents) (config : Config) (streams : List Stream) (certificate : Claims) : Type 0 where
+  pub format : certificate.format ≡ contents.format
   pub reasons : AllZip (IsMadeReason contents config) (all_pairs contents config) certificate.reasons
   pub entries : certificate.streams ≡ map (entry_of contents) streams
   pub bounds : AllZip (IsBoundAt contents streams) (all_instruments contents) certificate.bounds
   pub orders : AllZip (IsOrderOf contents streams) (all_readers config) certificate.orders
 
 -- what the maker gives
-abbrev pub IsMade : Contents → Config → Certificate → Type 0
+abbrev pub IsMade : Contents → Config → Claims → Type 0
 IsMade contents config = IsMadeFor contents config (streams_of contents config)
 
--- The stream has an identity, since its instrument is one of the catalogue's.
+-- The stream has an identity, since its instrument is one of the catalogue's, and says of each of its keys whether it is kept.
 pub record IsNamed (contents : Contents) (stream : Stream) : Type 0 where
   pub known : stream.instrument < length contents.instruments
+  pub flags : FlagsKeys contents stream
   pub own : Identity
   pub is : identity_of contents stream ≡ Some own
 

@@ -8,8 +8,10 @@ use Rattle.metric_cert.specs.declared.fault.CertFault.{CertFault}
 use Rattle.metric_cert.specs.declared.fault.CertFault.TheVariants.{Shape}
 use Rattle.metric_cert.specs.declared.reason.Criterion.{Criterion}
 use Rattle.metric_cert.specs.declared.reason.Criterion.TheVariants.{InstrumentType, InstrumentUnit, MeterName, MeterVersion, MeterSchemaUrl}
+use Rattle.metric_cert.specs.declared.stream.BoundWord.{BoundWord}
+use Rattle.metric_cert.specs.declared.stream.BoundWord.TheVariants as words
 use Rattle.metric_cert.specs.declared.stream.By.{By}
-use Rattle.metric_cert.specs.declared.stream.By.TheVariants.{Product, Budget}
+use Rattle.metric_cert.specs.declared.stream.By.TheVariants as by
 use Rattle.metric_cert.specs.Reading.{shape_faults}
 
 abbrev pub criterion_name : Criterion → List ℕ
@@ -33,17 +35,29 @@ criterion_of d = do
   text ← text_of shape_faults d
   require_some (criterion_named text) Shape
 
-abbrev pub by_name : By → List ℕ
-by_name Product = codes "product"
-by_name Budget = codes "budget"
+abbrev pub word_name : BoundWord → List ℕ
+word_name words.Product = codes "product"
+word_name words.List = codes "list"
+word_name words.Budget = codes "budget"
 
-abbrev pub by_named : List ℕ → Option By
-by_named text =
-    if bytes_eq text (codes "product") then Some Product
-    else if bytes_eq text (codes "budget") then Some Budget
+abbrev pub word_named : List ℕ → Option BoundWord
+word_named text =
+    if bytes_eq text (codes "product") then Some words.Product
+    else if bytes_eq text (codes "list") then Some words.List
+    else if bytes_eq text (codes "budget") then Some words.Budget
     else None
 
-unfoldable pub by_of : Data → Result By CertFault
-by_of d = do
+unfoldable pub word_of : Data → Result BoundWord CertFault
+word_of d = do
   text ← text_of shape_faults d
-  require_some (by_named text) Shape
+  require_some (word_named text) Shape
+
+-- the word for what bounds a stream
+abbrev pub word_for : By → BoundWord
+word_for by.Product = words.Product
+word_for (by.List list) = words.List
+word_for by.Budget = words.Budget
+
+-- the name in files
+abbrev pub by_name : By → List ℕ
+by_name by = word_name (word_for by)

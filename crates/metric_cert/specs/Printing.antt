@@ -6,7 +6,7 @@ use Rattle.toml.specs.Text.{IsDocumentText, IsLinesText, are_tables, elements, e
 use Rattle.toml.specs.View.{items_view, view}
 use Rattle.toml.specs.declared.value.Value.{Value}
 use Rattle.metric_table.specs.Fields.{each_alone}
-use Rattle.metric_cert.specs.declared.certificate.Certificate.{Certificate}
+use Rattle.metric_cert.specs.declared.claims.Claims.{Claims}
 use Rattle.metric_cert.specs.declared.fault.CertFault.{CertFault}
 use Rattle.metric_cert.specs.Bounds.{bound_of}
 use Rattle.metric_cert.specs.Orders.{order_of}
@@ -43,10 +43,10 @@ abbrev pub pair_of : {X : Type 0} → List X → List ℕ → List Expression
 pair_of xs = pair_where (length xs == 0)
 
 -- the lines of a certificate above its first header
-abbrev pub pairs_of : Certificate → List Expression
-pairs_of certificate =
-    pair_of certificate.bounds (codes "bound") ++ (pair (codes "format") (integer (pos 1))
-    ++ (pair_of certificate.orders (codes "order") ++ (pair_of certificate.reasons (codes "reason") ++ pair_of certificate.streams (codes "stream"))))
+abbrev pub pairs_of : Claims → List Expression
+pairs_of claims =
+    pair_of claims.bounds (codes "bound") ++ (pair (codes "format") (integer (pos claims.format))
+    ++ (pair_of claims.orders (codes "order") ++ (pair_of claims.reasons (codes "reason") ++ pair_of claims.streams (codes "stream"))))
 
 -- A table of a list was written under its header, which is read as this.
 pub record AppendsEntry {X : Type 0} (step : Data → Result X CertFault) (levels : ℕ) (name : List ℕ) (x : X) (before after : List ℕ) : Type 0 where
@@ -68,11 +68,11 @@ pub record AppendsEntries {X : Type 0} (step : Data → Result X CertFault) (lev
   pub lines : AppendsLines (elements ([], name) (items_view values)) before after
 
 -- The four lists of a certificate were written.
-pub record AppendsLists (certificate : Certificate) (before after : List ℕ) : Type 0 where
+pub record AppendsLists (claims : Claims) (before after : List ℕ) : Type 0 where
   pub with_bounds : List ℕ
   pub with_orders : List ℕ
   pub with_reasons : List ℕ
-  pub bounds : AppendsEntries (table_as bound_of) 1 (codes "bound") certificate.bounds before with_bounds
-  pub orders : AppendsEntries (table_as order_of) 2 (codes "order") certificate.orders with_bounds with_orders
-  pub reasons : AppendsEntries (table_as reason_of) 3 (codes "reason") certificate.reasons with_orders with_reasons
-  pub streams : AppendsEntries (table_as stream_of) 1 (codes "stream") certificate.streams with_reasons after
+  pub bounds : AppendsEntries (table_as bound_of) 1 (codes "bound") claims.bounds before with_bounds
+  pub orders : AppendsEntries (table_as order_of) 2 (codes "order") claims.orders with_bounds with_orders
+  pub reasons : AppendsEntries (table_as reason_of) 3 (codes "reason") claims.reasons with_orders with_reasons
+  pub streams : AppendsEntries (table_as stream_of) 3 (codes "stream") claims.streams with_reasons after

@@ -20,11 +20,11 @@ use Rattle.metric_resolve.specs.Collisions.{Identity, identity_of}
 use Rattle.metric_resolve.specs.Resolved.{streams_of}
 use Rattle.metric_bounds.specs.Amounts.{amount_with, high_with, low_with, total_of}
 use Rattle.metric_bounds.specs.Safe.{IsSafeInstrument}
-use Rattle.metric_bounds.specs.Sets.{sets_of}
+use Rattle.metric_bounds.specs.Sets.{listed_of, product_of, sets_of}
 use Rattle.metric_bounds.specs.Sums.{is_summed}
 use Rattle.metric_glob.specs.declared.reason.Reason.TheVariants.{Takes, Rows}
 use Rattle.metric_cert.specs.declared.bound.InstrumentBound.{InstrumentBound}
-use Rattle.metric_cert.specs.declared.certificate.Certificate.{Certificate}
+use Rattle.metric_cert.specs.declared.claims.Claims.{Claims}
 use Rattle.metric_cert.specs.declared.order.ReaderOrder.{ReaderOrder}
 use Rattle.metric_cert.specs.declared.reason.Criterion.{Criterion}
 use Rattle.metric_cert.specs.declared.reason.Criterion.TheVariants.{InstrumentType, InstrumentUnit, MeterName, MeterVersion, MeterSchemaUrl}
@@ -32,7 +32,7 @@ use Rattle.metric_cert.specs.declared.reason.Evidence.{Evidence}
 use Rattle.metric_cert.specs.declared.reason.Evidence.TheVariants.{Name, Miss}
 use Rattle.metric_cert.specs.declared.reason.SelectionReason.{SelectionReason}
 use Rattle.metric_cert.specs.declared.stream.By.{By}
-use Rattle.metric_cert.specs.declared.stream.By.TheVariants.{Product, Budget}
+use Rattle.metric_cert.specs.declared.stream.By.TheVariants as by
 use Rattle.metric_cert.specs.declared.stream.StreamSets.{StreamSets}
 
 -- Reasons
@@ -75,14 +75,23 @@ pub record IsReasonOf (contents : Contents) (config : Config) (pair : ℕ × ℕ
 
 -- the number that bounds how many series a stream can have
 abbrev pub bound_by : Contents → Stream → By → ℕ
-bound_by contents stream Product = sets_of contents stream
-bound_by contents stream Budget = total_of contents stream.instrument
+bound_by contents stream by.Product = product_of contents stream
+bound_by contents stream (by.List list) = sets_of contents stream
+bound_by contents stream by.Budget = total_of contents stream.instrument
 
--- The entry is of this stream, and its number is the one that it names, and within the limit.
+-- A list is that of the sets of the kept keys that the allowed combinations of the stream's instrument leave.
+abbrev pub IsListed : Contents → Stream → By → Type 0
+IsListed contents stream by.Product = Unit {0}
+IsListed contents stream (by.List list) = listed_of contents stream ≡ Some list
+IsListed contents stream by.Budget = Unit {0}
+
+-- The entry is of this stream, its list is the stream's where it has one, and its number is the one that it names, and within
+-- the limit.
 pub record IsEntryOf (contents : Contents) (stream : Stream) (entry : StreamSets) : Type 0 where
   pub reader : entry.reader ≡ stream.reader
   pub instrument : entry.instrument ≡ stream.instrument
   pub view : entry.view ≡ stream.view
+  pub listed : IsListed contents stream entry.by
   pub sets : entry.sets ≡ bound_by contents stream entry.by
   pub limited : entry.sets ≤ stream.limit
 
@@ -129,8 +138,8 @@ pub record IsOrderOf (contents : Contents) (streams : List Stream) (reader : ℕ
   pub rising : AllPairs (λ a b. IsBelow (identity_at contents streams a) (identity_at contents streams b)) order.streams
 
 -- One true reason for each pair in order, one entry for each stream in order, one bound for each instrument in order, and one
--- order for each reader in order.
-pub record IsValid (contents : Contents) (config : Config) (certificate : Certificate) : Type 0 where
+-- order for each reader in order. The format makes no difference.
+pub record IsValid (contents : Contents) (config : Config) (certificate : Claims) : Type 0 where
   pub reasons : AllZip (IsReasonOf contents config) (all_pairs contents config) certificate.reasons
   pub streams : AllZip (IsEntryOf contents) (streams_of contents config) certificate.streams
   pub bounds : AllZip (IsBoundAt contents (streams_of contents config)) (all_instruments contents) certificate.bounds

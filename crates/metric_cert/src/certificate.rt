@@ -1,52 +1,74 @@
 //! A certificate as a whole.
-ghost use Rattle.std.specs.Prelude.{◌≡◌, ◌==◌, Ok, Err, IfOk, OnOk, string_bytes, if◌then◌else◌};
+ghost use Rattle.std.specs.Prelude.{◌≡◌, Ok, IfOk, OnOk, string_bytes, true};
 ghost use Rattle.toml.specs.View.{table_view};
 ghost use Rattle.metric_base.specs.Steps.{Gives};
 ghost use Rattle.metric_table.specs.Fields.{only};
-ghost use Rattle.metric_cert.specs.Certificates.{certificate_fields, certificate_from, certificate_of, format_of, parts_of};
+ghost use Rattle.metric_cert.specs.Certificates.{certificate_fields, certificate_from, certificate_of, claims_of, formatted};
+ghost use Rattle.metric_cert.specs.Formats.{is_formatted};
 ghost use Rattle.metric_cert.specs.Printing.{AppendsLines, AppendsLists, pairs_of};
 ghost use Rattle.metric_cert.specs.Reading.{shape_faults};
 
-use crate::bound::{BoundTable, InstrumentBound};
+use crate::bound::BoundTable;
+use crate::claims::Claims;
 use crate::fault::{CertFault, shape_faults};
 use crate::fields::TableEntries;
-use crate::numbers::{Number, whole};
-use crate::order::{OrderTable, ReaderOrder};
+use crate::numbers::{ShortNumber, short};
+use crate::order::OrderTable;
 use crate::printing::{push_if_empty, push_list, push_pair};
-use crate::reason::{ReasonTable, SelectionReason};
-use crate::stream::{StreamSets, StreamTable};
+use crate::reason::ReasonTable;
+use crate::stream::StreamTable;
 use crate::tables::needed;
-use metric_base::Items;
 use metric_table::only;
 use std::alloc::{AllocError, Global};
+use std::marker::Model;
 use toml::Table;
 
 /// What shows that a catalogue and a config are safe. It says nothing by itself: a checker has to
-/// verify it.
+/// verify it. Its claims are of a format that there is.
+#[derive(Drop)]
 pub struct Certificate {
-    /// For each view and each instrument, why the view selects it or not.
-    pub reasons: Items<SelectionReason>,
-    /// The streams, each with how many series it can have.
-    pub streams: Items<StreamSets>,
-    /// The bounds of each instrument.
-    pub bounds: Items<InstrumentBound>,
-    /// For each reader, in which order the identities of its streams rise.
-    pub orders: Items<ReaderOrder>,
+    claims: Claims,
 }
 
-impl Drop for Certificate {
-    // A call of its own, so that what owns a certificate does not carry the steps of dropping each part.
-    fn drop(self) {
-        let Certificate {
-            reasons: _reasons,
-            streams: _streams,
-            bounds: _bounds,
-            orders: _orders,
-        } = self;
-    }
+impl Model for Certificate {
+    ghost use Rattle.std.specs.Prelude.{◌≡◌, true};
+    ghost use Rattle.metric_cert.specs.Formats.{is_formatted};
+    ghost use Rattle.metric_cert.specs.declared.claims.Claims.{Claims};
+
+    ghost Value = { Claims };
+
+    ghost view = { λ c. c.claims };
+
+    ghost invariant = { λ c. is_formatted c.claims ≡ true };
 }
 
 impl Certificate {
+    /// The certificate that makes these claims, or `Shape` where they are of no format that there is.
+    pub fn new(claims: Claims) -> Result<Certificate, CertFault>
+        ensures { result ≡ formatted claims }
+    {
+        if claims.is_formatted() {
+            Ok(Certificate { claims })
+        } else {
+            Err(CertFault::Shape)
+        }
+    }
+
+    // The same where they are of such a format.
+    pub(crate) fn made(claims: Claims) -> Certificate
+        requires { is_formatted claims ≡ true }
+        ensures { result ≡ claims }
+    {
+        Certificate { claims }
+    }
+
+    /// What it says.
+    pub fn claims(&self) -> &Claims
+        ensures { result.now ≡ self.now }
+    {
+        &self.claims
+    }
+
     /// The certificate that a text is. What is no TOML is `NotToml`, and what is another table than that
     /// of a certificate is `Shape`.
     pub fn read(alloc: Global, text: &str) -> Result<Certificate, CertFault>
@@ -64,18 +86,20 @@ impl Certificate {
         ensures { IfOk result (λ text. certificate_from (string_bytes text) ≡ Ok self.now) }
     {
         let mut text = String::new(alloc);
-        self.push_pairs(alloc, &mut text)?;
-        self.push_lists(alloc, &mut text)?;
+        self.claims.push_pairs(alloc, &mut text)?;
+        self.claims.push_lists(alloc, &mut text)?;
         Ok(text)
     }
+}
 
+impl Claims {
     // The lines above the first header.
     fn push_pairs(&self, alloc: Global, text: &mut String) -> Result<(), AllocError>
         ensures { OnOk result (AppendsLines (pairs_of self.now)
             (string_bytes text.old) (string_bytes text.new)) }
     {
         push_if_empty(alloc, text, "bound", &self.bounds)?;
-        push_pair(alloc, text, "format", whole(1))?;
+        push_pair(alloc, text, "format", short(self.format))?;
         push_if_empty(alloc, text, "order", &self.orders)?;
         push_if_empty(alloc, text, "reason", &self.reasons)?;
         push_if_empty(alloc, text, "stream", &self.streams)
@@ -98,19 +122,21 @@ fn certificate_of(alloc: Global, table: &Table) -> Result<Certificate, CertFault
     ensures { Gives CertFault.Memory result (certificate_of (table_view table.now)) }
 {
     only_certificate(table)?;
-    format_of(alloc, table)?;
-    parts_of(alloc, table)
+    let claims = claims_of(alloc, table)?;
+    Certificate::new(claims)
 }
 
-#[tactic(auto, unfolding(crate::specs::Certificates::parts_of))]
-fn parts_of(alloc: Global, table: &Table) -> Result<Certificate, CertFault>
-    ensures { Gives CertFault.Memory result (parts_of (table_view table.now)) }
+#[tactic(auto, unfolding(crate::specs::Certificates::claims_of))]
+fn claims_of(alloc: Global, table: &Table) -> Result<Claims, CertFault>
+    ensures { Gives CertFault.Memory result (claims_of (table_view table.now)) }
 {
+    let format = needed::<ShortNumber>(alloc, table, "format")?;
     let reasons = needed::<TableEntries<ReasonTable>>(alloc, table, "reason")?;
     let streams = needed::<TableEntries<StreamTable>>(alloc, table, "stream")?;
     let bounds = needed::<TableEntries<BoundTable>>(alloc, table, "bound")?;
     let orders = needed::<TableEntries<OrderTable>>(alloc, table, "order")?;
-    Ok(Certificate {
+    Ok(Claims {
+        format,
         reasons,
         streams,
         bounds,
@@ -126,16 +152,4 @@ fn only_certificate(table: &Table) -> Result<(), CertFault>
         &["format", "reason", "stream", "bound", "order"],
         &shape_faults(),
     )
-}
-
-#[tactic(auto, unfolding(crate::specs::Certificates::format_of))]
-fn format_of(alloc: Global, table: &Table) -> Result<(), CertFault>
-    ensures { Gives CertFault.Memory result (format_of (table_view table.now)) }
-{
-    let format = needed::<Number>(alloc, table, "format")?;
-    if format == 1 {
-        Ok(())
-    } else {
-        Err(CertFault::Shape)
-    }
 }

@@ -3,6 +3,7 @@
 
 mod bound;
 mod certificate;
+mod claims;
 mod criteria;
 mod decimals;
 mod entry;
@@ -24,6 +25,7 @@ mod tables;
 
 pub use bound::InstrumentBound;
 pub use certificate::Certificate;
+pub use claims::Claims;
 pub use criteria::pattern_for;
 pub use fault::CertFault;
 pub use make_fault::MakeFault;

@@ -68,7 +68,11 @@ fn read_all<E: Entry>(alloc: Global, values: &[Value]) -> Result<Items<E::Read>,
     Ok(entries)
 }
 
-fn write_all<E: Entry>(alloc: Global, entries: &[E::Read]) -> Result<Vec<Value>, AllocError>
+/// The values of the entries.
+pub(crate) fn write_all<E: Entry>(
+    alloc: Global,
+    entries: &[E::Read],
+) -> Result<Vec<Value>, AllocError>
     ensures reads { IfOk result (λ vs. each_alone E.step (map view vs.items) ≡ Ok entries.now) }
     ensures printable { IfOk result
         (λ vs. IsPrintable (E.levels + 1) (array (items_view vs.items))) }

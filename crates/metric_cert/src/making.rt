@@ -2,6 +2,7 @@
 ghost use Rattle.std.specs.Prelude.{◌≡◌, ◌≤◌, All, IfOk, IsOkUnless, length};
 ghost use Rattle.std.specs.List.{list_any};
 ghost use Rattle.std.specs.Result.{result_err};
+ghost use Rattle.metric_catalogue.specs.Sound.{IsSound};
 ghost use Rattle.metric_bounds.specs.Finding.{InstrumentsFind, LimitsFind, SafetyFinds};
 ghost use Rattle.metric_bounds.specs.First.{Asks, Reports, Then};
 ghost use Rattle.metric_bounds.specs.Safe.{AreDistinct, IsSafe};
@@ -11,6 +12,7 @@ ghost use Rattle.metric_cert.specs.Making.{IsMade, IsMadeFor, IsNamed, is_collis
 ghost use Rattle.metric_cert.specs.Valid.{IsValid};
 
 use crate::certificate::Certificate;
+use crate::claims::Claims;
 use crate::make_bounds::bounds_of;
 use crate::make_fault::MakeFault;
 use crate::make_orders::orders_of;
@@ -29,7 +31,8 @@ use std::alloc::{AllocError, Global};
 ///
 /// A reason is the first criterion that is given and fails, in the order in which `Criterion` lists them,
 /// else what `why` answers of the name pattern. A stream is bounded by product where that is within its
-/// limit, else by budget.
+/// limit, else by list where its instrument lists combinations and as many sets are within its limit, else by
+/// budget. The certificate's format is that of the catalogue.
 pub fn make(alloc: Global, catalogue: &Catalogue, config: &Config) -> Result<Certificate, MakeFault>
     ensures valid { IfOk result (IsValid catalogue.now config.now) }
     ensures made { IfOk result (IsMade catalogue.now config.now) }
@@ -100,10 +103,20 @@ fn certificate_of(
     let entries = entries_of(alloc, catalogue, bounds.as_slice(), streams)?;
     let orders = orders_of(alloc, catalogue, config, streams)?;
     let reasons = reasons_of(alloc, catalogue, config)?;
-    Ok(Certificate {
+    let claims = Claims {
+        format: format_of(catalogue),
         reasons,
         streams: entries,
         bounds,
         orders,
-    })
+    };
+    Ok(Certificate::made(claims))
+}
+
+// The format of the catalogue, which says whether an instrument may list combinations.
+fn format_of(catalogue: &Catalogue) -> u16
+    ensures format { result ≡ catalogue.now.format }
+    ensures sound { IsSound catalogue.now }
+{
+    u16::from(catalogue.format())
 }

@@ -32,7 +32,7 @@ impl Entry for ShortNumber {
 
     #[tactic(auto, using(crate::proofs::Written::number_laws))]
     fn write(_alloc: Global, entry: &u16) -> Result<Value, AllocError> {
-        Ok(whole(u32::from(*entry)))
+        Ok(short(*entry))
     }
 }
 
@@ -114,8 +114,14 @@ impl Entry for SignedDecimal {
     }
 }
 
-/// The value that is a whole number.
-pub(crate) fn whole(number: u32) -> Value
+/// The value that is a number of 16 bits.
+pub(crate) fn short(number: u16) -> Value
+    ensures { view result ≡ integer (pos number) }
+{
+    whole(u32::from(number))
+}
+
+fn whole(number: u32) -> Value
     ensures { view result ≡ integer (pos number) }
 {
     Value::Integer(i64::from(number))

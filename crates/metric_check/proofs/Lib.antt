@@ -1,3 +1,4 @@
+pub mod Bounded
 pub mod EvidenceLaws
 pub mod OrderLaws
 pub mod OwnStreams

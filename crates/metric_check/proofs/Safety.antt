@@ -1,8 +1,8 @@
 -- What has a valid certificate can overflow neither a limit nor a number.
-use Rattle.std.proofs.Common.{◌≡◌, ◌≢◌, ℕ, ◌+◌, ◌<◌, ◌≤◌, IsTrue, List, [], ◌∷◌, length, All, IsSomeAnd, get_or, min, ◌⊎◌, Option, Some, slice_get, sym, ap, subst, ◌∙◌, inl, inr, arith}
+use Rattle.std.proofs.Common.{◌≡◌, ◌≢◌, ℕ, ◌+◌, ◌<◌, ◌≤◌, IsTrue, List, [], ◌∷◌, length, All, Contains, IsSomeAnd, get_or, min, ◌⊎◌, Option, Some, slice_get, sym, ap, subst, ◌∙◌, inl, inr, arith}
 use Rattle.std.specs.List.{AllZip}
 use Rattle.std.specs.Prelude.{option_and_then}
-use Rattle.std.proofs.lemmas.List.Elements.{All-cons, All-nil, at_from_Contains}
+use Rattle.std.proofs.lemmas.List.Elements.{All-cons, All-contains_itself, All-head, All-nil, All-tail, All-weaker, at_from_Contains}
 use Rattle.std.proofs.lemmas.Bool.{cases_order}
 use Rattle.std.proofs.lemmas.Option.{slice_get-get_or, slice_get_within}
 use Rattle.metric_catalogue.specs.Sound.{IsSound}
@@ -13,14 +13,17 @@ use Rattle.metric_views.specs.declared.stream.Stream.{Stream}
 use Rattle.metric_resolve.specs.Applying.{all_instruments, all_readers}
 use Rattle.metric_resolve.specs.Collisions.{Identity, identity_of}
 use Rattle.metric_resolve.specs.Resolved.{streams_of}
+use Rattle.metric_resolve.proofs.StreamLaws.{streams_exact}
 use Rattle.metric_bounds.specs.Amounts.{total_of}
 use Rattle.metric_bounds.specs.Safe.{AreDistinct, AreSafeInstruments, IsSafeInstrument, SetsFit}
-use Rattle.metric_bounds.specs.Sets.{sets_of}
+use Rattle.metric_bounds.specs.KeptLaws.{own_flags}
+use Rattle.metric_bounds.specs.SetLaws.{sets_within_product}
+use Rattle.metric_bounds.specs.Sets.{product_of, sets_of}
 use Rattle.metric_bounds.specs.Sums.{is_summed}
 use Rattle.metric_cert.specs.declared.bound.InstrumentBound.{InstrumentBound}
 use Rattle.metric_cert.specs.declared.order.ReaderOrder.{ReaderOrder}
 use Rattle.metric_cert.specs.declared.stream.By.{By}
-use Rattle.metric_cert.specs.declared.stream.By.TheVariants.{Product, Budget}
+use Rattle.metric_cert.specs.declared.stream.By.TheVariants as by
 use Rattle.metric_cert.specs.declared.stream.StreamSets.{StreamSets}
 use Rattle.metric_cert.specs.Valid.{IsBelow, IsBoundAt, IsBoundOf, IsEntryOf, IsOrderOf, IsStreamOf, bound_by, identity_at}
 use Rattle.metric_check.specs.Checked.{ValidIsSafe}
@@ -30,18 +33,30 @@ use Rattle.metric_check.proofs.OwnStreams.{known_identity, known_reader}
 use Rattle.metric_check.proofs.Walks.{there}
 
 -- sets
-limited_by : (contents : Contents) (stream : Stream) (by : By) (limit : ℕ) → bound_by contents stream by ≤ limit → min (sets_of contents stream) (total_of contents stream.instrument) ≤ limit
-limited_by contents stream Product limit few = omega (arith, few)
-limited_by contents stream Budget limit few = omega (arith, few)
+limited_by : (contents : Contents) (stream : Stream) (bound : By) (limit : ℕ) → sets_of contents stream ≤ product_of contents stream → bound_by contents stream bound ≤ limit
+    → min (sets_of contents stream) (total_of contents stream.instrument) ≤ limit
+limited_by contents stream by.Product limit taken few = omega (arith, taken, few)
+limited_by contents stream (by.List list) limit taken few = omega (arith, few)
+limited_by contents stream by.Budget limit taken few = omega (arith, few)
 
-all_limited : (contents : Contents) (streams : List Stream) (entries : List StreamSets) → AllZip (IsEntryOf contents) streams entries → All (SetsFit contents) streams
-all_limited contents [] [] zip = All-nil (SetsFit contents)
-all_limited contents [] (entry ∷ entries) zip = absurd zip
-all_limited contents (stream ∷ streams) [] zip = absurd zip
-all_limited contents (stream ∷ streams) (entry ∷ entries) zip =
+all_limited : (contents : Contents) (streams : List Stream) (entries : List StreamSets) → All (λ s. sets_of contents s ≤ product_of contents s) streams
+    → AllZip (IsEntryOf contents) streams entries → All (SetsFit contents) streams
+all_limited contents [] [] taken zip = All-nil (SetsFit contents)
+all_limited contents [] (entry ∷ entries) taken zip = absurd zip
+all_limited contents (stream ∷ streams) [] taken zip = absurd zip
+all_limited contents (stream ∷ streams) (entry ∷ entries) taken zip =
     let of = zip.0 in
     let few : bound_by contents stream entry.by ≤ stream.limit = subst (λ (n : ℕ). n ≤ stream.limit) of.sets of.limited in
-    All-cons (SetsFit contents) stream streams (limited_by contents stream entry.by stream.limit few) (all_limited contents streams entries zip.1)
+    All-cons (SetsFit contents) stream streams
+    (limited_by contents stream entry.by stream.limit (All-head (λ (s : Stream). sets_of contents s ≤ product_of contents s) stream streams taken) few)
+    (all_limited contents streams entries (All-tail (λ (s : Stream). sets_of contents s ≤ product_of contents s) stream streams taken) zip.1)
+
+-- lists of combinations take away
+all_taken : (contents : Contents) (config : Config) → IsSound contents → All (λ s. sets_of contents s ≤ product_of contents s) (streams_of contents config)
+all_taken contents config sound =
+    All-weaker (Contains (streams_of contents config)) (λ s. sets_of contents s ≤ product_of contents s)
+    (λ s there. sets_within_product contents s sound (own_flags contents config s ((streams_exact contents config s).0 there)))
+    (streams_of contents config) (All-contains_itself (streams_of contents config))
 
 -- bounds
 safe_at : (contents : Contents) (streams : List Stream) (number : ℕ) (instrument : Instrument) (bound : InstrumentBound) → slice_get contents.instruments number ≡ Some instrument
@@ -115,5 +130,5 @@ pub valid_is_safe : ValidIsSafe
 valid_is_safe contents config certificate sound valid = record {
   identities = all_apart contents config certificate.orders sound valid.orders;
   instruments = all_safe contents (streams_of contents config) certificate.bounds valid.bounds;
-  sets = all_limited contents (streams_of contents config) certificate.streams valid.streams;
+  sets = all_limited contents (streams_of contents config) certificate.streams (all_taken contents config sound) valid.streams;
 }

@@ -14,7 +14,7 @@ use Rattle.metric_bounds.specs.Amounts.{total_of}
 use Rattle.metric_bounds.specs.FirstLaws.{IsSingle, Asks-IsSingle, Then-IsSingle}
 use Rattle.metric_bounds.specs.Sums.{is_summed}
 use Rattle.metric_cert.specs.declared.bound.InstrumentBound.{InstrumentBound}
-use Rattle.metric_cert.specs.declared.certificate.Certificate.{Certificate}
+use Rattle.metric_cert.specs.declared.claims.Claims.{Claims}
 use Rattle.metric_cert.specs.declared.reason.Evidence.{Evidence}
 use Rattle.metric_cert.specs.declared.reason.Evidence.TheVariants.{Name, Miss}
 use Rattle.metric_cert.specs.declared.reason.SelectionReason.{SelectionReason}
@@ -65,7 +65,7 @@ BoundFinds-IsSingle contents streams number (Some instrument) bound =
     NumbersFind-IsSingle number (total_of contents number) instrument (IsTrue (is_summed streams number)) bound
 BoundFinds-IsSingle contents streams number None bound = Asks-IsSingle ⊥ CountRange
 
-StreamsFind-IsSingle : (contents : Contents) (config : Config) (certificate : Certificate) (streams : List Stream) → IsSingle (StreamsFind contents config certificate streams)
+StreamsFind-IsSingle : (contents : Contents) (config : Config) (certificate : Claims) (streams : List Stream) → IsSingle (StreamsFind contents config certificate streams)
 StreamsFind-IsSingle contents config certificate streams =
     Then-IsSingle (EntriesFind streams certificate.streams) _
     (EachPaired-IsSingle EntryFinds (λ stream entry. Then-IsSingle _ _ (Asks-IsSingle _ _) (Asks-IsSingle _ _)) StreamMissing StreamStrange streams certificate.streams)
@@ -75,7 +75,7 @@ StreamsFind-IsSingle contents config certificate streams =
     (λ number bound. BoundFinds-IsSingle contents streams number (slice_get contents.instruments number) bound) CountRange CountRange (all_instruments contents) certificate.bounds)
     (EachPaired-IsSingle (LimitFinds contents) (λ stream entry. Then-IsSingle _ _ (Asks-IsSingle _ _) (Asks-IsSingle _ _)) BadSets BadSets streams certificate.streams)))
 
-pub CheckFinds-IsSingle : (contents : Contents) (config : Config) (certificate : Certificate) → IsSingle (CheckFinds contents config certificate)
+pub CheckFinds-IsSingle : (contents : Contents) (config : Config) (certificate : Claims) → IsSingle (CheckFinds contents config certificate)
 CheckFinds-IsSingle contents config certificate =
     Then-IsSingle (ReasonsFind contents config certificate.reasons) (StreamsFind contents config certificate (streams_of contents config))
     (ReasonsFind-IsSingle contents config certificate.reasons) (StreamsFind-IsSingle contents config certificate (streams_of contents config))

@@ -20,7 +20,7 @@ use Rattle.metric_resolve.specs.Applying.{all_instruments, meter_at}
 use Rattle.metric_resolve.specs.Resolved.{streams_of}
 use Rattle.metric_bounds.specs.Amounts.{total_of}
 use Rattle.metric_cert.specs.declared.bound.InstrumentBound.{InstrumentBound}
-use Rattle.metric_cert.specs.declared.certificate.Certificate.{Certificate}
+use Rattle.metric_cert.specs.declared.claims.Claims.{Claims}
 use Rattle.metric_cert.specs.declared.reason.Evidence.{Evidence}
 use Rattle.metric_cert.specs.declared.reason.Evidence.TheVariants.{Name, Miss}
 use Rattle.metric_cert.specs.declared.reason.SelectionReason.{SelectionReason}
@@ -154,7 +154,7 @@ of_key stream entry key =
 entry_of : (contents : Contents) (stream : Stream) (entry : StreamSets) → EntryFinds stream entry None × LimitFinds contents stream entry None → IsEntryOf contents stream entry
 entry_of contents stream entry p =
     let key = key_of stream entry p.0 in
-    record { reader = key.reader; instrument = key.instrument; view = key.view; sets = p.1.0; limited = p.1.1 }
+    record { reader = key.reader; instrument = key.instrument; view = key.view; listed = p.1.0.0; sets = p.1.0.1; limited = p.1.1 }
 
 of_entry : (contents : Contents) (stream : Stream) (entry : StreamSets) → IsEntryOf contents stream entry → EntryFinds stream entry None
 of_entry contents stream entry e = of_key stream entry (record { reader = e.reader; instrument = e.instrument; view = e.view })
@@ -182,7 +182,7 @@ of_bound contents streams number bound p = by (slice_get contents.instruments nu
     by (Some instrument) b =
         ((b.numbered, b.total, b.safe.counts), ((b.amount, b.safe.amounts), ((b.low, b.safe.low), (b.high, b.safe.high))))
 
-valid_from_none : (contents : Contents) (config : Config) (certificate : Certificate) → CheckFinds contents config certificate None → IsValid contents config certificate
+valid_from_none : (contents : Contents) (config : Config) (certificate : Claims) → CheckFinds contents config certificate None → IsValid contents config certificate
 valid_from_none contents config certificate p =
     let streams = streams_of contents config in
     record {
@@ -197,7 +197,7 @@ valid_from_none contents config certificate p =
       orders = p.1.1.0;
     }
 
-none_from_valid : (contents : Contents) (config : Config) (certificate : Certificate) → IsValid contents config certificate → CheckFinds contents config certificate None
+none_from_valid : (contents : Contents) (config : Config) (certificate : Claims) → IsValid contents config certificate → CheckFinds contents config certificate None
 none_from_valid contents config certificate v =
     let streams = streams_of contents config in (
       none_paired (ReasonFinds contents config) (IsReasonOf contents config) PairMissing PairMissing (of_reason contents config) (all_pairs contents config) certificate.reasons v.reasons,
@@ -207,7 +207,7 @@ none_from_valid contents config certificate v =
           v.orders,
           (
             none_paired (BoundFinds contents streams) (IsBoundAt contents streams) CountRange CountRange (of_bound contents streams) (all_instruments contents) certificate.bounds v.bounds,
-            none_paired (LimitFinds contents) (IsEntryOf contents) BadSets BadSets (λ stream entry e. (e.sets, e.limited)) streams certificate.streams v.streams,
+            none_paired (LimitFinds contents) (IsEntryOf contents) BadSets BadSets (λ stream entry e. ((e.listed, e.sets), e.limited)) streams certificate.streams v.streams,
           ),
         ),
       ),
@@ -247,7 +247,7 @@ memory_or_not CountRange = inr (λ e. cc)
 memory_or_not AmountRange = inr (λ e. cc)
 
 -- where a certificate is valid, a fault that is found unless memory was refused is Memory
-pub memory_alone : (contents : Contents) (config : Config) (certificate : Certificate) (fault : CheckFault)
+pub memory_alone : (contents : Contents) (config : Config) (certificate : Claims) (fault : CheckFault)
     → (fault ≢ Memory → CheckFinds contents config certificate (Some fault)) → IsValid contents config certificate → fault ≡ Memory
 memory_alone contents config certificate fault found valid =
     elim (memory_or_not fault) [

@@ -22,14 +22,14 @@ use Rattle.metric_bounds.specs.First.{Asks, Then}
 use Rattle.metric_bounds.specs.Safe.{AmountsFit, CountsFit, HighFits, LowFits}
 use Rattle.metric_bounds.specs.Sums.{is_summed}
 use Rattle.metric_cert.specs.declared.bound.InstrumentBound.{InstrumentBound}
-use Rattle.metric_cert.specs.declared.certificate.Certificate.{Certificate}
+use Rattle.metric_cert.specs.declared.claims.Claims.{Claims}
 use Rattle.metric_cert.specs.declared.order.ReaderOrder.{ReaderOrder}
 use Rattle.metric_cert.specs.declared.reason.Criterion.{Criterion}
 use Rattle.metric_cert.specs.declared.reason.Evidence.{Evidence}
 use Rattle.metric_cert.specs.declared.reason.Evidence.TheVariants.{Name, Miss}
 use Rattle.metric_cert.specs.declared.reason.SelectionReason.{SelectionReason}
 use Rattle.metric_cert.specs.declared.stream.StreamSets.{StreamSets}
-use Rattle.metric_cert.specs.Valid.{Holds, IsOrderOf, all_pairs, bound_by, pattern_for}
+use Rattle.metric_cert.specs.Valid.{Holds, IsListed, IsOrderOf, all_pairs, bound_by, pattern_for}
 use Rattle.metric_plan.specs.declared.fault.CheckFault.{CheckFault}
 use Rattle.metric_plan.specs.declared.fault.CheckFault.TheVariants.{PairMissing, BadTakes, BadRows, BadMiss, StreamMissing, StreamStrange, BadOrder, BadSets, LimitExceeded, SumLow, SumHigh, CountRange, AmountRange}
 use Rattle.metric_check.specs.Paired.{EachPaired}
@@ -127,10 +127,13 @@ BoundsFind contents streams bounds = EachPaired (BoundFinds contents streams) Co
 
 -- Sets
 
+-- The entry has the number that it names, and the list of the stream where it is by list.
+abbrev pub HasBound : Contents → Stream → StreamSets → Type 0
+HasBound contents stream entry = IsListed contents stream entry.by × (entry.sets ≡ bound_by contents stream entry.by)
+
 -- the number that the entry names, within the limit of its stream
 abbrev pub LimitFinds : Contents → Stream → StreamSets → Option CheckFault → Type 0
-LimitFinds contents stream entry =
-    Then (Asks (entry.sets ≡ bound_by contents stream entry.by) BadSets) (Asks (entry.sets ≤ stream.limit) LimitExceeded)
+LimitFinds contents stream entry = Then (Asks (HasBound contents stream entry) BadSets) (Asks (entry.sets ≤ stream.limit) LimitExceeded)
 
 abbrev pub SetsFind : Contents → List Stream → List StreamSets → Option CheckFault → Type 0
 SetsFind contents streams entries = EachPaired (LimitFinds contents) BadSets BadSets streams entries
@@ -138,13 +141,13 @@ SetsFind contents streams entries = EachPaired (LimitFinds contents) BadSets Bad
 -- All steps
 
 -- what the steps after the reasons find, where these are the streams
-abbrev pub StreamsFind : Contents → Config → Certificate → List Stream → Option CheckFault → Type 0
+abbrev pub StreamsFind : Contents → Config → Claims → List Stream → Option CheckFault → Type 0
 StreamsFind contents config certificate streams =
     Then (EntriesFind streams certificate.streams)
     (Then (OrdersFind contents config streams certificate.orders)
     (Then (BoundsFind contents streams certificate.bounds) (SetsFind contents streams certificate.streams)))
 
 -- what the check of a certificate finds
-abbrev pub CheckFinds : Contents → Config → Certificate → Option CheckFault → Type 0
+abbrev pub CheckFinds : Contents → Config → Claims → Option CheckFault → Type 0
 CheckFinds contents config certificate =
     Then (ReasonsFind contents config certificate.reasons) (StreamsFind contents config certificate (streams_of contents config))

@@ -15,7 +15,7 @@ use crate::reasons::check_reasons;
 use crate::selection::ByReasons;
 use metric_base::{Few, Items};
 use metric_catalogue::Catalogue;
-use metric_cert::{By, Certificate, StreamSets};
+use metric_cert::{By, Certificate, Claims, StreamSets};
 use metric_glob::Pattern;
 use metric_plan::{CheckFault, Plan};
 use metric_resolve::streams_by;
@@ -28,7 +28,8 @@ use std::alloc::{AllocError, Global};
 /// The faults are tried in these steps: the reasons of all pairs of a view and an instrument, by view
 /// (`PairMissing`, `BadTakes`, `BadMiss`, `BadRows`); the streams that the reasons give (`StreamStrange`,
 /// `StreamMissing`); the orders of the readers (`BadOrder`); the bounds of each instrument (`CountRange`,
-/// `AmountRange`, `SumLow`, `SumHigh`); the number of series of each stream (`BadSets`, `LimitExceeded`).
+/// `AmountRange`, `SumLow`, `SumHigh`); the number of series of each stream, and the list of one by list
+/// (`BadSets`, `LimitExceeded`).
 /// The first fault of the first step that fails is answered. `Memory` may stand in place of any. Where
 /// there is no plan, catalogue and config are handed back.
 pub fn check(
@@ -81,7 +82,8 @@ fn checked_streams(
         checked.by_product ≡ by_product_of certificate.now) }
 {
     let any = Pattern::any(alloc)?;
-    let reasons = certificate.reasons.as_slice();
+    let claims = certificate.claims();
+    let reasons = claims.reasons.as_slice();
     check_reasons(&any, catalogue, config, reasons)?;
     let selection = ByReasons {
         catalogue,
@@ -89,8 +91,8 @@ fn checked_streams(
         reasons,
     };
     let streams = streams_by(alloc, &selection)?;
-    check_streams(alloc, catalogue, config, certificate, streams.as_slice())?;
-    let by_product = entry_flags(alloc, certificate.streams.as_slice())?;
+    check_streams(alloc, catalogue, config, claims, streams.as_slice())?;
+    let by_product = entry_flags(alloc, claims.streams.as_slice())?;
     Ok(CheckedStreams {
         streams,
         by_product,
@@ -103,17 +105,17 @@ fn entry_flags(alloc: Global, entries: &[StreamSets]) -> Result<Items<bool>, All
 {
     let mut flags = Items::new(alloc);
     for entry in entries {
-        flags.push(is_product(entry.by))?;
+        flags.push(is_product(&entry.by))?;
     }
     Ok(flags)
 }
 
-fn is_product(by: By) -> bool
-    ensures { result ≡ is_product by }
+fn is_product(by: &By) -> bool
+    ensures { result ≡ is_product by.now }
 {
     match by {
         By::Product => true,
-        By::Budget => false,
+        By::List(_) | By::Budget => false,
     }
 }
 
@@ -122,17 +124,17 @@ fn check_streams(
     alloc: Global,
     catalogue: &Catalogue,
     config: &Config,
-    certificate: &Certificate,
+    claims: &Claims,
     streams: &[Stream],
 ) -> Result<(), CheckFault>
     requires { streams.now ≡ streams_of catalogue.now config.now }
     ensures { Reports CheckFault.Memory
-        (StreamsFind catalogue.now config.now certificate.now streams.now) result }
+        (StreamsFind catalogue.now config.now claims.now streams.now) result }
 {
-    let entries = certificate.streams.as_slice();
-    let bounds = certificate.bounds.as_slice();
+    let entries = claims.streams.as_slice();
+    let bounds = claims.bounds.as_slice();
     check_entries(streams, entries)?;
-    check_orders(catalogue, config, streams, certificate.orders.as_slice())?;
+    check_orders(catalogue, config, streams, claims.orders.as_slice())?;
     check_bounds(alloc, catalogue, streams, bounds)?;
-    check_limits(catalogue, streams, entries, bounds)
+    check_limits(alloc, catalogue, streams, entries, bounds)
 }

@@ -1,19 +1,21 @@
 //! Whether the streams have at most as many series as their limits.
-ghost use Rattle.std.specs.Prelude.{◌≡◌, All};
-ghost use Rattle.std.specs.Result.{result_err};
-ghost use Rattle.metric_cert.specs.Valid.{bound_by};
+ghost use Rattle.std.specs.Prelude.{◌≡◌, ◌↔◌, All, IfOk, IsTrue, Some};
+ghost use Rattle.metric_bounds.specs.First.{Reports};
+ghost use Rattle.metric_bounds.specs.Sets.{listed_of};
 ghost use Rattle.metric_resolve.specs.Resolved.{IsKnown};
-ghost use Rattle.metric_check.specs.Findings.{LimitFinds, SetsFind};
+ghost use Rattle.metric_check.specs.Findings.{HasBound, LimitFinds, SetsFind};
 ghost use Rattle.metric_check.specs.Known.{AreTotals};
 
-use metric_bounds::sets;
-use metric_catalogue::Catalogue;
+use metric_bounds::{listed, product};
+use metric_catalogue::{Catalogue, SetKey};
 use metric_cert::{By, InstrumentBound, StreamSets};
 use metric_plan::CheckFault;
 use metric_views::Stream;
+use std::alloc::{AllocError, Global};
 
 // The first fault of the numbers of series. The bounds have the total of each instrument.
 pub(crate) fn check_limits(
+    alloc: Global,
     catalogue: &Catalogue,
     streams: &[Stream],
     entries: &[StreamSets],
@@ -21,13 +23,13 @@ pub(crate) fn check_limits(
 ) -> Result<(), CheckFault>
     requires totals { AreTotals catalogue.now bounds.now }
     requires known { All (IsKnown catalogue.now) streams.now }
-    ensures { SetsFind catalogue.now streams.now entries.now (result_err result) }
+    ensures { Reports CheckFault.Memory (SetsFind catalogue.now streams.now entries.now) result }
 {
     for (number, entry) in entries.iter().enumerate() {
         if number >= streams.len() {
             return Err(CheckFault::BadSets);
         }
-        check_limit(catalogue, &streams[number], entry, bounds)?;
+        check_limit(alloc, catalogue, &streams[number], entry, bounds)?;
     }
     if entries.len() < streams.len() {
         return Err(CheckFault::BadSets);
@@ -36,6 +38,7 @@ pub(crate) fn check_limits(
 }
 
 fn check_limit(
+    alloc: Global,
     catalogue: &Catalogue,
     stream: &Stream,
     entry: &StreamSets,
@@ -43,9 +46,10 @@ fn check_limit(
 ) -> Result<(), CheckFault>
     requires totals { AreTotals catalogue.now bounds.now }
     requires known { IsKnown catalogue.now stream.now }
-    ensures { LimitFinds catalogue.now stream.now entry.now (result_err result) }
+    ensures { Reports CheckFault.Memory
+        (LimitFinds catalogue.now stream.now entry.now) result }
 {
-    if u128::from(entry.sets) != bound_by(catalogue, stream, entry.by, bounds) {
+    if !has_bound(alloc, catalogue, stream, entry, bounds)? {
         return Err(CheckFault::BadSets);
     }
     if entry.sets > stream.limit {
@@ -54,14 +58,40 @@ fn check_limit(
     Ok(())
 }
 
-// The number that bounds how many series a stream can have.
-fn bound_by(catalogue: &Catalogue, stream: &Stream, by: By, bounds: &[InstrumentBound]) -> u128
+// Whether an entry has the number that it names, and the list of its stream where it is by list.
+fn has_bound(
+    alloc: Global,
+    catalogue: &Catalogue,
+    stream: &Stream,
+    entry: &StreamSets,
+    bounds: &[InstrumentBound],
+) -> Result<bool, AllocError>
     requires totals { AreTotals catalogue.now bounds.now }
     requires known { IsKnown catalogue.now stream.now }
-    ensures { result ≡ bound_by catalogue.now stream.now by }
+    ensures { IfOk result (λ has. IsTrue has ↔ HasBound catalogue.now stream.now entry.now) }
 {
-    match by {
-        By::Product => sets(catalogue, stream),
-        By::Budget => u128::from(bounds[stream.instrument as usize].total),
+    match &entry.by {
+        By::Product => Ok(u128::from(entry.sets) == product(catalogue, stream)),
+        By::List(list) => {
+            let is_listed = is_listed(alloc, catalogue, stream, list.as_slice())?;
+            Ok(is_listed && entry.sets as usize == list.len())
+        }
+        By::Budget => Ok(u64::from(entry.sets) == bounds[stream.instrument as usize].total),
+    }
+}
+
+// Whether a list is that of a stream: both stand in order, so they are compared as they stand.
+fn is_listed(
+    alloc: Global,
+    catalogue: &Catalogue,
+    stream: &Stream,
+    list: &[SetKey],
+) -> Result<bool, AllocError>
+    ensures { IfOk result (λ is. IsTrue is
+        ↔ (listed_of catalogue.now stream.now ≡ Some list.now)) }
+{
+    match listed(alloc, catalogue, stream)? {
+        Some(own) => Ok(own.as_slice() == list),
+        None => Ok(false),
     }
 }

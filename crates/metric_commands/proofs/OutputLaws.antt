@@ -14,7 +14,7 @@ use Rattle.metric_script.specs.Scripts.{IsScript}
 use Rattle.metric_history.specs.Legal.{AllLegal}
 use Rattle.metric_plan.specs.Plans.{PlanValue, plan_of}
 use Rattle.metric_cert.specs.Certificates.{certificate_from}
-use Rattle.metric_cert.specs.declared.certificate.Certificate.{Certificate}
+use Rattle.metric_cert.specs.declared.claims.Claims.{Claims as Certificate}
 use Rattle.metric_check.specs.Products.{by_product_of}
 use Rattle.metric_history.specs.declared.event.Event.{Event}
 use Rattle.metric_history.specs.declared.event.Reply.{Reply}

@@ -8,7 +8,7 @@ use Rattle.metric_catalogue.specs.declared.contents.Contents.{Contents}
 use Rattle.metric_views.specs.declared.config.Setup.{Setup}
 use Rattle.metric_resolve.specs.Resolved.{streams_of}
 use Rattle.metric_bounds.specs.Finding.{SafetyFinds}
-use Rattle.metric_cert.specs.declared.certificate.Certificate.{Certificate}
+use Rattle.metric_cert.specs.declared.claims.Claims.{Claims as Certificate}
 use Rattle.metric_cert.specs.declared.make_fault.MakeFault.{MakeFault}
 use Rattle.metric_cert.specs.Certificates.{certificate_from}
 use Rattle.metric_cert.specs.Making.{IsMade, make_faults}

@@ -3,7 +3,7 @@ use Rattle.std.specs.Prelude.{◌≡◌, true, Some, IsSomeAnd, Ok, Err}
 use Rattle.metric_parts.specs.declared.parts.Parts.{Parts}
 use Rattle.metric_catalogue.specs.declared.contents.Contents.{Contents}
 use Rattle.metric_views.specs.declared.config.Setup.{Setup}
-use Rattle.metric_cert.specs.declared.certificate.Certificate.{Certificate}
+use Rattle.metric_cert.specs.declared.claims.Claims.{Claims as Certificate}
 use Rattle.metric_cert.specs.declared.fault.CertFault.{CertFault}
 use Rattle.metric_cert.specs.Certificates.{certificate_from}
 use Rattle.metric_cert.specs.Valid.{IsValid}

@@ -5,7 +5,7 @@ use Rattle.metric_catalogue.specs.declared.fault.CatalogueFault.{CatalogueFault}
 use Rattle.metric_views.specs.declared.config.Setup.{Setup}
 use Rattle.metric_views.specs.declared.fault.ViewFault.{ViewFault}
 use Rattle.metric_cert.specs.Valid.{IsValid}
-use Rattle.metric_cert.specs.declared.certificate.Certificate.{Certificate}
+use Rattle.metric_cert.specs.declared.claims.Claims.{Claims as Certificate}
 use Rattle.metric_cert.specs.declared.fault.CertFault.{CertFault}
 use Rattle.metric_check.specs.Findings.{CheckFinds}
 use Rattle.metric_check.specs.Products.{by_product_of}

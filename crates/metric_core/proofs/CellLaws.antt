@@ -1,17 +1,18 @@
 -- What a recording and a collection make of the numbers that a cell keeps.
 use Rattle.std.proofs.Common.{◌≡◌, ◌≢◌, ℕ, zero, suc, ◌+◌, ◌-◌, ◌^◌, ◌<◌, ◌≤◌, Bool, true, false, cond, ℤ, pos, neg_ℤ, ◌+ℤ◌, ◌≤ℤ◌, List, [], ◌∷◌, ◌++◌, length, refl, sym, ap, subst, ◌∙◌, arith}
 use Rattle.std.specs.Prelude.{◌==◌, Ok, nat_lt, replicate, slice_index, slice_index_or, slice_set, sum}
-use Rattle.std.proofs.lemmas.Bool.{ltb-true}
+use Rattle.std.proofs.lemmas.Bool.{and_parts, ltb-true}
 use Rattle.std.proofs.lemmas.Bool.Decides.{nat_tests}
 use Rattle.std.proofs.lemmas.Int.{ints}
 use Rattle.std.proofs.lemmas.List.{length-set, length-replicate, length_push, get_or-set_same, get_or-set_other}
 use Rattle.std.proofs.lemmas.List.Folds.{sum_by-replicate}
 use Rattle.std.proofs.lemmas.List.Sums.{get_or-le-sum_by, sum_by_push}
 use Rattle.metric_book.specs.Journals.{MayAnswer, MayTake, Standing, no_marks}
+use Rattle.metric_combinations.specs.Combinations.{permits}
 use Rattle.metric_history.specs.declared.entry.Entry.{Entry}
 use Rattle.metric_facts.specs.declared.facts.Facts.{Facts}
 use Rattle.metric_history.specs.Answers.{spent}
-use Rattle.metric_facts.specs.Facts.{in_bounds, is_full_set}
+use Rattle.metric_facts.specs.Facts.{in_bounds, is_allowed_set, is_full_set}
 use Rattle.metric_history.specs.SumLaws.{sum_push}
 use Rattle.metric_core.proofs.BudgetLaws.{raised_within, sum_raised}
 use Rattle.metric_core.specs.BudgetLaws.{has_room}
@@ -64,15 +65,16 @@ stands_pushed stands c entry book journal long below s taken = record {
 -- the book may take it
 pub may_take : {B : Type 0} (stands : B → Standing) (c : CellValue B) (entry : Entry) → CellKept stands c
     → entry.recorder < length c.facts.budgets → slice_index c.spent entry.recorder < slice_index c.facts.budgets entry.recorder
-    → is_full_set c.facts.keys entry.set ≡ true → in_bounds c.facts entry.value ≡ true → MayTake (stands c.book) entry
-may_take stands c entry k below room full within = (
+    → is_allowed_set c.facts entry.set ≡ true → in_bounds c.facts entry.value ≡ true → MayTake (stands c.book) entry
+may_take stands c entry k below room allowed within = (
   c.facts,
   k.journal,
   c.marks,
   (
     k.known.book,
     record {
-      full = full;
+      full = (and_parts (is_full_set c.facts.keys entry.set) (permits c.facts.allowed entry.set) allowed).0;
+      allowed = (and_parts (is_full_set c.facts.keys entry.set) (permits c.facts.allowed entry.set) allowed).1;
       value = within;
       counted = omega (arith, k.known.counted, k.budgeted, has_room stands c entry.recorder k room);
     },

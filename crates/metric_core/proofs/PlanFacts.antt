@@ -6,7 +6,7 @@ use Rattle.std.proofs.lemmas.List.Sums.{sum-map}
 use Rattle.metric_bounds.specs.Amounts.{total_of}
 use Rattle.metric_catalogue.specs.Budgets.{amount_of}
 use Rattle.metric_catalogue.specs.Attributes.{given_by_owned}
-use Rattle.metric_catalogue.specs.Encoding.{Given, encode_of, set_of}
+use Rattle.metric_catalogue.specs.Encoding.{Given, allowed_set, encode_of}
 use Rattle.metric_catalogue.specs.declared.contents.Contents.{Contents}
 use Rattle.metric_catalogue.specs.declared.contents.Instrument.{Instrument}
 use Rattle.metric_catalogue.specs.declared.contents.Recorder.{Recorder}
@@ -16,11 +16,11 @@ use Rattle.metric_history.specs.declared.event.Event.{Event}
 use Rattle.metric_history.specs.declared.event.Event.TheVariants.{Record, Collect, Close}
 use Rattle.metric_facts.specs.declared.facts.Facts.{Facts}
 use Rattle.metric_history.specs.Events.{instrument_of}
-use Rattle.metric_facts.specs.Facts.{EncodesFullSets, is_full_set}
+use Rattle.metric_facts.specs.Facts.{EncodesAllowedSets, is_allowed_set}
 use Rattle.metric_plan.specs.Counting.{counts_fit}
 use Rattle.metric_plan.specs.PlanFacts.{plan_facts_at}
 use Rattle.metric_plan.specs.Plans.{IsPlan, PlanValue}
-use Rattle.metric_core.specs.Steps.{HasFullSet, IsFullSet}
+use Rattle.metric_core.specs.Steps.{HasAllowedSet, IsAllowedSet}
 
 counted_at : (contents : Contents) (instruments : List Instrument) (first i : ℕ) (d : Instrument) → counts_fit contents first instruments ≡ true → slice_get instruments i ≡ Some d
     → total_of contents (first + i) < 2 ^ 64
@@ -43,23 +43,23 @@ budgets_fit plan i own p found =
     ap (λ (f : Facts). sum f.budgets) of.is ∙ sum-map (λ (recorder : Recorder). amount_of recorder i) plan.facts.contents.recorders in
     omega (arith, is, fits)
 
--- what the attributes of a recording are encoded to is a full set of the instrument's keys
-full_at : (plan : PlanValue) (i : ℕ) (own : Facts) (attrs : List Given) → IsPlan plan → EncodesFullSets → slice_get plan.facts.instruments i ≡ Some own
-    → IsFullSet own (encode_of plan.facts.contents.instruments i attrs)
+-- what the attributes of a recording are encoded to is an allowed set of the instrument
+allowed_at : (plan : PlanValue) (i : ℕ) (own : Facts) (attrs : List Given) → IsPlan plan → EncodesAllowedSets → slice_get plan.facts.instruments i ≡ Some own
+    → IsAllowedSet own (encode_of plan.facts.contents.instruments i attrs)
 unfolding encode_of
-full_at plan i own attrs p full found =
+allowed_at plan i own attrs p names found =
     let of = plan_facts_at plan i own p found in
-    rw of.at (at (set_of of.instrument.keys attrs) refl)
+    rw of.at (at (allowed_set of.instrument attrs) refl)
   where
-    at : (r : Result (List ℕ) Refusal) → set_of (plan_facts_at plan i own p found).instrument.keys attrs ≡ r → IsFullSet own r
+    at : (r : Result (List ℕ) Refusal) → allowed_set (plan_facts_at plan i own p found).instrument attrs ≡ r → IsAllowedSet own r
     at (Ok set) made =
         let of = plan_facts_at plan i own p found in
-        ap (λ (f : Facts). is_full_set f.keys set) of.is ∙ full of.instrument.keys attrs set made
+        ap (λ (f : Facts). is_allowed_set f set) of.is ∙ names of.instrument attrs set made
     at (Err refusal) made = tt
 
-pub has_full_set : (plan : PlanValue) (contents : Contents) (own : Facts) (event : Event) (k : ℕ) → IsPlan plan → EncodesFullSets → contents ≡ plan.facts.contents → k ≡ instrument_of event
-    → slice_get plan.facts.instruments k ≡ Some own → HasFullSet contents own event
-has_full_set plan contents own (Record n i attrs v) k p full declared at found =
-    subst (λ (d : Contents). IsFullSet own (encoded d i attrs)) (sym declared) (full_at plan i own (map given_by_owned attrs) p full (subst (λ (m : ℕ). slice_get plan.facts.instruments m ≡ Some own) at found))
-has_full_set plan contents own (Collect q i now) k p full declared at found = tt
-has_full_set plan contents own (Close i) k p full declared at found = tt
+pub has_allowed_set : (plan : PlanValue) (contents : Contents) (own : Facts) (event : Event) (k : ℕ) → IsPlan plan → EncodesAllowedSets → contents ≡ plan.facts.contents → k ≡ instrument_of event
+    → slice_get plan.facts.instruments k ≡ Some own → HasAllowedSet contents own event
+has_allowed_set plan contents own (Record n i attrs v) k p names declared at found =
+    subst (λ (d : Contents). IsAllowedSet own (encoded d i attrs)) (sym declared) (allowed_at plan i own (map given_by_owned attrs) p names (subst (λ (m : ℕ). slice_get plan.facts.instruments m ≡ Some own) at found))
+has_allowed_set plan contents own (Collect q i now) k p names declared at found = tt
+has_allowed_set plan contents own (Close i) k p names declared at found = tt

@@ -12,7 +12,7 @@ use Rattle.metric_history.specs.declared.event.Reply.{Reply}
 use Rattle.metric_history.specs.declared.event.Reply.TheVariants.{Accepted, Collected, Done}
 use Rattle.metric_history.specs.Answers.{recorded, collected, closing}
 use Rattle.metric_facts.specs.declared.facts.Facts.{Facts}
-use Rattle.metric_facts.specs.Facts.{RunFacts, is_full_set}
+use Rattle.metric_facts.specs.Facts.{RunFacts, is_allowed_set}
 use Rattle.metric_history.specs.History.{History, answered}
 use Rattle.metric_history.specs.Legal.{Legal, LegalRecord, LegalCollect, LegalClose}
 use Rattle.metric_core.specs.Cells.{CellValue, CellStands, told_by}
@@ -23,15 +23,15 @@ use Rattle.metric_core.specs.CoreStands.{AreCellsOf, CellsStand}
 abbrev pub encoded_entry : ℕ → Result (List ℕ) Refusal → ℤ → Entry
 encoded_entry recorder set value = entry_of recorder (result_unwrap_or set []) value
 
--- whether attributes are encoded to a full set of the keys, where they are not refused
-abbrev pub IsFullSet : Facts → Result (List ℕ) Refusal → Type 0
-IsFullSet facts (Ok set) = is_full_set facts.keys set ≡ true
-IsFullSet facts (Err refusal) = Unit {0}
+-- attributes are encoded to an allowed set, where they are not refused
+abbrev pub IsAllowedSet : Facts → Result (List ℕ) Refusal → Type 0
+IsAllowedSet facts (Ok set) = is_allowed_set facts set ≡ true
+IsAllowedSet facts (Err refusal) = Unit {0}
 
 -- the same of the attributes of an event
-abbrev pub HasFullSet : Contents → Facts → Event → Type 0
-HasFullSet contents facts (Record recorder instrument attrs value) = IsFullSet facts (encoded contents instrument attrs)
-HasFullSet contents facts _ = Unit {0}
+abbrev pub HasAllowedSet : Contents → Facts → Event → Type 0
+HasAllowedSet contents facts (Record recorder instrument attrs value) = IsAllowedSet facts (encoded contents instrument attrs)
+HasAllowedSet contents facts _ = Unit {0}
 
 -- the recordings that the reply to one adds
 abbrev pub gained : Entry → Reply → List Entry

@@ -2,7 +2,7 @@
 ghost use Rattle.std.specs.Prelude.{◌≡◌, ◌≢◌, ◌≤◌, ◌<◌, ◌-◌, ◌^◌, pos, neg_ℤ, ◌+ℤ◌, ◌≤ℤ◌, Some, [], true, length, slice_get, slice_index, sum, IfOk, IfErr, OnOk, OnErr};
 ghost use Rattle.metric_core.specs.Cells.{CellKept, CellStands, new_cell};
 ghost use Rattle.metric_core.specs.CellAnswers.{AnswersClose, AnswersRecording, GainsEntry, KeepsJournal, ReportsBatch, TellsEntries, entry_of, with_batch, with_entry};
-ghost use Rattle.metric_facts.specs.Facts.{in_bounds, is_full_set};
+ghost use Rattle.metric_facts.specs.Facts.{in_bounds, is_allowed_set};
 
 use crate::budgets::Budgets;
 use crate::room::numbers_apart;
@@ -135,7 +135,7 @@ impl<B: Book> Cell<B> {
     /// the book says that recordings take none.
     pub fn record(&mut self, recorder: u32, set: SetKey, value: i64) -> Result<(), Refusal>
         requires recorder { recorder < length self.old.facts.budgets }
-        requires set { is_full_set self.old.facts.keys set ≡ true }
+        requires set { is_allowed_set self.old.facts set ≡ true }
         requires value { in_bounds self.old.facts value ≡ true }
         ensures answer { AnswersRecording B.stands self.old (entry_of recorder set value) result }
         ensures memory { B.spares_memory self.old.facts → result ≢ Err Refusal.Memory }

@@ -1,13 +1,13 @@
 //! One event after the other.
 ghost use Rattle.std.specs.Prelude.{◌≡◌, ◌≤◌, length, vec_capacity};
 ghost use Rattle.metric_core.specs.CoreStands.{AreCellsOf};
-ghost use Rattle.metric_core.specs.Steps.{CellStep, CloseStep, CollectStep, HasFullSet, IsFullSet, RecordStep, Steps, encoded_entry, outcome};
+ghost use Rattle.metric_core.specs.Steps.{CellStep, CloseStep, CollectStep, HasAllowedSet, IsAllowedSet, RecordStep, Steps, encoded_entry, outcome};
 ghost use Rattle.metric_history.specs.Events.{attr_count};
 
 use crate::cell::Cell;
 use metric_book::Book;
 use metric_catalogue::{Catalogue, Refusal, SetKey};
-use metric_facts::laws::attributes_name_full_sets;
+use metric_facts::laws::attributes_name_allowed_sets;
 use metric_history::{Event, Reply};
 use metric_plan::Plan;
 use std::alloc::Global;
@@ -19,7 +19,7 @@ fn record<B: Book>(
     encoded: Result<SetKey, Refusal>,
     value: i64,
 ) -> Reply
-    requires { IsFullSet cell.old.facts encoded }
+    requires { IsAllowedSet cell.old.facts encoded }
     ensures { let entry = encoded_entry recorder encoded value in
         RecordStep B.stands cell.old entry encoded (outcome result cell.new) }
 {
@@ -70,7 +70,7 @@ fn answer<'a, B: Book>(
     event: &'a Event,
     room: &mut Vec<&'a str>,
 ) -> Reply
-    requires set { HasFullSet catalogue.now cell.old.facts event.now }
+    requires set { HasAllowedSet catalogue.now cell.old.facts event.now }
     requires room { attr_count event.now ≤ vec_capacity room.old }
     ensures room { vec_capacity room.new ≡ vec_capacity room.old }
     ensures step { let out = outcome result cell.new in
@@ -105,7 +105,7 @@ pub fn step<'a, B: Book>(
     ensures steps { let out = outcome result cells.new in
         Steps B.stands plan.now.facts cells.old event.now out }
 {
-    attributes_name_full_sets();
+    attributes_name_allowed_sets();
     let at = event.instrument() as usize;
     if at >= cells.len() {
         return Reply::Refused(Refusal::UnknownInstrument);

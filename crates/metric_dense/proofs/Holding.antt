@@ -13,7 +13,8 @@ use Rattle.std.proofs.lemmas.Map.Made.{length-le_from_is_member}
 use Rattle.metric_facts.specs.declared.facts.KeyFacts.{KeyFacts}
 use Rattle.metric_history.specs.declared.entry.Entry.{Entry}
 use Rattle.metric_history.specs.Points.{overflow, point}
-use Rattle.metric_history.specs.Series.{all_series, belongs, distinct, found_with, has, held, restricted, series}
+use Rattle.metric_combinations.specs.Restrictions.{restricted}
+use Rattle.metric_history.specs.Series.{all_series, belongs, distinct, found_with, has, held, series}
 use Rattle.metric_history.specs.SeriesLaws.{has-distinct, has_own_series, key_is_same, same_key}
 use Rattle.metric_views.specs.declared.stream.Stream.{Stream}
 use Rattle.metric_facts.specs.Products.{product_of}

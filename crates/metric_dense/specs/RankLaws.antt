@@ -4,7 +4,7 @@ use Rattle.std.specs.Ordering.{nat_cmp}
 use Rattle.std.specs.Cmp.Lexicographic.{slice_cmp}
 use Rattle.metric_facts.specs.declared.facts.KeyFacts.{KeyFacts}
 use Rattle.metric_facts.specs.Facts.{is_full_set, key_facts}
-use Rattle.metric_history.specs.Series.{restricted}
+use Rattle.metric_combinations.specs.Restrictions.{restricted}
 use Rattle.metric_facts.specs.Products.{product_of}
 use Rattle.metric_facts.specs.Ranks.{rank}
 use Rattle.metric_dense.specs.Ranks.{unrank}

@@ -1,12 +1,14 @@
 -- What the bytes of facts begin with determines each field, and so the bytes determine the facts.
-use Rattle.std.proofs.Common.{◌≡◌, ℕ, zero, suc, ◌+◌, ◌*◌, ◌/◌, ◌%◌, ◌≤◌, ℤ, pos, negsuc, Bool, true, false, cond, List, [], ◌∷◌, ◌++◌, length, Option, Some, None, nat_lt, refl, sym, ap, subst, ◌∙◌, append_assoc, int_lt, unsigned_abs, true≢false, pred, ◌&&◌, add-one, arith}
+use Rattle.std.proofs.Common.{◌≡◌, ℕ, zero, suc, ◌+◌, ◌*◌, ◌/◌, ◌%◌, ◌≤◌, ℤ, pos, negsuc, Bool, true, false, cond, List, [], ◌∷◌, ◌++◌, length, take, drop, Option, Some, None, nat_lt, refl, sym, ap, subst, ◌∙◌, append_assoc, int_lt, unsigned_abs, true≢false, pred, ◌&&◌, add-one, arith}
 use Rattle.std.specs.Bool.{Decides}
 use Rattle.std.specs.Cmp.{signed_Decides}
 use Rattle.std.specs.Cmp.Lexicographic.{pointwise}
 use Rattle.std.specs.Ordering.{int_eq}
-use Rattle.std.specs.Prelude.{find}
+use Rattle.std.specs.List.{list_all}
+use Rattle.std.specs.Prelude.{find, ◌==◌}
 use Rattle.std.specs.Str.{bytes_eq}
-use Rattle.std.proofs.lemmas.Bool.{and_parts, ltb-true, ltb-false, le-ltb}
+use Rattle.std.proofs.lemmas.Bool.{and_parts, eqb-true, ltb-true, ltb-false, le-ltb}
+use Rattle.std.proofs.lemmas.List.{length-take}
 use Rattle.std.proofs.lemmas.Nat.{div-add-mod'}
 use Rattle.std.proofs.lemmas.Slice.Eq.{bytes_eq-Decides, slice_eq-Decides}
 use Rattle.metric_catalogue.specs.declared.contents.Kind.{Kind}
@@ -19,7 +21,8 @@ use Rattle.metric_facts.specs.declared.facts.FactsFields.{FactsFields}
 use Rattle.metric_facts.specs.declared.facts.KeyFacts.{KeyFacts}
 use Rattle.metric_facts.specs.declared.facts.NumberedStream.{NumberedStream}
 use Rattle.metric_facts.specs.Facts.{is_delta_temporality}
-use Rattle.metric_facts.specs.Flat.{groups, flat_number, flag_number, flat_flag, flat_signed, flat_each, flat_list, flat_text, flat_key, view_number, kind_number, aggregation_number, boundaries_of, Details, details_of, is_same_details, flat_details, repeats, flat_details_after, is_of_view, last_of_view, flat_stream, flat_streams, flat_facts, facts_eq}
+use Rattle.metric_facts.specs.FullSetLaws.{zeros_same}
+use Rattle.metric_facts.specs.Flat.{groups, flat_number, flag_number, flat_flag, flat_signed, flat_each, flat_list, flat_text, flat_key, view_number, kind_number, aggregation_number, boundaries_of, Details, details_of, is_same_details, flat_details, repeats, flat_details_after, is_of_view, last_of_view, flat_stream, flat_streams, is_of_keys, flat_row, flat_rows, flat_allowed, flat_facts, facts_eq}
 
 -- the front of a list determines the value
 abbrev Reads : {X : Type 0} → (X → List ℕ) → Type 0
@@ -34,6 +37,14 @@ unfolding pair
 both f g first second p q r s e =
     let a : (p.0 ≡ q.0) × (g p.1 ++ r ≡ g q.1 ++ s) = first p.0 q.0 (g p.1 ++ r) (g q.1 ++ s) (sym (append_assoc (f p.0) (g p.1) r) ∙ e ∙ append_assoc (f q.0) (g q.1) s) in
     let b : (p.1 ≡ q.1) × (r ≡ s) = second p.1 q.1 r s a.1 in
+    (λ i. (a.0 i, b.0 i), b.1)
+
+-- one value after the other, whose form the first tells
+after : {X Y : Type 0} (f : X → List ℕ) (g : X → Y → List ℕ) → Reads f → ((x : X) → Reads (g x)) → Reads (λ (p : X × Y). f p.0 ++ g p.0 p.1)
+after f g first second p q r s e =
+    let a : (p.0 ≡ q.0) × (g p.0 p.1 ++ r ≡ g q.0 q.1 ++ s) =
+    first p.0 q.0 (g p.0 p.1 ++ r) (g q.0 q.1 ++ s) (sym (append_assoc (f p.0) (g p.0 p.1) r) ∙ e ∙ append_assoc (f q.0) (g q.0 q.1) s) in
+    let b : (p.1 ≡ q.1) × (r ≡ s) = second q.0 p.1 q.1 r s (ap (λ x. g x p.1 ++ r) (sym a.0) ∙ a.1) in
     (λ i. (a.0 i, b.0 i), b.1)
 
 -- a value by parts that determine it
@@ -350,7 +361,72 @@ streams earlier (x ∷ xs) (y ∷ ys) r s long e =
     streams (x ∷ earlier) xs ys r s (omega (arith, long)) (a.1 ∙ ap (λ (z : NumberedStream). others z ys ++ s) (sym a.0)) in
     (λ i. a.0 i ∷ b.0 i, b.1)
 
--- the fields of facts, as pairs
+-- set keys of eight entries, of which those after so many keys are 0, are told apart by the entries before
+entries_same : (keys : ℕ) (x y : List ℕ) → length x ≡ length y → take keys x ≡ take keys y → list_all (λ entry. entry == 0) (drop keys x) ≡ true → list_all (λ entry. entry == 0) (drop keys y) ≡ true
+    → x ≡ y
+entries_same zero x y long e p q = zeros_same x y p q long
+entries_same (suc keys) [] [] long e p q = refl
+entries_same (suc keys) [] (b ∷ y) long e p q = absurd (omega arith)
+entries_same (suc keys) (a ∷ x) [] long e p q = absurd (omega arith)
+entries_same (suc keys) (a ∷ x) (b ∷ y) long e p q =
+    let first : (a ≡ b) × (take keys x ≡ take keys y) = heads a b (take keys x) (take keys y) e in
+    let rest : x ≡ y = entries_same keys x y (omega arith) first.1 p q in
+    λ i. first.0 i ∷ rest i
+
+row : (keys : ℕ) (x y r s : List ℕ) → is_of_keys keys x ≡ true → is_of_keys keys y ≡ true → flat_row keys x ++ r ≡ flat_row keys y ++ s → (x ≡ y) × (r ≡ s)
+row keys x y r s own_x own_y e =
+    let p = and_parts (length x == 8) (list_all (λ entry. entry == 0) (drop keys x)) own_x in
+    let q = and_parts (length y == 8) (list_all (λ entry. entry == 0) (drop keys y)) own_y in
+    let long : length x ≡ length y = eqb-true (length x) 8 p.0 ∙ sym (eqb-true (length y) 8 q.0) in
+    let taken : length (take keys x) ≡ length (take keys y) = omega (arith, long, length-take keys x, length-take keys y) in
+    let read : (take keys x ≡ take keys y) × (r ≡ s) = each flat_number number (take keys x) (take keys y) r s taken e in
+    (entries_same keys x y long read.0 p.1 q.1, read.1)
+
+short_rows : (keys : ℕ) (xs ys : List (List ℕ)) (r s : List ℕ) → list_all (is_of_keys keys) xs ≡ true → list_all (is_of_keys keys) ys ≡ true → length xs ≡ length ys
+    → flat_each (flat_row keys) xs ++ r ≡ flat_each (flat_row keys) ys ++ s → (xs ≡ ys) × (r ≡ s)
+short_rows keys [] [] r s all_x all_y long e = (refl, e)
+short_rows keys [] (y ∷ ys) r s all_x all_y long e = absurd (omega (arith, long))
+short_rows keys (x ∷ xs) [] r s all_x all_y long e = absurd (omega (arith, long))
+short_rows keys (x ∷ xs) (y ∷ ys) r s all_x all_y long e =
+    let p = and_parts (is_of_keys keys x) (list_all (is_of_keys keys) xs) all_x in
+    let q = and_parts (is_of_keys keys y) (list_all (is_of_keys keys) ys) all_y in
+    let later : List (List ℕ) → List ℕ = λ rows. flat_each (flat_row keys) rows in
+    let a : (x ≡ y) × (later xs ++ r ≡ later ys ++ s) =
+    row keys x y (later xs ++ r) (later ys ++ s) p.0 q.0 (sym (append_assoc (flat_row keys x) (later xs) r) ∙ e ∙ append_assoc (flat_row keys y) (later ys) s) in
+    let b : (xs ≡ ys) × (r ≡ s) = short_rows keys xs ys r s p.1 q.1 (omega (arith, long)) a.1 in
+    (λ i. a.0 i ∷ b.0 i, b.1)
+
+counted_rows : (keys : ℕ) (xs ys : List (List ℕ)) (r s : List ℕ) → list_all (is_of_keys keys) xs ≡ true → list_all (is_of_keys keys) ys ≡ true
+    → flat_list (flat_row keys) xs ++ r ≡ flat_list (flat_row keys) ys ++ s → (xs ≡ ys) × (r ≡ s)
+counted_rows keys xs ys r s all_x all_y e =
+    let later : List (List ℕ) → List ℕ = λ rows. flat_each (flat_row keys) rows in
+    let a : (length xs ≡ length ys) × (later xs ++ r ≡ later ys ++ s) =
+    number (length xs) (length ys) (later xs ++ r) (later ys ++ s) (sym (append_assoc (flat_number (length xs)) (later xs) r) ∙ e ∙ append_assoc (flat_number (length ys)) (later ys) s) in
+    short_rows keys xs ys r s all_x all_y a.0 a.1
+
+whole_rows : Reads (flat_list (flat_list flat_number))
+whole_rows = listed (flat_list flat_number) (listed flat_number number)
+
+rows : (keys : ℕ) → Reads (flat_rows keys)
+rows keys x y r s e = at (list_all (is_of_keys keys) x) (list_all (is_of_keys keys) y) refl refl e
+  where
+    at : (p q : Bool) → list_all (is_of_keys keys) x ≡ p → list_all (is_of_keys keys) y ≡ q
+        → cond p (0 ∷ flat_list (flat_row keys) x) (1 ∷ flat_list (flat_list flat_number) x) ++ r ≡ cond q (0 ∷ flat_list (flat_row keys) y) (1 ∷ flat_list (flat_list flat_number) y) ++ s
+        → (x ≡ y) × (r ≡ s)
+    at true true is_x is_y e = counted_rows keys x y r s is_x is_y (heads 0 0 (flat_list (flat_row keys) x ++ r) (flat_list (flat_row keys) y ++ s) e).1
+    at true false is_x is_y e = absurd (omega (arith, (heads 0 1 (flat_list (flat_row keys) x ++ r) (flat_list (flat_list flat_number) y ++ s) e).0))
+    at false true is_x is_y e = absurd (omega (arith, (heads 1 0 (flat_list (flat_list flat_number) x ++ r) (flat_list (flat_row keys) y ++ s) e).0))
+    at false false is_x is_y e = whole_rows x y r s (heads 1 1 (flat_list (flat_list flat_number) x ++ r) (flat_list (flat_list flat_number) y ++ s) e).1
+
+allowed : (keys : ℕ) → Reads (flat_allowed keys)
+allowed keys None None r s e = (refl, (heads 0 0 r s e).1)
+allowed keys None (Some y) r s e = absurd (omega (arith, (heads 0 1 r (flat_rows keys y ++ s) e).0))
+allowed keys (Some x) None r s e = absurd (omega (arith, (heads 1 0 (flat_rows keys x ++ r) s e).0))
+allowed keys (Some x) (Some y) r s e =
+    let read : (x ≡ y) × (r ≡ s) = rows keys x y r s (heads 1 1 (flat_rows keys x ++ r) (flat_rows keys y ++ s) e).1 in
+    (ap Some read.0, read.1)
+
+-- the fields of facts but the combinations, as pairs
 abbrev Fields : Type 0
 Fields = ((((((Bool × ℕ) × List KeyFacts) × ℤ) × ℤ) × List ℕ) × List Bool) × List NumberedStream
 
@@ -370,24 +446,46 @@ fields_read : Reads fields_flat
 unfolding fields_flat
 fields_read = both _ _ (both _ _ (both _ _ (both _ _ (both _ _ (both _ _ (both _ _ flag number) (listed flat_key key)) signed) signed) (listed flat_number number)) kept) counted_streams
 
-fields_of : FactsFields → Fields
-fields_of f = (((((((f.certified, f.instrument), f.keys), f.lo), f.hi), f.budgets), f.delta), f.streams)
+-- the combinations of an instrument's keys, after its other fields
+allowed_after : Fields → Option (List (List ℕ)) → List ℕ
+allowed_after p all = flat_allowed (length p.0.0.0.0.0.1) all
 
-of_fields : Fields → FactsFields
-of_fields p = record {
-  certified = p.0.0.0.0.0.0.0;
-  instrument = p.0.0.0.0.0.0.1;
-  keys = p.0.0.0.0.0.1;
-  lo = p.0.0.0.0.1;
-  hi = p.0.0.0.1;
-  budgets = p.0.0.1;
-  delta = p.0.1;
-  streams = p.1;
-}
+allowed_read : (p : Fields) → Reads (allowed_after p)
+unfolding allowed_after
+allowed_read p = allowed (length p.0.0.0.0.0.1)
+
+-- all fields
+abbrev Whole : Type 0
+Whole = Fields × Option (List (List ℕ))
+
+whole_flat : Whole → List ℕ
+whole_flat w = fields_flat w.0 ++ allowed_after w.0 w.1
+
+whole_read : Reads whole_flat
+unfolding whole_flat
+whole_read = after fields_flat allowed_after fields_read allowed_read
+
+whole_of : FactsFields → Whole
+whole_of f = ((((((((f.certified, f.instrument), f.keys), f.lo), f.hi), f.budgets), f.delta), f.streams), f.allowed)
+
+of_whole : Whole → FactsFields
+of_whole w =
+    let p = w.0 in
+    record {
+      certified = p.0.0.0.0.0.0.0;
+      instrument = p.0.0.0.0.0.0.1;
+      keys = p.0.0.0.0.0.1;
+      allowed = w.1;
+      lo = p.0.0.0.0.1;
+      hi = p.0.0.0.1;
+      budgets = p.0.0.1;
+      delta = p.0.1;
+      streams = p.1;
+    }
 
 facts : Reads flat_facts
-unfolding pair flat_counted_streams fields_flat fields_of of_fields
-facts = by_parts fields_flat fields_of fields_read (λ x y e. ap of_fields e)
+unfolding pair flat_counted_streams fields_flat allowed_after whole_flat whole_of of_whole
+facts = by_parts whole_flat whole_of whole_read (λ x y e. ap of_whole e)
 
 -- equal bytes are of equal facts
 pub facts_eq_decides : (a b : FactsFields) → Decides (facts_eq a b) (a ≡ b)

@@ -1,18 +1,19 @@
--- The set key of attributes is a full set.
+-- The set key of attributes is a full set, and an allowed one.
 use Rattle.std.proofs.Common.{◌≡◌, ℕ, zero, suc, ◌+◌, ◌-◌, ◌<◌, Bool, true, false, ◌&&◌, ◌||◌, cond, List, [], ◌∷◌, ◌++◌, Option, Some, None, Ok, length, map, refl, sym, ap, subst, ◌∙◌, arith}
 use Rattle.std.specs.Prelude.{◌==◌, not, replicate, find, is_some, option_map, unwrap_or}
 use Rattle.std.specs.List.{list_all, list_any}
-use Rattle.std.proofs.lemmas.Bool.{and_parts, not-true, true≢false}
+use Rattle.std.proofs.lemmas.Bool.{and_from, and_parts, not-true, true≢false}
 use Rattle.std.proofs.lemmas.Bool.Decides.{nat_tests}
-use Rattle.metric_base.specs.StepLaws.{ok_is, require_ok}
+use Rattle.metric_base.specs.StepLaws.{after_ok, ok_is, require_ok}
 use Rattle.metric_names.specs.declared.value.AttrValue.{AttrValue}
+use Rattle.metric_combinations.specs.Combinations.{permits}
 use Rattle.metric_catalogue.specs.declared.contents.Key.{Key}
-use Rattle.metric_catalogue.specs.declared.refusal.Refusal.TheVariants.{DuplicateKey, UnknownKey, UnknownValue, MissingKey}
+use Rattle.metric_catalogue.specs.declared.refusal.Refusal.TheVariants.{DuplicateKey, UnknownKey, UnknownValue, MissingKey, Combination}
 use Rattle.metric_catalogue.specs.ByKeys.{is_allowed, values_by_keys}
-use Rattle.metric_catalogue.specs.Encoding.{Given, is_of, has_repeated_key, is_declared, has_declared_value, is_complete, entry_of, entry_at, set_key, set_of}
+use Rattle.metric_catalogue.specs.Encoding.{Given, allowed_set, is_of, has_repeated_key, is_declared, has_declared_value, is_complete, entry_of, entry_at, set_key, set_of}
 use Rattle.metric_catalogue.specs.Places.{same_value, place}
 use Rattle.metric_catalogue.specs.PlaceLaws.{position_from-within}
-use Rattle.metric_facts.specs.Facts.{is_entry, is_full_set, key_facts, EncodesFullSets}
+use Rattle.metric_facts.specs.Facts.{is_entry, is_full_set, key_facts, EncodesAllowedSets}
 
 none_found : (p : Given → Bool) (attrs : List Given) → find p attrs ≡ None → list_any p attrs ≡ false
 none_found p [] e = refl
@@ -54,9 +55,9 @@ entries_fit attrs (key ∷ keys) n allowed complete =
     ap (λ (b : Bool). b && is_full_set (map key_facts keys) (map (λ k. unwrap_or (entry_at attrs k) 0) keys ++ replicate n 0)) (entry_fits attrs key a.0 c.0)
     ∙ entries_fit attrs keys n a.1 c.1
 
-pub encoded_sets_are_full : EncodesFullSets
+full : (keys : List Key) (attrs : List Given) (set : List ℕ) → set_of keys attrs ≡ Ok set → is_full_set (map key_facts keys) set ≡ true
 unfolding set_of
-encoded_sets_are_full keys attrs set made =
+full keys attrs set made =
     let new = require_ok (not (has_repeated_key attrs)) DuplicateKey _ set made in
     let known = require_ok (list_all (is_declared keys) attrs) UnknownKey _ set new.1 in
     let valued = require_ok (list_all (has_declared_value keys) attrs) UnknownValue _ set known.1 in
@@ -64,3 +65,12 @@ encoded_sets_are_full keys attrs set made =
     let allowed = sym (values_by_keys keys attrs (not-true (has_repeated_key attrs) new.0)) ∙ valued.0 in
     subst (λ (entries : List ℕ). is_full_set (map key_facts keys) entries ≡ true) (ok_is (set_key keys attrs) set (Ok (set_key keys attrs)) refl complete.1)
     (entries_fit attrs keys (8 - length keys) allowed complete.0)
+
+pub encoded_sets_are_allowed : EncodesAllowedSets
+unfolding allowed_set
+encoded_sets_are_allowed instrument attrs set made =
+    after_ok (set_of instrument.keys attrs) _ set made
+    (λ own named rest.
+    let allowed = require_ok (permits instrument.allowed own) Combination _ set rest in
+    subst (λ (s : List ℕ). (is_full_set (map key_facts instrument.keys) s && permits instrument.allowed s) ≡ true) (ok_is own set (Ok own) refl allowed.1)
+    (and_from (is_full_set (map key_facts instrument.keys) own) (permits instrument.allowed own) (full instrument.keys attrs own named) allowed.0))

@@ -1,8 +1,9 @@
 -- What the run of an instrument depends on.
 use Rattle.std.specs.Prelude.{◌≡◌, ℕ, ℤ, Ok, ◌+◌, Bool, true, false, ◌&&◌, List, [], ◌∷◌, ◌++◌, length, map, slice_index_or, nat_le, int_le, ◌==◌, if◌then◌else◌}
 use Rattle.std.specs.List.{list_all}
+use Rattle.metric_combinations.specs.Combinations.{permits}
 use Rattle.metric_catalogue.specs.Budgets.{amount_of}
-use Rattle.metric_catalogue.specs.Encoding.{Given, set_of}
+use Rattle.metric_catalogue.specs.Encoding.{Given, allowed_set}
 use Rattle.metric_catalogue.specs.declared.contents.Contents.{Contents}
 use Rattle.metric_catalogue.specs.declared.contents.Instrument.{Instrument}
 use Rattle.metric_catalogue.specs.declared.contents.Key.{Key}
@@ -43,6 +44,10 @@ is_full_set [] set = list_all (λ entry. entry == 0) set
 is_full_set (key ∷ keys) [] = false
 is_full_set (key ∷ keys) (entry ∷ set) = is_entry key entry && is_full_set keys set
 
+-- whether a set key is a full set of the keys, and one of the allowed combinations where these are listed
+abbrev pub is_allowed_set : Facts → List ℕ → Bool
+is_allowed_set facts set = is_full_set facts.keys set && permits facts.allowed set
+
 abbrev pub key_facts : Key → KeyFacts
 key_facts key = record { values = length key.values; optional = key.optional }
 
@@ -75,6 +80,7 @@ facts_of certified flags recorders readers streams number instrument = record {
   certified = certified;
   instrument = number;
   keys = map key_facts instrument.keys;
+  allowed = instrument.allowed;
   lo = instrument.lo;
   hi = instrument.hi;
   budgets = map (λ (recorder : Recorder). amount_of recorder number) recorders;
@@ -95,7 +101,8 @@ with_stream first number by_product s [] = []
 with_stream first number by_product s (own ∷ all) =
     record own { streams = own.streams ++ numbered first number by_product s } ∷ with_stream (first + 1) number by_product s all
 
--- what attributes are encoded to is a full set
-abbrev pub EncodesFullSets : Type 0
-EncodesFullSets =
-    (keys : List Key) (attrs : List Given) (set : List ℕ) → set_of keys attrs ≡ Ok set → is_full_set (map key_facts keys) set ≡ true
+-- what attributes are encoded to is a full set of the instrument, and one of its combinations where these are listed
+abbrev pub EncodesAllowedSets : Type 0
+EncodesAllowedSets =
+    (instrument : Instrument) (attrs : List Given) (set : List ℕ) → allowed_set instrument attrs ≡ Ok set
+    → (is_full_set (map key_facts instrument.keys) set && permits instrument.allowed set) ≡ true

@@ -1,7 +1,8 @@
 -- Facts as one list of bytes. What the list says of each field is found by reading it from the front, so that
 -- equal lists are of equal facts.
-use Rattle.std.specs.Prelude.{ℕ, zero, suc, ◌+◌, ◌/◌, ◌%◌, ℤ, pos, Bool, true, false, if◌then◌else◌, nat_lt, int_lt, unsigned_abs, List, [], ◌∷◌, ◌++◌, length, Option, Some, None, ◌&&◌, ◌==◌, find}
+use Rattle.std.specs.Prelude.{ℕ, zero, suc, ◌+◌, ◌/◌, ◌%◌, ℤ, pos, Bool, true, false, if◌then◌else◌, nat_lt, int_lt, unsigned_abs, List, [], ◌∷◌, ◌++◌, length, take, drop, Option, Some, None, ◌&&◌, ◌==◌, find}
 use Rattle.std.specs.Cmp.Lexicographic.{pointwise}
+use Rattle.std.specs.List.{list_all}
 use Rattle.std.specs.Ordering.{int_eq}
 use Rattle.std.specs.Str.{bytes_eq}
 use Rattle.metric_catalogue.specs.declared.contents.Kind.{Kind}
@@ -133,14 +134,33 @@ flat_streams earlier [] = []
 flat_streams earlier (numbered ∷ streams) =
     flat_stream (last_of_view earlier numbered) numbered ++ flat_streams (numbered ∷ earlier) streams
 
--- what an instrument has beside its streams
+-- what an instrument has beside its streams and its combinations
 abbrev pub flat_instrument : FactsFields → List ℕ
 flat_instrument facts =
     flat_flag facts.certified ++ flat_number facts.instrument ++ flat_list flat_key facts.keys ++ flat_signed facts.lo ++ flat_signed facts.hi
     ++ flat_list flat_number facts.budgets ++ flat_list flat_flag facts.delta
 
+-- whether a set key has eight entries, of which those after so many keys are 0
+abbrev pub is_of_keys : ℕ → List ℕ → Bool
+is_of_keys keys row = length row == 8 && list_all (λ entry. entry == 0) (drop keys row)
+
+-- its entries of the keys, without what is known to come after them
+abbrev pub flat_row : ℕ → List ℕ → List ℕ
+flat_row keys row = flat_each flat_number (take keys row)
+
+-- rows of set keys, shortly where each is of so many keys
+abbrev pub flat_rows : ℕ → List (List ℕ) → List ℕ
+flat_rows keys rows =
+    if list_all (is_of_keys keys) rows then 0 ∷ flat_list (flat_row keys) rows else 1 ∷ flat_list (flat_list flat_number) rows
+
+-- the allowed combinations of so many keys, where these are listed
+abbrev pub flat_allowed : ℕ → Option (List (List ℕ)) → List ℕ
+flat_allowed keys None = 0 ∷ []
+flat_allowed keys (Some rows) = 1 ∷ flat_rows keys rows
+
 abbrev pub flat_facts : FactsFields → List ℕ
-flat_facts facts = flat_instrument facts ++ (flat_number (length facts.streams) ++ flat_streams [] facts.streams)
+flat_facts facts =
+    flat_instrument facts ++ (flat_number (length facts.streams) ++ flat_streams [] facts.streams) ++ flat_allowed (length facts.keys) facts.allowed
 
 -- whether two facts are the same, as their bytes tell
 abbrev pub facts_eq : FactsFields → FactsFields → Bool

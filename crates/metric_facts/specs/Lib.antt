@@ -1,5 +1,6 @@
 pub mod Facts
 pub mod Flat
+pub mod FullSetLaws
 pub mod Products
 pub mod NumberedLaws
 pub mod Ranks

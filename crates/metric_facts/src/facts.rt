@@ -5,6 +5,7 @@ ghost use Rattle.metric_facts.specs.Flat.{flat_facts};
 
 use crate::flat::flat_facts;
 use metric_base::{Copied, Items, Shared};
+use metric_combinations::Combinations;
 use metric_views::Stream;
 use std::alloc::{AllocError, Global};
 use std::marker::Model;
@@ -39,6 +40,8 @@ pub struct FactsFields {
     pub instrument: u32,
     /// The declared keys, in declared order.
     pub keys: Items<KeyFacts>,
+    /// The allowed combinations of their values, where these are listed; else each full set is allowed.
+    pub allowed: Option<Combinations>,
     /// The least value that may be recorded.
     pub lo: i64,
     /// The greatest value that may be recorded.
@@ -58,6 +61,7 @@ impl Drop for FactsFields {
             certified: _,
             instrument: _,
             keys: _keys,
+            allowed: _allowed,
             lo: _,
             hi: _,
             budgets: _budgets,

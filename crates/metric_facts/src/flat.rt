@@ -1,6 +1,7 @@
 //! Facts as one list of bytes.
-ghost use Rattle.std.specs.Prelude.{◌≡◌, ◌++◌, ◌∷◌, [], IfOk, OnOk, slice_get};
+ghost use Rattle.std.specs.Prelude.{◌≡◌, ◌++◌, ◌∷◌, [], IfOk, OnOk, slice_get, take};
 ghost use Rattle.std.specs.BTreeMap as tree;
+ghost use Rattle.std.specs.List.{list_all};
 ghost use Rattle.std.specs.Ordering.{nat_cmp};
 ghost use Rattle.std.specs.Option.{option_and_then, option_copied};
 ghost use Rattle.metric_facts.specs.Flat.{
@@ -8,6 +9,7 @@ ghost use Rattle.metric_facts.specs.Flat.{
   boundaries_of,
   details_of,
   details_seen,
+  flat_allowed,
   flat_details,
   flat_details_after,
   flat_each,
@@ -18,12 +20,15 @@ ghost use Rattle.metric_facts.specs.Flat.{
   flat_list,
   flat_number,
   flat_points,
+  flat_row,
+  flat_rows,
   flat_settings,
   flat_signed,
   flat_source,
   flat_stream,
   flat_streams,
   flat_text,
+  is_of_keys,
   is_same_details,
   kind_number,
   repeats,
@@ -31,8 +36,10 @@ ghost use Rattle.metric_facts.specs.Flat.{
 };
 
 use crate::facts::{FactsFields, KeyFacts, NumberedStream};
+use crate::full_sets::are_zero;
 use crate::instruments::is_delta;
-use metric_catalogue::Kind;
+use metric_catalogue::{Kind, SetKey};
+use metric_combinations::Combinations;
 use metric_views::{Stream, StreamAggregation};
 use std::alloc::{AllocError, Global};
 use std::collections::BTreeMap;
@@ -89,6 +96,16 @@ impl Flat for bool {
     }
 }
 
+impl Flat for u16 {
+    ghost use Rattle.metric_facts.specs.Flat.{flat_number};
+
+    ghost flat = { flat_number };
+
+    fn write(&self, bytes: &mut Vec<u8>) -> Result<(), AllocError> {
+        write_number(bytes, u64::from(*self))
+    }
+}
+
 impl Flat for u64 {
     ghost use Rattle.metric_facts.specs.Flat.{flat_number};
 
@@ -134,6 +151,17 @@ fn write_list<T: Flat>(bytes: &mut Vec<u8>, values: &[T]) -> Result<(), AllocErr
 {
     write_number(bytes, values.len() as u64)?;
     write_each(bytes, values)
+}
+
+// A set key with all its entries.
+impl Flat for [u16; 8] {
+    ghost use Rattle.metric_facts.specs.Flat.{flat_list, flat_number};
+
+    ghost flat = { flat_list flat_number };
+
+    fn write(&self, bytes: &mut Vec<u8>) -> Result<(), AllocError> {
+        write_list(bytes, self)
+    }
 }
 
 fn write_text(bytes: &mut Vec<u8>, text: &str) -> Result<(), AllocError>
@@ -323,7 +351,68 @@ fn write_streams(
     Ok(())
 }
 
-// Writes what an instrument has beside its streams.
+// The entries of so many keys.
+fn entries_of(keys: usize, row: &SetKey) -> &[u16]
+    ensures { result.now ≡ take keys row.now }
+{
+    &row[..keys.min(row.len())]
+}
+
+// Whether the entries after those of so many keys are 0.
+fn is_of_keys(keys: usize, row: &SetKey) -> bool
+    ensures { result ≡ is_of_keys keys row.now }
+{
+    are_zero(&row[keys.min(row.len())..])
+}
+
+// Whether each row is of so many keys.
+fn are_of_keys(keys: usize, rows: &[SetKey]) -> bool
+    ensures { result ≡ list_all (is_of_keys keys) rows.now }
+{
+    rows.iter().all(|row| is_of_keys(keys, row))
+}
+
+// Writes the entries of so many keys of each row.
+fn write_entries(bytes: &mut Vec<u8>, keys: usize, rows: &[SetKey]) -> Result<(), AllocError>
+    ensures { OnOk result (bytes.new.items ≡ bytes.old.items ++ flat_each (flat_row keys) rows.now) }
+{
+    for row in rows {
+        write_each(bytes, entries_of(keys, row))?;
+    }
+    Ok(())
+}
+
+// Writes rows, shortly where each is of so many keys, as those of a catalogue are.
+fn write_rows(bytes: &mut Vec<u8>, keys: usize, rows: &[SetKey]) -> Result<(), AllocError>
+    ensures { OnOk result (bytes.new.items ≡ bytes.old.items ++ flat_rows keys rows.now) }
+{
+    if are_of_keys(keys, rows) {
+        write_byte(bytes, 0)?;
+        write_number(bytes, rows.len() as u64)?;
+        return write_entries(bytes, keys, rows);
+    }
+    write_byte(bytes, 1)?;
+    write_list(bytes, rows)
+}
+
+// Writes the allowed combinations of so many keys, where these are listed.
+fn write_allowed(
+    bytes: &mut Vec<u8>,
+    keys: usize,
+    allowed: &Option<Combinations>,
+) -> Result<(), AllocError>
+    ensures { OnOk result (bytes.new.items ≡ bytes.old.items ++ flat_allowed keys allowed.now) }
+{
+    match allowed {
+        None => write_byte(bytes, 0),
+        Some(combinations) => {
+            write_byte(bytes, 1)?;
+            write_rows(bytes, keys, combinations.rows())
+        }
+    }
+}
+
+// Writes what an instrument has beside its streams and its combinations.
 fn write_instrument(bytes: &mut Vec<u8>, facts: &FactsFields) -> Result<(), AllocError>
     ensures { OnOk result (bytes.new.items ≡ bytes.old.items ++ flat_instrument facts.now) }
 {
@@ -345,5 +434,6 @@ pub fn flat_facts(alloc: Global, facts: &FactsFields) -> Result<Vec<u8>, AllocEr
     let streams = facts.streams.as_slice();
     write_number(&mut bytes, streams.len() as u64)?;
     write_streams(alloc, &mut bytes, streams)?;
+    write_allowed(&mut bytes, facts.keys.len(), &facts.allowed)?;
     Ok(bytes)
 }

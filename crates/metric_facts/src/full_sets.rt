@@ -1,9 +1,11 @@
-//! Whether a set key is a full set.
+//! Whether a set key is a full set, and an allowed one.
 ghost use Rattle.std.specs.Prelude.{◌≡◌, ◌==◌};
 ghost use Rattle.std.specs.List.{list_all};
-ghost use Rattle.metric_facts.specs.Facts.{is_entry, is_full_set};
+ghost use Rattle.metric_facts.specs.Facts.{is_allowed_set, is_entry, is_full_set};
 
-use crate::facts::KeyFacts;
+use crate::facts::{FactsFields, KeyFacts};
+use metric_catalogue::SetKey;
+use metric_combinations::permits;
 
 /// Whether the entries are a full set of the keys: one for each key, and 0 after them.
 pub fn is_full_set(keys: &[KeyFacts], entries: &[u16]) -> bool
@@ -17,8 +19,16 @@ pub fn is_full_set(keys: &[KeyFacts], entries: &[u16]) -> bool
     }
 }
 
+/// Whether a set key is a full set of the keys, and one of the allowed combinations where these are listed.
+/// Takes no memory.
+pub fn is_allowed_set(facts: &FactsFields, set: &SetKey) -> bool
+    ensures { result ≡ is_allowed_set facts.now set.now }
+{
+    is_full_set(facts.keys.as_slice(), set) && permits(&facts.allowed, set)
+}
+
 // Whether each entry is 0.
-fn are_zero(entries: &[u16]) -> bool
+pub(crate) fn are_zero(entries: &[u16]) -> bool
     ensures { result ≡ list_all (λ entry. entry == 0) entries.now }
 {
     entries.iter().all(|entry| *entry == 0)

@@ -66,12 +66,14 @@ fn instrument_facts(
         facts ≡ facts_of certified [] recorders.now readers.now [] number instrument.now) }
 {
     let keys = key_facts_of(alloc, instrument.keys.as_slice())?;
+    let allowed = instrument.allowed.copy(alloc)?;
     let budgets = budgets_of(alloc, recorders, number)?;
     let delta = delta_flags(alloc, readers, instrument.kind)?;
     Ok(FactsFields {
         certified,
         instrument: number,
         keys,
+        allowed,
         lo: instrument.lo,
         hi: instrument.hi,
         budgets,

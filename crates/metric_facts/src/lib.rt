@@ -10,5 +10,5 @@ mod instruments;
 pub mod laws;
 
 pub use facts::{Facts, FactsFields, KeyFacts, NumberedStream, is_by_product, same_facts};
-pub use full_sets::is_full_set;
+pub use full_sets::{is_allowed_set, is_full_set};
 pub use instruments::all_facts;

@@ -2,14 +2,9 @@
 use Rattle.std.specs.Prelude.{ℕ, Bool, not, ◌||◌, List, [], ◌∷◌, ◌++◌, Option, Some, None, length, map, filter, fold, take, nat_le, if◌then◌else◌}
 use Rattle.std.specs.List.{list_any}
 use Rattle.std.specs.Str.{bytes_eq}
+use Rattle.metric_combinations.specs.Restrictions.{restricted}
 use Rattle.metric_history.specs.declared.entry.Entry.{Entry}
 use Rattle.metric_views.specs.declared.stream.Stream.{Stream}
-
--- a set key with 0 in place of each key that is not kept
-abbrev pub restricted : List Bool → List ℕ → List ℕ
-restricted [] set = set
-restricted (keep ∷ kept) [] = []
-restricted (keep ∷ kept) (x ∷ set) = (if keep then x else 0) ∷ restricted kept set
 
 -- the series of a recording
 abbrev pub series : List Bool → Entry → List ℕ

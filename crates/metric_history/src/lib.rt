@@ -7,9 +7,7 @@ mod batch;
 mod entry;
 mod event;
 pub mod laws;
-mod series;
 
 pub use batch::{Batch, Point, StreamPoints};
 pub use entry::Entry;
 pub use event::{Event, Reply};
-pub use series::restrict;

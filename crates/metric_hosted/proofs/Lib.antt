@@ -1,4 +1,2 @@
-pub mod PlanFacts
-pub mod AdmitLaws
 pub mod ListLaws
 pub mod SettleLaws

@@ -2,7 +2,7 @@
 ghost use Rattle.std.specs.Prelude.{◌≡◌, ◌≢◌, ◌<◌, Some, IsTrue, [], true, length, slice_get, IfOk, IfErr, OnOk, OnErr};
 ghost use Rattle.metric_core.specs.CellAnswers.{AnswersClose, GainsEntry, KeepsJournal, ReportsBatch, entry_of, with_batch, with_entry};
 ghost use Rattle.metric_core.specs.Cells.{CellStands, new_cell};
-ghost use Rattle.metric_facts.specs.Facts.{in_bounds, is_full_set};
+ghost use Rattle.metric_facts.specs.Facts.{in_bounds, is_allowed_set};
 ghost use Rattle.metric_facts.specs.Products.{AreAllByProduct};
 ghost use Rattle.metric_hosted.specs.Collections.{with_collected};
 ghost use Rattle.metric_hosted.specs.Hosts.{number_of};
@@ -128,7 +128,7 @@ impl Hosted {
         value: &i64,
     ) -> Result<(), Refusal>
         requires recorder { recorder < length facts.now.budgets }
-        requires set { is_full_set facts.now.keys set ≡ true }
+        requires set { is_allowed_set facts.now set ≡ true }
         requires value { in_bounds facts.now value.now ≡ true }
         ensures answer { let entry = entry_of recorder set value.now in
             AnswersRecorder StandsMarked self.old.cell facts.now told.old entry result }

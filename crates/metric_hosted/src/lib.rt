@@ -8,7 +8,6 @@
 #![tactic(auto)]
 
 mod instrument;
-mod keys;
 mod listing;
 mod planned;
 mod reader;

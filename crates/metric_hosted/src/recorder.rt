@@ -11,13 +11,12 @@ ghost use Rattle.metric_provider.specs.Recordings.{admitted, told_at};
 ghost use Rattle.metric_provider.specs.Seats.{is_recorder_of, new_recorder, provider_of};
 
 use crate::instrument::Hosted;
-use crate::keys::{declared_key, declared_set};
 use crate::settling::SeatTold;
 use metric_catalogue::{Attr, Refusal, SetKey};
-use metric_facts::laws::attributes_name_full_sets;
+use metric_facts::laws::attributes_name_allowed_sets;
 use metric_facts::same_facts;
 use metric_plan::Plan;
-use metric_provider::FinishFault;
+use metric_provider::{FinishFault, declared_key, declared_set};
 use metric_slot::Told;
 use std::alloc::{AllocError, Global};
 use std::marker::Model;
@@ -73,7 +72,7 @@ impl RecorderSeat {
     ///
     /// The first of these: `Stranger` where the instrument's run is of another number, the seat was made for another number
     /// of instruments, or the plan has no recorder of its number; `UnknownInstrument`; those of the attributes in their
-    /// order; `ValueRange`; `Stranger` where the instrument's facts or its number of the recorder's recordings are not the
+    /// order, the last of them `Combination`; `ValueRange`; `Stranger` where the instrument's facts or its number of the recorder's recordings are not the
     /// seat's; `Closed`; `Budget`; `Memory`, which never comes where all streams of the instrument are by product.
     pub fn record(
         &mut self,
@@ -100,8 +99,8 @@ impl RecorderSeat {
     ///
     /// # Errors
     ///
-    /// As of [`RecorderSeat::record`], but `UnknownValue` in the place of those of attributes, where the set key is not one
-    /// of the instrument's.
+    /// As of [`RecorderSeat::record`], but in the place of those of attributes `UnknownValue` where the set key is not one
+    /// of the instrument's, then `Combination` where it is none of its allowed combinations.
     pub fn record_set(
         &mut self,
         plan: &Plan,
@@ -220,7 +219,7 @@ impl RecorderSeat {
             KnowsRecording plan.now instrument self.now.number set value.now) }
         ensures long { OnOk result (instrument < length self.now.told) }
     {
-        attributes_name_full_sets();
+        attributes_name_allowed_sets();
         // For the proof alone: a plan has facts for each of its instruments.
         let _ = plan.all_facts();
         if !self.is_of(plan, run) {

@@ -4,7 +4,8 @@ ghost use Rattle.std.specs.List.{list_any};
 ghost use Rattle.metric_history.specs.Series.{series, all_series, has, distinct};
 
 use metric_catalogue::SetKey;
-use metric_history::{Entry, restrict};
+use metric_combinations::restrict;
+use metric_history::Entry;
 
 /// The series of a recording in a stream that keeps these keys.
 pub fn series_of(kept: &[bool], entry: &Entry) -> SetKey

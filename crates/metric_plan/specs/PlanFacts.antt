@@ -10,7 +10,7 @@ use Rattle.metric_facts.specs.Facts.{RunFacts, facts_from, facts_of, is_by_produ
 use Rattle.metric_facts.specs.NumberedLaws.{all_numbered}
 use Rattle.metric_facts.specs.Products.{AreProductsWithin, product_of}
 use Rattle.metric_plan.specs.Plans.{IsPlan, PlanValue}
-use Rattle.metric_plan.specs.SetLaws.{sets_are}
+use Rattle.metric_plan.specs.SetLaws.{products_are}
 use Rattle.metric_views.specs.declared.config.Reader.{Reader}
 use Rattle.metric_views.specs.declared.stream.Stream.{Stream}
 
@@ -52,5 +52,5 @@ plan_products plan number own p found =
     (all_numbered (λ (n : NumberedStream). IsTrue n.by_product → product_of n.stream.kept keys ≤ n.stream.limit) flags number 0 plan.streams (λ k s at of flagged.
     let place : 0 + k ≡ k = omega arith in
     let instrument_at = ap (slice_get contents.instruments) of ∙ here.at in
-    subst (λ (n : ℕ). n ≤ s.limit) (sets_are contents s here.instrument instrument_at)
+    subst (λ (n : ℕ). n ≤ s.limit) (products_are contents s here.instrument instrument_at)
     (p.products k s at (subst (λ (n : ℕ). IsTrue (is_by_product flags n)) place flagged))))

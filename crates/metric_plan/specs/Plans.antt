@@ -2,7 +2,7 @@
 use Rattle.std.specs.Prelude.{◌≡◌, ℕ, ◌≤◌, Bool, true, IsTrue, List, Some, length, slice_get, FitsSigned}
 use Rattle.std.specs.Int.{w64}
 use Rattle.metric_bounds.specs.Safe.{AreSafe}
-use Rattle.metric_bounds.specs.Sets.{sets_of}
+use Rattle.metric_bounds.specs.Sets.{product_of}
 use Rattle.metric_catalogue.specs.declared.contents.Contents.{Contents}
 use Rattle.metric_views.specs.declared.config.Config.{Config}
 use Rattle.metric_views.specs.declared.stream.Stream.{Stream}
@@ -41,10 +41,10 @@ plan_of is_certified by_product contents config = record {
 abbrev pub RangesFit : List Facts → Type 0
 RangesFit all = (number : ℕ) (own : Facts) → slice_get all number ≡ Some own → FitsSigned w64 own.lo × FitsSigned w64 own.hi
 
--- Each stream that is by product can have at most as many series as its limit, whatever is recorded.
-abbrev pub AreSetsWithin : Contents → List Bool → List Stream → Type 0
-AreSetsWithin contents by_product streams =
-    (number : ℕ) (s : Stream) → slice_get streams number ≡ Some s → IsTrue (is_by_product by_product number) → sets_of contents s ≤ s.limit
+-- The product over the keys that a stream keeps is within its limit, where the stream is by product.
+abbrev pub ProductsFit : Contents → List Bool → List Stream → Type 0
+ProductsFit contents by_product streams =
+    (number : ℕ) (s : Stream) → slice_get streams number ≡ Some s → IsTrue (is_by_product by_product number) → product_of contents s ≤ s.limit
 
 -- No stream is by product unless the plan is certified.
 abbrev pub AreVouched : Bool → List Bool → Type 0
@@ -60,5 +60,5 @@ pub record IsPlan (plan : PlanValue) : Type 0 where
   pub counted : is_counted plan.facts.contents ≡ true
   pub ranges : RangesFit plan.facts.instruments
   pub safe : IsTrue plan.is_certified → AreSafe plan.facts.contents plan.streams
-  pub products : AreSetsWithin plan.facts.contents plan.by_product plan.streams
+  pub products : ProductsFit plan.facts.contents plan.by_product plan.streams
   pub vouched : AreVouched plan.is_certified plan.by_product

@@ -2,12 +2,12 @@
 ghost use Rattle.std.specs.Prelude.{◌≡◌, ◌↔◌, ◌<◌, ◌≤◌, [], Some, IsTrue, true, false, length, slice_get, FitsSigned, IfOk, IfErr, IsSomeAnd, OnOk};
 ghost use Rattle.std.specs.Int.{w64};
 ghost use Rattle.metric_bounds.specs.Safe.{AreSafe};
-ghost use Rattle.metric_bounds.specs.Sets.{sets_of};
+ghost use Rattle.metric_bounds.specs.Sets.{product_of};
 ghost use Rattle.metric_facts.specs.Facts.{is_by_product};
 ghost use Rattle.metric_facts.specs.Products.{AreProductsWithin};
 ghost use Rattle.metric_resolve.specs.Resolved.{streams_of};
 ghost use Rattle.metric_plan.specs.Counting.{is_counted};
-ghost use Rattle.metric_plan.specs.Plans.{AreSetsWithin, AreVouched, IsPlan, RangesFit, plan_of, run_facts};
+ghost use Rattle.metric_plan.specs.Plans.{AreVouched, IsPlan, ProductsFit, RangesFit, plan_of, run_facts};
 
 use crate::counting::is_counted;
 use crate::fault::CheckFault;
@@ -112,7 +112,7 @@ impl Plan {
     ) -> Result<Plan, (Catalogue, Config, CheckFault)>
         requires streams { streams ≡ streams_of catalogue config }
         requires safe { AreSafe catalogue streams }
-        requires products { AreSetsWithin catalogue by_product streams }
+        requires products { ProductsFit catalogue by_product streams }
         ensures plan { IfOk result (λ plan. plan ≡ plan_of true by_product catalogue config) }
         ensures memory { IfErr result (λ refused. refused.2 ≡ CheckFault.Memory) }
         ensures back { IfErr result (λ refused. (refused.0 ≡ catalogue) × (refused.1 ≡ config)) }
@@ -131,7 +131,7 @@ impl Plan {
         requires streams { streams ≡ streams_of catalogue config }
         requires counted { is_counted catalogue ≡ true }
         requires safe { IsTrue is_certified → AreSafe catalogue streams }
-        requires products { AreSetsWithin catalogue by_product streams }
+        requires products { ProductsFit catalogue by_product streams }
         requires vouched { AreVouched is_certified by_product }
         ensures plan { IfOk result (λ plan.
             plan ≡ plan_of is_certified by_product catalogue config) }
@@ -204,7 +204,7 @@ impl Plan {
         ensures flag { result ≡ is_by_product self.now.by_product stream }
         ensures certified { IsTrue result → IsTrue self.now.is_certified }
         ensures within { IsTrue result → IsSomeAnd (slice_get self.now.streams stream)
-            (λ s. sets_of self.now.facts.contents s ≤ s.limit) }
+            (λ s. product_of self.now.facts.contents s ≤ s.limit) }
         ensures kept { IsPlan self.now }
     {
         is_by_product(self.by_product.as_slice(), stream)

@@ -1,21 +1,22 @@
 -- Recordings of set keys, one after the other.
-use Rattle.std.proofs.Common.{◌≡◌, ◌<◌, ◌≤◌, ℕ, ◌+◌, ℤ, Bool, ◌&&◌, List, [], ◌∷◌, ◌++◌, Option, Some, None, Result, Ok, Err, All, get_or, length, pos, take, refl, sym, ap, subst, ◌∙◌, arith}
+use Rattle.std.proofs.Common.{◌≡◌, ◌<◌, ◌≤◌, ℕ, ◌+◌, ℤ, Bool, true, false, ◌&&◌, List, [], ◌∷◌, ◌++◌, Option, Some, None, Result, Ok, Err, All, get_or, length, pos, take, refl, sym, ap, subst, ◌∙◌, arith}
 use Rattle.std.specs.Prelude.{IfSome, slice_get, slice_set, ◌==◌, nat_lt}
 use Rattle.std.specs.Option.{option_map_or}
 use Rattle.std.proofs.lemmas.List.{get_or-set_same, get_or_read, length-set, set-get_or, set-set, take_all, take_more}
 use Rattle.std.proofs.lemmas.List.Elements.{All-more, All-take}
-use Rattle.std.proofs.lemmas.Option.{get_or_from_slice_get, same_Some, slice_get-get_or, slice_get_within}
-use Rattle.metric_base.specs.StepLaws.{after_ok, ok_is, require_ok}
+use Rattle.std.proofs.lemmas.Option.{get_or_from_slice_get, same_Some, slice_get-get_or, slice_get_past, slice_get_within}
+use Rattle.metric_base.specs.StepLaws.{ok_is, require_ok}
 use Rattle.metric_base.specs.Steps.{◌>>=◌, require, require_some}
+use Rattle.metric_combinations.specs.Combinations.{permits}
 use Rattle.metric_catalogue.specs.declared.refusal.Refusal.{Refusal}
-use Rattle.metric_catalogue.specs.declared.refusal.Refusal.TheVariants.{Stranger, UnknownInstrument, UnknownValue, ValueRange}
+use Rattle.metric_catalogue.specs.declared.refusal.Refusal.TheVariants.{Stranger, UnknownInstrument, UnknownValue, Combination, ValueRange}
 use Rattle.metric_facts.specs.declared.facts.Facts.{Facts}
 use Rattle.metric_facts.specs.Facts.{in_bounds, is_full_set}
 use Rattle.metric_plan.specs.Plans.{PlanValue}
-use Rattle.metric_provider.proofs.AdmitLaws.{IsDeclared, knows, of_key, told_there}
+use Rattle.metric_provider.specs.AdmitLaws.{IsDeclared, knows, of_key, told_there}
 use Rattle.metric_provider.specs.declared.fault.SetsFault.{SetsFault}
 use Rattle.metric_provider.specs.declared.keys.Measurement.{Measurement}
-use Rattle.metric_provider.specs.KeyRecordings.{AreAccepted, AreAdmitted, IsAdmitted, IsRecordable, IsRefusedAfter, IsRefusedUnder, IsUnadmittedAfter, KnowsEach, admitted_key, declared_key, told_each, told_of, told_of_all}
+use Rattle.metric_provider.specs.KeyRecordings.{AreAccepted, AreAdmitted, IsAdmitted, IsRecordable, IsRefusedAfter, IsRefusedUnder, IsUnadmittedAfter, KnowsEach, admitted_key, declared_key, key_of, told_each, told_of, told_of_all}
 use Rattle.metric_provider.specs.Recordings.{AnswersSeat, RefusesRecording, told_at, with_recording}
 use Rattle.metric_provider.specs.Seats.{ProviderValue, RecorderValue, is_recorder_of, nothing_told}
 use Rattle.metric_slot.specs.declared.told.Told.{Told}
@@ -83,29 +84,68 @@ admitted_same p later first i set value same =
 
 -- ---- before the lock
 
-key_is : (p : ProviderValue) (seat : RecorderValue) (i : ℕ) (set key : List ℕ) (value : ℤ) → admitted_key p seat i set value ≡ Ok key → set ≡ key
-key_is p seat i set key value made =
-    after_ok (require_some (slice_get p.plan.facts.instruments i) UnknownInstrument) _ key ((require_ok (is_recorder_of p seat) Stranger _ key made).1) (λ own given rest.
-    ok_is set key (Ok set) refl ((require_ok (in_bounds own value) ValueRange _ key ((require_ok (is_full_set own.keys set) UnknownValue _ key rest).1)).1))
+key_is : (own : Facts) (set key : List ℕ) (value : ℤ) → key_of own set value ≡ Ok key → set ≡ key
+key_is own set key value made =
+    let listed = require_ok (permits own.allowed set) Combination _ key ((require_ok (is_full_set own.keys set) UnknownValue _ key made).1) in
+    ok_is set key (Ok set) refl ((require_ok (in_bounds own value) ValueRange _ key listed.1).1)
 
-pub admitted_more : (p : ProviderValue) (seat : RecorderValue) (i n : ℕ) (all : List Measurement) (d : Measurement) (key : List ℕ) → n < length all
-    → admitted_key p seat i (get_or all n d).set (get_or all n d).value ≡ Ok key → AreAdmitted p seat i (take n all) → AreAdmitted p seat i (take (n + 1) all)
-admitted_more p seat i n all d key below made before =
+-- a seat of the run may make of an instrument's recordings those that its facts declare
+admitted_by : (p : ProviderValue) (seat : RecorderValue) (i : ℕ) (own : Facts) (set : List ℕ) (value : ℤ) → is_recorder_of p seat ≡ true
+    → slice_get p.plan.facts.instruments i ≡ Some own → admitted_key p seat i set value ≡ key_of own set value
+admitted_by p seat i own set value mine found =
+    ap (λ (b : Bool). require b Stranger >>= λ _. declared_key p.plan i set value) mine
+    ∙ ap (λ (o : Option Facts). require_some o UnknownInstrument >>= λ (f : Facts). key_of f set value) found
+
+pub admitted_more : (p : ProviderValue) (seat : RecorderValue) (i : ℕ) (own : Facts) (n : ℕ) (all : List Measurement) (d : Measurement) (key : List ℕ)
+    → is_recorder_of p seat ≡ true → slice_get p.plan.facts.instruments i ≡ Some own → n < length all
+    → key_of own (get_or all n d).set (get_or all n d).value ≡ Ok key → AreAdmitted p seat i (take n all) → AreAdmitted p seat i (take (n + 1) all)
+admitted_more p seat i own n all d key mine found below made before =
     let one : Measurement = get_or all n d in
-    All-more (IsAdmitted p seat i) all n d below before (made ∙ ap (λ (k : List ℕ). Ok k) (sym (key_is p seat i one.set key one.value made)))
+    All-more (IsAdmitted p seat i) all n d below before
+    (admitted_by p seat i own one.set one.value mine found ∙ made ∙ ap (λ (k : List ℕ). Ok k) (sym (key_is own one.set key one.value made)))
 
 pub admitted_end : (p : ProviderValue) (seat : RecorderValue) (i n : ℕ) (all : List Measurement) → length all ≤ n → AreAdmitted p seat i (take n all) → AreAdmitted p seat i all
 admitted_end p seat i n all end far = subst (λ (some : List Measurement). AreAdmitted p seat i some) (take_all n all end) far
 
-pub unadmitted : (p : ProviderValue) (seat : RecorderValue) (i n : ℕ) (all : List Measurement) (d : Measurement) (refusal : Refusal) → n < length all
-    → admitted_key p seat i (get_or all n d).set (get_or all n d).value ≡ Err refusal → AreAdmitted p seat i (take n all)
+pub unadmitted : (p : ProviderValue) (seat : RecorderValue) (i : ℕ) (own : Facts) (n : ℕ) (all : List Measurement) (d : Measurement) (refusal : Refusal)
+    → is_recorder_of p seat ≡ true → slice_get p.plan.facts.instruments i ≡ Some own → n < length all
+    → key_of own (get_or all n d).set (get_or all n d).value ≡ Err refusal → AreAdmitted p seat i (take n all)
     → IsUnadmittedAfter p seat i all (record { place = n; refusal = refusal })
-unadmitted p seat i n all d refusal below refused before = record {
+unadmitted p seat i own n all d refusal mine found below refused before = record {
   before = before;
   one = get_or all n d;
   found = slice_get-get_or all n d below;
-  refused = refused;
+  refused = admitted_by p seat i own (get_or all n d).set (get_or all n d).value mine found ∙ refused;
 }
+
+no_measurement : Measurement
+no_measurement = record { set = []; value = pos 0 }
+
+-- the first is refused where no recording on the instrument is the seat's to make
+first_unadmitted : (p : ProviderValue) (seat : RecorderValue) (i : ℕ) (all : List Measurement) (refusal : Refusal) → 0 < length all
+    → ((one : Measurement) → admitted_key p seat i one.set one.value ≡ Err refusal) → IsUnadmittedAfter p seat i all (record { place = 0; refusal = refusal })
+first_unadmitted p seat i all refusal some each = record {
+  before = λ k d below. absurd (omega arith);
+  one = get_or all 0 no_measurement;
+  found = slice_get-get_or all 0 no_measurement some;
+  refused = each (get_or all 0 no_measurement);
+}
+
+pub unadmitted_stranger : (p : ProviderValue) (seat : RecorderValue) (i : ℕ) (all : List Measurement) → 0 < length all → is_recorder_of p seat ≡ false
+    → IsUnadmittedAfter p seat i all (record { place = 0; refusal = Stranger })
+unadmitted_stranger p seat i all some other =
+    first_unadmitted p seat i all Stranger some (λ one. ap (λ (b : Bool). require b Stranger >>= λ _. declared_key p.plan i one.set one.value) other)
+
+pub unadmitted_unknown : (p : ProviderValue) (seat : RecorderValue) (i : ℕ) (all : List Measurement) → 0 < length all → is_recorder_of p seat ≡ true
+    → length p.plan.facts.instruments ≤ i → IsUnadmittedAfter p seat i all (record { place = 0; refusal = UnknownInstrument })
+unadmitted_unknown p seat i all some mine past =
+    first_unadmitted p seat i all UnknownInstrument some (λ one.
+    ap (λ (b : Bool). require b Stranger >>= λ _. declared_key p.plan i one.set one.value) mine
+    ∙ ap (λ (o : Option Facts). require_some o UnknownInstrument >>= λ (f : Facts). key_of f one.set one.value) (slice_get_past p.plan.facts.instruments i past))
+
+-- none is refused of an empty list
+pub none_unadmitted : (p : ProviderValue) (seat : RecorderValue) (i : ℕ) (all : List Measurement) → length all ≡ 0 → AreAdmitted p seat i all
+none_unadmitted p seat i all none k d below = absurd (omega (arith, none))
 
 -- ---- answers
 
@@ -138,9 +178,6 @@ knows_each p seat i all admitted k d below =
     let mine = require_ok (is_recorder_of p seat) Stranger _ one.set (admitted k d below) in
     knows p seat i one.set one.value mine.0 (of_key p.plan i one.set one.set one.value mine.1)
 
-no_measurement : Measurement
-no_measurement = record { set = []; value = pos 0 }
-
 pub told_at_each : (p : ProviderValue) (seat : RecorderValue) (i : ℕ) (all : List Measurement) → AreAdmitted p seat i all → 0 < length all → i < length seat.told
 told_at_each p seat i all admitted some =
     let one : Measurement = get_or all 0 no_measurement in
@@ -159,7 +196,7 @@ recorder_at_each p seat i all admitted some = (knows_each p seat i all admitted 
 pub recordable : (plan : PlanValue) (i by : ℕ) (own : Facts) (all : List Measurement) → slice_get plan.facts.instruments i ≡ Some own → KnowsEach plan i by all → All (IsRecordable own) all
 recordable plan i by own all found known k d below =
     let of = known k d below in
-    record { full = of.full own found; ranged = of.ranged own found }
+    record { allowed = of.allowed own found; ranged = of.ranged own found }
 
 told_by : (spares : Facts → Type 0) (own : Facts) (later : RecorderValue) (i : ℕ) (refusal : Refusal) (o : Option Facts) → o ≡ Some own
     → RefusesRecording spares own later.number (told_at later i) refusal → IfSome o (λ (f : Facts). RefusesRecording spares f later.number (told_at later i) refusal)

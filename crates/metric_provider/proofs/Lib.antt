@@ -1,8 +1,6 @@
-pub mod PlanFacts
 pub mod SeatSums
 pub mod CollectLaws
 pub mod SettleLaws
-pub mod AdmitLaws
 pub mod KeyLaws
 pub mod NotingLaws
 pub mod EntryLaws

@@ -8,7 +8,7 @@ use Rattle.std.proofs.lemmas.List.{append-nil, get_or-set_same, length-map, leng
 use Rattle.std.proofs.lemmas.Option.{slice_get-get_or, slice_get_within}
 use Rattle.metric_book.specs.declared.slip.Slip.{Slip}
 use Rattle.metric_catalogue.specs.declared.refusal.Refusal.{Refusal}
-use Rattle.metric_catalogue.specs.declared.refusal.Refusal.TheVariants.{Stranger, UnknownInstrument, UnknownRecorder, UnknownReader, DuplicateKey, UnknownKey, UnknownValue, MissingKey, ValueRange, Closed, Budget, SumRange, Memory}
+use Rattle.metric_catalogue.specs.declared.refusal.Refusal.TheVariants.{Stranger, UnknownInstrument, UnknownRecorder, UnknownReader, DuplicateKey, UnknownKey, UnknownValue, MissingKey, Combination, ValueRange, Closed, Budget, SumRange, Memory}
 use Rattle.metric_facts.specs.declared.facts.Facts.{Facts}
 use Rattle.metric_plan.specs.Plans.{PlanValue}
 use Rattle.metric_provider.specs.declared.fault.SetsFault.{SetsFault}
@@ -127,6 +127,7 @@ spared_refusal keeps spares own by told DuplicateKey why = absurd why
 spared_refusal keeps spares own by told UnknownKey why = absurd why
 spared_refusal keeps spares own by told UnknownValue why = absurd why
 spared_refusal keeps spares own by told MissingKey why = absurd why
+spared_refusal keeps spares own by told Combination why = absurd why
 spared_refusal keeps spares own by told ValueRange why = absurd why
 spared_refusal keeps spares own by told SumRange why = absurd why
 
@@ -142,6 +143,7 @@ slip_refusal spares own by told DuplicateKey why = absurd why
 slip_refusal spares own by told UnknownKey why = absurd why
 slip_refusal spares own by told UnknownValue why = absurd why
 slip_refusal spares own by told MissingKey why = absurd why
+slip_refusal spares own by told Combination why = absurd why
 slip_refusal spares own by told ValueRange why = absurd why
 slip_refusal spares own by told SumRange why = absurd why
 
@@ -269,9 +271,3 @@ still_long plan seat noted later i more made long is told =
     let same : later.slips ≡ slice_set seat.slips i (slips_at seat i ++ more) =
     ap (λ (s : RecorderValue). s.slips) told ∙ slips_stay plan noted i made ∙ ap (λ (s : RecorderValue). s.slips) is in
     omega (arith, long, ap (λ (all : List (List Slip)). length all) same, length-set seat.slips i (slips_at seat i ++ more))
-
-pub still_long_one : (seat noted later : RecorderValue) (i : ℕ) (more : List Slip) → i < length seat.slips → noted ≡ with_slips true seat i more
-    → later ≡ noted → i < length later.slips
-still_long_one seat noted later i more long is same =
-    let slips : later.slips ≡ slice_set seat.slips i (slips_at seat i ++ more) = ap (λ (s : RecorderValue). s.slips) (same ∙ is) in
-    omega (arith, long, ap (λ (all : List (List Slip)). length all) slips, length-set seat.slips i (slips_at seat i ++ more))

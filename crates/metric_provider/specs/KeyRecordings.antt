@@ -2,11 +2,12 @@
 use Rattle.std.specs.Prelude.{◌≡◌, ◌<◌, ℕ, ℤ, Bool, true, All, List, [], ◌∷◌, Result, Ok, Err, Some, length, map, slice_get, take}
 use Rattle.std.specs.Option.{option_map_or}
 use Rattle.metric_base.specs.Steps.{◌>>=◌, require, require_some}
+use Rattle.metric_combinations.specs.Combinations.{permits}
 use Rattle.metric_book.specs.declared.slip.Slip.{Slip}
 use Rattle.metric_catalogue.specs.declared.refusal.Refusal.{Refusal}
-use Rattle.metric_catalogue.specs.declared.refusal.Refusal.TheVariants.{Stranger, UnknownInstrument, UnknownValue, ValueRange}
+use Rattle.metric_catalogue.specs.declared.refusal.Refusal.TheVariants.{Stranger, UnknownInstrument, UnknownValue, Combination, ValueRange}
 use Rattle.metric_facts.specs.declared.facts.Facts.{Facts}
-use Rattle.metric_facts.specs.Facts.{in_bounds, is_full_set}
+use Rattle.metric_facts.specs.Facts.{in_bounds, is_allowed_set, is_full_set}
 use Rattle.metric_plan.specs.Plans.{PlanValue}
 use Rattle.metric_slot.specs.declared.told.Told.{Told}
 use Rattle.metric_slot.specs.Tellings.{told_more}
@@ -16,13 +17,20 @@ use Rattle.metric_provider.specs.Providers.{KnowsRecording}
 use Rattle.metric_provider.specs.Recordings.{AnswersSeat, RefusesRecording, with_recording, with_slips}
 use Rattle.metric_provider.specs.Seats.{ProviderValue, RecorderValue, is_recorder_of}
 
--- the set key of a recording that the plan declares, if it is a full set of the instrument's keys, or the first refusal
+-- the set key of a recording that an instrument with these facts declares, if it is a full set of its keys and one of its combinations
+-- where these are listed, or the first refusal
+abbrev pub key_of : Facts → List ℕ → ℤ → Result (List ℕ) Refusal
+key_of own set value =
+    require (is_full_set own.keys set) UnknownValue >>= λ _.
+    require (permits own.allowed set) Combination >>= λ _.
+    require (in_bounds own value) ValueRange >>= λ _.
+    Ok set
+
+-- the same of an instrument of the plan
 abbrev pub declared_key : PlanValue → ℕ → List ℕ → ℤ → Result (List ℕ) Refusal
 declared_key plan instrument set value =
     require_some (slice_get plan.facts.instruments instrument) UnknownInstrument >>= λ own.
-    require (is_full_set own.keys set) UnknownValue >>= λ _.
-    require (in_bounds own value) ValueRange >>= λ _.
-    Ok set
+    key_of own set value
 
 -- the set key of a recording that a seat may make of a provider, or the first refusal
 abbrev pub admitted_key : ProviderValue → RecorderValue → ℕ → List ℕ → ℤ → Result (List ℕ) Refusal
@@ -93,9 +101,9 @@ pub record IsUnadmittedAfter (p : ProviderValue) (seat : RecorderValue) (instrum
 abbrev pub KnowsEach : PlanValue → ℕ → ℕ → List Measurement → Type 0
 KnowsEach plan instrument by all = All (λ (one : Measurement). KnowsRecording plan instrument by one.set one.value) all
 
--- Its set key is a full set of the instrument's, and its value is in range.
+-- The instrument allows its set key, and its value is in range.
 pub record IsRecordable (own : Facts) (one : Measurement) : Type 0 where
-  pub full : is_full_set own.keys one.set ≡ true
+  pub allowed : is_allowed_set own one.set ≡ true
   pub ranged : in_bounds own one.value ≡ true
 
 -- what a recorder was told after these

@@ -3,6 +3,8 @@ pub mod Providers
 pub mod NewSlots
 pub mod Recordings
 pub mod KeyRecordings
+pub mod PlanFacts
+pub mod AdmitLaws
 pub mod Collections
 pub mod Closing
 pub mod Totals

@@ -1,10 +1,8 @@
-//! Set keys that a caller brings back.
+//! Recordings by set keys that a caller brings back.
 ghost use Rattle.std.specs.Prelude.{◌≡◌};
-ghost use Rattle.metric_provider.specs.KeyRecordings.{declared_key, measurement_of};
+ghost use Rattle.metric_provider.specs.KeyRecordings.{measurement_of};
 
-use metric_catalogue::{Refusal, SetKey};
-use metric_facts::is_full_set;
-use metric_plan::Plan;
+use metric_catalogue::SetKey;
 
 /// A recording by the set key of its attributes.
 #[derive(Clone, Copy, Debug, PartialEq, Eq, Drop)]
@@ -20,26 +18,4 @@ pub(crate) fn recording_of(set: SetKey, value: &i64) -> Measurement
     ensures { result ≡ measurement_of set value.now }
 {
     Measurement { set, value: *value }
-}
-
-/// The set key of a recording that the plan declares, or the first refusal.
-pub(crate) fn declared_key(
-    plan: &Plan,
-    instrument: u32,
-    set: SetKey,
-    value: &i64,
-) -> Result<SetKey, Refusal>
-    ensures { result ≡ declared_key plan.now instrument set value.now }
-{
-    if instrument as usize >= plan.all_facts().len() {
-        return Err(Refusal::UnknownInstrument);
-    }
-    let facts = plan.facts(instrument);
-    if !is_full_set(facts.keys.as_slice(), &set) {
-        return Err(Refusal::UnknownValue);
-    }
-    if !facts.admits(value) {
-        return Err(Refusal::ValueRange);
-    }
-    Ok(set)
 }

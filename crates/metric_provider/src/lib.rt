@@ -5,6 +5,7 @@
 //! was told and what the instruments have counted can't part unseen.
 #![tactic(auto)]
 
+mod admission;
 mod collector;
 mod fault;
 mod finish;
@@ -18,6 +19,7 @@ mod settling;
 mod starting;
 mod totals;
 
+pub use admission::{declared_key, declared_set};
 pub use collector::Collector;
 pub use fault::{AllFault, FinishFault, SetsFault};
 pub use gate::{Gate, NoGate};

@@ -1,5 +1,5 @@
 //! The instruments of a plan behind their locks.
-ghost use Rattle.std.specs.Prelude.{◌≡◌, ◌<◌, Some, All, length, slice_get, vec_len, IfOk, IfErr, IfSome, OnOk, OnErr};
+ghost use Rattle.std.specs.Prelude.{◌≡◌, ◌<◌, IsTrue, Some, All, length, slice_get, vec_len, IfOk, IfErr, IfSome, OnOk, OnErr};
 ghost use Rattle.metric_provider.specs.Closing.{AnswersClosing};
 ghost use Rattle.metric_provider.specs.Collections.{IsNextBatch, RefusesCollection};
 ghost use Rattle.metric_provider.specs.KeyRecordings.{IsRecordable, IsRefusedUnder, KnowsEach, told_each};
@@ -201,7 +201,8 @@ impl<B: Book, G: Gate> Provider<B, G> {
     }
 }
 
-// Makes recordings, one after the other, and tells their recorder of each, up to the first that is refused.
+// Makes recordings, one after the other, and tells their recorder of each, up to the first that is refused. The slot's
+// facts are compared once for all of them.
 fn record_each<R: Wait, B: Book, G: Gate>(
     rt: &R,
     gate: &G,
@@ -217,8 +218,9 @@ fn record_each<R: Wait, B: Book, G: Gate>(
     ensures refused { IfErr result (λ fault.
         IsRefusedUnder B.spares_memory facts.now recorder told.old told.new all.now fault) }
 {
+    let is_own = slot.is_of(facts);
     for (place, one) in all.iter().enumerate() {
-        let answer = record_one(slot, facts, told, recorder, one);
+        let answer = record_one(slot, is_own, facts, told, recorder, one);
         gate.inside(rt, facts.instrument);
         match answer {
             Ok(()) => {}
@@ -228,20 +230,26 @@ fn record_each<R: Wait, B: Book, G: Gate>(
     Ok(())
 }
 
-// Makes a recording, and tells its recorder of it.
+// Makes a recording, and tells its recorder of it; a slot with other facts refuses it.
 fn record_one<B: Book>(
     slot: &mut Slot<B>,
+    is_own: bool,
     facts: &Facts,
     told: &mut Told,
     recorder: u32,
     one: &Measurement,
 ) -> Result<(), Refusal>
+    requires own { IsTrue is_own → slot.old.facts ≡ facts.now }
     requires recorder { recorder < length facts.now.budgets }
     requires one { IsRecordable facts.now one.now }
+    ensures facts { slot.new.facts ≡ slot.old.facts }
     ensures told { OnOk result (told.new ≡ told_more told.old facts.now.lo one.now.value) }
     ensures refused { IfErr result (λ refusal.
         RefusesRecording B.spares_memory facts.now recorder told.old refusal) }
     ensures told_err { OnErr result (told.new ≡ told.old) }
 {
-    slot.record(facts, told, recorder, one.set, one.value)
+    if !is_own {
+        return Err(Refusal::Stranger);
+    }
+    slot.record_next(facts, told, recorder, one.set, one.value)
 }

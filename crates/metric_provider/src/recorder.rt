@@ -3,17 +3,18 @@ ghost use Rattle.std.specs.Prelude.{◌≡◌, ◌<◌, ◌-◌, Bool, true, Som
 ghost use Rattle.metric_catalogue.specs.Attributes.{given_by};
 ghost use Rattle.metric_provider.specs.KeyRecordings.{AreAccepted, AreAdmitted, IsRefusedAfter, IsUnadmittedAfter, admitted_key, noted_of_all, slip_of_one, told_of_all};
 ghost use Rattle.metric_provider.specs.Providers.{KnowsRecording};
-ghost use Rattle.metric_provider.specs.Recordings.{AnswersSeat, IsToldOf, RefusesSlip, SeatSpares, admitted, declared_set, told_at, with_recording, with_slips};
+ghost use Rattle.metric_provider.specs.Recordings.{AnswersSeat, IsToldOf, RefusesSlip, SeatSpares, admitted, told_at, with_recording, with_slips};
 ghost use Rattle.metric_provider.specs.Seats.{is_recorder_of, new_recorder, provider_of, slips_at};
 
+use crate::admission::{declared_key, declared_set, key_of};
 use crate::fault::SetsFault;
 use crate::gate::Gate;
-use crate::keys::{Measurement, declared_key, recording_of};
+use crate::keys::{Measurement, recording_of};
 use crate::notes::{Notes, no_notes};
 use crate::provider::Provider;
 use metric_book::{Book, Slip};
 use metric_catalogue::{Attr, Refusal, SetKey};
-use metric_facts::laws::attributes_name_full_sets;
+use metric_facts::laws::attributes_name_allowed_sets;
 use metric_plan::Plan;
 use metric_slot::Told;
 use std::alloc::{AllocError, Global};
@@ -82,8 +83,9 @@ impl Recorder {
 
     /// The set key of a recording of this value on the instrument of this number that the seat may make, or the first
     /// refusal: `Stranger` where the seat's run is of another number, the seat was made for another number of instruments,
-    /// or the plan has no recorder of its number; `UnknownInstrument`, those of the attributes in their order,
-    /// `ValueRange`. Takes no memory and no lock.
+    /// or the plan has no recorder of its number; `UnknownInstrument`, those of the attributes in their order, the last of
+    /// them `Combination` where they are none of the instrument's allowed combinations, and `ValueRange`. Takes no memory and
+    /// no lock.
     pub fn admits<B: Book, G: Gate>(
         &self,
         provider: &Provider<B, G>,
@@ -137,8 +139,8 @@ impl Recorder {
     /// # Errors
     ///
     /// `Stranger` and `UnknownInstrument` as of [`Recorder::admits`], `UnknownValue` where the set key is not one of the
-    /// instrument's: it names a value that a key does not declare, or none of a required key; then `ValueRange`. Then those
-    /// that [`Recorder::record`] names after those of [`Recorder::admits`].
+    /// instrument's: it names a value that a key does not declare, or none of a required key; then `Combination` where it is
+    /// none of the instrument's allowed combinations, and `ValueRange`. Then those that [`Recorder::record`] names after those of [`Recorder::admits`].
     pub fn record_set<R: Wait, B: Book, G: Gate>(
         &mut self,
         rt: &R,
@@ -445,7 +447,7 @@ impl Recorder {
             KnowsRecording plan.now instrument self.now.number set value.now) }
         ensures long { OnOk result (instrument < length self.now.told) }
     {
-        attributes_name_full_sets();
+        attributes_name_allowed_sets();
         // For the proof alone: a plan has facts for each of its instruments.
         let _ = plan.all_facts();
         if !self.is_of(plan, run) {
@@ -488,32 +490,28 @@ impl Recorder {
         ensures refused { let p = provider_of plan.now run in
             IfErr result (IsUnadmittedAfter p self.now instrument all.now) }
     {
+        if all.is_empty() {
+            return Ok(());
+        }
+        if !self.is_of(plan, run) {
+            return Err(SetsFault {
+                place: 0,
+                refusal: Refusal::Stranger,
+            });
+        }
+        if instrument as usize >= plan.all_facts().len() {
+            return Err(SetsFault {
+                place: 0,
+                refusal: Refusal::UnknownInstrument,
+            });
+        }
+        let facts = plan.facts(instrument);
         for (place, one) in all.iter().enumerate() {
-            match self.admit_key(plan, run, instrument, one.set, &one.value) {
+            match key_of(facts, one.set, &one.value) {
                 Ok(_) => {}
                 Err(refusal) => return Err(SetsFault { place, refusal }),
             }
         }
         Ok(())
     }
-}
-
-// The set key of a recording that the plan declares, or the first refusal.
-fn declared_set(
-    plan: &Plan,
-    instrument: u32,
-    attrs: &[Attr<'_>],
-    value: &i64,
-) -> Result<SetKey, Refusal>
-    ensures { let given = map given_by attrs.now in
-        result ≡ declared_set plan.now instrument given value.now }
-{
-    if instrument as usize >= plan.all_facts().len() {
-        return Err(Refusal::UnknownInstrument);
-    }
-    let set = plan.catalogue().encode(instrument, attrs)?;
-    if !plan.facts(instrument).admits(value) {
-        return Err(Refusal::ValueRange);
-    }
-    Ok(set)
 }

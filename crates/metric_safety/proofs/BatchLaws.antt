@@ -23,7 +23,7 @@ use Rattle.metric_facts.specs.declared.facts.Facts.{Facts}
 use Rattle.metric_facts.specs.declared.facts.NumberedStream.{NumberedStream}
 use Rattle.metric_history.specs.declared.entry.Entry.{Entry}
 use Rattle.metric_history.specs.Answers.{batch, collected, covered}
-use Rattle.metric_facts.specs.Facts.{EncodesFullSets, RunFacts, is_delta}
+use Rattle.metric_facts.specs.Facts.{EncodesAllowedSets, RunFacts, is_delta}
 use Rattle.metric_history.specs.History.{History, accepted, mark_of, told_of}
 use Rattle.metric_history.specs.Legal.{IsLegal, Legal, LegalRecord, LegalCollect, LegalClose, recording, collection, close}
 use Rattle.metric_history.specs.Points.{stream_points, points}
@@ -96,39 +96,39 @@ all_exported P facts start answers (a ∷ older) legal =
 -- ---- windows
 
 -- every window of a legal history is bounded
-bounded : EncodesFullSets → (streams : List Stream) (facts : RunFacts) (start : ℕ) (h : History) → IsSafeRun streams facts → IsLegal facts start h
+bounded : EncodesAllowedSets → (streams : List Stream) (facts : RunFacts) (start : ℕ) (h : History) → IsSafeRun streams facts → IsLegal facts start h
     → (number reader : ℕ) (own : Facts) → slice_get facts.instruments number ≡ Some own
     → All (λ (s : NumberedStream). IsBounded own s.stream (covered own (told_of facts start h number) reader)) own.streams
-bounded full streams facts start h run legal number reader own at =
-    journal_bounded own (accepted facts h number) (is_delta own reader) (mark_of facts h number reader) (run.safe number own at) (accepted_within full streams facts start h run legal number own at).admitted
+bounded names streams facts start h run legal number reader own at =
+    journal_bounded own (accepted facts h number) (is_delta own reader) (mark_of facts h number reader) (run.safe number own at) (accepted_within names streams facts start h run legal number own at).admitted
 
-pub windows_bounded : EncodesFullSets → (streams : List Stream) (facts : RunFacts) (start : ℕ) (h : History) → IsSafeRun streams facts → IsLegal facts start h → AreWindowsBounded facts start h
-windows_bounded full streams facts start h run legal number own at =
-    λ k d inside. bounded full streams facts start h run legal number (get_or own.streams k d).stream.reader own at k d inside
+pub windows_bounded : EncodesAllowedSets → (streams : List Stream) (facts : RunFacts) (start : ℕ) (h : History) → IsSafeRun streams facts → IsLegal facts start h → AreWindowsBounded facts start h
+windows_bounded names streams facts start h run legal number own at =
+    λ k d inside. bounded names streams facts start h run legal number (get_or own.streams k d).stream.reader own at k d inside
 
-pub nothing_overflows : EncodesFullSets → (streams : List Stream) (facts : RunFacts) (start : ℕ) (h : History) → IsSafeRun streams facts → IsLegal facts start h → NothingOverflows facts start h
-nothing_overflows full streams facts start h run legal = record {
+pub nothing_overflows : EncodesAllowedSets → (streams : List Stream) (facts : RunFacts) (start : ℕ) (h : History) → IsSafeRun streams facts → IsLegal facts start h → NothingOverflows facts start h
+nothing_overflows names streams facts start h run legal = record {
   no_rest = λ number own at.
       All-weaker (λ (s : NumberedStream). IsBounded own s.stream (covered own (told_of facts start h number) s.stream.reader))
       (λ (s : NumberedStream). rows s.stream (covered own (told_of facts start h number) s.stream.reader) None ≡ []) (λ s b. b.no_rest)
-      own.streams (windows_bounded full streams facts start h run legal number own at);
+      own.streams (windows_bounded names streams facts start h run legal number own at);
   no_overflow = all_exported (λ (s : StreamPoints). All (λ (p : Point). IsSome p.set) s.points) facts start
       (λ older past number reader now own at.
       all_reported (λ (s : StreamPoints). All (λ (p : Point). IsSome p.set) s.points) own reader (covered own (told_of facts start older number) reader)
       (All-weaker (λ (s : NumberedStream). IsBounded own s.stream (covered own (told_of facts start older number) reader))
       (λ (s : NumberedStream). All (λ (p : Point). IsSome p.set) (points s.stream (covered own (told_of facts start older number) reader))) (λ s b. b.no_overflow)
-      own.streams (bounded full streams facts start older run past number reader own at)))
+      own.streams (bounded names streams facts start older run past number reader own at)))
       h legal;
 }
 
 -- ---- numbers
 
-answers_in_range : EncodesFullSets → (streams : List Stream) (facts : RunFacts) (start : ℕ) → IsSafeRun streams facts → (h : History) → IsLegal facts start h
+answers_in_range : EncodesAllowedSets → (streams : List Stream) (facts : RunFacts) (start : ℕ) → IsSafeRun streams facts → (h : History) → IsLegal facts start h
     → (number reader now : ℕ) (own : Facts) → slice_get facts.instruments number ≡ Some own → AreInRange (batch own start (told_of facts start h number) reader now).streams
-answers_in_range full streams facts start run h legal number reader now own at =
+answers_in_range names streams facts start run h legal number reader now own at =
     let safe = run.safe number own at in
     let range = run.ranges number own at in
-    let journal = (accepted_within full streams facts start h run legal number own at).admitted in
+    let journal = (accepted_within names streams facts start h run legal number own at).admitted in
     let few = length-window (is_delta own reader) (mark_of facts h number reader) (accepted facts h number) in
     all_reported (λ (s : StreamPoints). All (λ (p : Point). IsValueInRange p.value) s.points) own reader (covered own (told_of facts start h number) reader)
     (All-weaker (λ (s : NumberedStream). IsSafeStream own s.stream)
@@ -137,10 +137,10 @@ answers_in_range full streams facts start run h legal number reader now own at =
     (admitted_window own (is_delta own reader) (mark_of facts h number reader) (accepted facts h number) journal.admitted) (omega (arith, few, journal.budgeted)))
     own.streams safe.streams)
 
-pub numbers_fit : EncodesFullSets → (streams : List Stream) (facts : RunFacts) (start : ℕ) (h : History) → IsSafeRun streams facts → IsLegal facts start h → NumbersFit facts start h
-numbers_fit full streams facts start h run legal = record {
-  answers = answers_in_range full streams facts start run h legal;
-  batches = all_exported (λ (s : StreamPoints). All (λ (p : Point). IsValueInRange p.value) s.points) facts start (answers_in_range full streams facts start run) h legal;
+pub numbers_fit : EncodesAllowedSets → (streams : List Stream) (facts : RunFacts) (start : ℕ) (h : History) → IsSafeRun streams facts → IsLegal facts start h → NumbersFit facts start h
+numbers_fit names streams facts start h run legal = record {
+  answers = answers_in_range names streams facts start run h legal;
+  batches = all_exported (λ (s : StreamPoints). All (λ (p : Point). IsValueInRange p.value) s.points) facts start (answers_in_range names streams facts start run) h legal;
 }
 
 -- ---- identities

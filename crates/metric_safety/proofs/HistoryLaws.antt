@@ -9,13 +9,14 @@ use Rattle.std.proofs.lemmas.List.Folds.{list_all-append}
 use Rattle.std.proofs.lemmas.List.Sums.{sum_by-cons, sum_by-set, sum_by_push}
 use Rattle.metric_base.specs.StepLaws.{after_ok, require_ok, ok_is}
 use Rattle.metric_base.specs.Steps.{require_some}
+use Rattle.metric_combinations.specs.Combinations.{permits}
 use Rattle.metric_catalogue.specs.Attributes.{given_by_owned}
-use Rattle.metric_catalogue.specs.Encoding.{Given, encode_of, entry_at, has_declared_value, has_repeated_key, is_complete, is_declared, set_key, set_of}
+use Rattle.metric_catalogue.specs.Encoding.{Given, allowed_set, encode_of, entry_at, has_declared_value, has_repeated_key, is_complete, is_declared, set_key, set_of}
 use Rattle.metric_catalogue.specs.declared.attributes.OwnedAttr.{OwnedAttr}
 use Rattle.metric_catalogue.specs.declared.contents.Instrument.{Instrument}
 use Rattle.metric_catalogue.specs.declared.contents.Key.{Key}
 use Rattle.metric_catalogue.specs.declared.refusal.Refusal.{Refusal}
-use Rattle.metric_catalogue.specs.declared.refusal.Refusal.TheVariants.{UnknownInstrument, UnknownRecorder, DuplicateKey, UnknownKey, UnknownValue, MissingKey, ValueRange, Closed, Budget}
+use Rattle.metric_catalogue.specs.declared.refusal.Refusal.TheVariants.{UnknownInstrument, UnknownRecorder, DuplicateKey, UnknownKey, UnknownValue, MissingKey, Combination, ValueRange, Closed, Budget}
 use Rattle.metric_views.specs.declared.stream.Stream.{Stream}
 use Rattle.metric_history.specs.declared.entry.Entry.{Entry}
 use Rattle.metric_history.specs.declared.event.Event.{Event}
@@ -25,7 +26,7 @@ use Rattle.metric_history.specs.declared.event.Reply.TheVariants.{Accepted, Coll
 use Rattle.metric_facts.specs.declared.facts.Facts.{Facts}
 use Rattle.metric_history.specs.Answers.{recorded, spent}
 use Rattle.metric_history.specs.Encoded.{encoded}
-use Rattle.metric_facts.specs.Facts.{EncodesFullSets, RunFacts, in_bounds, is_full_set, key_facts}
+use Rattle.metric_facts.specs.Facts.{EncodesAllowedSets, RunFacts, in_bounds, is_allowed_set, is_full_set, key_facts}
 use Rattle.metric_history.specs.History.{History, accepted, added_by, is_closed, told_of}
 use Rattle.metric_history.specs.Legal.{IsLegal, Legal, LegalRecord, recording}
 use Rattle.metric_safety.specs.SafeFacts.{is_admitted, are_admitted}
@@ -92,9 +93,9 @@ one_more own journal entry before admits left =
 
 -- ---- encoded sets
 
-set_long : (keys : List Key) (attrs : List Given) (set : List ℕ) → length keys ≤ 8 → set_of keys attrs ≡ Ok set → length set ≡ 8
+set_key_long : (keys : List Key) (attrs : List Given) (set : List ℕ) → length keys ≤ 8 → set_of keys attrs ≡ Ok set → length set ≡ 8
 unfolding set_of
-set_long keys attrs set few made =
+set_key_long keys attrs set few made =
     let new = require_ok (not (has_repeated_key attrs)) DuplicateKey _ set made in
     let known = require_ok (list_all (is_declared keys) attrs) UnknownKey _ set new.1 in
     let allowed = require_ok (list_all (has_declared_value keys) attrs) UnknownValue _ set known.1 in
@@ -107,35 +108,45 @@ set_long keys attrs set few made =
     both : {a b c d : ℕ} → a ≡ b → c ≡ d → a + c ≡ b + d
     both p q = cc
 
+set_long : (instrument : Instrument) (attrs : List Given) (set : List ℕ) → length instrument.keys ≤ 8 → allowed_set instrument attrs ≡ Ok set → length set ≡ 8
+unfolding allowed_set
+set_long instrument attrs set few made =
+    after_ok (set_of instrument.keys attrs) _ set made
+    (λ own named rest.
+    let permitted = require_ok (permits instrument.allowed own) Combination _ set rest in
+    ap length (sym (ok_is own set (Ok own) refl permitted.1)) ∙ set_key_long instrument.keys attrs own few named)
+
 -- the set key that attributes name for an instrument of a safe run
 pub record IsOwnSet (own : Facts) (set : List ℕ) : Type 0 where
   pub long : length set ≡ 8
-  pub full : is_full_set own.keys set ≡ true
+  pub allowed : is_allowed_set own set ≡ true
 
-pub encoded_set : EncodesFullSets → (streams : List Stream) (facts : RunFacts) → IsSafeRun streams facts → (number : ℕ) (own : Facts) → slice_get facts.instruments number ≡ Some own
+pub encoded_set : EncodesAllowedSets → (streams : List Stream) (facts : RunFacts) → IsSafeRun streams facts → (number : ℕ) (own : Facts) → slice_get facts.instruments number ≡ Some own
     → (attrs : List OwnedAttr) (set : List ℕ) → encoded facts.contents number attrs ≡ Ok set → IsOwnSet own set
 unfolding encode_of
-encoded_set full streams facts run number own at attrs set made =
-    after_ok (require_some (slice_get facts.contents.instruments number) UnknownInstrument) (λ instrument. set_of instrument.keys (map given_by_owned attrs)) set made
+encoded_set names streams facts run number own at attrs set made =
+    after_ok (require_some (slice_get facts.contents.instruments number) UnknownInstrument) (λ instrument. allowed_set instrument (map given_by_owned attrs)) set made
     (λ instrument found rest. of instrument (there (slice_get facts.contents.instruments number) instrument found) rest)
   where
     there : (o : Option Instrument) (instrument : Instrument) → require_some o UnknownInstrument ≡ Ok instrument → o ≡ Some instrument
     there None instrument e = absurd cc
     there (Some i) instrument e = let same : i ≡ instrument = cc in ap Some same
 
-    of : (instrument : Instrument) → slice_get facts.contents.instruments number ≡ Some instrument → set_of instrument.keys (map given_by_owned attrs) ≡ Ok set → IsOwnSet own set
+    of : (instrument : Instrument) → slice_get facts.contents.instruments number ≡ Some instrument → allowed_set instrument (map given_by_owned attrs) ≡ Ok set → IsOwnSet own set
     of instrument found rest =
         let keys : own.keys ≡ map key_facts instrument.keys = run.keys number own instrument at found in
         let few : length own.keys ≤ 8 = run.few_keys number own at in
         record {
-          long = set_long instrument.keys (map given_by_owned attrs) set (omega (arith, few, ap length keys, length-map instrument.keys key_facts)) rest;
-          full = ap (λ all. is_full_set all set) keys ∙ full instrument.keys (map given_by_owned attrs) set rest;
+          long = set_long instrument (map given_by_owned attrs) set (omega (arith, few, ap length keys, length-map instrument.keys key_facts)) rest;
+          allowed = ap (λ all. is_full_set all set && permits own.allowed set) keys
+              ∙ ap (λ o. is_full_set (map key_facts instrument.keys) set && permits o set) (run.allowed number own instrument at found)
+              ∙ names instrument (map given_by_owned attrs) set rest;
         }
 
 pub admits_set : (own : Facts) (recorder : ℕ) (set : List ℕ) (value : ℤ) → IsOwnSet own set → in_bounds own value ≡ true → is_admitted own (record { recorder = recorder; set = set; value = value }) ≡ true
 admits_set own recorder set value known ranged =
-    and_from (length set == 8) (is_full_set own.keys set && in_bounds own value) (eq-eqb (length set) 8 known.long)
-    (and_from (is_full_set own.keys set) (in_bounds own value) known.full ranged)
+    and_from (length set == 8) (is_allowed_set own set && in_bounds own value) (eq-eqb (length set) 8 known.long)
+    (and_from (is_allowed_set own set) (in_bounds own value) known.allowed ranged)
 
 -- ---- what an answer shows
 
@@ -186,9 +197,9 @@ one_own a b o p q = cc
 -- ---- the accepted recordings of a legal history
 
 -- one event more
-recorded_within : EncodesFullSets → (streams : List Stream) (facts : RunFacts) → IsSafeRun streams facts → (start : ℕ) (h : History) (number : ℕ) (own : Facts) → slice_get facts.instruments number ≡ Some own
+recorded_within : EncodesAllowedSets → (streams : List Stream) (facts : RunFacts) → IsSafeRun streams facts → (start : ℕ) (h : History) (number : ℕ) (own : Facts) → slice_get facts.instruments number ≡ Some own
     → KeepsBudgets own (accepted facts h number) → (event : Event) (reply : Reply) → Legal facts start h event reply → KeepsBudgets own (accepted facts h number ++ added_by facts number event reply)
-recorded_within full streams facts run start h number own at before (Record recorder instrument attrs value) Accepted legal =
+recorded_within names streams facts run start h number own at before (Record recorder instrument attrs value) Accepted legal =
     by (instrument == number) refl
   where
     entry : Entry
@@ -206,7 +217,7 @@ recorded_within full streams facts run start h number own at before (Record reco
         let here : slice_get facts.instruments instrument ≡ Some own = ap (slice_get facts.instruments) same ∙ at in
         let owns : shown.own ≡ own = one_own shown.own own (slice_get facts.instruments instrument) shown.known here in
         let set_is : result_unwrap_or (encoded facts.contents instrument attrs) [] ≡ shown.set = ap (λ r. result_unwrap_or r []) shown.named in
-        let known = encoded_set full streams facts run instrument own here attrs shown.set shown.named in
+        let known = encoded_set names streams facts run instrument own here attrs shown.set shown.named in
         let admits : is_admitted own (record { recorder = recorder; set = result_unwrap_or (encoded facts.contents instrument attrs) []; value = value }) ≡ true =
         ap (λ (s : List ℕ). is_admitted own (record { recorder = recorder; set = s; value = value })) set_is
         ∙ admits_set own recorder shown.set value known (ap (λ (f : Facts). in_bounds f value) (sym owns) ∙ shown.ranged) in
@@ -214,15 +225,15 @@ recorded_within full streams facts run start h number own at before (Record reco
         subst (λ (f : Facts). spent (accepted facts h number) recorder < slice_index f.budgets recorder) owns
         (subst (λ (i : ℕ). spent (accepted facts h i) recorder < slice_index shown.own.budgets recorder) same shown.left) in
         one_more own (accepted facts h number) (record { recorder = recorder; set = result_unwrap_or (encoded facts.contents instrument attrs) []; value = value }) before admits left
-recorded_within full streams facts run start h number own at before (Record recorder instrument attrs value) (Collected b) legal = subst (KeepsBudgets own) (sym (append-nil (accepted facts h number))) before
-recorded_within full streams facts run start h number own at before (Record recorder instrument attrs value) Done legal = subst (KeepsBudgets own) (sym (append-nil (accepted facts h number))) before
-recorded_within full streams facts run start h number own at before (Record recorder instrument attrs value) (Refused refusal) legal = subst (KeepsBudgets own) (sym (append-nil (accepted facts h number))) before
-recorded_within full streams facts run start h number own at before (Collect reader instrument now) reply legal = subst (KeepsBudgets own) (sym (append-nil (accepted facts h number))) before
-recorded_within full streams facts run start h number own at before (Close instrument) reply legal = subst (KeepsBudgets own) (sym (append-nil (accepted facts h number))) before
+recorded_within names streams facts run start h number own at before (Record recorder instrument attrs value) (Collected b) legal = subst (KeepsBudgets own) (sym (append-nil (accepted facts h number))) before
+recorded_within names streams facts run start h number own at before (Record recorder instrument attrs value) Done legal = subst (KeepsBudgets own) (sym (append-nil (accepted facts h number))) before
+recorded_within names streams facts run start h number own at before (Record recorder instrument attrs value) (Refused refusal) legal = subst (KeepsBudgets own) (sym (append-nil (accepted facts h number))) before
+recorded_within names streams facts run start h number own at before (Collect reader instrument now) reply legal = subst (KeepsBudgets own) (sym (append-nil (accepted facts h number))) before
+recorded_within names streams facts run start h number own at before (Close instrument) reply legal = subst (KeepsBudgets own) (sym (append-nil (accepted facts h number))) before
 
 -- The accepted recordings of a legal history stay within the budgets.
-pub accepted_within : EncodesFullSets → (streams : List Stream) (facts : RunFacts) (start : ℕ) (h : History) → IsSafeRun streams facts → IsLegal facts start h
+pub accepted_within : EncodesAllowedSets → (streams : List Stream) (facts : RunFacts) (start : ℕ) (h : History) → IsSafeRun streams facts → IsLegal facts start h
     → (number : ℕ) (own : Facts) → slice_get facts.instruments number ≡ Some own → KeepsBudgets own (accepted facts h number)
-accepted_within full streams facts start [] run legal number own at = record { admitted = record { admitted = refl; budgeted = omega arith }; within = λ recorder. omega arith }
-accepted_within full streams facts start (a ∷ older) run legal number own at =
-    recorded_within full streams facts run start older number own at (accepted_within full streams facts start older run legal.0 number own at) a.event a.reply legal.1
+accepted_within names streams facts start [] run legal number own at = record { admitted = record { admitted = refl; budgeted = omega arith }; within = λ recorder. omega arith }
+accepted_within names streams facts start (a ∷ older) run legal number own at =
+    recorded_within names streams facts run start older number own at (accepted_within names streams facts start older run legal.0 number own at) a.event a.reply legal.1

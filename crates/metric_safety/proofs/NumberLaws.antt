@@ -1,5 +1,5 @@
 -- Between which numbers values of an instrument's range, and what is reported of them, stay.
-use Rattle.std.proofs.Common.{◌≡◌, ℕ, suc, ◌-◌, ◌*◌, ◌^◌, ◌<◌, ◌≤◌, ℤ, pos, negsuc, neg_ℤ, ◌*ℤ◌, ◌-ℤ◌, ◌≤ℤ◌, ◌<ℤ◌, Bool, true, false, List, [], ◌∷◌, length, sum, refl, sym, ap, subst, ◌∙◌, arith}
+use Rattle.std.proofs.Common.{◌≡◌, ℕ, suc, ◌-◌, ◌*◌, ◌^◌, ◌<◌, ◌≤◌, ℤ, pos, negsuc, neg_ℤ, ◌*ℤ◌, ◌≤ℤ◌, ◌<ℤ◌, Bool, true, false, List, [], ◌∷◌, length, sum, refl, sym, ap, subst, ◌∙◌, arith}
 use Rattle.std.specs.Prelude.{IfSome, IsTrue, FitsSigned}
 use Rattle.std.specs.Int.{w64, int_min, int_max}
 use Rattle.std.specs.List.{AllByRecursion}
@@ -10,7 +10,7 @@ use Rattle.metric_aggregate.specs.Aggregation.{Aggregation, SumAggregation, Last
 use Rattle.metric_aggregate.specs.Bounds.{IsBetween, IsAroundZero, sum_of-around_zero, least_or-between, greatest_or-between, last_of-between, in_range-within, sum-bucket_counts}
 use Rattle.metric_aggregate.specs.Range.{in_range}
 use Rattle.metric_aggregate.specs.Value.{sum_of, kept_sum, value_of}
-use Rattle.metric_bounds.specs.Amounts.{amount_with, low_with, high_with}
+use Rattle.metric_bounds.specs.Amounts.{low_with, high_with}
 use Rattle.metric_bounds.specs.Sums.{keeps_sum_by}
 use Rattle.metric_catalogue.specs.Kinds.{is_monotonic}
 use Rattle.metric_catalogue.specs.declared.contents.Kind.{Kind}
@@ -19,7 +19,7 @@ use Rattle.metric_views.specs.declared.stream.StreamAggregation.{StreamAggregati
 use Rattle.metric_views.specs.declared.stream.StreamAggregation.TheVariants as aggregations
 use Rattle.metric_facts.specs.declared.facts.Facts.{Facts}
 use Rattle.metric_history.specs.Aggregations.{aggregation_of, stream_aggregation}
-use Rattle.metric_safety.specs.SafeFacts.{IsSafeFacts, IsSafeStream, total}
+use Rattle.metric_safety.specs.SafeFacts.{IsSafeStream, total}
 use Rattle.metric_safety.specs.WindowBounds.{IsSumWithin, IsValueWithin}
 
 -- how far a number is below zero, and above it

@@ -1,77 +1,40 @@
 -- The facts of the run of a safe catalogue and config are safe.
-use Rattle.std.proofs.Common.{◌≡◌, ℕ, ◌+◌, ◌^◌, ◌<◌, ◌≤◌, min, pos, ◌≤ℤ◌, ◌<ℤ◌, Bool, true, false, List, length, map, All, Contains, Option, Some, None, refl, sym, ap, subst, ◌∙◌, arith}
+use Rattle.std.proofs.Common.{◌≡◌, ℕ, ◌+◌, ◌^◌, ◌<◌, ◌≤◌, min, pos, ◌≤ℤ◌, ◌<ℤ◌, Bool, List, length, map, All, Contains, Option, Some, refl, sym, ap, subst, ◌∙◌, arith}
 use Rattle.std.specs.Prelude.{sum, sum_by, slice_get, ◌==◌, ◌↔◌, IsTrue, FitsSigned}
 use Rattle.std.specs.Int.{w64}
+use Rattle.std.specs.Option.{option_map}
 use Rattle.std.proofs.lemmas.Bool.{and_from, eq-eqb}
 use Rattle.std.proofs.lemmas.List.{length-map}
 use Rattle.std.proofs.lemmas.List.Elements.{All-contains, Contains-get_or}
 use Rattle.std.proofs.lemmas.List.Folds.{list_any_at}
 use Rattle.std.proofs.lemmas.List.Sums.{sum-map}
 use Rattle.std.proofs.lemmas.Option.{slice_get_within, get_or_from_slice_get}
+use Rattle.metric_combinations.specs.Restrictions.{restrictions}
 use Rattle.metric_catalogue.specs.Budgets.{amount_of}
 use Rattle.metric_catalogue.specs.Sound.{IsSound}
 use Rattle.metric_catalogue.specs.declared.contents.Contents.{Contents}
 use Rattle.metric_catalogue.specs.declared.contents.Instrument.{Instrument}
 use Rattle.metric_catalogue.specs.declared.contents.Recorder.{Recorder}
-use Rattle.metric_views.specs.Choices.{is_unfit}
-use Rattle.metric_views.specs.Streams.{aggregation_with, chosen_aggregation, fill_by, fill_with, kept_or_dropped, settings_at, stream_by, template_of, unless_unfit}
 use Rattle.metric_views.specs.declared.config.Config.{Config}
 use Rattle.metric_views.specs.declared.config.Reader.{Reader}
-use Rattle.metric_views.specs.declared.config.Settings.{Settings}
-use Rattle.metric_views.specs.declared.stream.Fill.TheVariants.{Kept}
 use Rattle.metric_views.specs.declared.stream.Stream.{Stream}
-use Rattle.metric_views.specs.declared.stream.StreamAggregation.{StreamAggregation}
-use Rattle.metric_views.specs.declared.template.Template.{Template}
 use Rattle.metric_resolve.specs.Laws.{IsOwn}
 use Rattle.metric_resolve.specs.Resolved.{streams_of}
 use Rattle.metric_bounds.specs.Amounts.{total_of, amount_with, low_with, high_with}
 use Rattle.metric_bounds.specs.Safe.{AreSafe, IsSafe, SetsFit}
-use Rattle.metric_bounds.specs.Sets.{sets_of}
+use Rattle.metric_bounds.specs.KeptLaws.{own_flags}
+use Rattle.metric_bounds.specs.Sets.{FlagsEach, FlagsKeys, count_or, list_within, listed_of, sets_of}
 use Rattle.metric_bounds.specs.Sums.{is_summed, keeps_sum, sums_instrument}
 use Rattle.metric_facts.specs.declared.facts.Facts.{Facts}
 use Rattle.metric_facts.specs.declared.facts.NumberedStream.{NumberedStream}
 use Rattle.metric_facts.specs.Facts.{RunFacts, facts_from, facts_of, key_facts}
 use Rattle.metric_facts.specs.NumberedLaws.{all_numbered}
+use Rattle.metric_facts.specs.Products.{product_of}
 use Rattle.metric_plan.specs.PlanFacts.{FactsAt, facts_at}
 use Rattle.metric_plan.specs.Plans.{PlanValue, RangesFit, plan_of, run_facts}
-use Rattle.metric_plan.specs.SetLaws.{sets_are}
+use Rattle.metric_plan.specs.SetLaws.{products_are}
 use Rattle.metric_safety.specs.SafeFacts.{IsSafeStream, IsSafeFacts}
 use Rattle.metric_safety.specs.SafeRuns.{GivesSafePlan, IsSafePlan, IsSafeRun}
-
--- ---- the flags of a stream
-
--- what a template keeps is what its streams keep
-fill_keeps : (number : ℕ) (reader : Reader) (template : Template) (s : Stream) → fill_by number reader template ≡ Kept s → s.kept ≡ template.kept
-unfolding fill_by stream_by
-fill_keeps number reader template s e =
-    by (is_unfit template.kind (chosen_aggregation reader template.kind template.aggregation))
-    (aggregation_with (chosen_aggregation reader template.kind template.aggregation) template.kind template.boundaries) e
-  where
-    by : (b : Bool) (o : Option StreamAggregation) → unless_unfit b (kept_or_dropped (stream_by number reader template) o) ≡ Kept s → s.kept ≡ template.kept
-    by true o e = absurd cc
-    by false None e = absurd cc
-    by false (Some aggregation) e = let same : stream_by number reader template aggregation ≡ s = cc in ap (λ (t : Stream). t.kept) (sym same)
-
-template_keeps : (number : ℕ) (instrument : Instrument) (view : Option ℕ) (settings : Settings) → length (template_of number instrument view settings).kept ≡ length instrument.keys
-unfolding template_of
-template_keeps number instrument view settings = length-map instrument.keys _
-
--- a stream of a config says of each key of its instrument whether it is kept
-own_flags : (contents : Contents) (config : Config) (s : Stream) (instrument : Instrument) → IsOwn contents config s → slice_get contents.instruments s.instrument ≡ Some instrument
-    → length s.kept ≡ length instrument.keys
-own_flags contents config s instrument own at =
-    by (slice_get config.readers s.reader) (slice_get contents.instruments s.instrument) (settings_at config.views s.view) at own.filled
-  where
-    by : (r : Option Reader) (i : Option Instrument) (o : Option Settings) → i ≡ Some instrument → fill_with s.reader s.instrument s.view r i o ≡ Some (Kept s) → length s.kept ≡ length instrument.keys
-    by None i o at e = absurd cc
-    by (Some r) None o at e = absurd cc
-    by (Some r) (Some i) None at e = absurd cc
-    by (Some r) (Some i) (Some settings) at e =
-        let filled : fill_by s.reader r (template_of s.instrument i s.view settings) ≡ Kept s = cc in
-        let same : i ≡ instrument = cc in
-        ap length (fill_keeps s.reader r (template_of s.instrument i s.view settings) s filled)
-        ∙ template_keeps s.instrument i s.view settings
-        ∙ ap (λ (x : Instrument). length x.keys) same
 
 -- ---- the facts of an instrument
 
@@ -82,13 +45,18 @@ total_same : (contents : Contents) (number : ℕ) → sum (map (λ (recorder : R
 unfolding total_of
 total_same contents number = total_is contents.recorders number
 
+-- how many series a stream may have, as far as the facts of its instrument tell
+series_are : (contents : Contents) (s : Stream) (instrument : Instrument) → slice_get contents.instruments s.instrument ≡ Some instrument
+    → sets_of contents s ≡ count_or (product_of s.kept (map key_facts instrument.keys)) (option_map (restrictions s.kept) instrument.allowed)
+unfolding sets_of listed_of
+series_are contents s instrument at =
+    ap (λ (n : ℕ). count_or n (listed_of contents s)) (products_are contents s instrument at)
+    ∙ ap (λ (o : Option Instrument). count_or (product_of s.kept (map key_facts instrument.keys)) (list_within s o)) at
+
 -- ---- safety
 
-record HasFlags (contents : Contents) (s : Stream) : Type 0 where
-  flags : (instrument : Instrument) → slice_get contents.instruments s.instrument ≡ Some instrument → length s.kept ≡ length instrument.keys
-
 stream_safe : (certified : Bool) (flags : List Bool) (contents : Contents) (readers : List Reader) (streams : List Stream) (number : ℕ) (instrument : Instrument) (s : Stream)
-    → AreSafe contents streams → Contains streams s → HasFlags contents s → slice_get contents.instruments number ≡ Some instrument → s.instrument ≡ number
+    → AreSafe contents streams → Contains streams s → FlagsKeys contents s → slice_get contents.instruments number ≡ Some instrument → s.instrument ≡ number
     → IsSafeStream (facts_of certified flags contents.recorders readers streams number instrument) s
 stream_safe certified flags contents readers streams number instrument s safe there has at of =
     let own_at : slice_get contents.instruments s.instrument ≡ Some instrument = ap (slice_get contents.instruments) of ∙ at in
@@ -96,8 +64,8 @@ stream_safe certified flags contents readers streams number instrument s safe th
     let fits : min (sets_of contents s) (total_of contents s.instrument) ≤ s.limit = All-contains (SetsFit contents) streams s safe.sets there in
     let same : total_of contents number ≡ sum (map (λ (recorder : Recorder). amount_of recorder number) contents.recorders) = sym (total_same contents number) in
     record {
-      flags = has.flags instrument own_at ∙ sym (length-map instrument.keys key_facts);
-      series = subst (λ (n : ℕ). n ≤ s.limit) (both (sets_are contents s instrument own_at) (ap (total_of contents) of ∙ same)) fits;
+      flags = subst (FlagsEach s) own_at has ∙ sym (length-map instrument.keys key_facts);
+      series = subst (λ (n : ℕ). n ≤ s.limit) (both (series_are contents s instrument own_at) (ap (total_of contents) of ∙ same)) fits;
       low = λ kept. subst (λ (n : ℕ). FitsSigned w64 (low_with n instrument.lo)) same (ranges.low (summed kept));
       high = λ kept. subst (λ (n : ℕ). FitsSigned w64 (high_with n instrument.hi)) same (ranges.high (summed kept));
     }
@@ -111,7 +79,7 @@ stream_safe certified flags contents readers streams number instrument s safe th
         (ap (sums_instrument number) there.2 ∙ and_from (s.instrument == number) (keeps_sum s) (eq-eqb s.instrument number of) kept)
 
 facts_safe : (certified : Bool) (flags : List Bool) (contents : Contents) (readers : List Reader) (streams : List Stream) (number : ℕ) (instrument : Instrument)
-    → AreSafe contents streams → ((s : Stream) → Contains streams s → HasFlags contents s) → slice_get contents.instruments number ≡ Some instrument
+    → AreSafe contents streams → ((s : Stream) → Contains streams s → FlagsKeys contents s) → slice_get contents.instruments number ≡ Some instrument
     → instrument.lo ≤ℤ instrument.hi → IsSafeFacts (facts_of certified flags contents.recorders readers streams number instrument)
 facts_safe certified flags contents readers streams number instrument safe has at ordered =
     let ranges = safe.instruments number instrument at in
@@ -150,6 +118,9 @@ safe_run exact contents config certified by_product sound safe ranges = record {
   keys = λ number own instrument e f.
       let here = at number own e in
       ap (λ (x : Facts). x.keys) here.is ∙ ap (λ (x : Instrument). map key_facts x.keys) (one_instrument here.instrument instrument (slice_get contents.instruments number) here.at f);
+  allowed = λ number own instrument e f.
+      let here = at number own e in
+      ap (λ (x : Facts). x.allowed) here.is ∙ ap (λ (x : Instrument). x.allowed) (one_instrument here.instrument instrument (slice_get contents.instruments number) here.at f);
   few_keys = λ number own e.
       let here = at number own e in
       let long : length own.keys ≡ length here.instrument.keys = ap (λ (x : Facts). length x.keys) here.is ∙ length-map here.instrument.keys key_facts in
@@ -166,8 +137,8 @@ safe_run exact contents config certified by_product sound safe ranges = record {
     none_before : (k : ℕ) → 0 + k ≡ k
     none_before k = omega arith
 
-    flags : (s : Stream) → Contains (streams_of contents config) s → HasFlags contents s
-    flags s there = record { flags = λ instrument f. own_flags contents config s instrument ((exact contents config s).0 there) f }
+    flags : (s : Stream) → Contains (streams_of contents config) s → FlagsKeys contents s
+    flags s there = own_flags contents config s ((exact contents config s).0 there)
 
     at : (number : ℕ) (own : Facts) → slice_get (facts_from certified by_product contents.recorders config.readers (streams_of contents config) 0 contents.instruments) number ≡ Some own
         → FactsAt certified by_product contents.recorders config.readers (streams_of contents config) number contents.instruments number own

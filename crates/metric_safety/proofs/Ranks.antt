@@ -1,27 +1,14 @@
 -- Two full sets of one rank are of one series, so there are no more series than the product.
-use Rattle.std.proofs.Common.{◌≡◌, ℕ, zero, suc, ◌+◌, ◌-◌, ◌*◌, ◌<◌, Bool, true, false, cond, List, [], ◌∷◌, length, refl, sym, ◌∙◌, arith}
-use Rattle.std.specs.Prelude.{◌==◌, nat_le, if◌then◌else◌}
-use Rattle.std.specs.List.{list_all}
-use Rattle.std.proofs.lemmas.Bool.{and_parts, true≢false, eqb-true}
-use Rattle.std.proofs.lemmas.Bool.Decides.{nat_tests}
+use Rattle.std.proofs.Common.{◌≡◌, ℕ, zero, suc, ◌-◌, Bool, true, false, cond, List, [], ◌∷◌, length, refl, sym, arith}
+use Rattle.std.specs.Prelude.{◌==◌, nat_le}
+use Rattle.std.proofs.lemmas.Bool.{and_parts, true≢false}
 use Rattle.std.proofs.lemmas.Nat.{same_from_place}
 use Rattle.metric_facts.specs.declared.facts.KeyFacts.{KeyFacts}
 use Rattle.metric_facts.specs.Facts.{is_entry, is_full_set}
+use Rattle.metric_facts.specs.FullSetLaws.{zeros_same}
 use Rattle.metric_facts.specs.Products.{product_of}
 use Rattle.metric_facts.specs.Ranks.{digit_if, rank, rank_below}
-use Rattle.metric_history.specs.Series.{restricted}
-
--- zeros of one length are one list
-zeros_same : (xs ys : List ℕ) → list_all (λ entry. entry == 0) xs ≡ true → list_all (λ entry. entry == 0) ys ≡ true → length xs ≡ length ys → xs ≡ ys
-zeros_same [] [] p q l = refl
-zeros_same [] (y ∷ ys) p q l = absurd (omega arith)
-zeros_same (x ∷ xs) [] p q l = absurd (omega arith)
-zeros_same (x ∷ xs) (y ∷ ys) p q l =
-    let a = and_parts (x == 0) (list_all (λ entry. entry == 0) xs) p in
-    let b = and_parts (y == 0) (list_all (λ entry. entry == 0) ys) q in
-    let heads : x ≡ y = eqb-true x 0 a.0 ∙ sym (eqb-true y 0 b.0) in
-    let tails : xs ≡ ys = zeros_same xs ys a.1 b.1 (omega arith) in
-    cc
+use Rattle.metric_combinations.specs.Restrictions.{restricted}
 
 entry_same : (values : ℕ) (optional : Bool) (x y : ℕ) → cond (x == 0) optional (nat_le x values) ≡ true → cond (y == 0) optional (nat_le y values) ≡ true
     → cond optional x (x - 1) ≡ cond optional y (y - 1) → x ≡ y

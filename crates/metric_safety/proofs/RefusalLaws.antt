@@ -5,13 +5,14 @@ use Rattle.std.specs.List.{list_all}
 use Rattle.std.proofs.lemmas.Bool.{true≢false, ltb-true, lt-ltb, not_from_false}
 use Rattle.std.proofs.lemmas.List.Elements.{All-nil, All-cons}
 use Rattle.metric_base.specs.Steps.{◌>>=◌, require, require_some}
+use Rattle.metric_combinations.specs.Combinations.{permits}
 use Rattle.metric_catalogue.specs.Attributes.{given_by_owned}
-use Rattle.metric_catalogue.specs.Encoding.{Given, encode_of, has_declared_value, has_repeated_key, is_complete, is_declared, set_key, set_of}
+use Rattle.metric_catalogue.specs.Encoding.{Given, allowed_set, encode_of, has_declared_value, has_repeated_key, is_complete, is_declared, set_key, set_of}
 use Rattle.metric_catalogue.specs.declared.attributes.OwnedAttr.{OwnedAttr}
 use Rattle.metric_catalogue.specs.declared.contents.Instrument.{Instrument}
 use Rattle.metric_catalogue.specs.declared.contents.Key.{Key}
 use Rattle.metric_catalogue.specs.declared.refusal.Refusal.{Refusal}
-use Rattle.metric_catalogue.specs.declared.refusal.Refusal.TheVariants.{UnknownInstrument, UnknownRecorder, UnknownReader, DuplicateKey, UnknownKey, UnknownValue, MissingKey, ValueRange, Closed, Budget, SumRange, Memory}
+use Rattle.metric_catalogue.specs.declared.refusal.Refusal.TheVariants.{UnknownInstrument, UnknownRecorder, UnknownReader, DuplicateKey, UnknownKey, UnknownValue, MissingKey, Combination, ValueRange, Closed, Budget, SumRange, Memory}
 use Rattle.metric_views.specs.declared.stream.Stream.{Stream}
 use Rattle.metric_history.specs.declared.batch.Batch.{Batch}
 use Rattle.metric_history.specs.declared.entry.Entry.{Entry}
@@ -22,7 +23,7 @@ use Rattle.metric_history.specs.declared.event.Reply.TheVariants.{Accepted, Coll
 use Rattle.metric_facts.specs.declared.facts.Facts.{Facts}
 use Rattle.metric_history.specs.Answers.{batch, collected, closing, recorded, spent}
 use Rattle.metric_history.specs.Encoded.{encoded}
-use Rattle.metric_facts.specs.Facts.{EncodesFullSets, RunFacts, in_bounds}
+use Rattle.metric_facts.specs.Facts.{EncodesAllowedSets, RunFacts, in_bounds}
 use Rattle.metric_history.specs.History.{Answered, History, accepted, is_closed, mark_of, told_of}
 use Rattle.metric_history.specs.Legal.{IsLegal, Legal, LegalRecord, LegalCollect, LegalClose, recording, collection, close}
 use Rattle.metric_history.specs.Windows.{fits_all}
@@ -55,26 +56,36 @@ set_never keys attrs e =
     let last : Ok (set_key keys attrs) ≡ Err SumRange = complete.1 in
     absurd cc
 
+allowed_never : (instrument : Instrument) (attrs : List Given) → allowed_set instrument attrs ≡ Err SumRange → ⊥
+unfolding allowed_set
+allowed_never instrument attrs e =
+    after_fault {P = ⊥} (set_of instrument.keys attrs) _ SumRange e
+    (λ set named rest.
+    let permitted = require_other (permits instrument.allowed set) Combination _ SumRange rest (λ c. absurd cc) in
+    let last : Ok set ≡ Err SumRange = permitted.1 in
+    absurd cc)
+    (λ refused. set_never instrument.keys attrs refused)
+
 encoded_never : (instruments : List Instrument) (number : ℕ) (attrs : List Given) → encode_of instruments number attrs ≡ Err SumRange → ⊥
 unfolding encode_of
 encoded_never instruments number attrs e =
-    after_fault {P = ⊥} (require_some (slice_get instruments number) UnknownInstrument) (λ instrument. set_of instrument.keys attrs) SumRange e
-    (λ instrument found rest. set_never instrument.keys attrs rest)
+    after_fault {P = ⊥} (require_some (slice_get instruments number) UnknownInstrument) (λ instrument. allowed_set instrument attrs) SumRange e
+    (λ instrument found rest. allowed_never instrument attrs rest)
     (λ refused. require_some_other (slice_get instruments number) UnknownInstrument SumRange refused (λ c. absurd cc))
 
 -- the next recording within the budget fits
-next_fits : EncodesFullSets → (streams : List Stream) (facts : RunFacts) → IsSafeRun streams facts → (start : ℕ) (h : History) → IsLegal facts start h
+next_fits : EncodesAllowedSets → (streams : List Stream) (facts : RunFacts) → IsSafeRun streams facts → (start : ℕ) (h : History) → IsLegal facts start h
     → (number : ℕ) (own : Facts) → slice_get facts.instruments number ≡ Some own → (recorder : ℕ) (attrs : List OwnedAttr) (set : List ℕ) (value : ℤ)
     → encoded facts.contents number attrs ≡ Ok set → in_bounds own value ≡ true → spent (accepted facts h number) recorder < slice_index own.budgets recorder
     → fits_all own (mark_of facts h number) (accepted facts h number) (record { recorder = recorder; set = set; value = value }) ≡ true
-next_fits full streams facts run start h legal number own at recorder attrs set value named ranged left =
-    let longer = one_more own (accepted facts h number) (record { recorder = recorder; set = set; value = value }) (accepted_within full streams facts start h run legal number own at)
-    (admits_set own recorder set value (encoded_set full streams facts run number own at attrs set named) ranged) left in
+next_fits names streams facts run start h legal number own at recorder attrs set value named ranged left =
+    let longer = one_more own (accepted facts h number) (record { recorder = recorder; set = set; value = value }) (accepted_within names streams facts start h run legal number own at)
+    (admits_set own recorder set value (encoded_set names streams facts run number own at attrs set named) ranged) left in
     journal_fits own (accepted facts h number) (record { recorder = recorder; set = set; value = value }) (mark_of facts h number) (run.safe number own at) longer.admitted
 
-recording_never : EncodesFullSets → (streams : List Stream) (facts : RunFacts) → IsSafeRun streams facts → (start : ℕ) (h : History) → IsLegal facts start h
+recording_never : EncodesAllowedSets → (streams : List Stream) (facts : RunFacts) → IsSafeRun streams facts → (start : ℕ) (h : History) → IsLegal facts start h
     → (recorder number : ℕ) (attrs : List OwnedAttr) (value : ℤ) → recording facts start h recorder number attrs value ≡ Err SumRange → ⊥
-recording_never full streams facts run start h legal recorder number attrs value e =
+recording_never names streams facts run start h legal recorder number attrs value e =
     after_fault {P = ⊥} (require_some (slice_get facts.instruments number) UnknownInstrument) (λ own. recorded own (told_of facts start h number) (encoded facts.contents number attrs) recorder value) SumRange e
     (λ own found rest.
     let by_recorder = require_other (nat_lt recorder (length own.budgets)) UnknownRecorder _ SumRange rest (λ c. absurd cc) in
@@ -83,7 +94,7 @@ recording_never full streams facts run start h legal recorder number attrs value
     let ranged = require_other (in_bounds own value) ValueRange _ SumRange later (λ c. absurd cc) in
     let opened = require_other (not (is_closed h number)) Closed _ SumRange ranged.1 (λ c. absurd cc) in
     let budgeted = require_other (nat_lt (spent (accepted facts h number) recorder) (slice_index own.budgets recorder)) Budget _ SumRange opened.1 (λ c. absurd cc) in
-    let fits = next_fits full streams facts run start h legal number own (known_own (slice_get facts.instruments number) own found) recorder attrs set value named ranged.0
+    let fits = next_fits names streams facts run start h legal number own (known_own (slice_get facts.instruments number) own found) recorder attrs set value named ranged.0
     (ltb-true (spent (accepted facts h number) recorder) (slice_index own.budgets recorder) budgeted.0) in
     last (record { recorder = recorder; set = set; value = value }) (fits_all own (mark_of facts h number) (accepted facts h number) (record { recorder = recorder; set = set; value = value })) fits budgeted.1)
     (λ refused. encoded_never facts.contents.instruments number (map given_by_owned attrs) refused))
@@ -94,9 +105,9 @@ recording_never full streams facts run start h legal recorder number attrs value
     last entry false fits e = true≢false (sym fits)
 
 -- a reply to an event of a legal history is never that refusal
-reply_never : EncodesFullSets → (streams : List Stream) (facts : RunFacts) → IsSafeRun streams facts → (start : ℕ) (h : History) → IsLegal facts start h
+reply_never : EncodesAllowedSets → (streams : List Stream) (facts : RunFacts) → IsSafeRun streams facts → (start : ℕ) (h : History) → IsLegal facts start h
     → (event : Event) (reply : Reply) → Legal facts start h event reply → reply ≡ Refused SumRange → ⊥
-reply_never full streams facts run start h legal event reply own e = by event (subst (Legal facts start h event) e own)
+reply_never names streams facts run start h legal event reply own e = by event (subst (Legal facts start h event) e own)
   where
     collect_never : (reader number now : ℕ) → collection facts start h reader number now ≡ Err SumRange → ⊥
     collect_never reader number now e =
@@ -131,23 +142,23 @@ reply_never full streams facts run start h legal event reply own e = by event (s
 
     by : (event : Event) → Legal facts start h event (Refused SumRange) → ⊥
     by (Record recorder number attrs value) given =
-        record_with (recording facts start h recorder number attrs value) (recording_never full streams facts run start h legal recorder number attrs value) given
+        record_with (recording facts start h recorder number attrs value) (recording_never names streams facts run start h legal recorder number attrs value) given
     by (Collect reader number now) given = collect_with (collection facts start h reader number now) (collect_never reader number now) given
     by (Close number) given = close_with (close facts start h number) (close_never number) given
 
-all_never : EncodesFullSets → (streams : List Stream) (facts : RunFacts) → IsSafeRun streams facts → (start : ℕ) (h : History) → IsLegal facts start h
+all_never : EncodesAllowedSets → (streams : List Stream) (facts : RunFacts) → IsSafeRun streams facts → (start : ℕ) (h : History) → IsLegal facts start h
     → All (λ (a : Answered). a.reply ≢ Refused SumRange) h
-all_never full streams facts run start [] legal = All-nil (λ (a : Answered). a.reply ≢ Refused SumRange)
-all_never full streams facts run start (a ∷ older) legal =
+all_never names streams facts run start [] legal = All-nil (λ (a : Answered). a.reply ≢ Refused SumRange)
+all_never names streams facts run start (a ∷ older) legal =
     All-cons (λ (x : Answered). x.reply ≢ Refused SumRange) a older
-    (reply_never full streams facts run start older legal.0 a.event a.reply legal.1) (all_never full streams facts run start older legal.0)
+    (reply_never names streams facts run start older legal.0 a.event a.reply legal.1) (all_never names streams facts run start older legal.0)
 
 -- a declared recording within its budget has an entry
-within_made : EncodesFullSets → (streams : List Stream) (facts : RunFacts) → IsSafeRun streams facts → (start : ℕ) (h : History) → IsLegal facts start h
+within_made : EncodesAllowedSets → (streams : List Stream) (facts : RunFacts) → IsSafeRun streams facts → (start : ℕ) (h : History) → IsLegal facts start h
     → (recorder number : ℕ) (attrs : List OwnedAttr) (value : ℤ) (w : IsWithinBudget facts h recorder number attrs value)
     → recording facts start h recorder number attrs value ≡ Ok (record { recorder = recorder; set = w.set; value = value })
-within_made full streams facts run start h legal recorder number attrs value w =
-    let fits = next_fits full streams facts run start h legal number w.own w.known recorder attrs w.set value w.named w.ranged w.budgeted in
+within_made names streams facts run start h legal recorder number attrs value w =
+    let fits = next_fits names streams facts run start h legal number w.own w.known recorder attrs w.set value w.named w.ranged w.budgeted in
     ap (λ (o : Option Facts). require_some o UnknownInstrument >>= λ own. recorded own (told_of facts start h number) (encoded facts.contents number attrs) recorder value) w.known
     ∙ passed (nat_lt recorder (length w.own.budgets)) UnknownRecorder _ (lt-ltb recorder (length w.own.budgets) w.by_recorder)
     ∙ ap (λ (r : Result (List ℕ) Refusal). r >>= λ set. rest set) w.named
@@ -176,10 +187,10 @@ answers_of (Ok x) entry e Done legal = absurd legal
 answers_of (Err refusal) entry e reply legal = absurd cc
 
 -- sums refuse nothing
-pub no_sum_refuses : EncodesFullSets → (streams : List Stream) (facts : RunFacts) (start : ℕ) (h : History) → IsSafeRun streams facts → IsLegal facts start h → NoSumRefuses facts start h
-no_sum_refuses full streams facts start h run legal = record {
-  never = all_never full streams facts run start h legal;
-  next = recording_never full streams facts run start h legal;
+pub no_sum_refuses : EncodesAllowedSets → (streams : List Stream) (facts : RunFacts) (start : ℕ) (h : History) → IsSafeRun streams facts → IsLegal facts start h → NoSumRefuses facts start h
+no_sum_refuses names streams facts start h run legal = record {
+  never = all_never names streams facts run start h legal;
+  next = recording_never names streams facts run start h legal;
   accepts = λ recorder number attrs value reply w given.
-      answers_of (recording facts start h recorder number attrs value) (record { recorder = recorder; set = w.set; value = value }) (within_made full streams facts run start h legal recorder number attrs value w) reply given;
+      answers_of (recording facts start h recorder number attrs value) (record { recorder = recorder; set = w.set; value = value }) (within_made names streams facts run start h legal recorder number attrs value w) reply given;
 }

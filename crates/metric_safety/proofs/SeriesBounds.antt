@@ -1,18 +1,24 @@
--- Recordings of full sets have no more series than the product over the kept keys, and no more than there are recordings.
+-- Recordings of full sets have no more series than the product over the kept keys, and no more than there are recordings; those of listed
+-- combinations have no more than these have restrictions.
 use Rattle.std.proofs.Common.{◌≡◌, ◌≢◌, ℕ, zero, suc, ◌+◌, ◌*◌, ◌<◌, ◌≤◌, Bool, true, false, not, ◌||◌, cond, List, [], ◌∷◌, length, map, All, AllPairs, refl, sym, ap, subst, ◌∙◌, arith}
 use Rattle.std.specs.Prelude.{eqb}
 use Rattle.std.specs.List.{AllByRecursion, IsDistinct, list_any}
 use Rattle.std.specs.Str.{bytes_eq}
 use Rattle.std.proofs.lemmas.Bool.{true≢false, eqb-true, ne_eqb}
 use Rattle.std.proofs.lemmas.List.{length-map}
-use Rattle.std.proofs.lemmas.List.Elements.{All-nil, All-cons, All-head, All-tail, All-weaker, All-filter, filter_passes}
+use Rattle.std.proofs.lemmas.List.Elements.{All-nil, All-cons, All-head, All-tail, All-map, All-weaker, All-filter, filter_passes}
 use Rattle.std.proofs.lemmas.List.Kept.{AllPairs-cons, AllPairs-filter}
 use Rattle.std.proofs.lemmas.List.Sums.{length-filter, count_by-le-length}
+use Rattle.std.proofs.lemmas.Map.Made.{IsDistinct-from_AllPairs}
 use Rattle.std.proofs.lemmas.Map.Steps.{length-le_from_distinct_below}
+use Rattle.std.proofs.lemmas.Slice.Eq.{bytes_eq-Decides}
 use Rattle.metric_facts.specs.declared.facts.KeyFacts.{KeyFacts}
 use Rattle.metric_facts.specs.Facts.{is_full_set}
-use Rattle.metric_history.specs.Series.{restricted, distinct, others}
-use Rattle.metric_history.specs.SeriesLaws.{key_is_same, distinct-cons}
+use Rattle.metric_combinations.specs.Combinations.{allows}
+use Rattle.metric_combinations.specs.RestrictionLaws.{within_restrictions}
+use Rattle.metric_combinations.specs.Restrictions.{restricted, restrictions}
+use Rattle.metric_history.specs.Series.{distinct, others}
+use Rattle.metric_history.specs.SeriesLaws.{key_is_same, same_key, has-distinct, distinct-cons}
 use Rattle.metric_facts.specs.Products.{product_of}
 use Rattle.metric_facts.specs.Ranks.{digit_if, rank, rank_below}
 use Rattle.metric_safety.proofs.Ranks.{rank_same}
@@ -114,3 +120,40 @@ length-distinct (key ∷ keys) =
 -- there are no more distinct series than the product over the kept keys
 pub series_bounded : (kept : List Bool) (keys : List KeyFacts) (all : List (List ℕ)) → length kept ≡ length keys → All (IsSeries kept keys) all → length (distinct all) ≤ product_of kept keys
 series_bounded kept keys all flags each = few_ranks kept keys (distinct all) flags (All-distinct (IsSeries kept keys) all each) (distinct_apart all)
+
+-- ---- listed combinations
+
+or_true : (a b : Bool) → b ≡ true → (a || b) ≡ true
+or_true true b e = refl
+or_true false b e = e
+
+-- the restriction of a combination is one of the restrictions
+allows-restricted : (kept : List Bool) (rows : List (List ℕ)) (set : List ℕ) → allows rows set ≡ true → allows (map (restricted kept) rows) (restricted kept set) ≡ true
+allows-restricted kept [] set e = absurd (true≢false (sym e))
+allows-restricted kept (row ∷ rows) set e = at (bytes_eq row set) refl e (allows-restricted kept rows set)
+  where
+    at : (b : Bool) → bytes_eq row set ≡ b → (b || allows rows set) ≡ true → (allows rows set ≡ true → allows (map (restricted kept) rows) (restricted kept set) ≡ true)
+        → allows (map (restricted kept) (row ∷ rows)) (restricted kept set) ≡ true
+    at true same some rest =
+        ap (λ (r : List ℕ). allows (restricted kept r ∷ map (restricted kept) rows) (restricted kept set)) (same_key row set same)
+        ∙ ap (λ (b : Bool). b || allows (map (restricted kept) rows) (restricted kept set)) (key_is_same (restricted kept set))
+    at false same some rest = or_true (bytes_eq (restricted kept row) (restricted kept set)) (allows (map (restricted kept) rows) (restricted kept set)) (rest some)
+
+-- a series of listed combinations is one of their restrictions
+allows-each : (rows keys : List (List ℕ)) → All (λ key. allows rows key ≡ true) keys → (set : List ℕ) → allows keys set ≡ true → allows rows set ≡ true
+allows-each rows [] all set some = absurd (true≢false (sym some))
+allows-each rows (key ∷ keys) all set some = at (bytes_eq key set) refl some (allows-each rows keys (All-tail (λ k. allows rows k ≡ true) key keys all) set)
+  where
+    at : (b : Bool) → bytes_eq key set ≡ b → (b || allows keys set) ≡ true → (allows keys set ≡ true → allows rows set ≡ true) → allows rows set ≡ true
+    at true same some rest = ap (allows rows) (sym (same_key key set same)) ∙ All-head (λ k. allows rows k ≡ true) key keys all
+    at false same some rest = rest some
+
+-- there are no more distinct series of listed combinations than these have restrictions
+pub listed_bounded : (kept : List Bool) (rows sets : List (List ℕ)) → All (λ set. allows rows set ≡ true) sets → length (distinct (map (restricted kept) sets)) ≤ length (restrictions kept rows)
+listed_bounded kept rows sets all =
+    let keys = map (restricted kept) sets in
+    let each : All (λ key. allows (map (restricted kept) rows) key ≡ true) keys =
+    All-map (λ key. allows (map (restricted kept) rows) key ≡ true) (restricted kept) sets
+    (All-weaker (λ set. allows rows set ≡ true) (λ set. allows (map (restricted kept) rows) (restricted kept set) ≡ true) (allows-restricted kept rows) sets all) in
+    within_restrictions kept rows (distinct keys) (IsDistinct-from_AllPairs bytes_eq-Decides (distinct keys) (distinct_apart keys))
+    (λ set some. allows-each (map (restricted kept) rows) keys each set (sym (has-distinct keys set) ∙ some))

@@ -2,6 +2,7 @@
 use Rattle.std.proofs.Common.{◌≡◌, ◌≢◌, ℕ, zero, suc, ◌-◌, ◌^◌, ◌<◌, ◌≤◌, min, ℤ, ◌≤ℤ◌, Bool, true, false, ◌&&◌, ◌||◌, not, cond, List, [], ◌∷◌, ◌++◌, length, map, drop, get_or, All, AllPairs, Option, Some, None, refl, sym, ap, subst, ◌∙◌, arith}
 use Rattle.std.specs.Prelude.{filter, sum_by, count_by, int_le, IsSome, IsTrue, ◌==◌}
 use Rattle.std.specs.List.{AllByRecursion}
+use Rattle.std.specs.Option.{option_map}
 use Rattle.std.specs.Str.{bytes_eq}
 use Rattle.std.proofs.lemmas.Bool.{and_parts, and_from, true≢false, eqb-true}
 use Rattle.std.proofs.lemmas.Int.{ints}
@@ -13,7 +14,10 @@ use Rattle.std.proofs.lemmas.List.Sums.{AllPass-from_list_all, list_all-from_All
 use Rattle.metric_aggregate.specs.Bounds.{IsBetween}
 use Rattle.metric_aggregate.specs.Range.{in_range}
 use Rattle.metric_aggregate.specs.Value.{sum_of, value_of}
+use Rattle.metric_bounds.specs.Sets.{count_or}
 use Rattle.metric_bounds.specs.Sums.{keeps_sum_by}
+use Rattle.metric_combinations.specs.Combinations.{allows, permits}
+use Rattle.metric_combinations.specs.Restrictions.{restricted, restrictions}
 use Rattle.metric_catalogue.specs.Kinds.{is_monotonic}
 use Rattle.metric_catalogue.specs.declared.contents.Kind.{Kind}
 use Rattle.metric_views.specs.declared.stream.Stream.{Stream}
@@ -24,7 +28,7 @@ use Rattle.metric_history.specs.declared.batch.StreamPoints.{StreamPoints}
 use Rattle.metric_history.specs.declared.entry.Entry.{Entry}
 use Rattle.metric_facts.specs.declared.facts.Facts.{Facts}
 use Rattle.metric_facts.specs.declared.facts.NumberedStream.{NumberedStream}
-use Rattle.metric_facts.specs.Facts.{in_bounds, is_delta, is_full_set, is_of_reader}
+use Rattle.metric_facts.specs.Facts.{in_bounds, is_allowed_set, is_delta, is_full_set, is_of_reader}
 use Rattle.metric_history.specs.Aggregations.{aggregation_of, stream_aggregation}
 use Rattle.metric_history.specs.PointLaws.{ascending-IsPermutation}
 use Rattle.metric_history.specs.Points.{ascending, overflow, point, points, reported, stream_points, values}
@@ -32,9 +36,9 @@ use Rattle.metric_history.specs.Series.{all_series, belongs, distinct, has, held
 use Rattle.metric_history.specs.SeriesLaws.{same_key, key_is_same, has-distinct, has_own_series}
 use Rattle.metric_history.specs.Windows.{window, fits_stream, fits_all}
 use Rattle.metric_facts.specs.Products.{product_of}
-use Rattle.metric_safety.specs.SafeFacts.{total, IsSafeStream, IsSafeFacts, is_admitted, are_admitted, IsJournal}
+use Rattle.metric_safety.specs.SafeFacts.{series_of, total, IsSafeStream, IsSafeFacts, is_admitted, are_admitted, IsJournal}
 use Rattle.metric_safety.specs.WindowBounds.{IsValueWithin, is_histogram, count_in, sum_in, IsBounded, IsReportWithin}
-use Rattle.metric_safety.proofs.SeriesBounds.{IsSeries, distinct_apart, All-distinct, length-distinct, series_bounded}
+use Rattle.metric_safety.proofs.SeriesBounds.{IsSeries, distinct_apart, All-distinct, length-distinct, listed_bounded, series_bounded}
 use Rattle.metric_safety.proofs.Counts.{sum_by_same, sum_by-map, entries_counted, sum_of_same, entries_summed}
 use Rattle.metric_safety.proofs.NumberLaws.{value_within, values_in_range}
 
@@ -42,16 +46,19 @@ use Rattle.metric_safety.proofs.NumberLaws.{value_within, values_in_range}
 record IsAdmitted (facts : Facts) (entry : Entry) : Type 0 where
   long : length entry.set ≡ 8
   full : is_full_set facts.keys entry.set ≡ true
+  allowed : permits facts.allowed entry.set ≡ true
   between : IsBetween facts.lo facts.hi entry.value
 
 admitted : (facts : Facts) (entry : Entry) → is_admitted facts entry ≡ true → IsAdmitted facts entry
 admitted facts entry e =
-    let one = and_parts (length entry.set == 8) (is_full_set facts.keys entry.set && in_bounds facts entry.value) e in
-    let two = and_parts (is_full_set facts.keys entry.set) (in_bounds facts entry.value) one.1 in
+    let one = and_parts (length entry.set == 8) (is_allowed_set facts entry.set && in_bounds facts entry.value) e in
+    let two = and_parts (is_allowed_set facts entry.set) (in_bounds facts entry.value) one.1 in
+    let own = and_parts (is_full_set facts.keys entry.set) (permits facts.allowed entry.set) two.0 in
     let three = and_parts (int_le facts.lo entry.value) (int_le entry.value facts.hi) two.1 in
     record {
       long = eqb-true (length entry.set) 8 one.0;
-      full = two.0;
+      full = own.0;
+      allowed = own.1;
       between = record { at_least = at_most facts.lo entry.value three.0; at_most = at_most entry.value facts.hi three.1 };
     }
   where
@@ -99,11 +106,34 @@ all_are_series facts kept entries all =
     (λ e passes. let own = admitted facts e passes in record { set = e.set; long = own.long; full = own.full; is = refl })
     entries (AllPass-from_list_all (is_admitted facts) entries all))
 
--- a stream of safe facts has at most as many series as the keys and the recordings allow
+-- where combinations are listed, the sets of admitted recordings are among them
+all_are_listed : (facts : Facts) (rows : List (List ℕ)) (entries : List Entry) → facts.allowed ≡ Some rows → are_admitted facts entries ≡ true
+    → All (λ set. allows rows set ≡ true) (map (λ (e : Entry). e.set) entries)
+all_are_listed facts rows entries listed all =
+    All-map (λ set. allows rows set ≡ true) (λ (e : Entry). e.set) entries
+    (All-weaker (λ (e : Entry). is_admitted facts e ≡ true) (λ (e : Entry). allows rows e.set ≡ true)
+    (λ e passes. ap (λ (o : Option (List (List ℕ))). permits o e.set) (sym listed) ∙ (admitted facts e passes).allowed)
+    entries (AllPass-from_list_all (is_admitted facts) entries all))
+
+sets_restricted : (kept : List Bool) (entries : List Entry) → map (restricted kept) (map (λ (e : Entry). e.set) entries) ≡ all_series kept entries
+sets_restricted kept [] = refl
+sets_restricted kept (entry ∷ entries) = ap (λ (rest : List (List ℕ)). series kept entry ∷ rest) (sets_restricted kept entries)
+
+-- a stream of safe facts has at most as many series as the keys or the listed combinations allow
+few_distinct : (facts : Facts) (s : Stream) (entries : List Entry) → IsSafeStream facts s → are_admitted facts entries ≡ true → length (distinct (all_series s.kept entries)) ≤ series_of facts s
+few_distinct facts s entries safe all = by facts.allowed refl
+  where
+    by : (o : Option (List (List ℕ))) → facts.allowed ≡ o → length (distinct (all_series s.kept entries)) ≤ count_or (product_of s.kept facts.keys) (option_map (restrictions s.kept) o)
+    by None e = series_bounded s.kept facts.keys (all_series s.kept entries) safe.flags (all_are_series facts s.kept entries all)
+    by (Some rows) e =
+        subst (λ (keys : List (List ℕ)). length (distinct keys) ≤ length (restrictions s.kept rows)) (sets_restricted s.kept entries)
+        (listed_bounded s.kept rows (map (λ (entry : Entry). entry.set) entries) (all_are_listed facts rows entries e all))
+
+-- and at most as many as there are recordings
 pub few_series : (facts : Facts) (s : Stream) (entries : List Entry) → IsSafeStream facts s → are_admitted facts entries ≡ true
-    → length (distinct (all_series s.kept entries)) ≤ min (product_of s.kept facts.keys) (length entries)
+    → length (distinct (all_series s.kept entries)) ≤ min (series_of facts s) (length entries)
 few_series facts s entries safe all =
-    omega (arith, series_bounded s.kept facts.keys (all_series s.kept entries) safe.flags (all_are_series facts s.kept entries all), length-distinct (all_series s.kept entries), length-map entries (series s.kept))
+    omega (arith, few_distinct facts s entries safe all, length-distinct (all_series s.kept entries), length-map entries (series s.kept))
 
 -- so it holds each of them
 pub all_held : (facts : Facts) (s : Stream) (entries : List Entry) → IsSafeStream facts s → are_admitted facts entries ≡ true → length entries ≤ total facts

@@ -4,14 +4,14 @@ use Rattle.std.specs.Prelude.{◌==◌}
 use Rattle.std.proofs.lemmas.List.Folds.{list_all-append}
 use Rattle.metric_history.specs.declared.entry.Entry.{Entry}
 use Rattle.metric_facts.specs.declared.facts.Facts.{Facts}
-use Rattle.metric_facts.specs.Facts.{in_bounds, is_full_set}
+use Rattle.metric_facts.specs.Facts.{in_bounds, is_allowed_set}
 use Rattle.metric_safety.specs.SafeFacts.{are_admitted, is_admitted}
 
-pub admitted : (facts : Facts) (entry : Entry) → length entry.set ≡ 8 → is_full_set facts.keys entry.set ≡ true → in_bounds facts entry.value ≡ true
+pub admitted : (facts : Facts) (entry : Entry) → length entry.set ≡ 8 → is_allowed_set facts entry.set ≡ true → in_bounds facts entry.value ≡ true
     → is_admitted facts entry ≡ true
-admitted facts entry eight full within =
-    ap (λ (n : ℕ). (n == 8) && (is_full_set facts.keys entry.set && in_bounds facts entry.value)) eight
-    ∙ ap (λ (b : Bool). b && in_bounds facts entry.value) full
+admitted facts entry eight allowed within =
+    ap (λ (n : ℕ). (n == 8) && (is_allowed_set facts entry.set && in_bounds facts entry.value)) eight
+    ∙ ap (λ (b : Bool). b && in_bounds facts entry.value) allowed
     ∙ within
 
 -- and one more

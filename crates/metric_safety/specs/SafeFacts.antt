@@ -2,25 +2,33 @@
 use Rattle.std.specs.Prelude.{◌≡◌, ℕ, ◌^◌, ◌<◌, ◌≤◌, pos, ◌≤ℤ◌, ◌<ℤ◌, min, Bool, true, ◌&&◌, ◌==◌, IsTrue, All, List, length, sum, FitsSigned}
 use Rattle.std.specs.Int.{w64}
 use Rattle.std.specs.List.{list_all}
+use Rattle.std.specs.Option.{option_map}
+use Rattle.metric_combinations.specs.Restrictions.{restrictions}
 use Rattle.metric_views.specs.declared.stream.Stream.{Stream}
 use Rattle.metric_bounds.specs.Amounts.{amount_with, low_with, high_with}
+use Rattle.metric_bounds.specs.Sets.{count_or}
 use Rattle.metric_bounds.specs.Sums.{keeps_sum}
 use Rattle.metric_history.specs.declared.entry.Entry.{Entry}
 use Rattle.metric_facts.specs.declared.facts.Facts.{Facts}
 use Rattle.metric_facts.specs.declared.facts.NumberedStream.{NumberedStream}
-use Rattle.metric_facts.specs.Facts.{in_bounds, is_full_set}
+use Rattle.metric_facts.specs.Facts.{in_bounds, is_allowed_set}
 use Rattle.metric_facts.specs.Products.{product_of}
 
 -- how often the instrument may be recorded
 abbrev pub total : Facts → ℕ
 total facts = sum facts.budgets
 
+-- how many series a stream of an instrument can have: as many as the distinct restrictions of its combinations, where these are listed,
+-- or else the product over the keys that the stream keeps
+abbrev pub series_of : Facts → Stream → ℕ
+series_of facts s = count_or (product_of s.kept facts.keys) (option_map (restrictions s.kept) facts.allowed)
+
 -- A stream of an instrument has a place for each series that it can get, and its sums stay in 64 bits where it keeps them.
 pub record IsSafeStream (facts : Facts) (s : Stream) : Type 0 where
   -- it says of each key whether it is kept
   pub flags : length s.kept ≡ length facts.keys
-  -- the product over the keys is within the limit, or all budgets are
-  pub series : min (product_of s.kept facts.keys) (total facts) ≤ s.limit
+  -- the series that it can have are within the limit, or all budgets are
+  pub series : min (series_of facts s) (total facts) ≤ s.limit
   -- no sum of recordings is below the least i64
   pub low : IsTrue (keeps_sum s) → FitsSigned w64 (low_with (total facts) facts.lo)
   -- no sum of recordings is above the greatest i64
@@ -37,9 +45,9 @@ pub record IsSafeFacts (facts : Facts) : Type 0 where
   pub amounts : amount_with (total facts) facts.lo facts.hi <ℤ pos (2 ^ 64)
   pub streams : All (λ (s : NumberedStream). IsSafeStream facts s.stream) facts.streams
 
--- whether an instrument admits a recording: a full set of as many entries as each set key has, and a value in range
+-- whether an instrument admits a recording: an allowed set of as many entries as each set key has, and a value in range
 abbrev pub is_admitted : Facts → Entry → Bool
-is_admitted facts entry = length entry.set == 8 && (is_full_set facts.keys entry.set && in_bounds facts entry.value)
+is_admitted facts entry = length entry.set == 8 && (is_allowed_set facts entry.set && in_bounds facts entry.value)
 
 abbrev pub are_admitted : Facts → List Entry → Bool
 are_admitted facts entries = list_all (is_admitted facts) entries

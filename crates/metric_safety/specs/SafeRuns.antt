@@ -34,6 +34,8 @@ pub record IsSafeRun (streams : List Stream) (facts : RunFacts) : Type 0 where
   pub safe : (number : ℕ) (own : Facts) → slice_get facts.instruments number ≡ Some own → IsSafeFacts own
   pub keys : (number : ℕ) (own : Facts) (instrument : Instrument) → slice_get facts.instruments number ≡ Some own
       → slice_get facts.contents.instruments number ≡ Some instrument → own.keys ≡ map key_facts instrument.keys
+  pub allowed : (number : ℕ) (own : Facts) (instrument : Instrument) → slice_get facts.instruments number ≡ Some own
+      → slice_get facts.contents.instruments number ≡ Some instrument → own.allowed ≡ instrument.allowed
   pub few_keys : (number : ℕ) (own : Facts) → slice_get facts.instruments number ≡ Some own → length own.keys ≤ 8
   pub numbers : (number : ℕ) (own : Facts) → slice_get facts.instruments number ≡ Some own
       → All (λ (s : NumberedStream). slice_get streams s.number ≡ Some s.stream) own.streams

@@ -20,8 +20,7 @@ use Rattle.metric_facts.specs.Facts.{is_delta}
 use Rattle.metric_history.specs.Points.{points, reported, values}
 use Rattle.metric_history.specs.Series.{all_series, distinct, rows}
 use Rattle.metric_history.specs.Windows.{fits_all, window}
-use Rattle.metric_facts.specs.Products.{product_of}
-use Rattle.metric_safety.specs.SafeFacts.{total, IsJournal, IsSafeFacts}
+use Rattle.metric_safety.specs.SafeFacts.{series_of, total, IsJournal, IsSafeFacts}
 
 -- a sum of at most so many values of the instrument's range
 pub record IsSumWithin (facts : Facts) (count : ℕ) (sum : ℤ) : Type 0 where
@@ -58,10 +57,10 @@ sum_in (Sum sum) = sum
 sum_in (Last value) = pos 0
 sum_in (Buckets count counts kept least greatest) = unwrap_or kept (pos 0)
 
--- What a stream reports of a window of an instrument's recordings: no more series than the keys have and than there are recordings,
+-- What a stream reports of a window of an instrument's recordings: no more series than it can have and than there are recordings,
 -- none of them the overflow series, each number by the instrument's range and the number of recordings, and each recording once.
 pub record IsBounded (facts : Facts) (s : Stream) (window : List Entry) : Type 0 where
-  pub series : length (distinct (all_series s.kept window)) ≤ min (product_of s.kept facts.keys) (length window)
+  pub series : length (distinct (all_series s.kept window)) ≤ min (series_of facts s) (length window)
   pub one_point_each : length (points s window) ≡ length (distinct (all_series s.kept window))
   pub no_rest : rows s window None ≡ []
   pub no_overflow : All (λ (p : Point). IsSome p.set) (points s window)

@@ -8,7 +8,7 @@ ghost use Rattle.metric_plan.specs.Plans.{PlanValue};
 ghost use Rattle.metric_safety.specs.SafeRuns.{AreIdentified, AreWindowsBounded, AllKeepBudgets, GivesSafePlan, IsSafeHistory, IsSafePlan, IsSafeRun, NoSumRefuses, NothingOverflows, NumbersFit, OfSafeRuns};
 ghost use Rattle.metric_safety.specs.WindowBounds.{BoundsJournals, BoundsReports, FitsJournals};
 
-use metric_facts::laws::attributes_name_full_sets;
+use metric_facts::laws::attributes_name_allowed_sets;
 use metric_resolve::streams_are_what_views_give;
 
 /// A sound catalogue and a config that are safe give a safe plan, whoever vouched for them.
@@ -26,9 +26,9 @@ pub fn safe_plans_run_safely()
 }
 
 /// The recordings that an instrument of safe facts may have accepted stay bounded in every window: no more
-/// series than the keys allow and than there are recordings, none of them the overflow series (Metrics SDK,
-/// cardinality limits), counts and sums that add up, each number by the range and the number of
-/// recordings. The next recording within the budgets is in range for each stream, whatever the marks of
+/// series than the keys allow, or the combinations where these are listed, and than there are recordings, none of
+/// them the overflow series (Metrics SDK, cardinality limits), counts and sums that add up, each number by the range
+/// and the number of recordings. The next recording within the budgets is in range for each stream, whatever the marks of
 /// the readers. And what a reader is told stays within the bounds for as many recordings as it covers.
 pub fn journals_are_bounded()
     ensures bounded { BoundsJournals }
@@ -40,14 +40,14 @@ pub fn journals_are_bounded()
 pub fn accepted_recordings_are_within_budgets()
     ensures { OfSafeRuns (λ _ facts _ h. AllKeepBudgets facts h) }
 {
-    attributes_name_full_sets();
+    attributes_name_allowed_sets();
 }
 
 /// Each window of each reader is bounded after every history.
 pub fn windows_are_bounded()
     ensures { OfSafeRuns (λ _ facts start h. AreWindowsBounded facts start h) }
 {
-    attributes_name_full_sets();
+    attributes_name_allowed_sets();
 }
 
 /// Two different streams in batches differ in identity (Metrics data model, identity).
@@ -60,7 +60,7 @@ pub fn exported_streams_differ()
 pub fn no_series_overflows()
     ensures { OfSafeRuns (λ _ facts start h. NothingOverflows facts start h) }
 {
-    attributes_name_full_sets();
+    attributes_name_allowed_sets();
 }
 
 /// No recording is refused for the range of a sum, so a declared one within its recorder's budget is
@@ -68,7 +68,7 @@ pub fn no_series_overflows()
 pub fn no_sum_refuses_a_recording()
     ensures { OfSafeRuns (λ _ facts start h. NoSumRefuses facts start h) }
 {
-    attributes_name_full_sets();
+    attributes_name_allowed_sets();
 }
 
 /// Each sum, least, greatest and last value of a batch is an `i64` and each count a `u64`, in every batch that
@@ -76,7 +76,7 @@ pub fn no_sum_refuses_a_recording()
 pub fn numbers_are_in_range()
     ensures { OfSafeRuns (λ _ facts start h. NumbersFit facts start h) }
 {
-    attributes_name_full_sets();
+    attributes_name_allowed_sets();
 }
 
 /// All of it for every legal history of a safe plan.

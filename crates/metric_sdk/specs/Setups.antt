@@ -10,10 +10,10 @@ use Rattle.metric_views.specs.declared.stream.Stream.{Stream}
 use Rattle.metric_resolve.specs.Resolved.{streams_of}
 use Rattle.metric_bounds.specs.Finding.{SafetyFinds}
 use Rattle.metric_bounds.specs.Safe.{IsSafe}
-use Rattle.metric_bounds.specs.Sets.{sets_of}
+use Rattle.metric_bounds.specs.Sets.{product_of}
 use Rattle.metric_cert.specs.Making.{entry_of, make_faults}
 use Rattle.metric_cert.specs.Valid.{IsValid}
-use Rattle.metric_cert.specs.declared.certificate.Certificate.{Certificate}
+use Rattle.metric_cert.specs.declared.claims.Claims.{Claims as Certificate}
 use Rattle.metric_cert.specs.declared.make_fault.MakeFault.{MakeFault}
 use Rattle.metric_check.specs.Products.{by_product_of}
 use Rattle.metric_plan.specs.Plans.{PlanValue, plan_of}
@@ -25,9 +25,9 @@ pub record IsDeclared (catalogue config : List ℕ) (contents : Contents) (setup
   pub is_catalogue : catalogue_of catalogue ≡ Ok contents
   pub is_config : config_of config ≡ Ok setup
 
--- whether each stream is by product: it is wherever the sets that it may see are within its limit
+-- whether each stream is by product: it is wherever the product over the keys that it keeps is within its limit
 abbrev pub bounded_flags : Contents → List Stream → List Bool
-bounded_flags contents streams = map (λ s. nat_le (sets_of contents s) s.limit) streams
+bounded_flags contents streams = map (λ s. nat_le (product_of contents s) s.limit) streams
 
 -- The texts are safe, and this is the plan that they come to.
 pub record IsCertifiedPlan (catalogue config : List ℕ) (plan : PlanValue) : Type 0 where

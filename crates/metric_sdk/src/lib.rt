@@ -16,10 +16,11 @@
 //!    for billing or after an incident, takes [`Audited`] in place of [`Marked`]: beside the tables it keeps each recording,
 //!    32 bytes in the list of its instrument and 24 in the seat of its recorder, so it takes memory as long as it runs.
 //! 4. **Recording.** A thread records with a [`Recorder`], by the number of the instrument, its [`Attr`]s, each a key
-//!    with a [`ValueRef`], and the value. What is not counted is answered by a [`Refusal`]. `Recorder::admits` answers
-//!    the [`SetKey`] that the attributes come to, `Recorder::accepted` what the seat was [`Told`] of. `Recorder::record_set`
-//!    records by a set key, and `Recorder::record_sets` a list of [`Measurement`]s of one instrument under one lock, up to
-//!    a [`SetsFault`].
+//!    with a [`ValueRef`], and the value. What is not counted is answered by a [`Refusal`]: where an instrument lists its
+//!    allowed [`Combinations`], also attributes that are none of them ([`Refusal::Combination`]), though each is declared.
+//!    `Recorder::admits` answers the [`SetKey`] that the attributes come to, `Recorder::accepted` what the seat was [`Told`]
+//!    of. `Recorder::record_set` records by a set key, and `Recorder::record_sets` a list of [`Measurement`]s of one
+//!    instrument under one lock, up to a [`SetsFault`].
 //! 5. **Collection.** A thread collects with a [`Collector`]: a [`Batch`] of an instrument has the [`StreamPoints`] of
 //!    each of its streams, a [`Point`] the [`PointValue`] of one series. A collection of all instruments that is
 //!    refused midway answers an [`AllFault`], with the batches before.
@@ -50,6 +51,7 @@ pub use metric_catalogue::{
 };
 pub use metric_cert::{CertFault, Certificate, MakeFault, make};
 pub use metric_check::check;
+pub use metric_combinations::Combinations;
 pub use metric_export::{
     ClockTicker, ExportFault, ExporterState, ListTicker, MetricExporter, StopFlag, TextExporter,
     Tick, Ticker, write_batch,

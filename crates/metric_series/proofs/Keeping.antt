@@ -2,7 +2,7 @@
 use Rattle.std.proofs.Common.{◌≡◌, ℕ, Bool, true, false, List, [], ◌∷◌, refl, sym, ap}
 use Rattle.std.specs.List.{list_all}
 use Rattle.std.proofs.lemmas.Bool.{true≢false}
-use Rattle.metric_history.specs.Series.{restricted}
+use Rattle.metric_combinations.specs.Restrictions.{restricted}
 
 pub restricted-all : (kept : List Bool) (set : List ℕ) → list_all (λ (flag : Bool). flag) kept ≡ true → restricted kept set ≡ set
 restricted-all [] set all = refl

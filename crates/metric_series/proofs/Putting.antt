@@ -6,7 +6,8 @@ use Rattle.std.specs.Str.{bytes_eq}
 use Rattle.indexmap.specs.IndexMap.{set_value_at}
 use Rattle.metric_aggregate.specs.declared.aggregate.Aggregate as aggregate
 use Rattle.metric_aggregate.specs.Range.{in_range}
-use Rattle.metric_history.specs.Series.{restricted, series}
+use Rattle.metric_combinations.specs.Restrictions.{restricted}
+use Rattle.metric_history.specs.Series.{series}
 use Rattle.metric_series.specs.Calls.{ForgetsAll, TakesRecording, entry_of}
 use Rattle.metric_series.specs.Ready.{Adds, AddsAt, AddsRest, FitsAt, FitsRest, IsReadyTable}
 use Rattle.metric_series.specs.Tables.{StandsTable, TableValue}

@@ -4,7 +4,7 @@ use Rattle.indexmap.specs.IndexMap.{set_value_at}
 use Rattle.std.specs.Map.{keys_of, values_of, lookup}
 use Rattle.std.specs.Str.{bytes_eq}
 use Rattle.metric_aggregate.specs.declared.aggregate.Aggregate as aggregate
-use Rattle.metric_history.specs.Series.{restricted}
+use Rattle.metric_combinations.specs.Restrictions.{restricted}
 use Rattle.metric_series.specs.Tables.{TableValue}
 use Rattle.metric_series.specs.declared.place.Place.{Place}
 use Rattle.metric_series.specs.declared.place.Place.TheVariants.{Held, New, Overflow, NewOverflow}

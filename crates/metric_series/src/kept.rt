@@ -1,11 +1,11 @@
 //! Which keys a stream keeps.
 ghost use Rattle.std.specs.Prelude.{◌≡◌};
 ghost use Rattle.std.specs.List.{list_all};
-ghost use Rattle.metric_history.specs.Series.{restricted};
+ghost use Rattle.metric_combinations.specs.Restrictions.{restricted};
 
 use metric_base::{Few, Shared};
 use metric_catalogue::SetKey;
-use metric_history::restrict;
+use metric_combinations::restrict;
 use std::marker::Model;
 
 /// A flag for each declared key that says whether it is kept. Where all are, which is found once, sets stay as they

@@ -12,7 +12,7 @@ use Rattle.metric_history.specs.declared.batch.Batch.{Batch}
 use Rattle.metric_history.specs.declared.batch.StreamPoints.{StreamPoints}
 use Rattle.metric_history.specs.declared.entry.Entry.{Entry}
 use Rattle.metric_facts.specs.declared.facts.Facts.{Facts}
-use Rattle.metric_facts.specs.Facts.{in_bounds, is_delta, is_full_set}
+use Rattle.metric_facts.specs.Facts.{in_bounds, is_allowed_set, is_delta}
 use Rattle.metric_history.specs.Windows.{fits_all, window}
 use Rattle.metric_history.specs.Points.{reported}
 use Rattle.metric_safety.specs.AdmissionLaws.{admitted, admitted_more}
@@ -27,14 +27,14 @@ use Rattle.metric_slot.specs.Tellings.{HasRoom}
 -- what the next recording is to the facts of an instrument
 pub record IsNext (facts : Facts) (entry : Entry) : Type 0 where
   pub eight : length entry.set ≡ 8
-  pub full : is_full_set facts.keys entry.set ≡ true
+  pub allowed : is_allowed_set facts entry.set ≡ true
   pub value : in_bounds facts entry.value ≡ true
 
 -- the recordings of a cell with one more
 journal_more : {B : Type 0} (stands : B → Standing) (c : CellValue B) (k : CellKept stands c) (entry : Entry)
     → slice_index c.spent entry.recorder < slice_index c.facts.budgets entry.recorder → IsNext c.facts entry → IsJournal c.facts (k.journal ++ entry ∷ [])
 journal_more stands c k entry left next = record {
-  admitted = admitted_more c.facts k.journal entry k.admitted (admitted c.facts entry next.eight next.full next.value);
+  admitted = admitted_more c.facts k.journal entry k.admitted (admitted c.facts entry next.eight next.allowed next.value);
   budgeted = omega (arith, length_push k.journal entry, k.known.counted, has_room stands c entry.recorder k left);
 }
 
@@ -58,6 +58,7 @@ recorder_answers stands c own told entry (Err refusals.DuplicateKey) law safe k 
 recorder_answers stands c own told entry (Err refusals.UnknownKey) law safe k mine next answer = absurd answer
 recorder_answers stands c own told entry (Err refusals.UnknownValue) law safe k mine next answer = absurd answer
 recorder_answers stands c own told entry (Err refusals.MissingKey) law safe k mine next answer = absurd answer
+recorder_answers stands c own told entry (Err refusals.Combination) law safe k mine next answer = absurd answer
 recorder_answers stands c own told entry (Err refusals.ValueRange) law safe k mine next answer = absurd answer
 recorder_answers stands c own told entry (Err refusals.Closed) law safe k mine next answer = (mine, answer)
 recorder_answers stands c own told entry (Err refusals.Budget) law safe k mine next answer = (mine, answer)

@@ -2,7 +2,7 @@
 ghost use Rattle.std.specs.Prelude.{◌≡◌, ◌≢◌, ◌↔◌, ◌<◌, ◌≤◌, ◌≤ℤ◌, Some, IsTrue, [], true, length, slice_get, slice_index, IfOk, IfErr, OnOk, OnErr};
 ghost use Rattle.metric_core.specs.Cells.{CellKept, CellStands, new_cell};
 ghost use Rattle.metric_core.specs.CellAnswers.{AnswersClose, GainsEntry, KeepsJournal, ReportsBatch, entry_of, with_batch, with_entry};
-ghost use Rattle.metric_facts.specs.Facts.{in_bounds, is_full_set};
+ghost use Rattle.metric_facts.specs.Facts.{in_bounds, is_allowed_set};
 ghost use Rattle.metric_safety.specs.SafeFacts.{IsSafeFacts};
 ghost use Rattle.metric_safety.specs.WindowBounds.{IsReportWithin};
 ghost use Rattle.metric_slot.specs.Slots.{IsCertified, IsOwnReader, IsOwnRecorder};
@@ -97,7 +97,40 @@ impl<B: Book> Slot<B> {
         value: i64,
     ) -> Result<(), Refusal>
         requires recorder { recorder < length facts.now.budgets }
-        requires set { is_full_set facts.now.keys set ≡ true }
+        requires set { is_allowed_set facts.now set ≡ true }
+        requires value { in_bounds facts.now value ≡ true }
+        ensures answer { let entry = entry_of recorder set value in
+            AnswersRecorder B.stands self.old facts.now told.old entry result }
+        ensures memory { B.spares_memory facts.now → result ≢ Err Refusal.Memory }
+        ensures budget { IfErr result (λ refusal. refusal ≡ Refusal.Budget
+            → slice_index facts.now.budgets recorder ≤ told.old.count) }
+        ensures new { let entry = entry_of recorder set value in
+            OnOk result (self.new ≡ with_entry self.old entry self.new.book) }
+        ensures stands { let entry = entry_of recorder set value in
+            OnOk result (GainsEntry B.stands self.old self.new entry) }
+        ensures told { OnOk result (told.new ≡ told_more told.old facts.now.lo value) }
+        ensures err { OnErr result (self.new ≡ self.old) }
+        ensures told_err { OnErr result (told.new ≡ told.old) }
+    {
+        if !self.is_of(facts) {
+            return Err(Refusal::Stranger);
+        }
+        self.record_next(facts, told, recorder, set, value)
+    }
+
+    /// The same of a slot that is known to have these facts, as one has after a recording that brought them: facts are
+    /// compared once for all recordings that are made under one lock.
+    pub fn record_next(
+        &mut self,
+        facts: &Facts,
+        told: &mut Told,
+        recorder: u32,
+        set: SetKey,
+        value: i64,
+    ) -> Result<(), Refusal>
+        requires facts { self.old.facts ≡ facts.now }
+        requires recorder { recorder < length facts.now.budgets }
+        requires set { is_allowed_set facts.now set ≡ true }
         requires value { in_bounds facts.now value ≡ true }
         ensures answer { let entry = entry_of recorder set value in
             AnswersRecorder B.stands self.old facts.now told.old entry result }
@@ -115,6 +148,13 @@ impl<B: Book> Slot<B> {
         let answer = record_own(&mut self.cell, facts, told, recorder, set, value);
         tell(told, facts, &value, &answer);
         answer
+    }
+
+    /// Whether the cell has these facts. No call changes them.
+    pub fn is_of(&self, facts: &Facts) -> bool
+        ensures { IsTrue result ↔ (self.now.facts ≡ facts.now) }
+    {
+        same_facts(self.cell.facts(), facts)
     }
 
     /// What a reader that has seen so many recordings is told at a time in nanoseconds: its points since its last
@@ -187,8 +227,9 @@ fn record_own<B: Book>(
     value: i64,
 ) -> Result<(), Refusal>
     requires safe { IsSafeFacts cell.old.facts }
+    requires facts { cell.old.facts ≡ facts.now }
     requires recorder { recorder < length facts.now.budgets }
-    requires set { is_full_set facts.now.keys set ≡ true }
+    requires set { is_allowed_set facts.now set ≡ true }
     requires value { in_bounds facts.now value ≡ true }
     ensures answer { let entry = entry_of recorder set value in
         AnswersRecorder B.stands cell.old facts.now told.now entry result }
@@ -220,12 +261,13 @@ fn tell(told: &mut Told, facts: &Facts, value: &i64, answer: &Result<(), Refusal
     }
 }
 
-// Whether the cell has these facts, and as many of the recorder's recordings as it was told of.
+// Whether the cell, which has these facts, has as many of the recorder's recordings as it was told of.
 fn is_own_recorder<B: Book>(cell: &Cell<B>, facts: &Facts, told: &Told, recorder: u32) -> bool
-    requires { cell.now.facts.lo ≤ℤ cell.now.facts.hi }
+    requires facts { cell.now.facts ≡ facts.now }
+    requires range { facts.now.lo ≤ℤ facts.now.hi }
     ensures { IsTrue result ↔ IsOwnRecorder cell.now facts.now told.now recorder }
 {
-    same_facts(cell.facts(), facts) && cell.spent(recorder) == told.count && told.is_within(facts)
+    cell.spent(recorder) == told.count && told.is_within(facts)
 }
 
 // Whether the cell has these facts, and the reader's last batch counted what was seen.

@@ -1,6 +1,5 @@
 -- What a field of a table is read as: its value, or the first of the faults.
-use Rattle.std.specs.Prelude.{◌≡◌, ℕ, ℤ, pos, codes, Bool, List, [], ◌∷◌, length, Option, Some, None, Result, Ok, Err, nat_le}
-use Rattle.std.specs.Ordering.{int_eq}
+use Rattle.std.specs.Prelude.{◌≡◌, ℕ, ℤ, pos, negsuc, codes, Bool, ◌&&◌, if◌then◌else◌, List, [], ◌∷◌, length, Option, Some, None, Result, Ok, Err, nat_le, unwrap_or}
 use Rattle.std.specs.List.{list_all, list_any}
 use Rattle.std.specs.Option.{option_map}
 use Rattle.std.specs.Str.{bytes_eq, chars}
@@ -75,12 +74,17 @@ flag_within faults default (Some d) = require_some (as_bool d) faults.wrong_kind
 unfoldable pub flag_or : {F : Type 0} → FieldFaults F → List ℕ → Bool → Members → Result Bool F
 flag_or faults name default table = flag_within faults default (get_member name table)
 
--- the format is the whole number 1
-unfoldable pub format_field : {F : Type 0} → FieldFaults F → Members → Result (Unit {0}) F
-format_field faults table = do
+-- a whole number that is not below the one number, and not above the other
+abbrev pub number_between : ℕ → ℕ → ℤ → Option ℕ
+number_between low high (pos n) = if nat_le low n && nat_le n high then Some n else None
+number_between low high (negsuc n) = None
+
+-- the format, which is a whole number from 1 to the latest
+unfoldable pub format_up_to : {F : Type 0} → FieldFaults F → ℕ → Members → Result ℕ F
+format_up_to faults latest table = do
   d ← field faults (codes "format") table
   format ← integer_of faults d
-  require (int_eq format (pos 1)) faults.wrong_kind
+  require_some (number_between 1 latest format) faults.wrong_kind
 
 -- the values of an array
 abbrev pub values_of : Items → List Data
@@ -131,6 +135,16 @@ unfoldable pub integers_of : {F : Type 0} → FieldFaults F → ℕ → Data →
 integers_of faults most d = do
   values ← list_of faults most d
   each_alone (integer_of faults) values
+
+-- a list of whole numbers, of any length
+unfoldable pub all_integers_of : {F : Type 0} → FieldFaults F → Data → Result (List ℤ) F
+all_integers_of faults d = do
+  values ← require_some (as_list d) faults.wrong_kind
+  each_alone (integer_of faults) values
+
+-- the whole number that a value is, or 0 where it is none
+abbrev pub whole_in : Data → ℤ
+whole_in d = unwrap_or (as_integer d) (pos 0)
 
 -- a text of at most 1,023 characters
 unfoldable pub short_text_of : {F : Type 0} → FieldFaults F → Data → Result (List ℕ) F

@@ -7,7 +7,7 @@ ghost use Rattle.std.specs.Str.{bytes_eq, chars};
 ghost use Rattle.std.specs.String.{string_bytes};
 ghost use Rattle.toml.specs.Data.{get_member};
 ghost use Rattle.toml.specs.View.{table_view, view};
-ghost use Rattle.metric_table.specs.Fields.{Reads, field, flag_or, format_field, integer_of, now_of, only, optional_text, short_text, text_field, text_of};
+ghost use Rattle.metric_table.specs.Fields.{Reads, field, flag_or, format_up_to, integer_of, now_of, number_between, only, optional_text, short_text, text_field, text_of, whole_in};
 
 use crate::faults::FieldFaults;
 use toml::{Table, Value};
@@ -135,6 +135,13 @@ pub fn integer_of<F: Copy>(value: &Value, faults: &FieldFaults<F>) -> Result<i64
     }
 }
 
+/// The whole number that a value is, or 0 where it is none.
+pub fn whole_in(value: &Value) -> i64
+    ensures { result ≡ whole_in (view value.now) }
+{
+    value.as_integer().unwrap_or(0)
+}
+
 /// The flag of a field, or the default where the table does not have it.
 #[tactic(auto, unfolding(crate::specs::Fields::flag_or))]
 pub fn flag_or<F: Copy>(
@@ -154,16 +161,22 @@ pub fn flag_or<F: Copy>(
     }
 }
 
-/// Tries that the needed field `format` is the whole number 1.
-#[tactic(auto, unfolding(crate::specs::Fields::format_field))]
-pub fn format_field<F: Copy>(table: &Table, faults: &FieldFaults<F>) -> Result<(), F>
-    ensures { result ≡ format_field faults.now (table_view table.now) }
+/// The number of the needed field `format`, which is a whole number from 1 to the latest.
+#[tactic(auto, unfolding(crate::specs::Fields::format_up_to))]
+pub fn format_up_to<F: Copy>(table: &Table, latest: u8, faults: &FieldFaults<F>) -> Result<u8, F>
+    ensures { result ≡ format_up_to faults.now latest (table_view table.now) }
 {
     let value = required(table, "format", faults)?;
     let format = integer_of(value, faults)?;
-    if format == 1 {
-        Ok(())
+    number_between(1, latest, format).ok_or(faults.wrong_kind)
+}
+
+fn number_between(low: u8, high: u8, number: i64) -> Option<u8>
+    ensures { result ≡ number_between low high number }
+{
+    if i64::from(low) <= number && number <= i64::from(high) {
+        Some(number as u8)
     } else {
-        Err(faults.wrong_kind)
+        None
     }
 }

@@ -10,7 +10,7 @@ mod lists;
 
 pub use faults::FieldFaults;
 pub use fields::{
-    flag_or, format_field, integer_of, member, only, optional_text, required, short_text,
-    text_field, text_of,
+    flag_or, format_up_to, integer_of, member, only, optional_text, required, short_text,
+    text_field, text_of, whole_in,
 };
-pub use lists::{integers_of, list_of, table_of, tables_field, texts_of};
+pub use lists::{all_integers_of, integers_of, list_of, table_of, tables_field, texts_of};

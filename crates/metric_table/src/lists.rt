@@ -1,9 +1,11 @@
 // The fields of a table that are lists.
-ghost use Rattle.std.specs.Prelude.{◌≡◌, ◌≤◌, Ok, Err, MatchResult, IfOk, map, length, vec_len};
+ghost use Rattle.std.specs.Prelude.{◌≡◌, ◌≤◌, Ok, Err, MatchResult, IfOk, is_some, map, length, vec_len};
+ghost use Rattle.std.specs.List.{list_all};
+ghost use Rattle.toml.specs.Data.{as_integer};
 ghost use Rattle.toml.specs.View.{table_view, view};
 ghost use Rattle.metric_base.specs.Steps.{Gives, GivesBy};
 ghost use Rattle.std.specs.Option.{option_map};
-ghost use Rattle.metric_table.specs.Fields.{Reads, as_list, at_most, each_alone, integer_of, integers_of, list_of, now_of, short_text_of, table_of, tables_field, tables_of, texts_of};
+ghost use Rattle.metric_table.specs.Fields.{Reads, all_integers_of, as_list, at_most, each_alone, integer_of, integers_of, list_of, now_of, short_text_of, table_of, tables_field, tables_of, texts_of, whole_in};
 
 use crate::faults::FieldFaults;
 use crate::fields::{integer_of, member, short_text, text_of};
@@ -139,6 +141,43 @@ pub fn integers_of<F: Copy + Drop>(
 {
     let values = list_of(value, most, faults)?;
     integers(alloc, values, faults)
+}
+
+/// The values of a list of any length, of which each is a whole number. They stay where they are, since there may be
+/// far more of them than the caller takes.
+#[tactic(auto, unfolding(crate::specs::Fields::all_integers_of))]
+pub fn all_integers_of<'a, F: Copy>(
+    value: &'a Value,
+    faults: &FieldFaults<F>,
+) -> Result<&'a [Value], F>
+    ensures { Reads (λ values. map (λ v. whole_in (view v)) values.now) result
+        (all_integers_of faults.now (view value.now)) }
+{
+    match as_list(value) {
+        Some(values) => integers_only(values, faults),
+        None => Err(faults.wrong_kind),
+    }
+}
+
+#[tactic(auto, using(crate::proofs::Integers::whole_laws))]
+fn integers_only<'a, F: Copy>(
+    values: &'a [Value],
+    faults: &FieldFaults<F>,
+) -> Result<&'a [Value], F>
+    ensures { Reads (λ values. map (λ v. whole_in (view v)) values.now) result
+        (each_alone (integer_of faults.now) (map view values.now)) }
+{
+    if are_integers(values) {
+        Ok(values)
+    } else {
+        Err(faults.wrong_kind)
+    }
+}
+
+fn are_integers(values: &[Value]) -> bool
+    ensures { result ≡ list_all (λ v. is_some (as_integer (view v))) values.now }
+{
+    values.iter().all(|value| value.is_integer())
 }
 
 // The text of at most 1,023 characters that a value is.

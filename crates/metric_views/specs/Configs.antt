@@ -3,7 +3,7 @@ use Rattle.std.specs.Prelude.{ℕ, codes, List, [], ◌∷◌, Result, Ok}
 use Rattle.toml.specs.Data.{Members}
 use Rattle.toml.specs.Parse.{parse_document}
 use Rattle.metric_base.specs.Steps.{◌>>=◌, require_some}
-use Rattle.metric_table.specs.Fields.{format_field, only, tables_field}
+use Rattle.metric_table.specs.Fields.{format_up_to, only, tables_field}
 use Rattle.metric_views.specs.declared.config.Setup.{Setup}
 use Rattle.metric_views.specs.declared.fault.ConfigPlace.TheVariants.{Top}
 use Rattle.metric_views.specs.declared.fault.ViewFault.{ViewFault}
@@ -27,7 +27,7 @@ lists_of_top table = do
 unfoldable pub tables_of_top : Members → Result (List Members × List Members) ViewFault
 tables_of_top table = do
   _ ← only (faults_at Top) top_fields table
-  _ ← format_field (faults_at Top) table
+  _ ← format_up_to (faults_at Top) 1 table
   lists_of_top table
 
 -- what the tables of the readers and those of the views say

@@ -12,7 +12,7 @@ use crate::fault::{ConfigPlace, ViewFault, faults_at};
 use crate::readers::readers_of;
 use crate::views::views_of;
 use metric_base::{Few, Items};
-use metric_table::{format_field, only, tables_field};
+use metric_table::{format_up_to, only, tables_field};
 use std::alloc::Global;
 use toml::Table;
 
@@ -63,7 +63,7 @@ fn tables_of_top(alloc: Global, table: &Table) -> Result<Tables<'_>, ViewFault>
 {
     let faults = faults_at(ConfigPlace::Top);
     only(table, &TOP_FIELDS, &faults)?;
-    format_field(table, &faults)?;
+    format_up_to(table, 1, &faults)?;
     lists_of_top(alloc, table)
 }
 

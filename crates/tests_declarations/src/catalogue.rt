@@ -215,7 +215,9 @@ const TOLD: &[(&str, &str)] = &[
     (SHOP, SHOWN),
     ("format = 1", "(0, 0, 0, 0)\n"),
     ("[a", "1 NotToml"),
-    ("format = 2\nmeter = 5", "3 WrongKind at top"),
+    ("format = 2", "(0, 0, 0, 0)\n"),
+    ("format = 3\nmeter = 5", "3 WrongKind at top"),
+    ("format = 0", "3 WrongKind at top"),
     (
         "format = 1\nrecorder = [{}]\nmeter = [{name = 'm'}, {}]",
         "2 MissingField at meter 1",

@@ -2,6 +2,7 @@
 mod altering;
 mod judged;
 mod judging;
+mod listed;
 mod made;
 mod plain;
 mod plain_numbers;

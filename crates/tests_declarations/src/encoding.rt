@@ -131,7 +131,7 @@ fn are_owned_encoded(
 }
 
 // Whether all ways to encode attributes answer this.
-fn are_encoded(
+pub(crate) fn are_encoded(
     alloc: Global,
     shop: &Catalogue,
     instrument: u32,
@@ -162,6 +162,7 @@ const REFUSALS: &[(Refusal, &str)] = &[
     (Refusal::UnknownKey, "4 UnknownKey"),
     (Refusal::UnknownValue, "5 UnknownValue"),
     (Refusal::MissingKey, "6 MissingKey"),
+    (Refusal::Combination, "13 Combination"),
     (Refusal::ValueRange, "7 ValueRange"),
     (Refusal::Closed, "8 Closed"),
     (Refusal::Budget, "9 Budget"),

@@ -10,6 +10,8 @@ mod catalogue;
 #[cfg(test)]
 mod certificates;
 #[cfg(test)]
+mod combinations;
+#[cfg(test)]
 mod config;
 #[cfg(test)]
 mod declared;

@@ -1,11 +1,12 @@
 //! What the run of each instrument depends on.
 use crate::equal::assert_equal;
 use crate::plans::plan_of;
-use metric_facts::Facts;
+use metric_facts::{Facts, same_facts};
+use metric_plan::Plan;
 use std::alloc::Global;
 use std::test::Fail;
 
-const SHOP: &str = "format = 1
+const SHOP: &str = "format = 2
 [[meter]]
 name = 'm'
 [[meter.instrument]]
@@ -13,6 +14,7 @@ name = 'hits'
 kind = 'counter'
 range = [0, 9]
 key = [{ name = 'a', values = [1, 2] }, { name = 'b', values = [1], optional = true }]
+allowed = [[2, 1], [1, 0]]
 [[meter.instrument]]
 name = 'heat'
 kind = 'gauge'
@@ -55,13 +57,21 @@ instrument_name = 'wait'
 aggregation = 'drop'
 ";
 
-// The number, the least and the greatest value, keys, budgets, whether readers are delta, and streams.
+// The number, the least and the greatest value, keys, budgets, whether readers are delta, the listed combinations, and streams.
 const SHOWN: &str = "\
-[0, 0, 9] [KeyFacts { values: 2, optional: false }, KeyFacts { values: 1, optional: true }] [7, 9, 0, 0] [false, true] 0 1 4 5
+[0, 0, 9] [KeyFacts { values: 2, optional: false }, KeyFacts { values: 1, optional: true }] [7, 9, 0, 0] [false, true] [[2, 1, 0, 0, 0, 0, 0, 0], [1, 0, 0, 0, 0, 0, 0, 0]] 0 1 4 5
 [1, -9, 5] [] [0, 0, 0, 1] [true, true] 2 6
 [2, 0, 1] [] [0, 0, 0, 0] [false, false]
 [3, -1, 1] [] [0, 8, 0, 0] [false, false] 3 7
 ";
+
+fn write_allowed(out: &mut String, facts: &Facts) -> Result<(), Fail> {
+    if let Some(allowed) = &facts.allowed {
+        let rows = allowed.rows();
+        write!(out, " {rows:?}")?;
+    }
+    Ok(())
+}
 
 fn write_streams(out: &mut String, facts: &Facts) -> Result<(), Fail> {
     for stream in facts.streams.as_slice() {
@@ -77,6 +87,7 @@ fn write_facts(out: &mut String, facts: &Facts) -> Result<(), Fail> {
     let budgets = facts.budgets.as_slice();
     let delta = facts.delta.as_slice();
     write!(out, "{numbers:?} {keys:?} {budgets:?} {delta:?}")?;
+    write_allowed(out, facts)?;
     write_streams(out, facts)
 }
 
@@ -97,5 +108,60 @@ fn shown(alloc: Global) -> Result<String, Fail> {
 #[test]
 fn each_instrument_has_its_facts(rt: HostRuntime) -> Result<(), Fail> {
     assert_equal(&rt, shown(rt.alloc())?.as_str(), SHOWN);
+    Ok(())
+}
+
+// What an instrument says of its combinations, what another says, and whether both have the same facts.
+const LISTS: [(&str, &str, bool); 6] = [
+    ("", "", true),
+    ("", "allowed = []", false),
+    (
+        "allowed = [[1, 0], [2, 1]]",
+        "allowed = [[1, 0], [2, 1]]",
+        true,
+    ),
+    ("allowed = [[1, 0], [2, 1]]", "allowed = [[1, 0]]", false),
+    (
+        "allowed = [[1, 0], [2, 1]]",
+        "allowed = [[1, 0], [1, 1]]",
+        false,
+    ),
+    (
+        "allowed = [[1, 0], [2, 1]]",
+        "allowed = [[2, 1], [1, 0]]",
+        false,
+    ),
+];
+
+fn listed(alloc: Global, allowed: &str) -> Result<Plan, Fail> {
+    let text = format!(in alloc;
+        "format = 2
+[[meter]]
+name = 'm'
+[[meter.instrument]]
+name = 'hits'
+kind = 'counter'
+range = [0, 9]
+key = [{{ name = 'a', values = [1, 2] }}, {{ name = 'b', values = [1], optional = true }}]
+{allowed}
+"
+    )?;
+    plan_of(alloc, text.as_str(), CONFIG)
+}
+
+fn have_same_facts(plan: &Plan, other: &Plan) -> bool {
+    match (plan.all_facts().first(), other.all_facts().first()) {
+        (Some(facts), Some(others)) => same_facts(facts, others),
+        _ => false,
+    }
+}
+
+#[test]
+fn facts_tell_the_listed_combinations(rt: HostRuntime) -> Result<(), Fail> {
+    for (allowed, other, same) in LISTS {
+        let plan = listed(rt.alloc(), allowed)?;
+        let others = listed(rt.alloc(), other)?;
+        assert_eq!(rt; have_same_facts(&plan, &others), same);
+    }
     Ok(())
 }

@@ -1,6 +1,6 @@
 //! The answers of seats in one thread beside the replies of a core.
 use crate::equal::assert_equal;
-use crate::samples::{BOTH, CODES, HITS, MAIN};
+use crate::samples::{BOTH, CODES, HITS, MAIN, PAIRS};
 use crate::seats::{BookSeats, seats_of};
 use crate::texts::write_reply;
 use metric_audit::Audited;
@@ -238,6 +238,35 @@ done
 8 Closed
 1 UnknownInstrument
 1 UnknownInstrument
+",
+    },
+    // A combination that is not allowed is refused after a key that is missing and before the range.
+    Sample {
+        catalogue: PAIRS,
+        config: MAIN,
+        script: "%% catalogue
+%% config
+%% script
+start 0
+record 0 0 10 \"a\"=\"x\"
+record 0 0 10 \"a\"=\"x\" \"b\"=\"q\"
+record 0 0 10 \"a\"=\"x\" \"b\"=\"p\"
+record 0 0 1 \"b\"=\"q\" \"a\"=\"y\"
+record 0 0 1 \"b\"=\"p\" \"a\"=\"y\"
+record 0 0 2 \"b\"=\"p\" \"a\"=\"x\"
+record 0 0 2 \"b\"=\"q\" \"a\"=\"x\"
+record 0 0 2 \"b\"=\"p\" \"a\"=\"x\"
+collect 0 0 5
+",
+        answers: "6 MissingKey
+13 Combination
+7 ValueRange
+accepted
+13 Combination
+accepted
+13 Combination
+9 Budget
+0 0, 0 to 2, 0 to 5: stream 0 [1 1] 2 [2 2] 1
 ",
     },
 ];

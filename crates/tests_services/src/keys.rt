@@ -1,6 +1,6 @@
 //! Recordings by set keys.
 use crate::equal::assert_equal;
-use crate::samples::{CODES, MAIN, ROUTES};
+use crate::samples::{CODES, MAIN, PAIRS, ROUTES};
 use crate::seats::{Seats, seats_of};
 use crate::texts::{write_batch, write_numbers, write_refusal, write_reply};
 use metric_history::Reply;
@@ -10,20 +10,29 @@ use std::alloc::{AllocError, Global};
 use std::sync::Wait;
 use std::test::Fail;
 
-// The number of an instrument, the first entries of a set key, and a value. The first key is required, the second may be
-// left out, and each has one value.
-const RECORDINGS: &[(u32, [u16; 3], i64)] = &[
-    (1, [1, 1, 0], 5),
-    (0, [0, 1, 0], 5),
-    (0, [2, 1, 0], 5),
-    (0, [1, 2, 0], 5),
-    (0, [1, 0, 1], 5),
-    (0, [1, 1, 0], 10),
-    (0, [1, 1, 0], 5),
-    (0, [1, 0, 0], 5),
-];
+struct KeyCase {
+    catalogue: &'static str,
+    // The number of an instrument, the first entries of a set key, and a value.
+    recordings: &'static [(u32, [u16; 3], i64)],
+    // What is answered to each, and what is collected in the end.
+    told: &'static str,
+}
 
-const TOLD: &str = "1 UnknownInstrument
+const KEYS: &[KeyCase] = &[
+    // The first key is required, the second may be left out, and each has one value.
+    KeyCase {
+        catalogue: CODES,
+        recordings: &[
+            (1, [1, 1, 0], 5),
+            (0, [0, 1, 0], 5),
+            (0, [2, 1, 0], 5),
+            (0, [1, 2, 0], 5),
+            (0, [1, 0, 1], 5),
+            (0, [1, 1, 0], 10),
+            (0, [1, 1, 0], 5),
+            (0, [1, 0, 0], 5),
+        ],
+        told: "1 UnknownInstrument
 5 UnknownValue
 5 UnknownValue
 5 UnknownValue
@@ -32,15 +41,40 @@ const TOLD: &str = "1 UnknownInstrument
 accepted
 9 Budget
 0 0, 0 to 1, 0 to 10: stream 0 [1 1] 5
-";
+",
+    },
+    // A combination that is not allowed, before the range.
+    KeyCase {
+        catalogue: PAIRS,
+        recordings: &[
+            (0, [1, 0, 0], 10),
+            (0, [1, 2, 0], 10),
+            (0, [1, 1, 0], 10),
+            (0, [2, 2, 0], 5),
+            (0, [2, 1, 0], 5),
+        ],
+        told: "5 UnknownValue
+13 Combination
+7 ValueRange
+accepted
+13 Combination
+0 0, 0 to 1, 0 to 10: stream 0 [2 2] 5
+",
+    },
+];
 
 // Writes the answer to each recording of the first recorder.
-fn write_recordings<R: Wait>(out: &mut String, rt: &R, seats: &mut Seats) -> Result<(), Fail> {
+fn write_recordings<R: Wait>(
+    out: &mut String,
+    rt: &R,
+    seats: &mut Seats,
+    recordings: &[(u32, [u16; 3], i64)],
+) -> Result<(), Fail> {
     let Some(seat) = seats.recorders.first_mut() else {
         return Err(Fail::from("no recorder"));
     };
-    for (instrument, [route, code, past], value) in RECORDINGS {
-        let set = [*route, *code, *past, 0, 0, 0, 0, 0];
+    for (instrument, [first, second, third], value) in recordings {
+        let set = [*first, *second, *third, 0, 0, 0, 0, 0];
         let reply = match seat.record_set(rt, &seats.provider, *instrument, set, *value) {
             Ok(()) => Reply::Accepted,
             Err(refusal) => Reply::Refused(refusal),
@@ -64,18 +98,20 @@ fn write_collected<R: Wait>(
     Ok(write_batch(out, &batch)?)
 }
 
-fn told<R: Wait>(rt: &R, alloc: Global) -> Result<String, Fail> {
-    let mut seats: Seats = seats_of(rt, alloc, CODES, MAIN, 0, 1)?;
+fn told<R: Wait>(rt: &R, alloc: Global, case: &KeyCase) -> Result<String, Fail> {
+    let mut seats: Seats = seats_of(rt, alloc, case.catalogue, MAIN, 0, 1)?;
     let mut out = String::new(alloc);
-    write_recordings(&mut out, rt, &mut seats)?;
+    write_recordings(&mut out, rt, &mut seats, case.recordings)?;
     write_collected(&mut out, rt, alloc, &mut seats)?;
     Ok(out)
 }
 
 #[test]
 fn set_keys_are_recorded_or_refused(rt: HostRuntime) -> Result<(), Fail> {
-    let told = told(&rt, rt.alloc())?;
-    assert_equal(&rt, told.as_str(), TOLD);
+    for case in KEYS {
+        let told = told(&rt, rt.alloc(), case)?;
+        assert_equal(&rt, told.as_str(), case.told);
+    }
     Ok(())
 }
 

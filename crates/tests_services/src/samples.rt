@@ -51,6 +51,23 @@ name = 'r'
 budget = [{ instrument = 0, amount = 3 }]
 ";
 
+/// A counter with two of the four combinations of two keys, and a budget of two recordings.
+pub(crate) const PAIRS: &str = "format = 2
+[[meter]]
+name = 'm'
+[[meter.instrument]]
+name = 'c'
+kind = 'counter'
+range = [0, 9]
+key = [{ name = 'a', values = ['x', 'y'] }, { name = 'b', values = ['p', 'q'] }]
+allowed = [[1, 1], [2, 2]]
+[[recorder]]
+name = 'r'
+[[recorder.budget]]
+instrument = 0
+amount = 2
+";
+
 /// Two counters and two recorders.
 pub(crate) const PAIR: &str = "format = 1
 [[meter]]

@@ -1,8 +1,9 @@
 //! The fields of a table, read by each reader, with its faults.
 use crate::equal::assert_equal;
 use metric_table::{
-    FieldFaults, flag_or, format_field, integer_of, integers_of, list_of, member, only,
-    optional_text, required, short_text, table_of, tables_field, text_field, text_of, texts_of,
+    FieldFaults, all_integers_of, flag_or, format_up_to, integer_of, integers_of, list_of, member,
+    only, optional_text, required, short_text, table_of, tables_field, text_field, text_of,
+    texts_of, whole_in,
 };
 use std::alloc::{AllocError, Global};
 use std::fmt::Debug;
@@ -27,10 +28,11 @@ const FAULTS: FieldFaults<Fault> = FieldFaults {
 };
 
 const FIELDS: &str = "\
-format = 1
+format = 2
 name = \"é\"
 flag = true
 numbers = [3, -1]
+mixed = [3, true]
 texts = [\"a\", \"\"]
 row = [{a = 1}, {}]
 one = {a = 1}
@@ -49,7 +51,7 @@ fn shown<T: Debug + Drop>(alloc: Global, answer: T) -> Result<String, AllocError
 // A reader of a table, with the names that it is given.
 enum OfTable {
     Only(&'static [&'static str]),
-    Format,
+    Format(u8),
     Member(&'static str),
     Text(&'static str),
     OptionalText(&'static str),
@@ -61,7 +63,7 @@ enum OfTable {
 fn told_of_table(alloc: Global, table: &Table, reader: &OfTable) -> Result<String, AllocError> {
     match reader {
         OfTable::Only(names) => shown(alloc, only(table, names, &FAULTS)),
-        OfTable::Format => shown(alloc, format_field(table, &FAULTS)),
+        OfTable::Format(latest) => shown(alloc, format_up_to(table, *latest, &FAULTS)),
         OfTable::Member(name) => shown(alloc, member(table, name)),
         OfTable::Text(name) => shown(alloc, text_field(table, name, &FAULTS)),
         OfTable::OptionalText(name) => shown(alloc, optional_text(table, name, &FAULTS)),
@@ -70,13 +72,17 @@ fn told_of_table(alloc: Global, table: &Table, reader: &OfTable) -> Result<Strin
     }
 }
 
-const ALL: &[&str] = &["format", "name", "flag", "numbers", "texts", "row", "one"];
+const ALL: &[&str] = &[
+    "format", "name", "flag", "numbers", "mixed", "texts", "row", "one",
+];
 
 const OF_TABLE: &[(OfTable, &str)] = &[
     (OfTable::Only(ALL), "Ok(())"),
     (OfTable::Only(&["format"]), "Err(Unknown)"),
-    (OfTable::Format, "Ok(())"),
-    (OfTable::Member("format"), "Some(Integer(1))"),
+    (OfTable::Format(1), "Err(WrongKind)"),
+    (OfTable::Format(2), "Ok(2)"),
+    (OfTable::Format(255), "Ok(2)"),
+    (OfTable::Member("format"), "Some(Integer(2))"),
     (OfTable::Member("absent"), "None"),
     (OfTable::Text("name"), "Ok(\"é\")"),
     (OfTable::Text("flag"), "Err(WrongKind)"),
@@ -112,6 +118,8 @@ enum OfValue {
     Table,
     List(usize),
     Integers(usize),
+    AllIntegers,
+    Whole,
     Texts(usize),
 }
 
@@ -122,13 +130,17 @@ fn told_of_value(alloc: Global, value: &Value, reader: &OfValue) -> Result<Strin
         OfValue::Table => shown(alloc, table_of(value, &FAULTS)),
         OfValue::List(most) => shown(alloc, list_of(value, *most, &FAULTS)),
         OfValue::Integers(most) => shown(alloc, integers_of(alloc, value, *most, &FAULTS)),
+        OfValue::AllIntegers => shown(alloc, all_integers_of(value, &FAULTS)),
+        OfValue::Whole => shown(alloc, whole_in(value)),
         OfValue::Texts(most) => shown(alloc, texts_of(alloc, value, *most, &FAULTS)),
     }
 }
 
 // Fields, and what the readers answer of their values.
 const OF_VALUES: &[(&str, OfValue, &str)] = &[
-    ("format", OfValue::Integer, "Ok(1)"),
+    ("format", OfValue::Integer, "Ok(2)"),
+    ("format", OfValue::Whole, "2"),
+    ("name", OfValue::Whole, "0"),
     ("name", OfValue::Integer, "Err(WrongKind)"),
     ("name", OfValue::Text, "Ok(\"é\")"),
     ("format", OfValue::Text, "Err(WrongKind)"),
@@ -148,6 +160,13 @@ const OF_VALUES: &[(&str, OfValue, &str)] = &[
     ),
     ("numbers", OfValue::Integers(1), "Err(TooMany)"),
     ("texts", OfValue::Integers(2), "Err(WrongKind)"),
+    (
+        "numbers",
+        OfValue::AllIntegers,
+        "Ok([Integer(3), Integer(-1)])",
+    ),
+    ("mixed", OfValue::AllIntegers, "Err(WrongKind)"),
+    ("flag", OfValue::AllIntegers, "Err(WrongKind)"),
     (
         "texts",
         OfValue::Texts(2),

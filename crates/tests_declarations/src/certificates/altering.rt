@@ -7,6 +7,7 @@ type Piece = (usize, usize);
 // What each of these may be written in place of.
 const WORDS: &[&str] = &[
     "\"product\"",
+    "\"list\"",
     "\"budget\"",
     "\"instrument_type\"",
     "\"instrument_unit\"",

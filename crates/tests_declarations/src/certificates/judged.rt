@@ -1,4 +1,5 @@
 //! How texts are judged as certificates.
+use crate::certificates::listed::{MIXED, ONE_KEY, PAIRS, RARE_PAIRS};
 use crate::certificates::samples::{
     CRITERIA, FOUR_KINDS, FULL, NO_INSTRUMENTS, NOTHING, SELDOM, Sample, TWO_COUNTERS, TWO_READERS,
     WIDE_GAUGE,
@@ -60,6 +61,10 @@ const JUDGED: &[(Sample, &str)] = &[
     (NOTHING, "accepted"),
     (FULL, "accepted"),
     (SELDOM, "accepted"),
+    (PAIRS, "accepted"),
+    (ONE_KEY, "accepted"),
+    (RARE_PAIRS, "accepted"),
+    (MIXED, "accepted"),
     (TIGHT, "9 LimitExceeded"),
 ];
 
@@ -121,10 +126,19 @@ const ALTERED: &[(&str, &str, &str)] = &[
         "instrument = 0, by = \"budget\", sets = 3",
         "accepted",
     ),
+    // Either format is taken, whichever the catalogue has; but what lists no combinations has no list.
+    ("format = 1", "format = 2", "accepted"),
+    (
+        "instrument = 0, by = \"product\", sets = 1",
+        "instrument = 0, by = \"list\", sets = 1, list = [[0, 0, 0, 0, 0, 0, 0, 0]]",
+        "2 Shape",
+    ),
     // Fields that are missing, strange or of another kind.
     ("streams = [1, 0]", "streams = [1, 0", "1 NotToml"),
     ("format = 1", "# format = 1", "2 Shape"),
-    ("format = 1", "format = 2", "2 Shape"),
+    ("format = 1", "format = 0", "2 Shape"),
+    ("format = 1", "format = 3", "2 Shape"),
+    ("format = 1", "format = 65537", "2 Shape"),
     ("format = 1", "format = \"1\"", "2 Shape"),
     ("format = 1", "format = 1\nmore = 1", "2 Shape"),
     ("reason = ", "# reason = ", "2 Shape"),
@@ -195,15 +209,112 @@ const ALTERED: &[(&str, &str, &str)] = &[
     ),
 ];
 
-fn told_with(alloc: Global, old: &str, new: &str) -> Result<String, Fail> {
-    let text = TWO_COUNTERS.certificate.replace(alloc, old, new)?;
-    told(alloc, &TWO_COUNTERS, text.as_str())
+// The same of the certificate of pairs, from the word for what bounds its stream on.
+const ALTERED_LISTS: &[(&str, &str, &str)] = &[
+    // A restriction less, one more, one twice, another, or in another order.
+    (
+        "sets = 2, list = [[1, 1, 0, 0, 0, 0, 0, 0], [2, 2, 0, 0, 0, 0, 0, 0]]",
+        "sets = 1, list = [[1, 1, 0, 0, 0, 0, 0, 0]]",
+        "8 BadSets",
+    ),
+    (", [2, 2, 0, 0, 0, 0, 0, 0]", "", "8 BadSets"),
+    (
+        "sets = 2, list = [[1, 1, 0, 0, 0, 0, 0, 0], ",
+        "sets = 3, list = [[1, 1, 0, 0, 0, 0, 0, 0], [1, 2, 0, 0, 0, 0, 0, 0], ",
+        "8 BadSets",
+    ),
+    (
+        "sets = 2, list = [",
+        "sets = 3, list = [[1, 1, 0, 0, 0, 0, 0, 0], ",
+        "8 BadSets",
+    ),
+    ("[[1, 1, 0", "[[1, 0, 0", "8 BadSets"),
+    (
+        "[2, 2, 0, 0, 0, 0, 0, 0]",
+        "[2, 2, 0, 0, 0, 0, 0, 1]",
+        "8 BadSets",
+    ),
+    (
+        "[[1, 1, 0, 0, 0, 0, 0, 0], [2, 2, 0, 0, 0, 0, 0, 0]]",
+        "[[2, 2, 0, 0, 0, 0, 0, 0], [1, 1, 0, 0, 0, 0, 0, 0]]",
+        "8 BadSets",
+    ),
+    ("sets = 2", "sets = 1", "8 BadSets"),
+    ("sets = 2", "sets = 3", "8 BadSets"),
+    (
+        "list = [[1, 1, 0, 0, 0, 0, 0, 0], [2, 2, 0, 0, 0, 0, 0, 0]]",
+        "list = []",
+        "8 BadSets",
+    ),
+    // What else bounds the stream.
+    (
+        "by = \"list\", sets = 2, list = [[1, 1, 0, 0, 0, 0, 0, 0], [2, 2, 0, 0, 0, 0, 0, 0]]",
+        "by = \"product\", sets = 4",
+        "9 LimitExceeded",
+    ),
+    (
+        "by = \"list\", sets = 2, list = [[1, 1, 0, 0, 0, 0, 0, 0], [2, 2, 0, 0, 0, 0, 0, 0]]",
+        "by = \"budget\", sets = 2",
+        "accepted",
+    ),
+    // A list without the word for it, the word without a list, and either in format 1.
+    ("by = \"list\"", "by = \"product\"", "2 Shape"),
+    ("by = \"list\"", "by = \"budget\"", "2 Shape"),
+    (
+        ", list = [[1, 1, 0, 0, 0, 0, 0, 0], [2, 2, 0, 0, 0, 0, 0, 0]]",
+        "",
+        "2 Shape",
+    ),
+    ("format = 2", "format = 1", "2 Shape"),
+    // No set keys.
+    (
+        "[[1, 1, 0, 0, 0, 0, 0, 0]",
+        "[[1, 1, 0, 0, 0, 0, 0]",
+        "2 Shape",
+    ),
+    (
+        "[[1, 1, 0, 0, 0, 0, 0, 0]",
+        "[[1, 1, 0, 0, 0, 0, 0, 0, 0]",
+        "2 Shape",
+    ),
+    ("[[1, 1, 0, 0, 0, 0, 0, 0]", "[[]", "2 Shape"),
+    ("[[1, 1, 0, 0, 0, 0, 0, 0]", "[1", "2 Shape"),
+    ("[[1, 1", "[[65536, 1", "2 Shape"),
+    ("[[1, 1", "[[-1, 1", "2 Shape"),
+    ("[[1, 1", "[[\"1\", 1", "2 Shape"),
+    (
+        "[[1, 1, 0, 0, 0, 0, 0, 0], [2, 2, 0, 0, 0, 0, 0, 0]]",
+        "1",
+        "2 Shape",
+    ),
+];
+
+// A stream by list of an instrument that lists no combinations.
+const UNLISTED: &[(&str, &str, &str)] = &[(
+    "by = \"product\", sets = 1",
+    "by = \"list\", sets = 1, list = [[0, 0, 0, 0, 0, 0, 0, 0]]",
+    "8 BadSets",
+)];
+
+// The alterations of a sample's certificate.
+const ALTERATIONS: &[(Sample, &[(&str, &str, &str)])] = &[
+    (TWO_COUNTERS, ALTERED),
+    (PAIRS, ALTERED_LISTS),
+    (MIXED, UNLISTED),
+];
+
+fn told_with(alloc: Global, sample: &Sample, old: &str, new: &str) -> Result<String, Fail> {
+    let text = sample.certificate.replace(alloc, old, new)?;
+    told(alloc, sample, text.as_str())
 }
 
 #[test]
 fn each_alteration_has_its_fault(rt: HostRuntime) -> Result<(), Fail> {
-    for (old, new, due) in ALTERED {
-        assert_equal(&rt, told_with(rt.alloc(), old, new)?.as_str(), *due);
+    for (sample, altered) in ALTERATIONS {
+        for (old, new, due) in *altered {
+            let told = told_with(rt.alloc(), sample, old, new)?;
+            assert_equal(&rt, told.as_str(), *due);
+        }
     }
     Ok(())
 }

@@ -1,5 +1,6 @@
 //! Certificates that are altered in one place: each is accepted exactly where it is valid all the same.
 use crate::certificates::altering::altered;
+use crate::certificates::listed::{MIXED, PAIRS, RARE_PAIRS};
 use crate::certificates::made::made;
 use crate::certificates::plain::is_valid;
 use crate::certificates::samples::{FOUR_KINDS, NO_INSTRUMENTS, Sample, TWO_COUNTERS, TWO_READERS};
@@ -10,7 +11,15 @@ use metric_check::check;
 use std::alloc::Global;
 use std::test::Fail;
 
-const DECLARED: &[Sample] = &[TWO_COUNTERS, TWO_READERS, FOUR_KINDS, NO_INSTRUMENTS];
+const DECLARED: &[Sample] = &[
+    TWO_COUNTERS,
+    TWO_READERS,
+    FOUR_KINDS,
+    NO_INSTRUMENTS,
+    PAIRS,
+    RARE_PAIRS,
+    MIXED,
+];
 
 // How many texts are certificates that are valid and accepted, or neither, and how many are judged wrongly.
 #[derive(Clone, Copy)]

@@ -1,4 +1,5 @@
 //! What is made for a catalogue and a config.
+use crate::certificates::listed::{MIXED, ONE_KEY, PAIRS, RARE_PAIRS};
 use crate::certificates::printed::rewritten;
 use crate::certificates::samples::{
     CRITERIA, FOUR_KINDS, FULL, NO_INSTRUMENTS, NOTHING, PLAIN, SELDOM, Sample, TWO_COUNTERS,
@@ -33,6 +34,10 @@ const MADE: &[Sample] = &[
     NOTHING,
     FULL,
     SELDOM,
+    PAIRS,
+    ONE_KEY,
+    RARE_PAIRS,
+    MIXED,
 ];
 
 #[test]
@@ -82,6 +87,13 @@ const UNSAFE: &[(&str, &str, &str, &str)] = &[
         PLAIN,
         "2 LimitExceeded",
     ),
+    // Three combinations, and four recordings.
+    (
+        "kind = 'counter', range = [0, 9], key = [{ name = 'a', values = ['x', 'y'] }, { name = 'b', values = ['p', 'q'] }], allowed = [[1, 1], [2, 2], [1, 2]]",
+        FOUR_TIMES,
+        LIMITED,
+        "2 LimitExceeded",
+    ),
     (
         "kind = 'up_down_counter', range = [-9223372036854775808, -9223372036854775807]",
         TWICE,
@@ -122,7 +134,7 @@ const UNSAFE: &[(&str, &str, &str, &str)] = &[
 
 // A catalogue of this instrument, of a counter, and of these recorders.
 fn catalogue_of(alloc: Global, instrument: &str, recorders: &str) -> Result<String, AllocError> {
-    let head = "format = 1\nmeter = [{ name = 'm', instrument = [{ name = 'x', ";
+    let head = "format = 2\nmeter = [{ name = 'm', instrument = [{ name = 'x', ";
     let counter = " }, { name = 'y', kind = 'counter', range = [0, 1] }] }]\nrecorder = [";
     [head, instrument, counter, recorders, "]\n"].concat(alloc)
 }

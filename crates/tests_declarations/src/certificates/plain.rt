@@ -26,9 +26,10 @@ fn is_valid_for(
     certificate: &Certificate,
 ) -> Result<bool, AllocError> {
     let catalogue = &declared.catalogue;
-    let are_right = are_reasons(catalogue, &declared.config, certificate.reasons.as_slice())
-        && are_entries(catalogue, streams, certificate.streams.as_slice())
-        && are_bounds(catalogue, streams, certificate.bounds.as_slice());
-    let orders = certificate.orders.as_slice();
+    let claims = certificate.claims();
+    let are_right = are_reasons(catalogue, &declared.config, claims.reasons.as_slice())
+        && are_entries(catalogue, streams, claims.streams.as_slice())
+        && are_bounds(catalogue, streams, claims.bounds.as_slice());
+    let orders = claims.orders.as_slice();
     Ok(are_right && are_orders(alloc, declared, streams, orders)?)
 }

@@ -1,5 +1,5 @@
 //! Whether the entries of streams and the bounds of instruments are right.
-use metric_catalogue::{Budget, Catalogue, Instrument, Key, Kind};
+use metric_catalogue::{Budget, Catalogue, Instrument, Key, Kind, SetKey};
 use metric_cert::{By, InstrumentBound, StreamSets};
 use metric_views::{Stream, StreamAggregation};
 
@@ -13,8 +13,9 @@ pub fn are_entries(catalogue: &Catalogue, streams: &[Stream], entries: &[StreamS
 }
 
 fn is_entry(catalogue: &Catalogue, stream: &Stream, entry: &StreamSets) -> bool {
-    let due = match entry.by {
+    let due = match &entry.by {
         By::Product => sets_of(catalogue, stream),
+        By::List(list) => list_length(catalogue, stream, list.as_slice()),
         By::Budget => total_of(catalogue, stream.instrument),
     };
     entry.reader == stream.reader
@@ -41,6 +42,45 @@ fn sets_by(kept: &[bool], keys: &[Key]) -> i128 {
         }
     }
     sets
+}
+
+// How long the list of a stream is, or less than any where it is another list.
+fn list_length(catalogue: &Catalogue, stream: &Stream, list: &[SetKey]) -> i128 {
+    let instrument = catalogue.instruments().get(stream.instrument as usize);
+    match instrument.and_then(|instrument| instrument.allowed.as_ref()) {
+        Some(allowed) if is_list_of(stream.kept.get().as_slice(), allowed.rows(), list) => {
+            list.len() as i128
+        }
+        _ => -1,
+    }
+}
+
+// Whether a list rises, each row with its kept keys alone is in it, and each of it is of some row.
+fn is_list_of(kept: &[bool], rows: &[SetKey], list: &[SetKey]) -> bool {
+    rises(list)
+        && rows
+            .iter()
+            .all(|row| list.iter().any(|set| is_left(kept, row, set)))
+        && list
+            .iter()
+            .all(|set| rows.iter().any(|row| is_left(kept, row, set)))
+}
+
+fn rises(list: &[SetKey]) -> bool {
+    let later = list.get(1..list.len()).unwrap_or(&[]);
+    list.iter().zip(later).all(|(set, next)| set < next)
+}
+
+// Whether a set is what is left of a row where only some keys are kept.
+fn is_left(kept: &[bool], row: &SetKey, set: &SetKey) -> bool {
+    for (place, (entry, left)) in row.iter().zip(set).enumerate() {
+        let is_dropped = matches!(kept.get(place), Some(false));
+        let due = if is_dropped { 0 } else { *entry };
+        if *left != due {
+            return false;
+        }
+    }
+    true
 }
 
 // How often an instrument may be recorded.

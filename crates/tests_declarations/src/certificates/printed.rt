@@ -80,8 +80,39 @@ reader = 5
 sets = 0
 "#;
 
+// Streams by list, in format 2.
+const LISTED: &str = r#"
+stream = [{ list = [[0, 1, 2, 3, 4, 5, 6, 65535], [1, 0, 0, 0, 0, 0, 0, 0]], reader = 1, instrument = 2, view = 3, by = "list", sets = 2 }, { reader = 5, instrument = 6, sets = 0, list = [], by = "list" }]
+order = []
+bound = []
+reason = []
+format = 2
+"#;
+
+const LISTED_WRITTEN: &str = r#"bound = []
+format = 2
+order = []
+reason = []
+
+[[stream]]
+by = "list"
+instrument = 2
+list = [[0, 1, 2, 3, 4, 5, 6, 65535], [1, 0, 0, 0, 0, 0, 0, 0]]
+reader = 1
+sets = 2
+view = 3
+
+[[stream]]
+by = "list"
+instrument = 6
+list = []
+reader = 5
+sets = 0
+"#;
+
 #[test]
 fn every_field_is_read_and_written(rt: HostRuntime) -> Result<(), Fail> {
     assert_equal(&rt, rewritten(rt.alloc(), WHOLE)?.as_str(), WRITTEN);
+    assert_equal(&rt, rewritten(rt.alloc(), LISTED)?.as_str(), LISTED_WRITTEN);
     Ok(())
 }

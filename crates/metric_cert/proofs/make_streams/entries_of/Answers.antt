@@ -23,8 +23,16 @@ bounds-bounds-stream c =
     let long = AllZip-length (IsBoundAt contents streams) (all_instruments contents) c.args.bounds.now c.requires.bounds in
     omega (arith, own.known, length-range_with_len 0 (length contents.instruments))
 
-pub entry_of-requires : goal.entry_of-requires
-entry_of-requires c =
+pub entry_of-requires-clause-flags : goal.entry_of-requires-clause-flags
+entry_of-requires-clause-flags c =
+    let contents = c.args.catalogue.now in
+    let streams = c.args.streams.now in
+    let s = c.stream-item.result in
+    let own = subst (IsNamed contents) (sym c.stream-item.is) (All-get_or (IsNamed contents) streams c.loop-stream.stream-index s c.loop-stream-test.true c.requires.named) in
+    own.flags
+
+pub entry_of-requires-clause-total : goal.entry_of-requires-clause-total
+entry_of-requires-clause-total c =
     let contents = c.args.catalogue.now in
     let streams = c.args.streams.now in
     let s = c.stream-item.result in
@@ -37,7 +45,7 @@ returns-in_err-entry-clause-found c =
     let e = c.in_err-entry.field-0.0 in
     reports_on Memory (LimitsFind make_faults contents c.args.streams.now) c.from_residual.result e c.from_residual.ensures.1
     (λ other. c.loop-stream.invariant.found (Some e)
-    (drop_failed (λ stream. Asks (SetsFit contents stream) LimitExceeded) c.loop-stream.stream-index c.args.streams.now c.stream-item.result c.loop-stream-test.true c.stream-item.is e c.in_err-entry.ensures.found))
+    (drop_failed (λ stream. Asks (SetsFit contents stream) LimitExceeded) c.loop-stream.stream-index c.args.streams.now c.stream-item.result c.loop-stream-test.true c.stream-item.is e (c.in_err-entry.ensures.found other)))
 
 pub loop-stream-preserved : goal.loop-stream-preserved
 loop-stream-preserved c =

@@ -3,7 +3,7 @@ use Rattle.std.proofs.Common.{Bool, List, sym, subst, rules}
 use Rattle.metric_bounds.specs.Safe.{AreSafe}
 use Rattle.metric_views.specs.declared.stream.Stream.{Stream}
 use Rattle.metric_cert.specs.Valid.{IsValid}
-use Rattle.metric_plan.specs.Plans.{AreSetsWithin}
+use Rattle.metric_plan.specs.Plans.{ProductsFit}
 use Rattle.metric_resolve.specs.Resolved.{streams_of}
 use Rattle.metric_check.specs.Products.{by_product_of}
 use Rattle.metric_check.proofs.Products.{products_within}
@@ -25,8 +25,8 @@ certified-requires-clause-products c =
     let config = c.args.config in
     let certificate = c.args.certificate.now in
     let valid = (finds_nothing_where_valid contents config certificate).0 c.in-Ok.ensures.found in
-    subst (λ (flags : List Bool). AreSetsWithin contents flags c.in-Ok.checked.streams) (sym c.in-Ok.ensures.by_product)
-    (subst (AreSetsWithin contents (by_product_of certificate)) (sym c.in-Ok.ensures.streams)
+    subst (λ (flags : List Bool). ProductsFit contents flags c.in-Ok.checked.streams) (sym c.in-Ok.ensures.by_product)
+    (subst (ProductsFit contents (by_product_of certificate)) (sym c.in-Ok.ensures.streams)
     (products_within contents (streams_of contents config) certificate.streams valid.streams))
 
 pub returns-in-Ok-clause-valid : goal.returns-in-Ok-clause-valid

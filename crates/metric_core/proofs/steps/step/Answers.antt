@@ -3,7 +3,7 @@ use borrow.Author.Rules.{scaled_fits≤}
 use Rattle.std.proofs.Common.{◌≡◌, Some, get_or, length, refl, rules, arith}
 use Rattle.std.specs.Prelude.{slice_get}
 use Rattle.std.proofs.lemmas.Option.{slice_get-get_or}
-use Rattle.metric_core.proofs.PlanFacts.{has_full_set}
+use Rattle.metric_core.proofs.PlanFacts.{has_allowed_set}
 use Rattle.metric_core.proofs.RunLaws.{known_at, unknown_at}
 use Rattle.metric_core.proofs.steps.step.Goals as goal
 
@@ -14,7 +14,7 @@ pub answer-requires-clause-set : goal.answer-requires-clause-set
 answer-requires-clause-set g c =
     let cell = get_or c.args.cells.now c.instrument-at.result c.index-cells-at.result in
     let found : slice_get c.args.cells.now c.instrument-at.result ≡ Some cell = slice_get-get_or c.args.cells.now c.instrument-at.result c.index-cells-at.result c.if-at-cells.false in
-    has_full_set c.args.plan.now c.catalogue.result.now cell.facts c.args.event.now c.instrument-at.result c.catalogue.ensures.kept c.attributes_name_full_sets.ensures
+    has_allowed_set c.args.plan.now c.catalogue.result.now cell.facts c.args.event.now c.instrument-at.result c.catalogue.ensures.kept c.attributes_name_allowed_sets.ensures
     c.catalogue.ensures.catalogue c.instrument-at.ensures (c.requires.cells.own c.instrument-at.result cell found)
 
 pub returns-clause-steps : goal.returns-clause-steps

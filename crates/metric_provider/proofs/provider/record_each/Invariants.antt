@@ -1,7 +1,10 @@
--- the recorder was told of those so far
+-- the recorder was told of those so far, and the slot has the facts that it had
 use Rattle.std.proofs.Common.{◌≡◌, take}
 use Rattle.metric_provider.specs.KeyRecordings.{told_each}
 use Rattle.metric_provider.proofs.provider.record_each.Given as goal
 
 abbrev pub invariant-loop-place : goal.invariant-loop-place
-invariant-loop-place g l = l.told ≡ told_each l.fn.told l.facts.lo (take l.place l.all)
+invariant-loop-place g l = record {
+  told : l.told ≡ told_each l.fn.told l.facts.lo (take l.place l.all);
+  facts : l.slot.facts ≡ l.fn.slot.facts;
+}

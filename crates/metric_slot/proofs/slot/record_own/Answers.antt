@@ -12,7 +12,7 @@ returns-clause-answer g c =
     let own = c.is_own_recorder.ensures.0 c.if-not-is_own_recorder.false in
     let same : to_z w64 (of_z w64 c.args.value) ≡ c.args.value = to_z-of_z w64 c.args.value c.ranges.value in
     let eight : length c.args.set ≡ 8 = search rules in
-    let next : IsNext c.args.facts.now entry = record { eight = eight; full = c.requires.set; value = c.requires.value } in
+    let next : IsNext c.args.facts.now entry = record { eight = eight; allowed = c.requires.set; value = c.requires.value } in
     recorder_answers g.B.Book.stands c.args.cell.now c.args.facts.now c.args.told.now entry c.record.result c.journals_are_bounded.ensures.fits c.requires.safe c.facts.ensures.kept own next
     (subst (λ (v : ℤ). AnswersRecording g.B.Book.stands c.args.cell.now (entry_of c.args.recorder c.args.set v) c.record.result) same c.record.ensures.answer)
 

@@ -5,5 +5,6 @@ use Rattle.metric_cert.proofs.certificate.Certificate.write.Goals as goal
 
 pub returns : goal.returns
 returns c =
-    certificate_printed c.args.self.now (string_bytes c.new-text.result) (string_bytes c.push_pairs.new.text) (string_bytes c.push_lists.new.text) c.new-text.ensures.bytes c.in_ok-push_pairs.ensures
-    c.in_ok-push_lists.ensures
+    rw (← c.self.view_is)
+    (certificate_printed c.self.inside.claims (string_bytes c.new-text.result) (string_bytes c.push_pairs.new.text) (string_bytes c.push_lists.new.text) c.new-text.ensures.bytes c.in_ok-push_pairs.ensures
+    c.in_ok-push_lists.ensures c.self.invariant)

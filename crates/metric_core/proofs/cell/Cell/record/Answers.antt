@@ -6,7 +6,7 @@ use Rattle.metric_book.specs.Journals.{MayTake}
 use Rattle.metric_history.specs.declared.entry.Entry.{Entry}
 use Rattle.metric_facts.specs.declared.facts.Facts.{Facts}
 use Rattle.metric_history.specs.Windows.{fits_all}
-use Rattle.metric_facts.specs.Facts.{in_bounds, is_full_set}
+use Rattle.metric_facts.specs.Facts.{in_bounds, is_allowed_set}
 use Rattle.metric_core.specs.BudgetLaws.{has_room}
 use Rattle.metric_core.specs.Cells.{CellStands, CellValue}
 use Rattle.metric_core.specs.CellAnswers.{IsJudged, entry_of}
@@ -18,11 +18,11 @@ pub push-requires : goal.push-requires
 push-requires g c =
     let same : to_z w64 (of_z w64 c.args.value) ≡ c.args.value = to_z-of_z w64 c.args.value c.ranges.value in
     let known : c.args.recorder < length c.self.inside.facts.budgets = subst (λ (v : CellValue g.row.B.Denot). c.args.recorder < length v.facts.budgets) (sym c.self.view_is) c.requires.recorder in
-    let full : is_full_set c.self.inside.facts.keys c.args.set ≡ true = subst (λ (v : CellValue g.row.B.Denot). is_full_set v.facts.keys c.args.set ≡ true) (sym c.self.view_is) c.requires.set in
+    let allowed : is_allowed_set c.self.inside.facts c.args.set ≡ true = subst (λ (v : CellValue g.row.B.Denot). is_allowed_set v.facts c.args.set ≡ true) (sym c.self.view_is) c.requires.set in
     let within : in_bounds c.self.inside.facts c.args.value ≡ true = subst (λ (v : CellValue g.row.B.Denot). in_bounds v.facts c.args.value ≡ true) (sym c.self.view_is) c.requires.value in
     let left = has_left c.self.inside.budgets.spent.items c.self.inside.facts.budgets c.args.recorder c.has_left.result _ (c.as_slice-declared.ensures ∙ ap (λ (f : Facts). f.budgets) c.deref.ensures) c.has_left.ensures c.if-not-has_left.false in
     subst (λ (v : ℤ). MayTake (g.B.Book.stands c.self.inside.book) (entry_of c.args.recorder c.args.set v)) (sym same)
-    (may_take g.B.Book.stands _ (entry_of c.args.recorder c.args.set c.args.value) c.self.invariant known left full within)
+    (may_take g.B.Book.stands _ (entry_of c.args.recorder c.args.set c.args.value) c.self.invariant known left allowed within)
 
 pub charge-requires-clause-room : goal.charge-requires-clause-room
 charge-requires-clause-room g c =
@@ -54,13 +54,13 @@ invariant_of-self-2 g c =
     let entry : Entry = entry_of c.args.recorder c.args.set c.args.value in
     let same : to_z w64 (of_z w64 c.args.value) ≡ c.args.value = to_z-of_z w64 c.args.value c.ranges.value in
     let known : c.args.recorder < length c.self.inside.facts.budgets = subst (λ (v : CellValue g.row.B.Denot). c.args.recorder < length v.facts.budgets) (sym c.self.view_is) c.requires.recorder in
-    let full : is_full_set c.self.inside.facts.keys c.args.set ≡ true = subst (λ (v : CellValue g.row.B.Denot). is_full_set v.facts.keys c.args.set ≡ true) (sym c.self.view_is) c.requires.set in
+    let allowed : is_allowed_set c.self.inside.facts c.args.set ≡ true = subst (λ (v : CellValue g.row.B.Denot). is_allowed_set v.facts c.args.set ≡ true) (sym c.self.view_is) c.requires.set in
     let within : in_bounds c.self.inside.facts c.args.value ≡ true = subst (λ (v : CellValue g.row.B.Denot). in_bounds v.facts c.args.value ≡ true) (sym c.self.view_is) c.requires.value in
     let left = has_left c.self.inside.budgets.spent.items c.self.inside.facts.budgets c.args.recorder c.has_left.result _ (c.as_slice-declared.ensures ∙ ap (λ (f : Facts). f.budgets) c.deref.ensures) c.has_left.ensures c.if-not-has_left.false in
     let eight : length c.args.set ≡ 8 = search rules in
     let low : neg_ℤ (pos (2 ^ 63)) ≤ℤ c.args.value = omega (arith, ints) in
     let high : c.args.value ≤ℤ pos (2 ^ 63) = omega (arith, ints) in
-    kept_recorded g.B.Book.stands _ _ entry (search rules) c.self.invariant known left (admitted c.self.inside.facts entry eight full within) low high
+    kept_recorded g.B.Book.stands _ _ entry (search rules) c.self.invariant known left (admitted c.self.inside.facts entry eight allowed within) low high
     (λ journal s. subst (λ (v : ℤ). g.B.Book.stands c.push.new.self c.self.inside.facts (journal ++ entry_of c.args.recorder c.args.set v ∷ []) c.self.inside.marks.items) same
     (c.in_ok-push.ensures.stands c.self.inside.facts journal c.self.inside.marks.items s))
 

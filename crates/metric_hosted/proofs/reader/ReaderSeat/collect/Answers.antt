@@ -1,6 +1,6 @@
 -- it is said of each reader whether it is delta
 use Rattle.std.proofs.Common.{◌<◌, length, sym, subst, ◌∙◌, arith}
-use Rattle.metric_hosted.proofs.PlanFacts.{delta_each, reader_known}
+use Rattle.metric_provider.specs.PlanFacts.{delta_each, reader_known}
 use Rattle.metric_provider.specs.Seats.{CollectorValue, provider_of}
 use Rattle.metric_hosted.proofs.reader.ReaderSeat.collect.Goals as goal
 

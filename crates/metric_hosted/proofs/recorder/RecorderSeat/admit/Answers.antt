@@ -2,15 +2,15 @@
 use Rattle.std.proofs.Common.{map, sym, ◌∙◌}
 use Rattle.metric_catalogue.specs.Attributes.{given_by}
 use Rattle.metric_provider.specs.Seats.{provider_of}
-use Rattle.metric_hosted.proofs.AdmitLaws.{knows_of, long_of}
+use Rattle.metric_provider.specs.AdmitLaws.{knows_of, long_of}
 use Rattle.metric_hosted.proofs.recorder.RecorderSeat.admit.Goals as goal
 
 pub returns-clause-known : goal.returns-clause-known
 returns-clause-known c =
     knows_of (provider_of c.args.plan.now c.args.run) c.args.self.now c.args.instrument (map given_by c.args.attrs.now) c.args.value.now c.declared_set.result
-    c.all_facts.ensures.kept c.attributes_name_full_sets.ensures (sym c.is_of.ensures ∙ c.if-not-is_of.false) c.declared_set.ensures
+    c.all_facts.ensures.kept c.attributes_name_allowed_sets.ensures (sym c.is_of.ensures ∙ c.if-not-is_of.false) c.declared_set.ensures
 
 pub returns-clause-long : goal.returns-clause-long
 returns-clause-long c =
     long_of (provider_of c.args.plan.now c.args.run) c.args.self.now c.args.instrument (map given_by c.args.attrs.now) c.args.value.now c.declared_set.result
-    c.all_facts.ensures.kept c.attributes_name_full_sets.ensures (sym c.is_of.ensures ∙ c.if-not-is_of.false) c.declared_set.ensures
+    c.all_facts.ensures.kept c.attributes_name_allowed_sets.ensures (sym c.is_of.ensures ∙ c.if-not-is_of.false) c.declared_set.ensures

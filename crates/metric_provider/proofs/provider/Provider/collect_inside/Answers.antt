@@ -1,6 +1,6 @@
 -- it is said of each reader whether it is delta
 use Rattle.std.proofs.Common.{◌<◌, length, sym, subst, arith}
-use Rattle.metric_provider.proofs.PlanFacts.{delta_each}
+use Rattle.metric_provider.specs.PlanFacts.{delta_each}
 use Rattle.metric_provider.specs.Seats.{ProviderValue}
 use Rattle.metric_provider.proofs.provider.Provider.collect_inside.Goals as goal
 

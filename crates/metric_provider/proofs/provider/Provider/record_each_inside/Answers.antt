@@ -3,7 +3,7 @@ use Rattle.std.proofs.Common.{◌<◌, length, sym, subst, arith}
 use Rattle.metric_provider.specs.KeyRecordings.{KnowsEach}
 use Rattle.metric_provider.specs.Seats.{ProviderValue}
 use Rattle.metric_provider.proofs.KeyLaws.{recordable}
-use Rattle.metric_provider.proofs.PlanFacts.{budgets_each}
+use Rattle.metric_provider.specs.PlanFacts.{budgets_each}
 use Rattle.metric_provider.proofs.provider.Provider.record_each_inside.Goals as goal
 
 pub record_each-requires-clause-recorder : goal.record_each-requires-clause-recorder

@@ -1,6 +1,6 @@
 -- there is a budget for each recorder
 use Rattle.std.proofs.Common.{◌<◌, length, sym, subst, arith}
-use Rattle.metric_provider.proofs.PlanFacts.{budgets_each}
+use Rattle.metric_provider.specs.PlanFacts.{budgets_each}
 use Rattle.metric_provider.specs.Seats.{ProviderValue}
 use Rattle.metric_provider.proofs.provider.Provider.record_inside.Goals as goal
 

@@ -1,7 +1,7 @@
 -- an admitted recording is known to be declared
 use Rattle.std.proofs.Common.{sym, ◌∙◌}
 use Rattle.metric_provider.specs.Seats.{provider_of}
-use Rattle.metric_provider.proofs.AdmitLaws.{knows_key, long_key}
+use Rattle.metric_provider.specs.AdmitLaws.{knows_key, long_key}
 use Rattle.metric_provider.proofs.recorder.Recorder.admit_key.Goals as goal
 
 pub returns-clause-known : goal.returns-clause-known

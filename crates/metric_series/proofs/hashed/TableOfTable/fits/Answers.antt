@@ -1,7 +1,7 @@
 -- whether a place was found
 use Rattle.std.proofs.Common.{sym, ap, ◌∙◌, rules, w64, SFits}
 use Rattle.std.proofs.lemmas.Int.{to_z-of_z}
-use Rattle.metric_history.specs.Series.{restricted}
+use Rattle.metric_combinations.specs.Restrictions.{restricted}
 use Rattle.metric_series.specs.Calls.{entry_of}
 use Rattle.metric_series.proofs.hashed.TableOfTable.fits.Goals as goal
 

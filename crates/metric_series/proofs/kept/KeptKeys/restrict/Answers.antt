@@ -1,6 +1,6 @@
 -- a set of which each key is kept
 use Rattle.std.proofs.Common.{Bool, List, sym, ap, ◌∙◌}
-use Rattle.metric_history.specs.Series.{restricted}
+use Rattle.metric_combinations.specs.Restrictions.{restricted}
 use Rattle.metric_series.proofs.Keeping.{restricted-all}
 use Rattle.metric_series.proofs.kept.KeptKeys.restrict.Goals as goal
 

@@ -1,0 +1,130 @@
+-- The format is 1 or 2, and in a file of format 1 no instrument lists combinations.
+use Rattle.std.proofs.Common.{◌≡◌, ℕ, ℤ, suc, zero, pos, negsuc, ◌≤◌, ◌⊎◌, inl, inr, All, Bool, true, false, not, ◌&&◌, cond, List, [], ◌∷◌, ◌++◌, length, Option, Some, None, Ok, nat_le, codes, refl, sym, ap, subst, ◌∙◌, arith}
+use Rattle.std.proofs.lemmas.Bool.{and_parts}
+use Rattle.std.proofs.lemmas.Bool.Decides.{nat_tests}
+use Rattle.std.specs.List.{list_any}
+use Rattle.toml.specs.Data.{Members, get_member}
+use Rattle.metric_base.specs.Steps.{each, in_turn, require_some}
+use Rattle.metric_base.specs.StepLaws.{after_ok, in_turn_keeps, ok_is, require_ok}
+use Rattle.metric_table.specs.FieldLaws.{none_other}
+use Rattle.metric_table.specs.Fields.{field, format_up_to, integer_of, number_between, only, tables_field}
+use Rattle.metric_catalogue.specs.declared.contents.Instrument.{Instrument}
+use Rattle.metric_catalogue.specs.declared.contents.Key.{Key}
+use Rattle.metric_catalogue.specs.declared.instruments.Head.{Head}
+use Rattle.metric_catalogue.specs.declared.meters.Metered.{Metered}
+use Rattle.metric_catalogue.specs.declared.fault.CatalogueDefect.TheVariants.{DuplicateInstrument, DuplicateMeter}
+use Rattle.metric_catalogue.specs.declared.fault.CatalogueFault.TheVariants.{At}
+use Rattle.metric_catalogue.specs.declared.fault.CataloguePlace.{CataloguePlace}
+use Rattle.metric_catalogue.specs.declared.fault.CataloguePlace.TheVariants as place
+use Rattle.metric_catalogue.specs.Allowed.{allowed_field, allowed_of}
+use Rattle.metric_catalogue.specs.Catalogues.{format_of_top, nothing_metered, top_fields}
+use Rattle.metric_catalogue.specs.Faults.{faults_at}
+use Rattle.metric_catalogue.specs.Instruments.{advice_field, head_of, instrument_fields, instrument_name, instrument_of, is_instrument, only_instrument_fields, range_field, sets_field}
+use Rattle.metric_catalogue.specs.Keys.{key_of}
+use Rattle.metric_catalogue.specs.Meters.{is_meter, meter_of, with_meter}
+use Rattle.metric_catalogue.proofs.SoundLists.{each_sound}
+use Rattle.metric_catalogue.proofs.SoundRows.{rows_none}
+
+-- the instrument lists combinations only in a format beyond the first
+abbrev IsPlain : ℕ → Instrument → Type 0
+IsPlain format instrument = format ≡ 1 → instrument.allowed ≡ None
+
+-- a table of format 1 has no field for them
+field_none : (at : CataloguePlace) (table : Members) (done : Unit {0}) → only_instrument_fields 1 at table ≡ Ok done → get_member (codes "allowed") table ≡ None
+unfolding only_instrument_fields instrument_fields
+field_none at table done e = none_other (faults_at at) (instrument_fields 1) (codes "allowed") table done e refl
+
+name_none : (at : CataloguePlace) (table : Members) (name : List ℕ) → instrument_name 1 at table ≡ Ok name → get_member (codes "allowed") table ≡ None
+unfolding instrument_name
+name_none at table name e0 = after_ok (only_instrument_fields 1 at table) _ name e0 (λ done made _. field_none at table done made)
+
+head_none : (at : CataloguePlace) (table : Members) (head : Head) → head_of 1 at table ≡ Ok head → get_member (codes "allowed") table ≡ None
+unfolding head_of
+head_none at table head e0 = after_ok (instrument_name 1 at table) _ head e0 (λ name made _. name_none at table name made)
+
+sets_none : (at : CataloguePlace) (is_taken : Bool) (table : Members) (sets : List Key × Option (List (List ℕ))) → get_member (codes "allowed") table ≡ None
+    → sets_field at is_taken table ≡ Ok sets → sets.1 ≡ None
+unfolding sets_field
+sets_none at is_taken table sets none e0 =
+    after_ok (tables_field (faults_at at) 8 (codes "key") table) _ sets e0 (λ tables _ e1.
+    after_ok (allowed_field at table) _ sets e1 (λ rows listed e2.
+    let (_, e3) = require_ok (not is_taken) (At DuplicateInstrument at) _ sets e2 in
+    after_ok (each (key_of at) [] tables) _ sets e3 (λ keys _ e4.
+    after_ok (allowed_of at keys rows) _ sets e4 (λ allowed combined e5.
+    let first : allowed ≡ sets.1 = ap (λ (s : List Key × Option (List (List ℕ))). s.1) (ok_is (keys, allowed) sets (Ok (keys, allowed)) refl e5) in
+    let empty : allowed ≡ None = sym (ok_is None allowed (Ok None) refl (sym (ap (allowed_of at keys) (rows_none at table rows none listed)) ∙ combined)) in
+    sym first ∙ empty))))
+
+instrument_none : (meter : ℕ) (before : List Instrument) (table : Members) (instrument : Instrument) → instrument_of 1 meter before table ≡ Ok instrument → instrument.allowed ≡ None
+unfolding instrument_of
+instrument_none meter before table instrument e0 =
+    let at = place.Instrument (length before) in
+    after_ok (head_of 1 at table) _ instrument e0 (λ head headed e1.
+    after_ok (range_field at head.kind table) _ instrument e1 (λ range _ e2.
+    after_ok (advice_field at table) _ instrument e2 (λ advice _ e3.
+    after_ok (sets_field at (list_any (is_instrument meter head.name) before) table) _ instrument e3 (λ sets keyed e4.
+    let made : Instrument = record { meter = meter; name = head.name; kind = head.kind; unit = head.unit; description = head.description; lo = range.0; hi = range.1; advice = advice; keys = sets.0; allowed = sets.1 } in
+    let same : made ≡ instrument = ok_is made instrument (Ok made) refl e4 in
+    let none = sets_none at (list_any (is_instrument meter head.name) before) table sets (head_none at table head headed) keyed in
+    ap (λ (i : Instrument). i.allowed) (sym same) ∙ none))))
+
+instruments_plain : (format meter : ℕ) (before : List Instrument) (tables : List Members) (after : List Instrument) → each (instrument_of format meter) before tables ≡ Ok after
+    → All (IsPlain format) before → All (IsPlain format) after
+instruments_plain format meter before tables after e plain =
+    (each_sound (IsPlain format) (λ _ _. Unit {0}) (instrument_of format meter)
+    (λ earlier table instrument made. record {
+      sound = λ first. instrument_none meter earlier table instrument (subst (λ (f : ℕ). instrument_of f meter earlier table ≡ Ok instrument) first made);
+      apart = λ k d within. tt;
+    })
+    before tables after e (record { each = plain; apart = λ i j d before within. tt })).each
+
+meter_plain : (format : ℕ) (before : Metered) (table : Members) (after : Metered) → with_meter format before table ≡ Ok after
+    → All (IsPlain format) before.instruments → All (IsPlain format) after.instruments
+unfolding with_meter
+meter_plain format before table after e0 plain =
+    let at = place.Meter (length before.meters) in
+    after_ok (meter_of at table) _ after e0 (λ meter _ e1.
+    after_ok (tables_field (faults_at at) _ (codes "instrument") table) _ after e1 (λ tables _ e2.
+    let (_, e3) = require_ok (not (list_any (is_meter meter) before.meters)) (At DuplicateMeter at) _ after e2 in
+    after_ok (each (instrument_of format (length before.meters)) before.instruments tables) _ after e3 (λ instruments made e4.
+    let all : Metered = record { meters = before.meters ++ meter ∷ []; instruments = instruments } in
+    subst (λ (m : Metered). All (IsPlain format) m.instruments) (ok_is all after (Ok all) refl e4) (instruments_plain format (length before.meters) before.instruments tables instruments made plain))))
+
+-- no instrument of the meters of a file of format 1 lists combinations
+pub meters_plain : (format : ℕ) (tables : List Members) (metered : Metered) → in_turn (with_meter format) nothing_metered tables ≡ Ok metered
+    → format ≡ 1 → All (λ instrument. instrument.allowed ≡ None) metered.instruments
+meters_plain format tables metered e first =
+    let plain = in_turn_keeps (λ (m : Metered). All (IsPlain format) m.instruments) (with_meter format) (meter_plain format) nothing_metered tables metered e (λ k d within. absurd (omega arith)) in
+    λ k d within. plain k d within first
+
+one_or_two : (z : ℤ) (n : ℕ) → number_between 1 2 z ≡ Some n → (n ≡ 1) ⊎ (n ≡ 2)
+one_or_two (negsuc m) n e = absurd cc
+one_or_two (pos m) n e = by (nat_le 1 m && nat_le m 2) refl e
+  where
+    between : (k : ℕ) → 1 ≤ k → k ≤ 2 → (k ≡ 1) ⊎ (k ≡ 2)
+    between zero low high = absurd (omega arith)
+    between (suc zero) low high = inl refl
+    between (suc (suc zero)) low high = inr refl
+    between (suc (suc (suc k))) low high = absurd (omega arith)
+
+    by : (b : Bool) → (nat_le 1 m && nat_le m 2) ≡ b → cond b (Some m) None ≡ Some n → (n ≡ 1) ⊎ (n ≡ 2)
+    by true h e1 =
+        let (low, high) = and_parts (nat_le 1 m) (nat_le m 2) h in
+        let same : m ≡ n = cc in
+        subst (λ (k : ℕ). (k ≡ 1) ⊎ (k ≡ 2)) same (between m (grind (arith, nat_tests)) (grind (arith, nat_tests)))
+    by false h e1 = absurd cc
+
+-- a needed value that was there
+pub some_made : {A E : Type 0} (o : Option A) (e : E) (x : A) → require_some o e ≡ Ok x → o ≡ Some x
+some_made None e x h = absurd cc
+some_made (Some y) e x h = ap Some (ok_is y x (Ok y) refl h)
+
+-- the format of a top table is one of the two
+pub format_made : (table : Members) (format : ℕ) → format_of_top table ≡ Ok format → (format ≡ 1) ⊎ (format ≡ 2)
+unfolding format_of_top format_up_to
+format_made table format e0 =
+    let faults = faults_at place.Top in
+    after_ok (only faults top_fields table) _ format e0 (λ _ _ e1.
+    after_ok (field faults (codes "format") table) _ format e1 (λ d _ e2.
+    after_ok (integer_of faults d) _ format e2 (λ z _ e3.
+    one_or_two z format (some_made (number_between 1 2 z) faults.wrong_kind format e3))))
