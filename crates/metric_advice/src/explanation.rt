@@ -1,14 +1,14 @@
 //! What a refusal of a recording is about.
-ghost use Rattle.std.specs.Prelude.{◌≡◌, Some, find, map, not};
+ghost use Rattle.std.specs.Prelude.{◌≡◌, Some, find, map, not, slice_get};
 ghost use Rattle.std.specs.List.{list_any};
 ghost use Rattle.std.specs.Option.{option_copied, option_map};
 ghost use Rattle.std.specs.Result.{result_err};
 ghost use Rattle.metric_catalogue.specs.Attributes.{given_by};
 ghost use Rattle.metric_catalogue.specs.Encoding.{declares, has_declared_value, is_complete, is_declared, is_of};
 ghost use Rattle.metric_catalogue.specs.Keys.{is_key};
-ghost use Rattle.metric_advice.specs.Explanations.{explained, explained_with, first_repeated, key_mistake, missing_mistake, mistake_of, mistake_told, range_mistake, refusal_of, said_of, told_of, value_mistake};
+ghost use Rattle.metric_advice.specs.Explanations.{combination_mistake, explained, explained_with, first_repeated, is_combined, key_mistake, missing_mistake, mistake_of, mistake_told, range_mistake, refusal_of, said_of, told_of, value_mistake};
 
-use metric_catalogue::{Attr, Catalogue, Instrument, Key};
+use metric_catalogue::{Attr, Catalogue, Instrument, Key, Refusal, SetKey};
 use metric_names::ValueRef;
 use std::fmt;
 
@@ -32,6 +32,8 @@ pub enum Mistake<'a> {
     UnknownValue(&'a str, ValueRef<'a>),
     /// This key is missing, and may not be left out.
     MissingKey(&'a str),
+    /// The instrument does not allow the combination of the values.
+    Combination,
     /// The value is outside the instrument's range.
     ValueRange {
         /// The value.
@@ -59,20 +61,29 @@ pub fn explain_refusal<'a>(
     ensures agrees { option_map refusal_of (option_map told_of result)
         ≡ result_err (said_of catalogue.now.instruments instrument (map given_by attrs.now) value) }
 {
-    explained(catalogue.instruments(), instrument, attrs, value)
+    let is_combined = is_combined(&catalogue.encode(instrument, attrs));
+    explained(catalogue.instruments(), instrument, attrs, is_combined, value)
+}
+
+// Whether a set key was not refused for its combination.
+fn is_combined(encoded: &Result<SetKey, Refusal>) -> bool
+    ensures { result ≡ is_combined encoded.now }
+{
+    !matches!(encoded, Err(Refusal::Combination))
 }
 
 fn explained<'a>(
     instruments: &'a [Instrument],
     instrument: u32,
     attrs: &'a [Attr<'a>],
+    is_combined: bool,
     value: i64,
 ) -> Option<Explanation<'a>>
-    ensures { option_map told_of result
-        ≡ explained instruments.now instrument (map given_by attrs.now) value }
+    ensures { option_map told_of result ≡ explained_with instrument
+        (slice_get instruments.now instrument) (map given_by attrs.now) is_combined value }
 {
     match instruments.get(instrument as usize) {
-        Some(declared) => explained_on(declared, attrs, value),
+        Some(declared) => explained_on(declared, attrs, is_combined, value),
         None => Some(Explanation::UnknownInstrument(instrument)),
     }
 }
@@ -81,12 +92,13 @@ fn explained<'a>(
 fn explained_on<'a>(
     instrument: &'a Instrument,
     attrs: &'a [Attr<'a>],
+    is_combined: bool,
     value: i64,
 ) -> Option<Explanation<'a>>
     ensures { option_map told_of result
-        ≡ explained_with 0 (Some instrument.now) (map given_by attrs.now) value }
+        ≡ explained_with 0 (Some instrument.now) (map given_by attrs.now) is_combined value }
 {
-    match mistake_of(instrument, attrs, value) {
+    match mistake_of(instrument, attrs, is_combined, value) {
         Some(mistake) => Some(Explanation::On(instrument.name.get().as_str(), mistake)),
         None => None,
     }
@@ -96,14 +108,15 @@ fn explained_on<'a>(
 fn mistake_of<'a>(
     instrument: &'a Instrument,
     attrs: &'a [Attr<'a>],
+    is_combined: bool,
     value: i64,
 ) -> Option<Mistake<'a>>
     ensures { option_map mistake_told result
-        ≡ mistake_of instrument.now (map given_by attrs.now) value }
+        ≡ mistake_of instrument.now (map given_by attrs.now) is_combined value }
 {
     match repeated(attrs) {
         Some(attr) => Some(Mistake::DuplicateKey(attr.key)),
-        None => key_mistake(instrument, attrs, value),
+        None => key_mistake(instrument, attrs, is_combined, value),
     }
 }
 
@@ -111,14 +124,15 @@ fn mistake_of<'a>(
 fn key_mistake<'a>(
     instrument: &'a Instrument,
     attrs: &'a [Attr<'a>],
+    is_combined: bool,
     value: i64,
 ) -> Option<Mistake<'a>>
     ensures { option_map mistake_told result
-        ≡ key_mistake instrument.now (map given_by attrs.now) value }
+        ≡ key_mistake instrument.now (map given_by attrs.now) is_combined value }
 {
     match undeclared(instrument, attrs) {
         Some(attr) => Some(Mistake::UnknownKey(attr.key)),
-        None => value_mistake(instrument, attrs, value),
+        None => value_mistake(instrument, attrs, is_combined, value),
     }
 }
 
@@ -126,14 +140,15 @@ fn key_mistake<'a>(
 fn value_mistake<'a>(
     instrument: &'a Instrument,
     attrs: &'a [Attr<'a>],
+    is_combined: bool,
     value: i64,
 ) -> Option<Mistake<'a>>
     ensures { option_map mistake_told result
-        ≡ value_mistake instrument.now (map given_by attrs.now) value }
+        ≡ value_mistake instrument.now (map given_by attrs.now) is_combined value }
 {
     match unknown(instrument, attrs) {
         Some(attr) => Some(Mistake::UnknownValue(attr.key, attr.value)),
-        None => missing_mistake(instrument, attrs, value),
+        None => missing_mistake(instrument, attrs, is_combined, value),
     }
 }
 
@@ -141,14 +156,31 @@ fn value_mistake<'a>(
 fn missing_mistake<'a>(
     instrument: &'a Instrument,
     attrs: &'a [Attr<'a>],
+    is_combined: bool,
     value: i64,
 ) -> Option<Mistake<'a>>
     ensures { option_map mistake_told result
-        ≡ missing_mistake instrument.now (map given_by attrs.now) value }
+        ≡ missing_mistake instrument.now (map given_by attrs.now) is_combined value }
 {
     match missing(instrument.keys.as_slice(), attrs) {
         Some(key) => Some(Mistake::MissingKey(key.name.as_str())),
-        None => range_mistake(instrument, value),
+        None => combination_mistake(instrument, is_combined, value),
+    }
+}
+
+// The mistake of a combination that is not allowed, and then of the value.
+fn combination_mistake<'a>(
+    instrument: &Instrument,
+    is_combined: bool,
+    value: i64,
+) -> Option<Mistake<'a>>
+    ensures { option_map mistake_told result
+        ≡ combination_mistake instrument.now is_combined value }
+{
+    if is_combined {
+        range_mistake(instrument, value)
+    } else {
+        Some(Mistake::Combination)
     }
 }
 
@@ -269,6 +301,7 @@ impl fmt::Display for Mistake<'_> {
             Mistake::UnknownKey(key) => write!(f, "key {key:?} is not declared"),
             Mistake::UnknownValue(key, value) => write_unknown(f, key, *value),
             Mistake::MissingKey(key) => write!(f, "key {key:?} is missing"),
+            Mistake::Combination => f.write_str("the values are not allowed together"),
             Mistake::ValueRange { value, lo, hi } => {
                 write!(f, "value {value} is not in the range from {lo} to {hi}")
             }

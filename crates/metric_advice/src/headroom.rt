@@ -13,7 +13,7 @@ ghost use Rattle.metric_advice.specs.Limits.{OwnFinds, plain};
 
 use crate::limit::Limit;
 use metric_base::Items;
-use metric_bounds::{sets, summed, totals};
+use metric_bounds::{listed, product, summed, totals};
 use metric_catalogue::{Catalogue, Instrument};
 use metric_resolve::resolve_streams;
 use metric_views::{Config, Stream};
@@ -231,8 +231,12 @@ fn most_by_series(
 }
 
 // How many distinct sets of the kept keys recordings of a stream may have.
-fn sets_of(_alloc: Global, catalogue: &Catalogue, stream: &Stream) -> Result<u128, AllocError>
+#[tactic(auto, unfolding(metric_bounds::specs::Sets::sets_of))]
+fn sets_of(alloc: Global, catalogue: &Catalogue, stream: &Stream) -> Result<u128, AllocError>
     ensures { IfOk result (λ count. count ≡ sets_of catalogue.now stream.now) }
 {
-    Ok(sets(catalogue, stream))
+    match listed(alloc, catalogue, stream)? {
+        Some(list) => Ok(list.len() as u128),
+        None => Ok(product(catalogue, stream)),
+    }
 }

@@ -14,7 +14,7 @@ unfolding key_mistake
 returns-in-Some c =
     let test = λ (given : Given). not (is_declared c.args.instrument.now.keys given) in
     let attrs = map given_by c.args.attrs.now in
-    found_first (λ given. UnknownKey given.0) (find test attrs) (given_by c.in-Some.attr.now) (value_mistake c.args.instrument.now attrs c.args.value)
+    found_first (λ given. UnknownKey given.0) (find test attrs) (given_by c.in-Some.attr.now) (value_mistake c.args.instrument.now attrs c.args.is_combined c.args.value)
     (find-map test given_by c.args.attrs.now ∙ ap (option_map given_by) (sym c.in-Some.ensures))
 
 pub returns-in-None : goal.returns-in-None
@@ -22,6 +22,6 @@ unfolding key_mistake
 returns-in-None c =
     let test = λ (given : Given). not (is_declared c.args.instrument.now.keys given) in
     let attrs = map given_by c.args.attrs.now in
-    c.value_mistake.ensures ∙ ap (λ (v : ℤ). value_mistake c.args.instrument.now attrs v) (to_z-of_z w64 c.args.value c.ranges.value)
-    ∙ found_later (λ given. UnknownKey given.0) (find test attrs) (value_mistake c.args.instrument.now attrs c.args.value)
+    c.value_mistake.ensures ∙ ap (λ (v : ℤ). value_mistake c.args.instrument.now attrs c.args.is_combined v) (to_z-of_z w64 c.args.value c.ranges.value)
+    ∙ found_later (λ given. UnknownKey given.0) (find test attrs) (value_mistake c.args.instrument.now attrs c.args.is_combined c.args.value)
     (find-map test given_by c.args.attrs.now ∙ ap (option_map given_by) (sym c.in-None.ensures))

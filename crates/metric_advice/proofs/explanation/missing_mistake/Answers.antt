@@ -4,7 +4,7 @@ use Rattle.std.proofs.lemmas.Int.{to_z-of_z}
 use Rattle.metric_catalogue.specs.Attributes.{given_by}
 use Rattle.metric_catalogue.specs.Encoding.{is_complete}
 use Rattle.metric_catalogue.specs.declared.contents.Key.{Key}
-use Rattle.metric_advice.specs.Explanations.{MissingKey, missing_mistake, range_mistake}
+use Rattle.metric_advice.specs.Explanations.{MissingKey, combination_mistake, missing_mistake}
 use Rattle.metric_advice.proofs.Refusing.{found_first, found_later}
 use Rattle.metric_advice.proofs.explanation.missing_mistake.Goals as goal
 
@@ -15,7 +15,7 @@ returns-in-Some c =
     let instrument = c.args.instrument.now in
     let key = c.in-Some.key.now in
     ap (λ (name : List ℕ). Some (MissingKey name)) c.as_str.ensures
-    ∙ found_first (λ k. MissingKey k.name) (find test instrument.keys) key (range_mistake instrument c.args.value)
+    ∙ found_first (λ k. MissingKey k.name) (find test instrument.keys) key (combination_mistake instrument c.args.is_combined c.args.value)
     (sym (subst (λ (keys : List Key). Some key ≡ find test keys) c.as_slice.ensures.items c.in-Some.ensures))
 
 pub returns-in-None : goal.returns-in-None
@@ -23,6 +23,6 @@ unfolding missing_mistake
 returns-in-None c =
     let test = λ (key : Key). not (is_complete (map given_by c.args.attrs.now) key) in
     let instrument = c.args.instrument.now in
-    c.range_mistake.ensures ∙ ap (λ (v : ℤ). range_mistake instrument v) (to_z-of_z w64 c.args.value c.ranges.value)
-    ∙ found_later (λ k. MissingKey k.name) (find test instrument.keys) (range_mistake instrument c.args.value)
+    c.combination_mistake.ensures ∙ ap (λ (v : ℤ). combination_mistake instrument c.args.is_combined v) (to_z-of_z w64 c.args.value c.ranges.value)
+    ∙ found_later (λ k. MissingKey k.name) (find test instrument.keys) (combination_mistake instrument c.args.is_combined c.args.value)
     (sym (subst (λ (keys : List Key). None ≡ find test keys) c.as_slice.ensures.items c.in-None.ensures))

@@ -10,11 +10,11 @@ pub returns-in-Some : goal.returns-in-Some
 unfolding mistake_of
 returns-in-Some c =
     let attrs = map given_by c.args.attrs.now in
-    found_first (λ given. DuplicateKey given.0) (first_repeated attrs) (given_by c.in-Some.attr.now) (key_mistake c.args.instrument.now attrs c.args.value) (sym c.in-Some.ensures)
+    found_first (λ given. DuplicateKey given.0) (first_repeated attrs) (given_by c.in-Some.attr.now) (key_mistake c.args.instrument.now attrs c.args.is_combined c.args.value) (sym c.in-Some.ensures)
 
 pub returns-in-None : goal.returns-in-None
 unfolding mistake_of
 returns-in-None c =
     let attrs = map given_by c.args.attrs.now in
-    c.key_mistake.ensures ∙ ap (λ (v : ℤ). key_mistake c.args.instrument.now attrs v) (to_z-of_z w64 c.args.value c.ranges.value)
-    ∙ found_later (λ given. DuplicateKey given.0) (first_repeated attrs) (key_mistake c.args.instrument.now attrs c.args.value) (sym c.in-None.ensures)
+    c.key_mistake.ensures ∙ ap (λ (v : ℤ). key_mistake c.args.instrument.now attrs c.args.is_combined v) (to_z-of_z w64 c.args.value c.ranges.value)
+    ∙ found_later (λ given. DuplicateKey given.0) (first_repeated attrs) (key_mistake c.args.instrument.now attrs c.args.is_combined c.args.value) (sym c.in-None.ensures)

@@ -14,7 +14,7 @@ unfolding value_mistake
 returns-in-Some c =
     let test = λ (given : Given). not (has_declared_value c.args.instrument.now.keys given) in
     let attrs = map given_by c.args.attrs.now in
-    found_first (λ given. UnknownValue given.0 given.1) (find test attrs) (given_by c.in-Some.attr.now) (missing_mistake c.args.instrument.now attrs c.args.value)
+    found_first (λ given. UnknownValue given.0 given.1) (find test attrs) (given_by c.in-Some.attr.now) (missing_mistake c.args.instrument.now attrs c.args.is_combined c.args.value)
     (find-map test given_by c.args.attrs.now ∙ ap (option_map given_by) (sym c.in-Some.ensures))
 
 pub returns-in-None : goal.returns-in-None
@@ -22,6 +22,6 @@ unfolding value_mistake
 returns-in-None c =
     let test = λ (given : Given). not (has_declared_value c.args.instrument.now.keys given) in
     let attrs = map given_by c.args.attrs.now in
-    c.missing_mistake.ensures ∙ ap (λ (v : ℤ). missing_mistake c.args.instrument.now attrs v) (to_z-of_z w64 c.args.value c.ranges.value)
-    ∙ found_later (λ given. UnknownValue given.0 given.1) (find test attrs) (missing_mistake c.args.instrument.now attrs c.args.value)
+    c.missing_mistake.ensures ∙ ap (λ (v : ℤ). missing_mistake c.args.instrument.now attrs c.args.is_combined v) (to_z-of_z w64 c.args.value c.ranges.value)
+    ∙ found_later (λ given. UnknownValue given.0 given.1) (find test attrs) (missing_mistake c.args.instrument.now attrs c.args.is_combined c.args.value)
     (find-map test given_by c.args.attrs.now ∙ ap (option_map given_by) (sym c.in-None.ensures))
