@@ -4,3 +4,4 @@ pub mod Mapped
 mod Numbers
 mod Refusing
 mod Rooms
+mod Told

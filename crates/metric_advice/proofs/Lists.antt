@@ -15,11 +15,10 @@ numbered_all R a zero [] d long each = tt
 numbered_all R a zero (y ∷ ys) d long each = absurd (omega (arith, long))
 numbered_all R a (suc n) [] d long each = absurd (omega (arith, long))
 numbered_all R a (suc n) (y ∷ ys) d long each =
-    let first : a + 0 ≡ a = omega arith in
-    (
+    let first : a + 0 ≡ a = omega arith in (
       subst (λ (k : ℕ). R k y) first (each 0 (omega arith)),
       numbered_all R (a + 1) n ys d (omega (arith, long))
-      (λ i less. (let is : a + suc i ≡ a + 1 + i = omega arith in subst (λ (k : ℕ). R k (get_or ys i d)) is (each (suc i) (omega arith)))),
+          (λ i less. (let is : a + suc i ≡ a + 1 + i = omega arith in subst (λ (k : ℕ). R k (get_or ys i d)) is (each (suc i) (omega arith)))),
     )
 
 -- a table that has at each place what a function gives for the place

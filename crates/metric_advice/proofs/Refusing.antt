@@ -84,7 +84,7 @@ on_one instrument attrs value =
     let missing = find (λ key. not (is_complete attrs key)) keys in
     let mistake = λ (encoded : Result (List ℕ) Refusal). option_map refusal_of (option_map (On instrument.name) (mistake_by repeats undeclared unknown missing (is_combined encoded) within value instrument.lo instrument.hi)) in
     let same : encoded_by (has_repeated_key attrs) (list_all (is_declared keys) attrs) (list_all (has_declared_value keys) attrs) (list_all (is_complete attrs) keys) set permitted
-        ≡ encoded_by (is_some repeats) (not (is_some undeclared)) (not (is_some unknown)) (not (is_some missing)) set permitted =
+    ≡ encoded_by (is_some repeats) (not (is_some undeclared)) (not (is_some unknown)) (not (is_some missing)) set permitted =
     ap (λ (b : Bool). encoded_by b (list_all (is_declared keys) attrs) (list_all (has_declared_value keys) attrs) (list_all (is_complete attrs) keys) set permitted) (repeated_found attrs)
     ∙ ap (λ (b : Bool). encoded_by (is_some repeats) b (list_all (has_declared_value keys) attrs) (list_all (is_complete attrs) keys) set permitted) (all_not_found (is_declared keys) attrs)
     ∙ ap (λ (b : Bool). encoded_by (is_some repeats) (not (is_some undeclared)) b (list_all (is_complete attrs) keys) set permitted) (all_not_found (has_declared_value keys) attrs)

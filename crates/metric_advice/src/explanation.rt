@@ -62,7 +62,13 @@ pub fn explain_refusal<'a>(
         ≡ result_err (said_of catalogue.now.instruments instrument (map given_by attrs.now) value) }
 {
     let is_combined = is_combined(&catalogue.encode(instrument, attrs));
-    explained(catalogue.instruments(), instrument, attrs, is_combined, value)
+    explained(
+        catalogue.instruments(),
+        instrument,
+        attrs,
+        is_combined,
+        value,
+    )
 }
 
 // Whether a set key was not refused for its combination.

@@ -196,7 +196,12 @@ fn tighten_all(
     for (number, stream) in streams.iter().enumerate() {
         let most = most_by_series(alloc, catalogue, stream)?;
         let number = number as u32;
-        tighten_one(all, stream.instrument, most, Limit::Series { stream: number });
+        tighten_one(
+            all,
+            stream.instrument,
+            most,
+            Limit::Series { stream: number },
+        );
     }
     Ok(())
 }

@@ -14,5 +14,5 @@ returns c =
     let is : step ≡ above i.hi = c.above.ensures ∙ ap above (to_z-of_z w64 i.hi fits) in
     same_most (λ t. t * step ≤ 2 ^ 63 - 1) (λ t. IsTrue c.args.is_summed → HighFits t i) c.most_within.result
     (λ t small summed. high_fits t i (subst (λ (b : ℕ). t * b ≤ 2 ^ 63 - 1) is small))
-    (λ t fit. subst (λ (b : ℕ). t * b ≤ 2 ^ 63 - 1) (sym is) (high_fitted t i (fit c.if-is_summed.false)))
+    (λ t fit. subst (λ (b : ℕ). t * b ≤ 2 ^ 63 - 1) (sym is) (high_fitted t i (fit c.if-not-is_summed.false)))
     c.most_within.ensures

@@ -14,5 +14,5 @@ returns c =
     let is : step ≡ below i.lo = c.below.ensures ∙ ap below (to_z-of_z w64 i.lo fits) in
     same_most (λ t. t * step ≤ 2 ^ 63) (λ t. IsTrue c.args.is_summed → LowFits t i) c.most_within.result
     (λ t small summed. low_fits t i (subst (λ (b : ℕ). t * b ≤ 2 ^ 63) is small))
-    (λ t fit. subst (λ (b : ℕ). t * b ≤ 2 ^ 63) (sym is) (low_fitted t i (fit c.if-is_summed.false)))
+    (λ t fit. subst (λ (b : ℕ). t * b ≤ 2 ^ 63) (sym is) (low_fitted t i (fit c.if-not-is_summed.false)))
     c.most_within.ensures
