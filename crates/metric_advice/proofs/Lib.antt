@@ -1,4 +1,5 @@
 mod EdgeLaws
+mod Headers
 mod Lists
 pub mod Mapped
 mod Numbers
