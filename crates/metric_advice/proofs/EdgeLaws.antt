@@ -1,6 +1,5 @@
 -- Where several questions, asked one after the other, first find something.
-use Rattle.std.proofs.Common.{◌≡◌, ℕ, ◌+◌, ◌<◌, ◌≤◌, ◌⊎◌, inl, inr, Bool, true, false, cond, ltb, eqb, List, [], ◌∷◌, fold, Option, Some, None, refl, arith}
-use Rattle.std.specs.Prelude.{min}
+use Rattle.std.proofs.Common.{◌≡◌, ℕ, ◌+◌, inl, inr, Bool, true, false, cond, ltb, eqb, List, [], ◌∷◌, fold, Option, Some, None, refl, arith}
 use Rattle.std.proofs.lemmas.Bool.{eqb-true, eq-eqb, ltb-false, ltb-true}
 use Rattle.metric_bounds.specs.First.{Asks, Each, Then}
 use Rattle.metric_bounds.specs.Sets.{sets_of}

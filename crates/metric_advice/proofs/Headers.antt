@@ -6,7 +6,6 @@ use Rattle.std.specs.List.{enumerate_from}
 use Rattle.std.proofs.lemmas.Bool.{eqb-true}
 use Rattle.std.proofs.lemmas.List.{drop_all, length-map}
 use Rattle.std.proofs.lemmas.List.FromFn.{length-enumerate_from}
-use Rattle.metric_advice.specs.declared.position.Position.{Position}
 use Rattle.metric_advice.specs.Positions.{begins, begins_with, indent_of, position_of}
 
 -- the lines with their numbers

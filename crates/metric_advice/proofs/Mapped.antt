@@ -1,5 +1,5 @@
 -- A test over attributes is the same test over what they give.
-use Rattle.std.proofs.Common.{◌≡◌, Bool, true, false, cond, ◌||◌, List, [], ◌∷◌, map, Option, Some, find, refl, sym, ap, ◌∙◌}
+use Rattle.std.proofs.Common.{◌≡◌, Bool, true, false, cond, ◌||◌, List, [], ◌∷◌, map, Some, find, refl, ap}
 use Rattle.std.specs.List.{list_any}
 use Rattle.std.specs.Option.{option_map}
 

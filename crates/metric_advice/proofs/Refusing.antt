@@ -1,5 +1,5 @@
 -- The first mistake is of the first refusal.
-use Rattle.std.proofs.Common.{◌≡◌, ℕ, ℤ, Bool, true, false, cond, not, ◌&&◌, ◌||◌, is_some, List, [], ◌∷◌, Option, Some, None, Result, Ok, Err, slice_get, find, refl, sym, ap, ◌∙◌}
+use Rattle.std.proofs.Common.{◌≡◌, ℕ, ℤ, Bool, true, false, cond, not, ◌&&◌, ◌||◌, is_some, List, [], ◌∷◌, Option, Some, None, Result, Ok, slice_get, find, refl, sym, ap, ◌∙◌}
 use Rattle.std.specs.List.{list_all, list_any}
 use Rattle.std.specs.Option.{option_map, option_or}
 use Rattle.std.specs.Result.{result_err}
@@ -10,7 +10,7 @@ use Rattle.metric_catalogue.specs.declared.contents.Key.{Key}
 use Rattle.metric_catalogue.specs.declared.refusal.Refusal.{Refusal}
 use Rattle.metric_catalogue.specs.declared.refusal.Refusal.TheVariants as refusals
 use Rattle.metric_catalogue.specs.Encoding.{Given, allowed_set, encode_of, has_declared_value, has_repeated_key, is_complete, is_declared, is_of, set_key, set_of}
-use Rattle.metric_advice.specs.Explanations.{Fault, DuplicateKey, UnknownKey, UnknownValue, MissingKey, Combination, ValueRange, Told, On, explained, explained_with, first_repeated, is_combined, is_in_range, key_mistake, missing_mistake, mistake_of, refusal_of, said_of, value_mistake}
+use Rattle.metric_advice.specs.Explanations.{Fault, DuplicateKey, UnknownKey, UnknownValue, MissingKey, Combination, ValueRange, On, explained, explained_with, first_repeated, is_combined, is_in_range, key_mistake, missing_mistake, mistake_of, refusal_of, said_of, value_mistake}
 
 -- what is found where a test does not hold of all
 all_not_found : {X : Type 0} (p : X → Bool) (xs : List X) → list_all p xs ≡ not (is_some (find (λ x. not (p x)) xs))

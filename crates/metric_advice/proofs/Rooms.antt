@@ -1,10 +1,10 @@
 -- The headroom of an instrument.
-use Rattle.std.proofs.Common.{◌≡◌, ℕ, ◌+◌, ◌-◌, ◌^◌, ◌<◌, ◌≤◌, Bool, true, false, cond, ltb, eqb, IsTrue, List, [], ◌∷◌, fold, Option, Some, None, refl, sym, subst, ◌∙◌, arith}
+use Rattle.std.proofs.Common.{◌≡◌, ℕ, ◌-◌, ◌^◌, Bool, true, false, cond, ltb, eqb, IsTrue, List, [], ◌∷◌, fold, Option, Some, None, refl, sym, subst, ◌∙◌, arith}
 use Rattle.std.specs.List.{enumerate_from}
 use Rattle.std.specs.Prelude.{slice_get}
 use Rattle.metric_bounds.specs.Amounts.{total_of}
 use Rattle.metric_bounds.specs.Finding.{WhereThere}
-use Rattle.metric_bounds.specs.First.{Asks, Each, Then}
+use Rattle.metric_bounds.specs.First.{Asks, Then}
 use Rattle.metric_bounds.specs.Safe.{AmountsFit, CountsFit, HighFits, LowFits}
 use Rattle.metric_bounds.specs.Sums.{is_summed}
 use Rattle.metric_catalogue.specs.declared.contents.Contents.{Contents}
@@ -15,7 +15,7 @@ use Rattle.metric_advice.specs.declared.limit.Limit.{Limit}
 use Rattle.metric_advice.specs.declared.limit.Limit.TheVariants.{Count, Amount, SumLow, SumHigh, Series}
 use Rattle.metric_advice.specs.Edges.{IsEdge, IsMost}
 use Rattle.metric_advice.specs.Headrooms.{IsHeadroom, IsOwnHeadroom, most_by_series, tightened, tightened_at}
-use Rattle.metric_advice.specs.Limits.{OwnFinds, OwnFindsAt, StreamFinds, plain}
+use Rattle.metric_advice.specs.Limits.{OwnFinds, OwnFindsAt, plain}
 use Rattle.metric_advice.proofs.EdgeLaws.{asked_edge, four_grouped, streams_edge, tightened_edge}
 
 -- the total stays

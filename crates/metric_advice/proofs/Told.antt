@@ -1,5 +1,5 @@
 -- Lists that are told one after the other.
-use Rattle.std.proofs.Common.{◌≡◌, List, ◌++◌, Result, Ok, Err, append_assoc, sym, ap, ◌∙◌}
+use Rattle.std.proofs.Common.{◌≡◌, List, ◌++◌, Result, Ok, Err, append_assoc, ap, ◌∙◌}
 use Rattle.std.specs.Prelude.{OnOk}
 
 -- what follows from what a call did that did not fail

@@ -1,5 +1,5 @@
 -- What is found of an instrument that is recorded so often. The questions stand in the order in which they are asked.
-use Rattle.std.specs.Prelude.{◌≡◌, ℕ, ◌≤◌, min, IsTrue, List, Option, Some, None, slice_get}
+use Rattle.std.specs.Prelude.{◌≡◌, ℕ, ◌≤◌, min, IsTrue, List, Option, slice_get}
 use Rattle.std.specs.List.{enumerate_from}
 use Rattle.metric_catalogue.specs.declared.contents.Contents.{Contents}
 use Rattle.metric_catalogue.specs.declared.contents.Instrument.{Instrument}

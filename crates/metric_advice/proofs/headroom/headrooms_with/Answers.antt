@@ -1,5 +1,5 @@
 -- one instrument more
-use Rattle.std.proofs.Common.{◌<◌, length, false, ap, ◌∙◌, ◌+◌, arith}
+use Rattle.std.proofs.Common.{◌<◌, length, false, ap, ◌∙◌, arith}
 use Rattle.metric_bounds.specs.Amounts.{total_of}
 use Rattle.metric_bounds.specs.Sums.{is_summed}
 use Rattle.metric_advice.specs.Headrooms.{IsOwnHeadroom}

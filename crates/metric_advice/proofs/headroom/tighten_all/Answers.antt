@@ -1,5 +1,5 @@
 -- one stream more
-use Rattle.std.proofs.Common.{◌<◌, ◌==◌, ℕ, List, Option, fold, if◌then◌else◌, length, get_or, take, take_all, sym, ap, ◌∙◌, arith}
+use Rattle.std.proofs.Common.{◌<◌, ◌==◌, ℕ, List, Option, fold, if◌then◌else◌, length, get_or, take_all, sym, ap, ◌∙◌, arith}
 use Rattle.std.specs.List.{enumerate_from}
 use Rattle.metric_views.specs.declared.stream.Stream.{Stream}
 use Rattle.metric_advice.specs.declared.headroom.Headroom.{Headroom}

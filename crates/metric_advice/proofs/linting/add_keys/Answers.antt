@@ -1,5 +1,5 @@
 -- one key more
-use Rattle.std.proofs.Common.{◌≡◌, ℕ, Bool, ◌++◌, List, not, take, take_all, ap, ◌∙◌, arith}
+use Rattle.std.proofs.Common.{ℕ, Bool, ◌++◌, List, not, take_all, ap, ◌∙◌, arith}
 use Rattle.std.specs.List.{enumerate_from, flat_map}
 use Rattle.metric_advice.specs.declared.remark.Remark.TheVariants.{UnknownKey}
 use Rattle.metric_advice.specs.Remarks.{is_declared_by, key_remark, when}

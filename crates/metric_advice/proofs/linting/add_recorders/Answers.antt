@@ -1,5 +1,5 @@
 -- one recorder more
-use Rattle.std.proofs.Common.{◌≡◌, ℕ, ◌++◌, ◌==◌, List, take, take_all, ap, ◌∙◌, arith}
+use Rattle.std.proofs.Common.{ℕ, ◌++◌, ◌==◌, List, take_all, ap, ◌∙◌, arith}
 use Rattle.std.specs.List.{enumerate_from, flat_map}
 use Rattle.metric_catalogue.specs.declared.contents.Recorder.{Recorder}
 use Rattle.metric_advice.specs.declared.remark.Remark.TheVariants.{NoBudget}

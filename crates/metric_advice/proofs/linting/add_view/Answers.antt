@@ -1,7 +1,6 @@
 -- what a view selects, keeps and excludes, and its boundaries
 use Rattle.std.proofs.Common.{◌≡◌, ◌&&◌, Bool, ◌++◌, List, Option, Some, false, get_or, length, is_some, not, slice_get, sym, ap, ◌∙◌, arith}
 use Rattle.metric_views.specs.declared.config.View.{View}
-use Rattle.metric_advice.specs.declared.remark.Remark.{Remark}
 use Rattle.metric_advice.specs.declared.remark.Remark.TheVariants.{UnusedBoundaries}
 use Rattle.metric_advice.specs.Remarks.{boundaries_remarks, settings_remarks, view_remarks, view_remarks_with, when}
 use Rattle.metric_advice.proofs.Lists.{element_at}

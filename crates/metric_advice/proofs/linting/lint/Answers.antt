@@ -1,5 +1,5 @@
 -- all remarks, one kind after the other
-use Rattle.std.proofs.Common.{◌≡◌, ℕ, Bool, ◌++◌, ◌==◌, List, length, map, sym, ap, subst, ◌∙◌, arith}
+use Rattle.std.proofs.Common.{◌≡◌, ℕ, Bool, ◌++◌, ◌==◌, List, length, map, ap, subst, ◌∙◌, arith}
 use Rattle.std.specs.List.{AllZip, flat_map, range_with_len}
 use Rattle.std.proofs.lemmas.List.FromFn.{length-map-range_with_len, length-range_with_len}
 use Rattle.std.proofs.lemmas.Slice.Zip.{AllZip-long}
@@ -8,7 +8,6 @@ use Rattle.metric_views.specs.declared.stream.Stream.{Stream}
 use Rattle.metric_resolve.specs.Applying.{all_instruments, all_views}
 use Rattle.metric_resolve.specs.Resolved.{streams_of}
 use Rattle.metric_resolve.specs.Warnings.{warnings_of}
-use Rattle.metric_resolve.specs.declared.warning.Warning.{Warning}
 use Rattle.metric_advice.specs.declared.headroom.Headroom.{Headroom}
 use Rattle.metric_advice.specs.declared.remark.Remark.{Remark}
 use Rattle.metric_advice.specs.declared.remark.Remark.TheVariants.{NoReader}

@@ -1,5 +1,5 @@
 -- what is left when the line ends
-use Rattle.std.proofs.Common.{ℕ, List, drop, filter, not, sym, ap, ◌∙◌, arith}
+use Rattle.std.proofs.Common.{ℕ, List, filter, not, sym, ap, ◌∙◌, arith}
 use Rattle.std.proofs.lemmas.List.{drop_all}
 use Rattle.metric_advice.specs.Positions.{begins_with, skips}
 use Rattle.metric_advice.proofs.Headers.{empty_begins}
