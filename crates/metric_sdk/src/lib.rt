@@ -6,6 +6,9 @@
 //!    recorders with their budgets. [`Config::read`] reads the metric readers and views. Each answers its first fault,
 //!    a [`CatalogueFault`] or a [`ViewFault`], with its place. Wherever a value has a [`Text`] or an [`Items`], it is a
 //!    `String` or a `Vec` that contracts see as a text or a list: read it by `as_str` and `as_slice`.
+//!    Of the two together [`lint`] gives a [`Remark`] on each thing that looks like a mistake, and [`headrooms`] how often each
+//!    instrument may be recorded, its [`Headroom`]. [`locate_in_catalogue`] and [`locate_in_config`] give the [`Position`] of
+//!    a fault, [`explain_refusal`] the [`Explanation`] of a recording that is refused for what it says.
 //! 2. **Certificate.** [`make`] gives a [`Certificate`] that catalogue and config are safe, or a [`MakeFault`];
 //!    `Certificate::write` and `Certificate::read` take it from one machine to another. [`check`] trusts nobody: it
 //!    gives the certified [`Plan`], or a [`CheckFault`]. [`certified_plan`] does all this from the two texts.
@@ -42,6 +45,10 @@ mod setup;
 mod tables;
 
 pub use fault::SetupFault;
+pub use metric_advice::{
+    Explanation, Headroom, KeyList, Limit, Mistake, Position, Remark, explain_refusal, headrooms,
+    lint, locate_in_catalogue, locate_in_config,
+};
 pub use metric_aggregate::PointValue;
 pub use metric_audit::{AuditFault, Audited, audit};
 pub use metric_base::{Items, Text};
