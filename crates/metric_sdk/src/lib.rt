@@ -17,7 +17,8 @@
 //!    [`Gate`], by which a test holds threads inside a lock. Services take [`Marked`] and [`NoGate`]: a
 //!    [`MeterProvider`], of whose tables [`tables_are_bounded`] speaks. A service that has to prove its numbers to somebody,
 //!    for billing or after an incident, takes [`Audited`] in place of [`Marked`]: beside the tables it keeps each recording,
-//!    32 bytes in the list of its instrument and 24 in the seat of its recorder, so it takes memory as long as it runs.
+//!    32 bytes in the list of its instrument and 24 in the seat of its recorder, so it takes memory as long as it runs, and
+//!    some 70 nanoseconds more for each of them.
 //! 4. **Recording.** A thread records with a [`Recorder`], by the number of the instrument, its [`Attr`]s, each a key
 //!    with a [`ValueRef`], and the value. What is not counted is answered by a [`Refusal`]: where an instrument lists its
 //!    allowed [`Combinations`], also attributes that are none of them ([`Refusal::Combination`]), though each is declared.
