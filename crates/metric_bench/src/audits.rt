@@ -60,7 +60,7 @@ fn plan_of(alloc: Global, series: u32) -> anyhow::Result<Plan> {
 }
 
 /// Makes a journal of so many series with its slips and batches, and audits it. How many entries and batches there are.
-pub(crate) fn audited<R: Wait + Clock>(
+pub(crate) fn audit_done<R: Wait + Clock>(
     rt: &R,
     alloc: Global,
     series: u32,

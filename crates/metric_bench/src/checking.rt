@@ -7,7 +7,7 @@ use crate::seats::started;
 use crate::watch::Watch;
 use crate::works::Work;
 use metric_resolve::resolve;
-use metric_sdk::{Catalogue, Certificate, Config, Plan, certified_plan, check, make};
+use metric_sdk::{Catalogue, Certificate, Config, Marked, Plan, certified_plan, check, make};
 use std::alloc::Global;
 use std::sync::Wait;
 use std::time::Clock;
@@ -233,7 +233,7 @@ fn start_once<R: Wait + Clock>(
 ) -> anyhow::Result<u64> {
     let plan = certified_plan(alloc, &texts.catalogue, &texts.config)?;
     watch.start(rt);
-    let seats = started(rt, alloc, plan);
+    let seats = started::<R, Marked>(rt, alloc, plan);
     watch.stop(rt);
     Ok(seats?.recorders.len() as u64)
 }
@@ -289,7 +289,7 @@ fn make_once<R: Clock>(
     watch.start(rt);
     let certificate = make(alloc, &files.catalogue, &files.config);
     watch.stop(rt);
-    Ok(certificate?.streams.len() as u64)
+    Ok(certificate?.claims().streams.len() as u64)
 }
 
 fn check_once<R: Clock>(

@@ -1,5 +1,5 @@
 //! The works that are measured, and the least time that each takes.
-use crate::audits::audited;
+use crate::audits::audit_done;
 use crate::by_hand::{Hash, add_at_places, add_by_texts};
 use crate::checking::{Step, Texts, step_done};
 use crate::combined::ask_for_rows;
@@ -61,7 +61,7 @@ impl Work<'_> {
             Work::Values(boundaries, events) => add_values(alloc, boundaries, *events),
             Work::Step(step, texts) => step_done(rt, alloc, *step, texts, watch),
             Work::Replay(input) => replayed(alloc, input),
-            Work::Audit(series) => audited(rt, alloc, *series, watch),
+            Work::Audit(series) => audit_done(rt, alloc, *series, watch),
         }
     }
 }

@@ -1,5 +1,5 @@
 -- The text that is made piece by piece is read as the certificate.
-use Rattle.std.proofs.Common.{◌≡◌, ℕ, pos, ◌^◌, ◌≤◌, ◌==◌, ◌||◌, ◌&&◌, not, ◌⊎◌, inl, inr, Bool, true, false, cond, codes, List, [], ◌∷◌, ◌++◌, length, Some, Result, Ok, Err, is_ok, refl, sym, ap, subst, ◌∙◌, arith, lit≤, append_assoc, append-nil, length-append}
+use Rattle.std.proofs.Common.{◌≡◌, ℕ, pos, ◌^◌, ◌≤◌, ◌==◌, ◌||◌, ◌&&◌, not, ◌⊎◌, inl, inr, Bool, true, false, cond, codes, List, [], ◌∷◌, ◌++◌, length, Some, Result, Ok, Err, is_ok, refl, sym, ap, subst, ◌∙◌, arith, append_assoc, append-nil, length-append}
 use Rattle.std.specs.Prelude.{OnOk}
 use Rattle.std.specs.List.{list_any}
 use Rattle.std.proofs.lemmas.Bool.{and_parts, eqb-true}
@@ -19,7 +19,7 @@ use Rattle.metric_cert.specs.Bounds.{bound_of}
 use Rattle.metric_cert.specs.Certificates.{certificate_from, certificate_of, claims_of}
 use Rattle.metric_cert.specs.Formats.{has_list, is_formatted}
 use Rattle.metric_cert.specs.Orders.{order_of}
-use Rattle.metric_cert.specs.Printing.{AppendsEntries, AppendsEntry, AppendsLines, AppendsLists, IsFieldText, pair, pair_of, pair_where, pairs_of}
+use Rattle.metric_cert.specs.Printing.{AppendsEntries, AppendsEntry, AppendsLines, AppendsLists, IsFieldText, pair_of, pair_where, pairs_of}
 use Rattle.metric_cert.specs.Reading.{needed, table_as, tables_as}
 use Rattle.metric_cert.specs.Reasons.{reason_of}
 use Rattle.metric_cert.specs.Streams.{stream_of}

@@ -6,6 +6,9 @@
 //!    recorders with their budgets. [`Config::read`] reads the metric readers and views. Each answers its first fault,
 //!    a [`CatalogueFault`] or a [`ViewFault`], with its place. Wherever a value has a [`Text`] or an [`Items`], it is a
 //!    `String` or a `Vec` that contracts see as a text or a list: read it by `as_str` and `as_slice`.
+//!    Of the two together [`lint`] gives a [`Remark`] on each thing that looks like a mistake, and [`headrooms`] how often each
+//!    instrument may be recorded, its [`Headroom`]. [`locate_in_catalogue`] and [`locate_in_config`] give the [`Position`] of
+//!    a fault, [`explain_refusal`] the [`Explanation`] of a recording that is refused for what it says.
 //! 2. **Certificate.** [`make`] gives a [`Certificate`] that catalogue and config are safe, or a [`MakeFault`];
 //!    `Certificate::write` and `Certificate::read` take it from one machine to another. [`check`] trusts nobody: it
 //!    gives the certified [`Plan`], or a [`CheckFault`]. [`certified_plan`] does all this from the two texts.
@@ -14,7 +17,8 @@
 //!    [`Gate`], by which a test holds threads inside a lock. Services take [`Marked`] and [`NoGate`]: a
 //!    [`MeterProvider`], of whose tables [`tables_are_bounded`] speaks. A service that has to prove its numbers to somebody,
 //!    for billing or after an incident, takes [`Audited`] in place of [`Marked`]: beside the tables it keeps each recording,
-//!    32 bytes in the list of its instrument and 24 in the seat of its recorder, so it takes memory as long as it runs.
+//!    32 bytes in the list of its instrument and 24 in the seat of its recorder, so it takes memory as long as it runs, and
+//!    some 70 nanoseconds more for each of them.
 //! 4. **Recording.** A thread records with a [`Recorder`], by the number of the instrument, its [`Attr`]s, each a key
 //!    with a [`ValueRef`], and the value. What is not counted is answered by a [`Refusal`]: where an instrument lists its
 //!    allowed [`Combinations`], also attributes that are none of them ([`Refusal::Combination`]), though each is declared.
@@ -42,6 +46,10 @@ mod setup;
 mod tables;
 
 pub use fault::SetupFault;
+pub use metric_advice::{
+    Explanation, Headroom, KeyList, Limit, Mistake, Position, Remark, explain_refusal, headrooms,
+    lint, locate_in_catalogue, locate_in_config,
+};
 pub use metric_aggregate::PointValue;
 pub use metric_audit::{AuditFault, Audited, audit};
 pub use metric_base::{Items, Text};

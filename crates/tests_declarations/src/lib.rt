@@ -6,6 +6,8 @@
 #![tactic(auto)]
 
 #[cfg(test)]
+mod advice;
+#[cfg(test)]
 mod catalogue;
 #[cfg(test)]
 mod certificates;

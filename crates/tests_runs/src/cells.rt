@@ -2,6 +2,7 @@
 use crate::equal::assert_equal;
 use crate::plans::plan_of;
 use metric_core::Cell;
+use metric_facts::is_allowed_set;
 use metric_lines::push_batch;
 use metric_marked::Marked;
 use metric_plan::Plan;
@@ -60,9 +61,10 @@ point {} start=130 time=130 count=1 buckets=[1,0] sum=2 min=2 max=2
 // Makes a recording without attributes.
 fn record(cell: &mut Cell<Marked>, recorder: u32, value: i64) -> Result<(), Fail> {
     let facts = cell.facts();
+    let set = [0; 8];
     let is_known = (recorder as usize) < facts.budgets.len();
-    if is_known && facts.keys.is_empty() && facts.admits(&value) {
-        Ok(cell.record(recorder, [0; 8], value)?)
+    if is_known && is_allowed_set(facts, &set) && facts.admits(&value) {
+        Ok(cell.record(recorder, set, value)?)
     } else {
         Err("not of this instrument".into())
     }

@@ -5,7 +5,7 @@ ghost use Rattle.metric_provider.specs.Totals.{AreAllSeats};
 use crate::equal::assert_equal;
 use crate::samples::{HITS, MAIN};
 use crate::texts::{write_batch, write_numbers};
-use metric_facts::Facts;
+use metric_facts::{Facts, is_allowed_set};
 use metric_marked::Marked;
 use metric_plan::Plan;
 use metric_provider::{NoGate, Recorder, Slot, Told, settle, start};
@@ -16,14 +16,15 @@ use std::test::Fail;
 
 // Writes the answer to a recording, and what its recorder was told.
 fn write_recorded(out: &mut String, slot: &mut Slot<Marked>, facts: &Facts) -> Result<(), Fail> {
-    if !facts.keys.is_empty() || facts.budgets.is_empty() || !facts.admits(&5) {
+    let set = [0; 8];
+    if !is_allowed_set(facts, &set) || facts.budgets.is_empty() || !facts.admits(&5) {
         return Err(Fail::from("no such recording"));
     }
     let mut told = Told {
         count: 0,
         amount: 0,
     };
-    let answer = slot.record(facts, &mut told, 0, [0; 8], 5);
+    let answer = slot.record(facts, &mut told, 0, set, 5);
     Ok(writeln!(out, "{answer:?} {told:?}")?)
 }
 

@@ -1,5 +1,5 @@
 -- a product within the limit fits
-use Rattle.std.proofs.Common.{◌≡◌, ◌≤◌, subst, arith}
+use Rattle.std.proofs.Common.{◌≤◌, arith}
 use Rattle.metric_bounds.specs.Sets.{product_of, sets_of}
 use Rattle.metric_cert.proofs.Entries.{product_fits}
 use Rattle.metric_cert.proofs.make_streams.entry_of.Goals as goal

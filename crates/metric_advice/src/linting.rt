@@ -1,0 +1,261 @@
+//! Remarks on a catalogue and a config.
+ghost use Rattle.std.specs.Prelude.{◌≡◌, ◌<◌, ◌≤◌, ◌++◌, ◌&&◌, IfOk, OnOk, is_some, length, map, nat_lt, not};
+ghost use Rattle.std.specs.List.{flat_map, list_any};
+ghost use Rattle.metric_resolve.specs.Applying.{all_instruments, all_views};
+ghost use Rattle.metric_advice.specs.Remarks.{AreRemarks, instrument_remarks, key_remarks, list_remarks, recorder_remarks, remark_of, selection_remarks, settings_remarks, view_remarks, when};
+
+use crate::headroom::{Headroom, headrooms_of};
+use crate::histograms::histogram_views;
+use crate::remark::{KeyList, Remark};
+use crate::selected::{is_declared_by, selected_by};
+use metric_base::{Few, Items, Text};
+use metric_catalogue::{Catalogue, Recorder};
+use metric_resolve::{Warning, resolve};
+use metric_views::{Config, Settings};
+use std::alloc::{AllocError, Global};
+
+/// Everything that looks like a mistake in a catalogue and a config, in this order: unfit views and collisions, as `resolve` tells
+/// them; then of each view whether it selects nothing, each key of `keep` and of `exclude` that no selected instrument declares,
+/// and boundaries without effect; then of each instrument each recorder without a budget for it, and budgets above its headroom;
+/// then that there is no reader. Fails only where memory is refused.
+pub fn lint(
+    alloc: Global,
+    catalogue: &Catalogue,
+    config: &Config,
+) -> Result<Items<Remark>, AllocError>
+    ensures { IfOk result (AreRemarks catalogue.now config.now) }
+{
+    let streams = resolve(alloc, catalogue, config)?;
+    let rooms = headrooms_of(alloc, catalogue, streams.list())?;
+    let histograms = histogram_views(alloc, streams.list(), config.views().len())?;
+    let mut remarks = warning_remarks(alloc, streams.warnings())?;
+    add_views(
+        alloc,
+        &mut remarks,
+        catalogue,
+        config,
+        histograms.as_slice(),
+    )?;
+    add_instruments(&mut remarks, catalogue, rooms.as_slice())?;
+    let is_unread = config.readers().is_empty();
+    add_when(&mut remarks, is_unread, Remark::NoReader)?;
+    Ok(remarks)
+}
+
+// The remarks of warnings.
+fn warning_remarks(alloc: Global, warnings: &[Warning]) -> Result<Items<Remark>, AllocError>
+    ensures { IfOk result (λ remarks. remarks ≡ map remark_of warnings.now) }
+{
+    let mut remarks = Items::new(alloc);
+    for warning in warnings {
+        remarks.push(remark_of(*warning))?;
+    }
+    Ok(remarks)
+}
+
+fn remark_of(warning: Warning) -> Remark
+    ensures { result ≡ remark_of warning }
+{
+    match warning {
+        Warning::Unfit { view, instrument } => Remark::Unfit { view, instrument },
+        Warning::Collision { a, b } => Remark::Collision { first: a, later: b },
+    }
+}
+
+// Puts the remarks on all views last.
+fn add_views(
+    alloc: Global,
+    remarks: &mut Items<Remark>,
+    catalogue: &Catalogue,
+    config: &Config,
+    histograms: &[bool],
+) -> Result<(), AllocError>
+    requires { length histograms.now ≡ length config.now.views }
+    ensures { OnOk result (remarks.new ≡ remarks.old
+        ++ flat_map (view_remarks catalogue.now config.now histograms.now) (all_views config.now)) }
+{
+    for view in 0..config.views().len() as u32 {
+        add_view(alloc, remarks, catalogue, config, histograms, view)?;
+    }
+    Ok(())
+}
+
+// Puts the remarks on the view of this number last.
+fn add_view(
+    alloc: Global,
+    remarks: &mut Items<Remark>,
+    catalogue: &Catalogue,
+    config: &Config,
+    histograms: &[bool],
+    view: u32,
+) -> Result<(), AllocError>
+    requires view { view < length config.now.views }
+    requires histograms { length histograms.now ≡ length config.now.views }
+    ensures { OnOk result (remarks.new ≡ remarks.old
+        ++ view_remarks catalogue.now config.now histograms.now view) }
+{
+    let selected = selected_by(alloc, catalogue, config, view)?;
+    let settings = &config.views()[view as usize].settings;
+    add_settings(remarks, catalogue, selected.as_slice(), settings, view)?;
+    let is_unused = has_unused_boundaries(settings, histograms[view as usize]);
+    add_when(remarks, is_unused, Remark::UnusedBoundaries { view })
+}
+
+// Whether a view gives boundaries that no histogram has.
+fn has_unused_boundaries(settings: &Settings, makes_histogram: bool) -> bool
+    ensures { result ≡ (is_some settings.now.boundaries && not makes_histogram) }
+{
+    settings.boundaries.is_some() && !makes_histogram
+}
+
+// Puts the remarks on what a view selects, keeps and excludes last.
+fn add_settings(
+    remarks: &mut Items<Remark>,
+    catalogue: &Catalogue,
+    selected: &[bool],
+    settings: &Settings,
+    view: u32,
+) -> Result<(), AllocError>
+    ensures { OnOk result (remarks.new ≡ remarks.old
+        ++ settings_remarks catalogue.now selected.now settings.now view) }
+{
+    let list = KeyList::Keep;
+    add_selection(remarks, selected, view)?;
+    add_list(
+        remarks,
+        catalogue,
+        selected,
+        &settings.keep,
+        ListOf { view, list },
+    )?;
+    let list = KeyList::Exclude;
+    add_list(
+        remarks,
+        catalogue,
+        selected,
+        &settings.exclude,
+        ListOf { view, list },
+    )
+}
+
+// Puts a remark last, where it holds.
+fn add_when(remarks: &mut Items<Remark>, holds: bool, remark: Remark) -> Result<(), AllocError>
+    ensures { OnOk result (remarks.new ≡ remarks.old ++ when holds remark) }
+{
+    if holds {
+        remarks.push(remark)?;
+    }
+    Ok(())
+}
+
+// Puts it last that a view selects nothing, where no instrument is selected.
+fn add_selection(
+    remarks: &mut Items<Remark>,
+    selected: &[bool],
+    view: u32,
+) -> Result<(), AllocError>
+    ensures { OnOk result (remarks.new ≡ remarks.old ++ selection_remarks selected.now view) }
+{
+    let selects = has_selected(selected);
+    add_when(remarks, !selects, Remark::SelectsNothing { view })
+}
+
+fn has_selected(selected: &[bool]) -> bool
+    ensures { result ≡ list_any (λ is_selected. is_selected) selected.now }
+{
+    selected.iter().any(|is_selected| *is_selected)
+}
+
+// Puts the remarks on the keys of a list of a view last, where it has the list.
+fn add_list(
+    remarks: &mut Items<Remark>,
+    catalogue: &Catalogue,
+    selected: &[bool],
+    keys: &Option<Few<Text, 64>>,
+    of: ListOf,
+) -> Result<(), AllocError>
+    ensures { OnOk result (remarks.new ≡ remarks.old
+        ++ list_remarks catalogue.now selected.now of.view of.list keys.now) }
+{
+    match keys {
+        Some(keys) => add_keys(remarks, catalogue, selected, keys.as_slice(), of),
+        None => Ok(()),
+    }
+}
+
+// A list of the view of a number.
+#[derive(Clone, Copy)]
+struct ListOf {
+    view: u32,
+    list: KeyList,
+}
+
+// Puts a remark last for each key that no selected instrument declares.
+fn add_keys(
+    remarks: &mut Items<Remark>,
+    catalogue: &Catalogue,
+    selected: &[bool],
+    keys: &[Text],
+    of: ListOf,
+) -> Result<(), AllocError>
+    requires { length keys.now ≤ 64 }
+    ensures { OnOk result (remarks.new ≡ remarks.old
+        ++ key_remarks catalogue.now selected.now of.view of.list keys.now) }
+{
+    for (place, key) in keys.iter().enumerate() {
+        let remark = Remark::UnknownKey {
+            view: of.view,
+            list: of.list,
+            place: place as u32,
+        };
+        let is_declared = is_declared_by(catalogue, selected, key.as_str());
+        add_when(remarks, !is_declared, remark)?;
+    }
+    Ok(())
+}
+
+// Puts the remarks on all instruments last.
+fn add_instruments(
+    remarks: &mut Items<Remark>,
+    catalogue: &Catalogue,
+    rooms: &[Headroom],
+) -> Result<(), AllocError>
+    requires { length rooms.now ≡ length catalogue.now.instruments }
+    ensures { OnOk result (remarks.new ≡ remarks.old
+        ++ flat_map (instrument_remarks catalogue.now rooms.now) (all_instruments catalogue.now)) }
+{
+    for instrument in 0..catalogue.instruments().len() as u32 {
+        let is_over = is_over(&rooms[instrument as usize]);
+        add_recorders(remarks, catalogue.recorders(), instrument)?;
+        add_when(remarks, is_over, Remark::OverBudget { instrument })?;
+    }
+    Ok(())
+}
+
+// Whether the budgets are above the headroom.
+fn is_over(room: &Headroom) -> bool
+    ensures { result ≡ nat_lt room.now.most room.now.total }
+{
+    u128::from(room.most) < room.total
+}
+
+// Puts a remark last for each recorder without a budget for an instrument.
+fn add_recorders(
+    remarks: &mut Items<Remark>,
+    recorders: &[Recorder],
+    instrument: u32,
+) -> Result<(), AllocError>
+    requires { length recorders.now ≤ 64 }
+    ensures { OnOk result (remarks.new ≡ remarks.old
+        ++ recorder_remarks instrument recorders.now) }
+{
+    for (recorder, declared) in recorders.iter().enumerate() {
+        let remark = Remark::NoBudget {
+            instrument,
+            recorder: recorder as u32,
+        };
+        let budget = declared.budget(instrument);
+        add_when(remarks, budget == 0, remark)?;
+    }
+    Ok(())
+}

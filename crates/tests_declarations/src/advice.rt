@@ -1,0 +1,370 @@
+//! Headrooms, remarks, explanations and positions.
+use crate::declared::{Declared, read_both};
+use crate::equal::assert_equal;
+use metric_advice::{
+    explain_refusal, headrooms, lint, locate_in_catalogue, locate_in_config,
+};
+use metric_catalogue::{Attr, Catalogue, CatalogueFault, CataloguePlace};
+use metric_names::ValueRef;
+use metric_views::ConfigPlace;
+use std::alloc::{AllocError, Global};
+use std::test::Fail;
+
+const JOBS: &str = r#"
+format = 1
+[[meter]]
+name = "jobs"
+[[meter.instrument]]
+name = "jobs.processed"
+kind = "counter"
+range = [1, 100]
+key = [
+    { name = "kind", values = ["print", "scan"] },
+    { name = "retry", values = [true], optional = true },
+]
+[[meter.instrument]]
+name = "queue"
+kind = "gauge"
+range = [-5, 5]
+[[meter.instrument]]
+name = "level"
+kind = "up_down_counter"
+range = [-4, 2]
+[[recorder]]
+name = "main"
+budget = [
+    { instrument = 0, amount = 1000 },
+    { instrument = 1, amount = 7 },
+    { instrument = 2, amount = 9 },
+]
+"#;
+
+// A config, and of each instrument its budgets, its headroom and what limits it.
+const ROOMS: &[(&str, &str)] = &[
+    (
+        "format = 1\n[[reader]]\nname = 'r'",
+        "1000 92233720368547758 SumHigh
+7 1844674407370955161 Amount
+9 2305843009213693952 SumLow
+",
+    ),
+    (
+        "format = 1",
+        "1000 186330748219288400 Amount
+7 1844674407370955161 Amount
+9 3074457345618258602 Amount
+",
+    ),
+    (
+        "format = 1\n[[reader]]\nname = 'r'\n[[reader]]\nname = 's'\nlimit = { counter = 3 }\n[[view]]\nlimit = 5\nkeep = ['kind']",
+        "1000 92233720368547758 SumHigh
+7 1844674407370955161 Amount
+9 2305843009213693952 SumLow
+",
+    ),
+    (
+        "format = 1\n[[reader]]\nname = 'r'\n[[reader]]\nname = 's'\nlimit = { counter = 3 }",
+        "1000 3 Series { stream: 3 }
+7 1844674407370955161 Amount
+9 2305843009213693952 SumLow
+",
+    ),
+];
+
+fn rooms_of(alloc: Global, declared: &Declared) -> Result<String, AllocError> {
+    let mut out = String::new(alloc);
+    let rooms = headrooms(alloc, &declared.catalogue, &declared.config)?;
+    for room in rooms.as_slice() {
+        let limit = room.limit;
+        writeln!(out, "{} {} {limit:?}", room.total, room.most)?;
+    }
+    Ok(out)
+}
+
+fn told_rooms(alloc: Global, config: &str) -> Result<String, Fail> {
+    let declared = read_both(alloc, JOBS, config)?;
+    Ok(rooms_of(alloc, &declared)?)
+}
+
+#[test]
+fn headrooms_are_the_greatest_safe_totals(rt: HostRuntime) -> Result<(), Fail> {
+    for (config, wanted) in ROOMS {
+        assert_equal(&rt, told_rooms(rt.alloc(), config)?.as_str(), *wanted);
+    }
+    Ok(())
+}
+
+// A config, and the remarks on it and the catalogue.
+const REMARKS: &[(&str, &str)] = &[
+    ("format = 1\n[[reader]]\nname = 'r'", ""),
+    ("format = 1", "there is no reader\n"),
+    (
+        "format = 1
+[[reader]]
+name = 'r'
+limit = { counter = 3 }
+[[view]]
+aggregation = 'sum'
+instrument_name = 'queue'
+[[view]]
+instrument_name = 'nothing*'
+keep = ['kind']
+[[view]]
+instrument_name = 'jobs.*'
+keep = ['kind', 'retry', 'zone']
+exclude = ['retry', 'zome']
+boundaries = [1]
+[[view]]
+instrument_name = 'level'
+aggregation = 'explicit_bucket_histogram'
+boundaries = [1]
+stream_name = 'QUEUE'
+",
+        "view 0 names an aggregation that does not fit instrument 1
+stream 2 has the identity of stream 1
+view 1 selects no instrument
+view 1: no selected instrument declares the key keep[0]
+view 2: no selected instrument declares the key keep[2]
+view 2: no selected instrument declares the key exclude[1]
+view 2 gives boundaries, but no stream of it is a histogram
+",
+    ),
+    (
+        "format = 1\n[[reader]]\nname = 'r'\nlimit = { counter = 3 }",
+        "instrument 0 has larger budgets than is safe\n",
+    ),
+];
+
+fn remarks_of(alloc: Global, declared: &Declared) -> Result<String, AllocError> {
+    let mut out = String::new(alloc);
+    let remarks = lint(alloc, &declared.catalogue, &declared.config)?;
+    for remark in remarks.as_slice() {
+        writeln!(out, "{remark}")?;
+    }
+    Ok(out)
+}
+
+fn told_remarks(alloc: Global, catalogue: &str, config: &str) -> Result<String, Fail> {
+    let declared = read_both(alloc, catalogue, config)?;
+    Ok(remarks_of(alloc, &declared)?)
+}
+
+const IDLE: &str = "format = 1
+[[meter]]
+name = 'm'
+instrument = [{ name = 'c', kind = 'counter', range = [0, 9] }]
+[[recorder]]
+name = 'one'
+[[recorder]]
+name = 'two'
+budget = [{ instrument = 0, amount = 0 }]
+";
+
+const IDLE_REMARKS: &str = "recorder 0 has no budget for instrument 0
+recorder 1 has no budget for instrument 0
+there is no reader
+";
+
+#[test]
+fn each_remark_comes_up_and_a_clean_pair_has_none(rt: HostRuntime) -> Result<(), Fail> {
+    for (config, wanted) in REMARKS {
+        assert_equal(&rt, told_remarks(rt.alloc(), JOBS, config)?.as_str(), *wanted);
+    }
+    let idle = told_remarks(rt.alloc(), IDLE, "format = 1")?;
+    assert_equal(&rt, idle.as_str(), IDLE_REMARKS);
+    Ok(())
+}
+
+const PRINT: Attr<'static> = Attr {
+    key: "kind",
+    value: ValueRef::Text("print"),
+};
+
+const SCAN: Attr<'static> = Attr {
+    key: "kind",
+    value: ValueRef::Text("scan"),
+};
+
+const SHRED: Attr<'static> = Attr {
+    key: "kind",
+    value: ValueRef::Text("shred"),
+};
+
+const RETRY: Attr<'static> = Attr {
+    key: "retry",
+    value: ValueRef::Flag(true),
+};
+
+const RETRY_TWICE: Attr<'static> = Attr {
+    key: "retry",
+    value: ValueRef::Whole(2),
+};
+
+const ZONE: Attr<'static> = Attr {
+    key: "zo\nne",
+    value: ValueRef::Flag(true),
+};
+
+// An instrument, attributes and a value, and what is told of their refusal.
+const EXPLAINED: &[(u32, &[Attr<'static>], i64, &str)] = &[
+    (0, &[PRINT, RETRY], 100, ""),
+    (1, &[], -5, ""),
+    (3, &[ZONE, ZONE], 0, "there is no instrument 3"),
+    (
+        0,
+        &[SHRED, RETRY, ZONE, RETRY, ZONE],
+        0,
+        "jobs.processed: key \"retry\" stands twice",
+    ),
+    (
+        0,
+        &[SHRED, ZONE],
+        0,
+        "jobs.processed: key \"zo\\nne\" is not declared",
+    ),
+    (
+        0,
+        &[RETRY_TWICE, SHRED],
+        0,
+        "jobs.processed: key \"retry\" has no value 2",
+    ),
+    (
+        0,
+        &[SHRED],
+        0,
+        "jobs.processed: key \"kind\" has no value \"shred\"",
+    ),
+    (0, &[RETRY], 0, "jobs.processed: key \"kind\" is missing"),
+    (
+        0,
+        &[PRINT],
+        101,
+        "jobs.processed: value 101 is not in the range from 1 to 100",
+    ),
+];
+
+// The same of a catalogue that allows two combinations alone.
+const PAIRED: &[(u32, &[Attr<'static>], i64, &str)] = &[
+    (0, &[PRINT, RETRY], 0, ""),
+    (0, &[SCAN], 9, ""),
+    (
+        0,
+        &[RETRY, SCAN],
+        10,
+        "pairs: the values are not allowed together",
+    ),
+    (
+        0,
+        &[SCAN],
+        10,
+        "pairs: value 10 is not in the range from 0 to 9",
+    ),
+];
+
+const PAIRS: &str = "format = 2
+[[meter]]
+name = 'm'
+[[meter.instrument]]
+name = 'pairs'
+kind = 'counter'
+range = [0, 9]
+key = [{ name = 'kind', values = ['print', 'scan'] }, { name = 'retry', values = [true], optional = true }]
+allowed = [[1, 1], [2, 0]]
+";
+
+// Promises nothing of the catalogue, so that no test is proved by the parts of its text.
+fn catalogue_of(alloc: Global, text: &str) -> Result<Catalogue, CatalogueFault> {
+    Catalogue::read(alloc, text)
+}
+
+fn explained(
+    alloc: Global,
+    catalogue: &Catalogue,
+    case: &(u32, &'static [Attr<'static>], i64, &'static str),
+) -> Result<String, AllocError> {
+    match explain_refusal(catalogue, case.0, case.1, case.2) {
+        Some(explanation) => format!(in alloc; "{explanation}"),
+        None => Ok(String::new(alloc)),
+    }
+}
+
+#[test]
+fn refusals_are_explained(rt: HostRuntime) -> Result<(), Fail> {
+    for (text, cases) in [(JOBS, EXPLAINED), (PAIRS, PAIRED)] {
+        let catalogue = catalogue_of(rt.alloc(), text)?;
+        for case in cases {
+            assert_equal(&rt, explained(rt.alloc(), &catalogue, case)?.as_str(), case.3);
+        }
+    }
+    Ok(())
+}
+
+const SCATTERED: &str = "format = 1
+  [[ meter ]] # one
+name = 'a'
+[[meter.instrument]]
+[[meter.instrument.key]]
+\t[[meter.'instrument']]
+[[\"meter\"]]
+[[meter.instrument]]
+[[recorder]]
+[[recorder.budget]]
+instrument = 0
+[[reader]]
+[[view]]
+[[view]]";
+
+// A place of a catalogue, and where it stands.
+const PLACES: &[(CataloguePlace, &str)] = &[
+    (CataloguePlace::Top, "Some(Position { line: 1, column: 1 })"),
+    (CataloguePlace::Meter(0), "Some(Position { line: 2, column: 3 })"),
+    (CataloguePlace::Meter(1), "Some(Position { line: 7, column: 1 })"),
+    (CataloguePlace::Meter(2), "None"),
+    (CataloguePlace::Instrument(0), "Some(Position { line: 4, column: 1 })"),
+    (CataloguePlace::Instrument(1), "Some(Position { line: 6, column: 2 })"),
+    (CataloguePlace::Instrument(2), "Some(Position { line: 8, column: 1 })"),
+    (CataloguePlace::Recorder(0), "Some(Position { line: 9, column: 1 })"),
+    (CataloguePlace::Recorder(1), "None"),
+];
+
+fn catalogue_place(
+    alloc: Global,
+    text: &str,
+    place: CataloguePlace,
+) -> Result<String, AllocError> {
+    let found = locate_in_catalogue(alloc, text, place)?;
+    format!(in alloc; "{found:?}")
+}
+
+fn config_place(alloc: Global, text: &str, place: ConfigPlace) -> Result<String, AllocError> {
+    let found = locate_in_config(alloc, text, place)?;
+    format!(in alloc; "{found:?}")
+}
+
+#[test]
+fn tables_are_located(rt: HostRuntime) -> Result<(), Fail> {
+    for (place, wanted) in PLACES {
+        let told = catalogue_place(rt.alloc(), SCATTERED, *place)?;
+        assert_equal(&rt, told.as_str(), *wanted);
+    }
+    let one_line = catalogue_place(rt.alloc(), IDLE, CataloguePlace::Instrument(0))?;
+    assert_equal(&rt, one_line.as_str(), "None");
+    Ok(())
+}
+
+// A place of a config, and where it stands.
+const CONFIG_PLACES: &[(ConfigPlace, &str)] = &[
+    (ConfigPlace::Top, "Some(Position { line: 1, column: 1 })"),
+    (ConfigPlace::Reader(0), "Some(Position { line: 12, column: 1 })"),
+    (ConfigPlace::Reader(1), "None"),
+    (ConfigPlace::View(1), "Some(Position { line: 14, column: 1 })"),
+];
+
+#[test]
+fn tables_of_configs_are_located(rt: HostRuntime) -> Result<(), Fail> {
+    for (place, wanted) in CONFIG_PLACES {
+        let told = config_place(rt.alloc(), SCATTERED, *place)?;
+        assert_equal(&rt, told.as_str(), *wanted);
+    }
+    Ok(())
+}
