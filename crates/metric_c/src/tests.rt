@@ -407,7 +407,11 @@ fn point(alloc: Global, shop: &mut Shop, at: usize, number: usize) -> Told {
         buckets: 0,
     };
     let code = wormweekly_point(alloc, &mut shop.reader, at, number, &mut out);
-    (code, [u64::from(out.set[0]), out.count, out.buckets], out.value)
+    (
+        code,
+        [u64::from(out.set[0]), out.count, out.buckets],
+        out.value,
+    )
 }
 
 // The value that an entry names for the first key.

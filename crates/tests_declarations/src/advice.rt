@@ -1,9 +1,7 @@
 //! Headrooms, remarks, explanations and positions.
 use crate::declared::{Declared, read_both};
 use crate::equal::assert_equal;
-use metric_advice::{
-    explain_refusal, headrooms, lint, locate_in_catalogue, locate_in_config,
-};
+use metric_advice::{explain_refusal, headrooms, lint, locate_in_catalogue, locate_in_config};
 use metric_catalogue::{Attr, Catalogue, CatalogueFault, CataloguePlace};
 use metric_names::ValueRef;
 use metric_views::ConfigPlace;
@@ -168,7 +166,11 @@ there is no reader
 #[test]
 fn each_remark_comes_up_and_a_clean_pair_has_none(rt: HostRuntime) -> Result<(), Fail> {
     for (config, wanted) in REMARKS {
-        assert_equal(&rt, told_remarks(rt.alloc(), JOBS, config)?.as_str(), *wanted);
+        assert_equal(
+            &rt,
+            told_remarks(rt.alloc(), JOBS, config)?.as_str(),
+            *wanted,
+        );
     }
     let idle = told_remarks(rt.alloc(), IDLE, "format = 1")?;
     assert_equal(&rt, idle.as_str(), IDLE_REMARKS);
@@ -293,7 +295,11 @@ fn refusals_are_explained(rt: HostRuntime) -> Result<(), Fail> {
     for (text, cases) in [(JOBS, EXPLAINED), (PAIRS, PAIRED)] {
         let catalogue = catalogue_of(rt.alloc(), text)?;
         for case in cases {
-            assert_equal(&rt, explained(rt.alloc(), &catalogue, case)?.as_str(), case.3);
+            assert_equal(
+                &rt,
+                explained(rt.alloc(), &catalogue, case)?.as_str(),
+                case.3,
+            );
         }
     }
     Ok(())
@@ -317,21 +323,35 @@ instrument = 0
 // A place of a catalogue, and where it stands.
 const PLACES: &[(CataloguePlace, &str)] = &[
     (CataloguePlace::Top, "Some(Position { line: 1, column: 1 })"),
-    (CataloguePlace::Meter(0), "Some(Position { line: 2, column: 3 })"),
-    (CataloguePlace::Meter(1), "Some(Position { line: 7, column: 1 })"),
+    (
+        CataloguePlace::Meter(0),
+        "Some(Position { line: 2, column: 3 })",
+    ),
+    (
+        CataloguePlace::Meter(1),
+        "Some(Position { line: 7, column: 1 })",
+    ),
     (CataloguePlace::Meter(2), "None"),
-    (CataloguePlace::Instrument(0), "Some(Position { line: 4, column: 1 })"),
-    (CataloguePlace::Instrument(1), "Some(Position { line: 6, column: 2 })"),
-    (CataloguePlace::Instrument(2), "Some(Position { line: 8, column: 1 })"),
-    (CataloguePlace::Recorder(0), "Some(Position { line: 9, column: 1 })"),
+    (
+        CataloguePlace::Instrument(0),
+        "Some(Position { line: 4, column: 1 })",
+    ),
+    (
+        CataloguePlace::Instrument(1),
+        "Some(Position { line: 6, column: 2 })",
+    ),
+    (
+        CataloguePlace::Instrument(2),
+        "Some(Position { line: 8, column: 1 })",
+    ),
+    (
+        CataloguePlace::Recorder(0),
+        "Some(Position { line: 9, column: 1 })",
+    ),
     (CataloguePlace::Recorder(1), "None"),
 ];
 
-fn catalogue_place(
-    alloc: Global,
-    text: &str,
-    place: CataloguePlace,
-) -> Result<String, AllocError> {
+fn catalogue_place(alloc: Global, text: &str, place: CataloguePlace) -> Result<String, AllocError> {
     let found = locate_in_catalogue(alloc, text, place)?;
     format!(in alloc; "{found:?}")
 }
@@ -355,9 +375,15 @@ fn tables_are_located(rt: HostRuntime) -> Result<(), Fail> {
 // A place of a config, and where it stands.
 const CONFIG_PLACES: &[(ConfigPlace, &str)] = &[
     (ConfigPlace::Top, "Some(Position { line: 1, column: 1 })"),
-    (ConfigPlace::Reader(0), "Some(Position { line: 12, column: 1 })"),
+    (
+        ConfigPlace::Reader(0),
+        "Some(Position { line: 12, column: 1 })",
+    ),
     (ConfigPlace::Reader(1), "None"),
-    (ConfigPlace::View(1), "Some(Position { line: 14, column: 1 })"),
+    (
+        ConfigPlace::View(1),
+        "Some(Position { line: 14, column: 1 })",
+    ),
 ];
 
 #[test]
