@@ -274,6 +274,22 @@ const COMBINED_SHOWN: &str =
     "stream 0 reader=\"main\" instrument=0 view=0 name=\"c\" kind=sum monotonic=yes temporality=cumulative limit=2 keys=[\"a\",\"b\"]
 ";
 
+// A command on inputs with allowed combinations, their parts, and what is told.
+const COMBINATIONS: &[(Line, Parts, &str)] = &[
+    (Line::Show, &[COMBINED, TWO_SERIES], COMBINED_SHOWN),
+    (Line::Check, &[COMBINED, TWO_SERIES, LISTED], "accepted\n"),
+    (
+        Line::Threads { each: 3 },
+        &[COMBINED, TWO_SERIES, LISTED],
+        "instrument 0 count 3 sum 27\n",
+    ),
+    (
+        Line::Threads { each: 3 },
+        CROSSED,
+        "instrument 0 count 0 sum 0\n",
+    ),
+];
+
 // A command, the parts of its input, and what is told.
 const TOLD: &[(Line, Parts, &str)] = &[
     (
@@ -311,19 +327,6 @@ const TOLD: &[(Line, Parts, &str)] = &[
         Line::Threads { each: 0 },
         COUNTED,
         "instrument 0 count 0 sum 0\ninstrument 1 count 0 sum 0\n",
-    ),
-    // Combinations of values.
-    (Line::Show, &[COMBINED, TWO_SERIES], COMBINED_SHOWN),
-    (Line::Check, &[COMBINED, TWO_SERIES, LISTED], "accepted\n"),
-    (
-        Line::Threads { each: 3 },
-        &[COMBINED, TWO_SERIES, LISTED],
-        "instrument 0 count 3 sum 27\n",
-    ),
-    (
-        Line::Threads { each: 3 },
-        CROSSED,
-        "instrument 0 count 0 sum 0\n",
     ),
     // Faults of the input's lines, of its certificate and of its plan.
     (FOUR_EACH, SAMPLE, "refused: input line 19, 3"),
@@ -614,6 +617,15 @@ fn told_whole<R: Threads + Wait + Sync>(
 #[test]
 fn each_input_is_answered(rt: HostRuntime) -> Result<(), Fail> {
     for (line, parts, wanted) in TOLD {
+        let told = told_whole(&rt, rt.alloc(), *line, parts)?;
+        assert_equal(&rt, told.as_str(), *wanted);
+    }
+    Ok(())
+}
+
+#[test]
+fn combinations_are_answered(rt: HostRuntime) -> Result<(), Fail> {
+    for (line, parts, wanted) in COMBINATIONS {
         let told = told_whole(&rt, rt.alloc(), *line, parts)?;
         assert_equal(&rt, told.as_str(), *wanted);
     }
