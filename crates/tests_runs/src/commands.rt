@@ -1,4 +1,7 @@
 //! Command lines on whole inputs: what is written, and the line and the exit status of the fault.
+mod combinations;
+mod devices;
+
 use crate::equal::assert_equal;
 use crate::inputs::{
     BUDGETED, HITS, MAIN, OUTPUT, Parts, READERS, READERS_OUTPUT, READERS_RUN, RUN, RUNS, SHOP,
@@ -202,93 +205,7 @@ order = [{ reader = 0, streams = [0] }]
 ",
 ];
 
-// A counter with two keys, of whose four combinations two are allowed.
-const COMBINED: &str = "%% catalogue
-format = 2
-[[meter]]
-name = \"m\"
-[[meter.instrument]]
-name = \"c\"
-kind = \"counter\"
-range = [0, 9]
-key = [{ name = \"a\", values = [\"x\", \"y\"] }, { name = \"b\", values = [\"p\", \"q\"] }]
-allowed = [[1, 1], [2, 2]]
-[[recorder]]
-name = \"r\"
-budget = [{ instrument = 0, amount = 10 }]
-";
-
-const TWO_SERIES: &str = "%% config
-format = 1
-reader = [{ name = \"main\" }]
-view = [{ limit = 2 }]
-";
-
-const LISTED: &str = "%% certificate
-format = 2
-reason = [{ view = 0, instrument = 0, takes = [1] }]
-stream = [{ reader = 0, instrument = 0, view = 0, by = \"list\", sets = 2, list = [[1, 1, 0, 0, 0, 0, 0, 0], [2, 2, 0, 0, 0, 0, 0, 0]] }]
-bound = [{ instrument = 0, total = \"10\", amount = \"90\", low = \"0\", high = \"90\" }]
-order = [{ reader = 0, streams = [0] }]
-";
-
-// The same where the first declared values are no combination.
-const CROSSED: Parts = &[
-    "%% catalogue
-format = 2
-[[meter]]
-name = \"m\"
-[[meter.instrument]]
-name = \"c\"
-kind = \"counter\"
-range = [0, 9]
-key = [{ name = \"a\", values = [\"x\", \"y\"] }, { name = \"b\", values = [\"p\", \"q\"] }]
-allowed = [[1, 2], [2, 1]]
-[[recorder]]
-name = \"r\"
-budget = [{ instrument = 0, amount = 10 }]
-",
-    TWO_SERIES,
-    "%% certificate
-format = 2
-reason = [{ view = 0, instrument = 0, takes = [1] }]
-stream = [{ reader = 0, instrument = 0, view = 0, by = \"list\", sets = 2, list = [[1, 2, 0, 0, 0, 0, 0, 0], [2, 1, 0, 0, 0, 0, 0, 0]] }]
-bound = [{ instrument = 0, total = \"10\", amount = \"90\", low = \"0\", high = \"90\" }]
-order = [{ reader = 0, streams = [0] }]
-",
-];
-
-const COMBINED_RUN: &str = "%% script
-start 0
-record 0 0 10 \"a\"=\"x\" \"b\"=\"q\"
-record 0 0 1 \"a\"=\"x\"
-record 0 0 1 \"b\"=\"q\" \"a\"=\"y\"
-";
-
-const COMBINED_OUTPUT: &str = "refused 13 Combination
-refused 6 MissingKey
-accepted
-";
-
-const COMBINED_SHOWN: &str =
-    "stream 0 reader=\"main\" instrument=0 view=0 name=\"c\" kind=sum monotonic=yes temporality=cumulative limit=2 keys=[\"a\",\"b\"]
-";
-
-// A command on inputs with allowed combinations, their parts, and what is told.
-const COMBINATIONS: &[(Line, Parts, &str)] = &[
-    (Line::Show, &[COMBINED, TWO_SERIES], COMBINED_SHOWN),
-    (Line::Check, &[COMBINED, TWO_SERIES, LISTED], "accepted\n"),
-    (
-        Line::Threads { each: 3 },
-        &[COMBINED, TWO_SERIES, LISTED],
-        "instrument 0 count 3 sum 27\n",
-    ),
-    (
-        Line::Threads { each: 3 },
-        CROSSED,
-        "instrument 0 count 0 sum 0\n",
-    ),
-];
+const SAMPLE: Parts = &[HITS, MAIN, RUN];
 
 // A command, the parts of its input, and what is told.
 const TOLD: &[(Line, Parts, &str)] = &[
@@ -550,12 +467,6 @@ const AUDITS: &[(Line, Parts, &str, &str)] = &[
     ),
     (AUDITED_TRIAL, SAMPLE, OUTPUT, "audited 2\n"),
     (
-        AUDITED,
-        &[COMBINED, TWO_SERIES, LISTED, COMBINED_RUN],
-        COMBINED_OUTPUT,
-        "audited 1\n",
-    ),
-    (
         AUDITED_TRIAL,
         &[SHOP, SHOP_VIEWS, SHOP_RUN],
         SHOP_OUTPUT,
@@ -624,15 +535,6 @@ fn each_input_is_answered(rt: HostRuntime) -> Result<(), Fail> {
 }
 
 #[test]
-fn combinations_are_answered(rt: HostRuntime) -> Result<(), Fail> {
-    for (line, parts, wanted) in COMBINATIONS {
-        let told = told_whole(&rt, rt.alloc(), *line, parts)?;
-        assert_equal(&rt, told.as_str(), *wanted);
-    }
-    Ok(())
-}
-
-#[test]
 fn a_trial_writes_its_replies(rt: HostRuntime) -> Result<(), Fail> {
     for (parts, wanted) in RUNS {
         let told = told_whole(&rt, rt.alloc(), TRIAL, parts)?;
@@ -657,102 +559,6 @@ fn a_faulty_declaration_is_told(rt: HostRuntime) -> Result<(), Fail> {
         assert_equal(&rt, tried.as_str(), *wanted);
         let shown = told_whole(&rt, rt.alloc(), Line::Show, parts)?;
         assert_equal(&rt, shown.as_str(), *wanted);
-    }
-    Ok(())
-}
-
-const SAMPLE: Parts = &[HITS, MAIN, RUN];
-
-const WRITE: &str = "refused: write, 5";
-
-// What is told by a sink with this room.
-fn told_within<R: Threads + Wait + Sync>(
-    rt: &R,
-    alloc: Global,
-    room: usize,
-) -> Result<String, Fail> {
-    let mut sink = CutSink::new(alloc, Some(room));
-    told_into(rt, alloc, TRIAL, SAMPLE, &mut sink)
-}
-
-#[test]
-fn a_writer_that_fails_has_a_prefix(rt: HostRuntime) -> Result<(), Fail> {
-    for room in 0..OUTPUT.len() {
-        let told = told_within(&rt, rt.alloc(), room)?;
-        assert_equal(&rt, told.strip_suffix(WRITE), OUTPUT.get(..room));
-    }
-    Ok(())
-}
-
-// What is told by a sink that can not be flushed.
-fn told_unflushed<R: Threads + Wait + Sync>(
-    rt: &R,
-    alloc: Global,
-    line: Line,
-    parts: Parts,
-) -> Result<String, Fail> {
-    let mut sink = CutSink::new(alloc, None).with_failing_flush();
-    told_into(rt, alloc, line, parts, &mut sink)
-}
-
-// Each command, with an input and what it writes.
-const WRITTEN: &[(Line, Parts, &str)] = &[
-    (TRIAL, SAMPLE, OUTPUT),
-    (Line::Show, &[SHOWN, SHOWN_VIEWS], SHOWN_OUTPUT),
-    (Line::Check, &[BUDGETED, READERS, CERTIFICATE], "accepted\n"),
-    (Line::Make, &[BUDGETED, READERS], MADE),
-    (FOUR_EACH, COUNTED, COUNTED_FOUR_TIMES),
-];
-
-#[test]
-fn a_flush_that_fails_is_a_write(rt: HostRuntime) -> Result<(), Fail> {
-    for (line, parts, written) in WRITTEN {
-        let told = told_unflushed(&rt, rt.alloc(), *line, parts)?;
-        assert_equal(&rt, told.strip_suffix(WRITE), Some(*written));
-    }
-    Ok(())
-}
-
-// What is told where this read fails.
-fn told_up_to<R: Threads + Wait + Sync>(
-    rt: &R,
-    alloc: Global,
-    line: Line,
-    failing: u64,
-) -> Result<String, Fail> {
-    let input = SAMPLE.concat(alloc)?;
-    let mut source = CutSource::new(input.as_bytes(), Some(failing)).in_pieces(50);
-    let mut sink = CutSink::new(alloc, None);
-    told(rt, alloc, Ok(line), &mut source, &mut sink)
-}
-
-// The first failing read after which anything else than a failed read is told.
-fn first_untold<R: Threads + Wait + Sync>(
-    rt: &R,
-    alloc: Global,
-    line: Line,
-) -> Result<Option<u64>, Fail> {
-    for failing in 1..10 {
-        if told_up_to(rt, alloc, line, failing)?.as_str() != "refused: input, 3" {
-            return Ok(Some(failing));
-        }
-    }
-    Ok(None)
-}
-
-#[test]
-fn a_reader_that_fails_writes_nothing(rt: HostRuntime) -> Result<(), Fail> {
-    for line in [
-        TRIAL,
-        REPLAY,
-        AUDITED_TRIAL,
-        AUDITED,
-        Line::Check,
-        Line::Make,
-        Line::Show,
-        FOUR_EACH,
-    ] {
-        assert_equal(&rt, first_untold(&rt, rt.alloc(), line)?, None);
     }
     Ok(())
 }
