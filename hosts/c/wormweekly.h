@@ -64,6 +64,8 @@ enum wormweekly_answer {
     WORMWEEKLY_DONE = 0,
     /* The instrument is none of the recorder's or reader's plan. */
     WORMWEEKLY_UNKNOWN_INSTRUMENT = 1,
+    /* The instrument has no recorder of this number. */
+    WORMWEEKLY_UNKNOWN_RECORDER = 2,
     /* An attribute's key stands twice; is not declared; has a value that is not declared; is missing. */
     WORMWEEKLY_DUPLICATE_KEY = 3,
     WORMWEEKLY_UNKNOWN_KEY = 4,
@@ -75,8 +77,10 @@ enum wormweekly_answer {
     WORMWEEKLY_VALUE_RANGE = 7,
     /* The instrument is closed. */
     WORMWEEKLY_CLOSED = 8,
-    /* The recorder has made as many recordings on the instrument as its budget. */
+    /* The recorder has made as many recordings on the instrument as its budget and what it was granted. */
     WORMWEEKLY_BUDGET = 9,
+    /* Less is left of the instrument's spare budget than a grant asks for. */
+    WORMWEEKLY_NO_SPARE = 14,
     /* Memory was refused. */
     WORMWEEKLY_MEMORY = 11,
     /* The recorder or reader is of another run, or does not agree with what the instrument has counted. */
@@ -237,6 +241,10 @@ uint32_t wormweekly_name(wormweekly_recorder *recorder, uint32_t kind, uint32_t 
 /* Writes a line for each warning that the config gets: for each view that does not fit an instrument (streams that collide
  * are a fault of the opening). Where there is too little room, only the length is written. Needs no mutex. */
 uint32_t wormweekly_warnings(wormweekly_recorder *recorder, uint8_t *out, size_t room, size_t *text_length);
+
+/* Grants the recorder of a number (from 0, in the order of the catalogue) so many recordings on an instrument beside its
+ * budget, of what is left of the instrument's spare budget (under its mutex). Takes no memory. */
+uint32_t wormweekly_grant(wormweekly_instrument *instrument, uint32_t recorder, uint64_t amount);
 
 /* Ends the recordings of an instrument (under its mutex). It is collected and settled as before. */
 uint32_t wormweekly_close(wormweekly_instrument *instrument);

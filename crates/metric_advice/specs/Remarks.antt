@@ -107,7 +107,7 @@ recorder_remark instrument recorder = when (amount_of recorder.1 instrument == 0
 abbrev pub recorder_remarks : ℕ → List Recorder → List Remark
 recorder_remarks instrument recorders = flat_map (recorder_remark instrument) (enumerate_from 0 recorders)
 
--- the budgets are above the headroom
+-- the budgets and the spare are above the headroom
 abbrev pub is_over : Option Headroom → Bool
 is_over None = false
 is_over (Some room) = nat_lt room.most room.total

@@ -22,7 +22,7 @@ use std::alloc::{AllocError, Global};
 /// How often an instrument may be recorded, identities apart.
 #[derive(Clone, Copy, Debug, PartialEq, Eq, Drop)]
 pub struct Headroom {
-    /// The sum of its budgets over all recorders.
+    /// The sum of its budgets over all recorders, and its spare budget.
     pub total: u128,
     /// The greatest such sum that is safe, where all else stays as it is.
     pub most: u64,
@@ -30,9 +30,9 @@ pub struct Headroom {
     pub limit: Limit,
 }
 
-/// The headroom of each instrument, in order: the greatest sum of budgets at which its part of safety holds, and the first
-/// part that fails with one recording more. Two streams of one identity are left out of account. Fails only where memory is
-/// refused.
+/// The headroom of each instrument, in order: the greatest sum of budgets and spare at which its part of safety holds, and the
+/// first part that fails with one recording more. Two streams of one identity are left out of account. Fails only where memory
+/// is refused.
 pub fn headrooms(
     alloc: Global,
     catalogue: &Catalogue,

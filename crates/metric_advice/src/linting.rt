@@ -16,8 +16,8 @@ use std::alloc::{AllocError, Global};
 
 /// Everything that looks like a mistake in a catalogue and a config, in this order: unfit views and collisions, as `resolve` tells
 /// them; then of each view whether it selects nothing, each key of `keep` and of `exclude` that no selected instrument declares,
-/// and boundaries without effect; then of each instrument each recorder without a budget for it, and budgets above its headroom;
-/// then that there is no reader. Fails only where memory is refused.
+/// and boundaries without effect; then of each instrument each recorder without a budget for it, and budgets and spare together
+/// above its headroom; then that there is no reader. Fails only where memory is refused.
 pub fn lint(
     alloc: Global,
     catalogue: &Catalogue,
@@ -232,7 +232,7 @@ fn add_instruments(
     Ok(())
 }
 
-// Whether the budgets are above the headroom.
+// Whether the budgets and the spare are above the headroom.
 fn is_over(room: &Headroom) -> bool
     ensures { result ≡ nat_lt room.now.most room.now.total }
 {

@@ -38,14 +38,14 @@ pub enum Remark {
         /// The number of the view.
         view: u32,
     },
-    /// The recorder may make no recording on the instrument.
+    /// The recorder may make no recording on the instrument without a grant.
     NoBudget {
         /// The number of the instrument.
         instrument: u32,
         /// The number of the recorder.
         recorder: u32,
     },
-    /// The budgets of the instrument together are more than is safe.
+    /// The budgets of the instrument and its spare are together more than is safe.
     OverBudget {
         /// The number of the instrument.
         instrument: u32,

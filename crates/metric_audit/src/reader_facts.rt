@@ -60,6 +60,7 @@ pub(crate) fn facts_of_reader(
             lo: facts.lo,
             hi: facts.hi,
             budgets: Items::from_vec(Vec::from_slice(alloc, facts.budgets.as_slice())?),
+            spare: facts.spare,
             delta: Items::from_vec(Vec::from_slice(alloc, facts.delta.as_slice())?),
             streams: streams_of(alloc, facts.streams.as_slice(), reader)?,
         },

@@ -1,4 +1,5 @@
 pub mod Powers
 mod Budgets
 mod Extremes
+mod Spares
 mod Tables

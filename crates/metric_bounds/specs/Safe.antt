@@ -1,5 +1,5 @@
--- When the streams of a config can overflow neither a limit nor a number, whatever is recorded within the budgets. The
--- parts stand in the order in which they are tried.
+-- When the streams of a config can overflow neither a limit nor a number, whatever is recorded within the budgets and spare
+-- budgets. The parts stand in the order in which they are tried.
 use Rattle.std.specs.Prelude.{◌≡◌, ◌≢◌, ℕ, ◌<◌, ◌≤◌, ◌^◌, pos, ◌<ℤ◌, IsTrue, All, AllPairs, min, List, Some, slice_get, FitsSigned}
 use Rattle.std.specs.Int.{w64}
 use Rattle.metric_catalogue.specs.declared.contents.Contents.{Contents}

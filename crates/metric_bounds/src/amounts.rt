@@ -1,4 +1,4 @@
-//! The numbers that budgets and a range bound.
+//! The numbers that budgets, a spare budget and a range bound.
 ghost use Rattle.std.specs.Prelude.{◌≡◌, ◌<◌, ◌≤◌, ◌+◌, ◌^◌, ◌*◌, ℕ, pos, ◌≤ℤ◌, All, AllPairs, IfOk, find, length, map, slice_index, sum_by, ◌≢◌};
 ghost use Rattle.metric_catalogue.specs.Sound.{IsSoundBudget, IsSoundRecorder};
 ghost use Rattle.metric_resolve.specs.Applying.{all_instruments};
@@ -7,16 +7,16 @@ ghost use Rattle.metric_catalogue.specs.Recorders.{is_budget};
 ghost use Rattle.metric_bounds.specs.Amounts.{amount_with, high_with, low_with, total_of};
 
 use metric_base::Items;
-use metric_catalogue::{Budget, Catalogue, Recorder};
+use metric_catalogue::{Budget, Catalogue, Instrument, Recorder};
 use std::alloc::{AllocError, Global};
 
-/// How often an instrument may be recorded: the sum of its budgets over all recorders. It may be above the
-/// greatest `u64`.
+/// How often an instrument may be recorded: the sum of its budgets over all recorders, and its spare budget. It may
+/// be above the greatest `u64`.
 #[tactic(auto, unfolding(crate::specs::Amounts::total_of))]
 pub fn total(catalogue: &Catalogue, instrument: u32) -> u128
     ensures { result ≡ total_of catalogue.now instrument }
 {
-    let mut total = 0;
+    let mut total = u128::from(catalogue.spare(instrument));
     for recorder in catalogue.recorders() {
         total += u128::from(recorder.budget(instrument));
     }
@@ -28,19 +28,30 @@ pub fn totals(alloc: Global, catalogue: &Catalogue) -> Result<Items<u128>, Alloc
     ensures { IfOk result (λ totals. totals
         ≡ map (total_of catalogue.now) (all_instruments catalogue.now)) }
 {
-    let mut totals = vec![in alloc; 0u128; catalogue.instruments().len()]?;
+    let mut totals = spares_of(alloc, catalogue.instruments())?;
     add_recorders(totals.as_mut_slice(), catalogue.recorders());
     Ok(Items::from_vec(totals))
 }
 
-// Adds the budgets of all recorders to totals that are 0.
+// The spare budget of each instrument, in order.
+fn spares_of(alloc: Global, instruments: &[Instrument]) -> Result<Vec<u128>, AllocError>
+    ensures { IfOk result (λ spares. spares.items ≡ map (λ i. i.spare) instruments.now) }
+{
+    let mut spares = Vec::new(alloc);
+    for instrument in instruments {
+        spares.push(u128::from(instrument.spare))?;
+    }
+    Ok(spares)
+}
+
+// Adds the budgets of all recorders to totals, which are below 2^63.
 fn add_recorders(totals: &mut [u128], recorders: &[Recorder])
     requires few { length recorders.now ≤ 64 }
     requires known { All (IsSoundRecorder (length totals.old)) recorders.now }
-    requires zero { (i : ℕ) → slice_index totals.old i ≡ 0 }
+    requires low { (i : ℕ) → slice_index totals.old i < 2 ^ 63 }
     ensures length { length totals.new ≡ length totals.old }
     ensures added { (i : ℕ) → i < length totals.old → slice_index totals.new i
-        ≡ sum_by (λ recorder. amount_of recorder i) recorders.now }
+        ≡ sum_by (λ recorder. amount_of recorder i) recorders.now + slice_index totals.old i }
 {
     for recorder in recorders {
         add_budgets(totals, recorder.budgets.as_slice());

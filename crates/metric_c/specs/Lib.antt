@@ -15,3 +15,4 @@ pub mod Collections
 pub mod Walking
 pub mod Settlements
 pub mod Closing
+pub mod Granting

@@ -8,7 +8,7 @@
 //! | Answer | What it says |
 //! |---|---|
 //! | 0 | done |
-//! | 1 to 13 | the number of a refusal |
+//! | 1 to 14 | the number of a refusal |
 //! | 100 | a handle is null |
 //! | 101 | bytes are no UTF-8, a length leads past the texts, or an attribute is of no kind |
 //! | 102 | a buffer, or a list of handles, is too short |
@@ -26,6 +26,7 @@ mod certified;
 mod codes;
 mod collections;
 mod ending;
+mod grants;
 mod instrument_handle;
 mod names;
 mod no_plan;
@@ -52,6 +53,7 @@ pub use ending::{
     may_be_sent, wormweekly_close, wormweekly_free_instrument, wormweekly_free_reader,
     wormweekly_free_recorder,
 };
+pub use grants::wormweekly_grant;
 pub use instrument_handle::InstrumentHandle;
 pub use names::wormweekly_name;
 pub use opening::{Counts, wormweekly_open};

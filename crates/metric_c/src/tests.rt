@@ -10,6 +10,7 @@ use crate::collections::{wormweekly_collect, wormweekly_text};
 use crate::ending::{
     wormweekly_close, wormweekly_free_instrument, wormweekly_free_reader, wormweekly_free_recorder,
 };
+use crate::grants::wormweekly_grant;
 use crate::instrument_handle::InstrumentHandle;
 use crate::names::wormweekly_name;
 use crate::opening::{Counts, wormweekly_open};
@@ -36,7 +37,7 @@ name = 'main'
 budget = [{ instrument = 0, amount = 6 }]
 ";
 
-const HISTOGRAM: &str = "format = 1
+const HISTOGRAM: &str = "format = 2
 [[meter]]
 name = 'shop'
 [[meter.instrument]]
@@ -44,10 +45,11 @@ name = 'articles'
 kind = 'histogram'
 range = [0, 100]
 boundaries = [10, 20]
+spare = 2
 key = [{ name = 'country', values = ['de', 'fr'] }, { name = 'paid', values = [true, 7] }]
 [[recorder]]
 name = 'main'
-budget = [{ instrument = 0, amount = 6 }]
+budget = [{ instrument = 0, amount = 3 }]
 ";
 
 const CONFIG: &str = "format = 1
@@ -98,6 +100,8 @@ enum Call {
     // Two such recordings.
     RecordList(i64),
     Collect,
+    // A grant to the recorder of a number.
+    Grant(u32, u64),
     Close,
     Settle,
     // A text in a buffer of 3 bytes, or of 500.
@@ -179,6 +183,12 @@ const HISTOGRAM_CALLS: &[(Call, Told)] = &[
     (Call::NoBuckets(0), (102, [0; 3], 0)),
     (Call::Buckets(1), (106, [0; 3], 0)),
     (Call::Settle, (0, [3, 0, 105], 0)),
+    (Call::Record(b"countrydepaid"), (9, [0; 3], 0)),
+    (Call::Grant(1, 1), (2, [0; 3], 0)),
+    (Call::Grant(0, 3), (14, [0; 3], 0)),
+    (Call::Grant(0, 1), (0, [0; 3], 0)),
+    (Call::Record(b"countrydepaid"), (0, [0; 3], 0)),
+    (Call::Settle, (0, [4, 0, 110], 0)),
 ];
 
 // What is opened, with what was prepared last.
@@ -276,6 +286,7 @@ fn answer(alloc: Global, shop: &mut Shop, call: &Call) -> Told {
         Call::RecordPrepared(value) => record_prepared(alloc, shop, *value),
         Call::RecordList(value) => record_list(alloc, shop, *value),
         Call::Collect => collect(alloc, shop),
+        Call::Grant(recorder, amount) => grant(alloc, shop, *recorder, *amount),
         Call::Close => close(alloc, shop),
         Call::Settle => settle(alloc, shop),
         Call::Short(text) => tell_short(alloc, shop, text),
@@ -323,6 +334,11 @@ fn record_list(alloc: Global, shop: &mut Shop, value: i64) -> Told {
 
 fn collect(alloc: Global, shop: &mut Shop) -> Told {
     let code = wormweekly_collect(alloc, &mut shop.instrument, &mut shop.reader, 9);
+    (code, [0; 3], 0)
+}
+
+fn grant(alloc: Global, shop: &mut Shop, recorder: u32, amount: u64) -> Told {
+    let code = wormweekly_grant(alloc, &mut shop.instrument, recorder, amount);
     (code, [0; 3], 0)
 }
 

@@ -16,9 +16,9 @@ pub budget_fields-are : map (λ name. name.now) BUDGET_FIELDS ≡ budget_fields
 unfolding budget_fields
 budget_fields-are = refl
 
--- the fields that each format has, and the one that only a later one has
+-- the fields that each format has, and those that only a later one has
 fields_if : Bool → List (List ℕ)
-fields_if first = codes "name" ∷ codes "kind" ∷ codes "unit" ∷ codes "description" ∷ codes "range" ∷ codes "boundaries" ∷ codes "key" ∷ (if first then [] else codes "allowed" ∷ [])
+fields_if first = codes "name" ∷ codes "kind" ∷ codes "unit" ∷ codes "description" ∷ codes "range" ∷ codes "boundaries" ∷ codes "key" ∷ (if first then [] else codes "allowed" ∷ codes "spare" ∷ [])
 
 pub first_fields-are : (format : ℕ) → (format == 1) ≡ true → map (λ name. name.now) (take 7 INSTRUMENT_FIELDS) ≡ instrument_fields format
 unfolding instrument_fields fields_if

@@ -1,9 +1,9 @@
--- The format is 1 or 2, and in a file of format 1 no instrument lists combinations.
+-- The format is 1 or 2, and in a file of format 1 no instrument lists combinations or has a spare budget.
 use Rattle.std.proofs.Common.{◌≡◌, ℕ, ℤ, suc, zero, pos, negsuc, ◌≤◌, ◌⊎◌, inl, inr, All, Bool, true, false, not, ◌&&◌, cond, List, [], ◌∷◌, ◌++◌, length, Option, Some, None, Ok, nat_le, codes, refl, sym, ap, subst, ◌∙◌, arith}
 use Rattle.std.proofs.lemmas.Bool.{and_parts}
 use Rattle.std.proofs.lemmas.Bool.Decides.{nat_tests}
 use Rattle.std.specs.List.{list_any}
-use Rattle.toml.specs.Data.{Members, get_member}
+use Rattle.toml.specs.Data.{Data, Members, get_member}
 use Rattle.metric_base.specs.Steps.{each, in_turn, require_some}
 use Rattle.metric_base.specs.StepLaws.{after_ok, in_turn_keeps, ok_is, require_ok}
 use Rattle.metric_table.specs.FieldLaws.{none_other}
@@ -11,6 +11,7 @@ use Rattle.metric_table.specs.Fields.{field, format_up_to, integer_of, number_be
 use Rattle.metric_catalogue.specs.declared.contents.Instrument.{Instrument}
 use Rattle.metric_catalogue.specs.declared.contents.Key.{Key}
 use Rattle.metric_catalogue.specs.declared.instruments.Head.{Head}
+use Rattle.metric_catalogue.specs.declared.instruments.Limits.{Limits}
 use Rattle.metric_catalogue.specs.declared.meters.Metered.{Metered}
 use Rattle.metric_catalogue.specs.declared.fault.CatalogueDefect.TheVariants.{DuplicateInstrument, DuplicateMeter}
 use Rattle.metric_catalogue.specs.declared.fault.CatalogueFault.TheVariants.{At}
@@ -19,54 +20,71 @@ use Rattle.metric_catalogue.specs.declared.fault.CataloguePlace.TheVariants as p
 use Rattle.metric_catalogue.specs.Allowed.{allowed_field, allowed_of}
 use Rattle.metric_catalogue.specs.Catalogues.{format_of_top, nothing_metered, top_fields}
 use Rattle.metric_catalogue.specs.Faults.{faults_at}
-use Rattle.metric_catalogue.specs.Instruments.{advice_field, head_of, instrument_fields, instrument_name, instrument_of, is_instrument, only_instrument_fields, range_field, sets_field}
+use Rattle.metric_catalogue.specs.Instruments.{advice_field, head_of, instrument_fields, instrument_name, instrument_of, is_instrument, limits_field, only_instrument_fields, range_field, spare_field, spare_within}
 use Rattle.metric_catalogue.specs.Keys.{key_of}
 use Rattle.metric_catalogue.specs.Meters.{is_meter, meter_of, with_meter}
 use Rattle.metric_catalogue.proofs.SoundLists.{each_sound}
 use Rattle.metric_catalogue.proofs.SoundRows.{rows_none}
 
--- the instrument lists combinations only in a format beyond the first
+-- what an instrument of format 1 is
+abbrev IsFirst : Instrument → Type 0
+IsFirst instrument = (instrument.allowed ≡ None) × (instrument.spare ≡ 0)
+
+-- the instrument lists combinations or has a spare budget only in a format beyond the first
 abbrev IsPlain : ℕ → Instrument → Type 0
-IsPlain format instrument = format ≡ 1 → instrument.allowed ≡ None
+IsPlain format instrument = format ≡ 1 → IsFirst instrument
+
+-- a table without a field for either
+abbrev LacksBoth : Members → Type 0
+LacksBoth table = (get_member (codes "allowed") table ≡ None) × (get_member (codes "spare") table ≡ None)
 
 -- a table of format 1 has no field for them
-field_none : (at : CataloguePlace) (table : Members) (done : Unit {0}) → only_instrument_fields 1 at table ≡ Ok done → get_member (codes "allowed") table ≡ None
+fields_none : (at : CataloguePlace) (table : Members) (done : Unit {0}) → only_instrument_fields 1 at table ≡ Ok done → LacksBoth table
 unfolding only_instrument_fields instrument_fields
-field_none at table done e = none_other (faults_at at) (instrument_fields 1) (codes "allowed") table done e refl
+fields_none at table done e = (
+  none_other (faults_at at) (instrument_fields 1) (codes "allowed") table done e refl,
+  none_other (faults_at at) (instrument_fields 1) (codes "spare") table done e refl,
+)
 
-name_none : (at : CataloguePlace) (table : Members) (name : List ℕ) → instrument_name 1 at table ≡ Ok name → get_member (codes "allowed") table ≡ None
+name_none : (at : CataloguePlace) (table : Members) (name : List ℕ) → instrument_name 1 at table ≡ Ok name → LacksBoth table
 unfolding instrument_name
-name_none at table name e0 = after_ok (only_instrument_fields 1 at table) _ name e0 (λ done made _. field_none at table done made)
+name_none at table name e0 = after_ok (only_instrument_fields 1 at table) _ name e0 (λ done made _. fields_none at table done made)
 
-head_none : (at : CataloguePlace) (table : Members) (head : Head) → head_of 1 at table ≡ Ok head → get_member (codes "allowed") table ≡ None
+head_none : (at : CataloguePlace) (table : Members) (head : Head) → head_of 1 at table ≡ Ok head → LacksBoth table
 unfolding head_of
 head_none at table head e0 = after_ok (instrument_name 1 at table) _ head e0 (λ name made _. name_none at table name made)
 
-sets_none : (at : CataloguePlace) (is_taken : Bool) (table : Members) (sets : List Key × Option (List (List ℕ))) → get_member (codes "allowed") table ≡ None
-    → sets_field at is_taken table ≡ Ok sets → sets.1 ≡ None
-unfolding sets_field
-sets_none at is_taken table sets none e0 =
-    after_ok (tables_field (faults_at at) 8 (codes "key") table) _ sets e0 (λ tables _ e1.
-    after_ok (allowed_field at table) _ sets e1 (λ rows listed e2.
-    let (_, e3) = require_ok (not is_taken) (At DuplicateInstrument at) _ sets e2 in
-    after_ok (each (key_of at) [] tables) _ sets e3 (λ keys _ e4.
-    after_ok (allowed_of at keys rows) _ sets e4 (λ allowed combined e5.
-    let first : allowed ≡ sets.1 = ap (λ (s : List Key × Option (List (List ℕ))). s.1) (ok_is (keys, allowed) sets (Ok (keys, allowed)) refl e5) in
-    let empty : allowed ≡ None = sym (ok_is None allowed (Ok None) refl (sym (ap (allowed_of at keys) (rows_none at table rows none listed)) ∙ combined)) in
-    sym first ∙ empty))))
+spare_none : (at : CataloguePlace) (table : Members) (spare : ℕ) → get_member (codes "spare") table ≡ None → spare_field at table ≡ Ok spare → spare ≡ 0
+unfolding spare_field
+spare_none at table spare none e = sym (ok_is 0 spare (Ok 0) refl (sym (ap (spare_within at) none) ∙ e))
 
-instrument_none : (meter : ℕ) (before : List Instrument) (table : Members) (instrument : Instrument) → instrument_of 1 meter before table ≡ Ok instrument → instrument.allowed ≡ None
+limits_none : (at : CataloguePlace) (is_taken : Bool) (table : Members) (limits : Limits) → LacksBoth table
+    → limits_field at is_taken table ≡ Ok limits → (limits.allowed ≡ None) × (limits.spare ≡ 0)
+unfolding limits_field
+limits_none at is_taken table limits (no_rows, no_spare) e0 =
+    after_ok (tables_field (faults_at at) 8 (codes "key") table) _ limits e0 (λ tables _ e1.
+    after_ok (allowed_field at table) _ limits e1 (λ rows listed e2.
+    after_ok (spare_field at table) _ limits e2 (λ spare spared e3.
+    let (_, e4) = require_ok (not is_taken) (At DuplicateInstrument at) _ limits e3 in
+    after_ok (each (key_of at) [] tables) _ limits e4 (λ keys _ e5.
+    after_ok (allowed_of at keys rows) _ limits e5 (λ allowed combined e6.
+    let made : Limits = record { keys = keys; allowed = allowed; spare = spare } in
+    let same : limits ≡ made = sym (ok_is made limits (Ok made) refl e6) in
+    let empty : allowed ≡ None = sym (ok_is None allowed (Ok None) refl (sym (ap (allowed_of at keys) (rows_none at table rows no_rows listed)) ∙ combined)) in
+    (ap (λ (l : Limits). l.allowed) same ∙ empty, ap (λ (l : Limits). l.spare) same ∙ spare_none at table spare no_spare spared))))))
+
+instrument_none : (meter : ℕ) (before : List Instrument) (table : Members) (instrument : Instrument) → instrument_of 1 meter before table ≡ Ok instrument → IsFirst instrument
 unfolding instrument_of
 instrument_none meter before table instrument e0 =
     let at = place.Instrument (length before) in
     after_ok (head_of 1 at table) _ instrument e0 (λ head headed e1.
     after_ok (range_field at head.kind table) _ instrument e1 (λ range _ e2.
     after_ok (advice_field at table) _ instrument e2 (λ advice _ e3.
-    after_ok (sets_field at (list_any (is_instrument meter head.name) before) table) _ instrument e3 (λ sets keyed e4.
-    let made : Instrument = record { meter = meter; name = head.name; kind = head.kind; unit = head.unit; description = head.description; lo = range.0; hi = range.1; advice = advice; keys = sets.0; allowed = sets.1 } in
-    let same : made ≡ instrument = ok_is made instrument (Ok made) refl e4 in
-    let none = sets_none at (list_any (is_instrument meter head.name) before) table sets (head_none at table head headed) keyed in
-    ap (λ (i : Instrument). i.allowed) (sym same) ∙ none))))
+    after_ok (limits_field at (list_any (is_instrument meter head.name) before) table) _ instrument e3 (λ limits limited e4.
+    let made : Instrument = record { meter = meter; name = head.name; kind = head.kind; unit = head.unit; description = head.description; lo = range.0; hi = range.1; advice = advice; keys = limits.keys; allowed = limits.allowed; spare = limits.spare } in
+    let same : instrument ≡ made = sym (ok_is made instrument (Ok made) refl e4) in
+    let (no_rows, no_spare) = limits_none at (list_any (is_instrument meter head.name) before) table limits (head_none at table head headed) limited in
+    (ap (λ (i : Instrument). i.allowed) same ∙ no_rows, ap (λ (i : Instrument). i.spare) same ∙ no_spare)))))
 
 instruments_plain : (format meter : ℕ) (before : List Instrument) (tables : List Members) (after : List Instrument) → each (instrument_of format meter) before tables ≡ Ok after
     → All (IsPlain format) before → All (IsPlain format) after
@@ -90,9 +108,9 @@ meter_plain format before table after e0 plain =
     let all : Metered = record { meters = before.meters ++ meter ∷ []; instruments = instruments } in
     subst (λ (m : Metered). All (IsPlain format) m.instruments) (ok_is all after (Ok all) refl e4) (instruments_plain format (length before.meters) before.instruments tables instruments made plain))))
 
--- no instrument of the meters of a file of format 1 lists combinations
+-- no instrument of the meters of a file of format 1 lists combinations or has a spare budget
 pub meters_plain : (format : ℕ) (tables : List Members) (metered : Metered) → in_turn (with_meter format) nothing_metered tables ≡ Ok metered
-    → format ≡ 1 → All (λ instrument. instrument.allowed ≡ None) metered.instruments
+    → format ≡ 1 → All (λ instrument. (instrument.allowed ≡ None) × (instrument.spare ≡ 0)) metered.instruments
 meters_plain format tables metered e first =
     let plain = in_turn_keeps (λ (m : Metered). All (IsPlain format) m.instruments) (with_meter format) (meter_plain format) nothing_metered tables metered e (λ k d within. absurd (omega arith)) in
     λ k d within. plain k d within first

@@ -27,7 +27,7 @@ use Rattle.metric_catalogue.specs.Recorders.{amount_field, amount_from, budget_f
 use Rattle.metric_catalogue.specs.Sound.{AreInstrumentsApart, IsLabel, IsSound, IsSoundBudget, IsSoundInstrument, IsSoundList, IsSoundMeter, IsSoundRecorder}
 use Rattle.metric_catalogue.specs.Texts.{free_text, needed_text}
 use Rattle.metric_catalogue.proofs.PlainFiles.{format_made, meters_plain, some_made}
-use Rattle.metric_catalogue.proofs.SoundInstruments.{instrument_made}
+use Rattle.metric_catalogue.proofs.SoundInstruments.{amount_made, instrument_made}
 use Rattle.metric_catalogue.proofs.SoundKeys.{free_made, label_made, needed_made}
 use Rattle.metric_catalogue.proofs.SoundLists.{AreSound, IsNext, apart_by, each_length, each_sound, made_sound, sound_none, sound_push, tables_few, texts_apart}
 
@@ -73,6 +73,7 @@ one_more meters instrument sound = record {
   advice = sound.advice;
   keys = sound.keys;
   allowed = sound.allowed;
+  spare = sound.spare;
 }
 
 meter_made : (format : ℕ) (before : Metered) (table : Members) (after : Metered) → with_meter format before table ≡ Ok after → IsSoundSoFar before → IsSoundSoFar after × (length after.meters ≡ length before.meters + 1)
@@ -123,14 +124,6 @@ below_made count (negsuc m) n e = absurd cc
 below_made count (pos m) n e = by (nat_lt m count) refl e
   where
     by : (b : Bool) → nat_lt m count ≡ b → cond b (Some m) None ≡ Some n → n < count
-    by true h e = let same : m ≡ n = cc in grind (arith, nat_tests)
-    by false h e = absurd cc
-
-amount_made : (z : ℤ) (n : ℕ) → amount_from z ≡ Some n → n < 2 ^ 63
-amount_made (negsuc m) n e = absurd cc
-amount_made (pos m) n e = by (nat_lt m (2 ^ 63)) refl e
-  where
-    by : (b : Bool) → nat_lt m (2 ^ 63) ≡ b → cond b (Some m) None ≡ Some n → n < 2 ^ 63
     by true h e = let same : m ≡ n = cc in grind (arith, nat_tests)
     by false h e = absurd cc
 

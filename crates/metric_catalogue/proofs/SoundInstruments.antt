@@ -1,5 +1,6 @@
 -- What is read as an instrument is sound.
-use Rattle.std.proofs.Common.{◌≡◌, ◌≢◌, ℕ, ℤ, pos, ◌≤ℤ◌, ◌<◌, ◌≤◌, Bool, true, false, not, ◌&&◌, ◌||◌, ◌==◌, List, [], length, Option, Some, None, Result, Ok, Err, refl, sym, ap, subst, ◌∙◌, arith, codes, int_le, IsTrue, IfSome, eq-eqb, true≢false, unwrap_or}
+use Rattle.std.proofs.Common.{◌≡◌, ◌≢◌, ℕ, ℤ, pos, negsuc, ◌≤ℤ◌, ◌<◌, ◌≤◌, ◌^◌, Bool, true, false, not, ◌&&◌, ◌||◌, ◌==◌, List, [], length, Option, Some, None, Result, Ok, Err, refl, sym, ap, subst, ◌∙◌, arith, codes, int_le, IsTrue, IfSome, eq-eqb, true≢false, unwrap_or, cond, nat_lt}
+use Rattle.std.proofs.lemmas.Bool.Decides.{nat_tests}
 use Rattle.std.proofs.lemmas.Int.{ints}
 use Rattle.std.proofs.lemmas.Slice.Eq.{bytes_eq-Decides}
 use Rattle.std.specs.List.{list_any}
@@ -16,17 +17,20 @@ use Rattle.metric_catalogue.specs.declared.contents.Instrument.{Instrument}
 use Rattle.metric_catalogue.specs.declared.contents.Key.{Key}
 use Rattle.metric_catalogue.specs.declared.contents.Kind.{Kind}
 use Rattle.metric_catalogue.specs.declared.instruments.Head.{Head}
+use Rattle.metric_catalogue.specs.declared.instruments.Limits.{Limits}
 use Rattle.metric_catalogue.specs.declared.fault.CatalogueDefect.TheVariants.{BadBoundaries, BadName, BadRange, BadUnit, DuplicateInstrument}
 use Rattle.metric_catalogue.specs.declared.fault.CatalogueFault.TheVariants.{At}
 use Rattle.metric_catalogue.specs.declared.fault.CataloguePlace.{CataloguePlace}
 use Rattle.metric_catalogue.specs.declared.fault.CataloguePlace.TheVariants as place
 use Rattle.metric_catalogue.specs.Faults.{faults_at}
-use Rattle.metric_catalogue.specs.Instruments.{advice_field, boundaries_of, boundaries_within, head_of, instrument_name, instrument_of, is_instrument, is_range, kind_field, only_instrument_fields, pair_field, range_field, sets_field, unit_field}
+use Rattle.metric_catalogue.specs.Instruments.{advice_field, boundaries_of, boundaries_within, head_of, instrument_name, instrument_of, is_instrument, is_range, kind_field, only_instrument_fields, limits_field, pair_field, range_field, spare_field, spare_within, unit_field}
 use Rattle.metric_catalogue.specs.Allowed.{allowed_field, allowed_of}
 use Rattle.metric_catalogue.specs.Keys.{key_of}
 use Rattle.metric_catalogue.specs.Kinds.{is_monotonic}
+use Rattle.metric_catalogue.specs.Recorders.{amount_from}
 use Rattle.metric_catalogue.specs.Sound.{AreBoundaries, AreInstrumentsApart, AreSoundRows, IsFreeText, IsSoundInstrument, IsSoundKey, IsSoundList}
 use Rattle.metric_catalogue.specs.Texts.{free_text}
+use Rattle.metric_catalogue.proofs.PlainFiles.{some_made}
 use Rattle.metric_catalogue.proofs.SoundKeys.{free_made, key_made}
 use Rattle.metric_catalogue.proofs.SoundRows.{allowed_made, rows_few}
 use Rattle.metric_catalogue.proofs.SoundLists.{IsNext, apart_by, each_length, list_few, made_sound, tables_few}
@@ -113,25 +117,50 @@ names_apart meter name other e same_meter same_name =
     let two : bytes_eq (folded other.name) (folded name) ≡ true = (bytes_eq-Decides (folded other.name) (folded name)).1 same_name in
     true≢false (sym (rw (one, two) refl) ∙ e)
 
--- keys of distinct names, and combinations of these keys
-record AreSoundSets (sets : List Key × Option (List (List ℕ))) : Type 0 where
-  keys : IsSoundList 8 IsSoundKey (λ o k. o.name ≢ k.name) sets.0
-  allowed : IfSome sets.1 (AreSoundRows sets.0)
+-- what is read as an amount
+pub amount_made : (z : ℤ) (n : ℕ) → amount_from z ≡ Some n → n < 2 ^ 63
+amount_made (negsuc m) n e = absurd cc
+amount_made (pos m) n e = by (nat_lt m (2 ^ 63)) refl e
+  where
+    by : (b : Bool) → nat_lt m (2 ^ 63) ≡ b → cond b (Some m) None ≡ Some n → n < 2 ^ 63
+    by true h e = let same : m ≡ n = cc in grind (arith, nat_tests)
+    by false h e = absurd cc
+
+spare_within_made : (at : CataloguePlace) (d : Option Data) (spare : ℕ) → spare_within at d ≡ Ok spare → spare < 2 ^ 63
+spare_within_made at None spare e = subst (λ (n : ℕ). n < 2 ^ 63) (ok_is 0 spare (Ok 0) refl e) (omega arith)
+spare_within_made at (Some d) spare e0 =
+    after_ok (integer_of (faults_at at) d) _ spare e0 (λ z _ told.
+    amount_made z spare (some_made (amount_from z) (At BadRange at) spare told))
+
+spare_made : (at : CataloguePlace) (table : Members) (spare : ℕ) → spare_field at table ≡ Ok spare → spare < 2 ^ 63
+unfolding spare_field
+spare_made at table spare e = spare_within_made at (get_member (codes "spare") table) spare e
+
+-- keys of distinct names, combinations of these keys, and a spare budget
+record AreSoundLimits (limits : Limits) : Type 0 where
+  keys : IsSoundList 8 IsSoundKey (λ o k. o.name ≢ k.name) limits.keys
+  allowed : IfSome limits.allowed (AreSoundRows limits.keys)
+  spare : limits.spare < 2 ^ 63
 
 -- those of an instrument whose name is not taken
-sets_made : (at : CataloguePlace) (is_taken : Bool) (table : Members) (sets : List Key × Option (List (List ℕ))) → sets_field at is_taken table ≡ Ok sets
-    → (not is_taken ≡ true) × AreSoundSets sets
-unfolding sets_field
-sets_made at is_taken table sets e0 =
-    after_ok (tables_field (faults_at at) 8 (codes "key") table) _ sets e0 (λ tables listed e1.
-    after_ok (allowed_field at table) _ sets e1 (λ rows told_rows e2.
-    let (new, e3) = require_ok (not is_taken) (At DuplicateInstrument at) _ sets e2 in
-    after_ok (each (key_of at) [] tables) _ sets e3 (λ keys keyed e4.
-    after_ok (allowed_of at keys rows) _ sets e4 (λ allowed combined e5.
+limits_made : (at : CataloguePlace) (is_taken : Bool) (table : Members) (limits : Limits) → limits_field at is_taken table ≡ Ok limits
+    → (not is_taken ≡ true) × AreSoundLimits limits
+unfolding limits_field
+limits_made at is_taken table limits e0 =
+    after_ok (tables_field (faults_at at) 8 (codes "key") table) _ limits e0 (λ tables listed e1.
+    after_ok (allowed_field at table) _ limits e1 (λ rows told_rows e2.
+    after_ok (spare_field at table) _ limits e2 (λ spare spared e3.
+    let (new, e4) = require_ok (not is_taken) (At DuplicateInstrument at) _ limits e3 in
+    after_ok (each (key_of at) [] tables) _ limits e4 (λ keys keyed e5.
+    after_ok (allowed_of at keys rows) _ limits e5 (λ allowed combined e6.
     let sound_keys = made_sound 8 IsSoundKey (λ o k. o.name ≢ k.name) (key_of at) (key_made at) tables keys keyed (tables_few (faults_at at) 8 (codes "key") table tables listed) in
-    let made : List Key × Option (List (List ℕ)) = (keys, allowed) in
-    let sound : AreSoundSets made = record { keys = sound_keys; allowed = allowed_made at keys sound_keys.few rows (rows_few at table rows told_rows) allowed combined } in
-    (new, subst AreSoundSets (ok_is made sets (Ok made) refl e5) sound)))))
+    let made : Limits = record { keys = keys; allowed = allowed; spare = spare } in
+    let sound : AreSoundLimits made = record {
+      keys = sound_keys;
+      allowed = allowed_made at keys sound_keys.few rows (rows_few at table rows told_rows) allowed combined;
+      spare = spare_made at table spare spared;
+    } in
+    (new, subst AreSoundLimits (ok_is made limits (Ok made) refl e6) sound))))))
 
 pub instrument_made : (format meter meters : ℕ) → meter < meters → (before : List Instrument) (table : Members) (instrument : Instrument) → instrument_of format meter before table ≡ Ok instrument
     → IsNext (IsSoundInstrument meters) AreInstrumentsApart before instrument
@@ -141,11 +170,11 @@ instrument_made format meter meters known before table instrument e0 =
     after_ok (head_of format at table) _ instrument e0 (λ head headed e1.
     after_ok (range_field at head.kind table) _ instrument e1 (λ range ranged e2.
     after_ok (advice_field at table) _ instrument e2 (λ advice advised e3.
-    after_ok (sets_field at (list_any (is_instrument meter head.name) before) table) _ instrument e3 (λ sets keyed e4.
-    let (new, sound_sets) = sets_made at (list_any (is_instrument meter head.name) before) table sets keyed in
+    after_ok (limits_field at (list_any (is_instrument meter head.name) before) table) _ instrument e3 (λ limits limited e4.
+    let (new, sound_limits) = limits_made at (list_any (is_instrument meter head.name) before) table limits limited in
     let (ordered, not_negative) = range_is head.kind range.0 range.1 (range_made at head.kind table range ranged) in
     let sound_head = head_made format at table head headed in
-    let made : Instrument = record { meter = meter; name = head.name; kind = head.kind; unit = head.unit; description = head.description; lo = range.0; hi = range.1; advice = advice; keys = sets.0; allowed = sets.1 } in
+    let made : Instrument = record { meter = meter; name = head.name; kind = head.kind; unit = head.unit; description = head.description; lo = range.0; hi = range.1; advice = advice; keys = limits.keys; allowed = limits.allowed; spare = limits.spare } in
     let next : IsNext (IsSoundInstrument meters) AreInstrumentsApart before made = record {
       sound = record {
         known = known;
@@ -155,8 +184,9 @@ instrument_made format meter meters known before table instrument e0 =
         ordered = ordered;
         not_negative = not_negative;
         advice = advice_made at table advice advised;
-        keys = sound_sets.keys;
-        allowed = sound_sets.allowed;
+        keys = sound_limits.keys;
+        allowed = sound_limits.allowed;
+        spare = sound_limits.spare;
       };
       apart = apart_by AreInstrumentsApart (is_instrument meter head.name) before made (names_apart meter head.name) new;
     } in

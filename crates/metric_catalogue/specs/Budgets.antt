@@ -1,6 +1,7 @@
--- The budgets of recorders.
+-- The budgets of recorders, and the spare budgets of instruments.
 use Rattle.std.specs.Prelude.{ℕ, List, Option, Some, None, slice_get, find}
 use Rattle.metric_catalogue.specs.declared.contents.Budget.{Budget}
+use Rattle.metric_catalogue.specs.declared.contents.Instrument.{Instrument}
 use Rattle.metric_catalogue.specs.declared.contents.Recorder.{Recorder}
 use Rattle.metric_catalogue.specs.Recorders.{is_budget}
 
@@ -21,3 +22,12 @@ amount_from (Some recorder) instrument = amount_of recorder instrument
 -- how many recordings the recorder of this number may make on the instrument of that number
 abbrev pub budget_at : List Recorder → ℕ → ℕ → ℕ
 budget_at recorders recorder instrument = amount_from (slice_get recorders recorder) instrument
+
+-- how many recordings may be granted beside the budgets of an instrument, where there is one
+abbrev pub spare_in : Option Instrument → ℕ
+spare_in None = 0
+spare_in (Some instrument) = instrument.spare
+
+-- the same of the instrument of this number
+abbrev pub spare_at : List Instrument → ℕ → ℕ
+spare_at instruments instrument = spare_in (slice_get instruments instrument)

@@ -11,6 +11,7 @@ use Rattle.metric_catalogue.specs.declared.contents.Instrument.{Instrument}
 use Rattle.metric_catalogue.specs.declared.contents.Key.{Key}
 use Rattle.metric_catalogue.specs.declared.contents.Kind.{Kind}
 use Rattle.metric_catalogue.specs.declared.instruments.Head.{Head}
+use Rattle.metric_catalogue.specs.declared.instruments.Limits.{Limits}
 use Rattle.metric_catalogue.specs.declared.fault.CatalogueFault.{CatalogueFault}
 use Rattle.metric_catalogue.specs.declared.fault.CatalogueDefect.TheVariants.{WrongKind, BadName, BadUnit, BadRange, BadBoundaries, DuplicateInstrument}
 use Rattle.metric_catalogue.specs.declared.fault.CatalogueFault.TheVariants.{At}
@@ -20,6 +21,7 @@ use Rattle.metric_base.specs.Boundaries.{is_rising}
 use Rattle.metric_catalogue.specs.Allowed.{allowed_field, allowed_of}
 use Rattle.metric_catalogue.specs.Faults.{faults_at, pair_faults_at}
 use Rattle.metric_catalogue.specs.Kinds.{kind_named, is_monotonic}
+use Rattle.metric_catalogue.specs.Recorders.{amount_from}
 use Rattle.metric_catalogue.specs.Texts.{free_text}
 use Rattle.metric_catalogue.specs.Keys.{key_of}
 
@@ -27,7 +29,7 @@ use Rattle.metric_catalogue.specs.Keys.{key_of}
 unfoldable pub instrument_fields : ℕ → List (List ℕ)
 instrument_fields format =
     codes "name" ∷ codes "kind" ∷ codes "unit" ∷ codes "description" ∷
-    codes "range" ∷ codes "boundaries" ∷ codes "key" ∷ (if format == 1 then [] else codes "allowed" ∷ [])
+    codes "range" ∷ codes "boundaries" ∷ codes "key" ∷ (if format == 1 then [] else codes "allowed" ∷ codes "spare" ∷ [])
 
 -- an instrument has no other fields
 unfoldable pub only_instrument_fields : ℕ → CataloguePlace → Members → Result (Unit {0}) CatalogueFault
@@ -109,15 +111,28 @@ advice_field at table = boundaries_within at (get_member (codes "boundaries") ta
 abbrev pub is_instrument : ℕ → List ℕ → Instrument → Bool
 is_instrument meter name instrument = (instrument.meter == meter) && bytes_eq (folded instrument.name) (folded name)
 
--- the keys of an instrument, and the combinations of their values that it allows where it lists them, unless its name is taken
-unfoldable pub sets_field : CataloguePlace → Bool → Members → Result (List Key × Option (List (List ℕ))) CatalogueFault
-sets_field at is_taken table = do
+-- a spare budget, 0 where there is none
+abbrev pub spare_within : CataloguePlace → Option Data → Result ℕ CatalogueFault
+spare_within at None = Ok 0
+spare_within at (Some d) = do
+  number ← integer_of (faults_at at) d
+  require_some (amount_from number) (At BadRange at)
+
+-- the spare budget of an instrument
+unfoldable pub spare_field : CataloguePlace → Members → Result ℕ CatalogueFault
+spare_field at table = spare_within at (get_member (codes "spare") table)
+
+-- what limits the recordings of an instrument: its keys, the combinations of their values that it allows where it lists them, and
+-- its spare budget, unless its name is taken
+unfoldable pub limits_field : CataloguePlace → Bool → Members → Result Limits CatalogueFault
+limits_field at is_taken table = do
   tables ← tables_field (faults_at at) 8 (codes "key") table
   rows ← allowed_field at table
+  spare ← spare_field at table
   _ ← require (not is_taken) (At DuplicateInstrument at)
   keys ← each (key_of at) [] tables
   allowed ← allowed_of at keys rows
-  Ok (keys, allowed)
+  Ok (record { keys = keys; allowed = allowed; spare = spare })
 
 -- one more instrument of a meter in a file of this format, after those of the file before it
 unfoldable pub instrument_of : ℕ → ℕ → List Instrument → Members → Result Instrument CatalogueFault
@@ -126,5 +141,5 @@ instrument_of format meter before table = do
   head ← head_of format at table
   range ← range_field at head.kind table
   advice ← advice_field at table
-  sets ← sets_field at (list_any (is_instrument meter head.name) before) table
-  Ok (record { meter = meter; name = head.name; kind = head.kind; unit = head.unit; description = head.description; lo = range.0; hi = range.1; advice = advice; keys = sets.0; allowed = sets.1 })
+  limits ← limits_field at (list_any (is_instrument meter head.name) before) table
+  Ok (record { meter = meter; name = head.name; kind = head.kind; unit = head.unit; description = head.description; lo = range.0; hi = range.1; advice = advice; keys = limits.keys; allowed = limits.allowed; spare = limits.spare })

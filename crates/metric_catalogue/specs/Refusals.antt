@@ -2,7 +2,7 @@
 use Rattle.std.specs.Prelude.{ℕ, List, codes, ◌++◌}
 use Rattle.std.specs.Fmt.{decimal}
 use Rattle.metric_catalogue.specs.declared.refusal.Refusal.{Refusal}
-use Rattle.metric_catalogue.specs.declared.refusal.Refusal.TheVariants.{Stranger, UnknownInstrument, UnknownRecorder, UnknownReader, DuplicateKey, UnknownKey, UnknownValue, MissingKey, Combination, ValueRange, Closed, Budget, SumRange, Memory}
+use Rattle.metric_catalogue.specs.declared.refusal.Refusal.TheVariants.{Stranger, UnknownInstrument, UnknownRecorder, UnknownReader, DuplicateKey, UnknownKey, UnknownValue, MissingKey, Combination, ValueRange, Closed, Budget, NoSpare, SumRange, Memory}
 
 abbrev pub number_of : Refusal → ℕ
 number_of UnknownInstrument = 1
@@ -15,6 +15,7 @@ number_of MissingKey = 6
 number_of ValueRange = 7
 number_of Closed = 8
 number_of Budget = 9
+number_of NoSpare = 14
 number_of SumRange = 10
 number_of Memory = 11
 number_of Stranger = 12
@@ -32,6 +33,7 @@ name_of Combination = codes "Combination"
 name_of ValueRange = codes "ValueRange"
 name_of Closed = codes "Closed"
 name_of Budget = codes "Budget"
+name_of NoSpare = codes "NoSpare"
 name_of SumRange = codes "SumRange"
 name_of Memory = codes "Memory"
 name_of Stranger = codes "Stranger"

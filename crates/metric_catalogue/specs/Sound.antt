@@ -64,7 +64,7 @@ abbrev pub AreSoundRows : List Key → List (List ℕ) → Type 0
 AreSoundRows keys rows = IsSoundList 4096 (IsSoundRow keys) (λ row other. row ≢ other) rows
 
 -- An instrument is of one of so many meters. Its range is not empty, and has no negative value where sums only rise. It has at
--- most 8 keys of distinct names.
+-- most 8 keys of distinct names. Its spare budget is at most 2^63 - 1.
 pub record IsSoundInstrument (meters : ℕ) (instrument : Instrument) : Type 0 where
   pub known : instrument.meter < meters
   pub name : IsName instrument.name
@@ -75,6 +75,7 @@ pub record IsSoundInstrument (meters : ℕ) (instrument : Instrument) : Type 0 w
   pub advice : IfSome instrument.advice AreBoundaries
   pub keys : IsSoundList 8 IsSoundKey (λ key other. key.name ≢ other.name) instrument.keys
   pub allowed : IfSome instrument.allowed (AreSoundRows instrument.keys)
+  pub spare : instrument.spare < 2 ^ 63
 
 -- Two instruments of one meter have names that differ without case.
 abbrev pub AreInstrumentsApart : Instrument → Instrument → Type 0
@@ -90,10 +91,10 @@ pub record IsSoundRecorder (instruments : ℕ) (recorder : Recorder) : Type 0 wh
   pub name : IsLabel recorder.name
   pub budgets : IsSoundList 512 (IsSoundBudget instruments) (λ budget other. budget.instrument ≢ other.instrument) recorder.budgets
 
--- The format is 1, in which no instrument lists combinations, or 2. There are at most 64 meters, 512 instruments and 64 recorders. Meters differ in name, version or schema URL, recorders in name.
+-- The format is 1, in which no instrument lists combinations or has a spare budget, or 2. There are at most 64 meters, 512 instruments and 64 recorders. Meters differ in name, version or schema URL, recorders in name.
 pub record IsSound (c : Contents) : Type 0 where
   pub format : (c.format ≡ 1) ⊎ (c.format ≡ 2)
-  pub plain : c.format ≡ 1 → All (λ instrument. instrument.allowed ≡ None) c.instruments
+  pub plain : c.format ≡ 1 → All (λ instrument. (instrument.allowed ≡ None) × (instrument.spare ≡ 0)) c.instruments
   pub meters : IsSoundList 64 IsSoundMeter (λ meter other. meter ≢ other) c.meters
   pub instruments : IsSoundList 512 (IsSoundInstrument (length c.meters)) AreInstrumentsApart c.instruments
   pub recorders : IsSoundList 64 (IsSoundRecorder (length c.instruments)) (λ recorder other. recorder.name ≢ other.name) c.recorders

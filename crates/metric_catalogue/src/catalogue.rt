@@ -4,7 +4,7 @@ ghost use Rattle.toml.specs.View.{table_view};
 ghost use Rattle.metric_base.specs.Steps.{Gives, GivesBy, in_turn};
 ghost use Rattle.std.specs.Option.{option_copied};
 ghost use Rattle.metric_catalogue.specs.Attributes.{given_by, given_by_owned};
-ghost use Rattle.metric_catalogue.specs.Budgets.{amount_of, budget_at};
+ghost use Rattle.metric_catalogue.specs.Budgets.{amount_of, budget_at, spare_at};
 ghost use Rattle.metric_catalogue.specs.Encoding.{encode_of};
 ghost use Rattle.metric_catalogue.specs.Meters.{with_meter};
 ghost use Rattle.metric_catalogue.specs.Recorders.{is_budget};
@@ -101,6 +101,17 @@ impl Catalogue {
     {
         match self.recorders().get(recorder as usize) {
             Some(recorder) => recorder.budget(instrument),
+            None => 0,
+        }
+    }
+
+    /// How many recordings on an instrument may be granted to recorders beside their budgets: 0 where the file declares
+    /// no spare budget.
+    pub fn spare(&self, instrument: u32) -> u64
+        ensures { result ≡ spare_at self.now.instruments instrument }
+    {
+        match self.instruments().get(instrument as usize) {
+            Some(instrument) => instrument.spare,
             None => 0,
         }
     }

@@ -51,6 +51,8 @@ pub struct Instrument {
     pub keys: Few<Key, 8>,
     /// The combinations of their values that recordings may have, where the file lists them.
     pub allowed: Option<Combinations>,
+    /// How many recordings may be granted to recorders beside their budgets, at most 2^63 - 1.
+    pub spare: u64,
 }
 
 impl Drop for Instrument {
@@ -67,6 +69,7 @@ impl Drop for Instrument {
             advice: _advice,
             keys: _keys,
             allowed: _allowed,
+            spare: _,
         } = self;
     }
 }
@@ -102,7 +105,7 @@ pub struct Recorder {
 
 /// All that a catalogue declares, each list in the order of the file.
 pub struct Contents {
-    /// The format of the file: 1, or 2, in which an instrument may list its combinations.
+    /// The format of the file: 1, or 2, in which an instrument may list its combinations and have a spare budget.
     pub format: u8,
     /// The meters.
     pub meters: Few<Meter, 64>,

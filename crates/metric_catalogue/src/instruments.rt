@@ -4,12 +4,13 @@ ghost use Rattle.std.specs.List.{list_any};
 ghost use Rattle.toml.specs.View.{table_view, view};
 ghost use Rattle.metric_base.specs.Steps.{Gives, Advances, each};
 ghost use Rattle.metric_catalogue.specs.Texts.{free_text};
-ghost use Rattle.metric_catalogue.specs.Instruments.{advice_field, boundaries_of, head_of, instrument_name, instrument_of, is_instrument, is_range, kind_field, only_instrument_fields, pair_field, pair_of, range_field, sets_field, unit_field};
+ghost use Rattle.metric_catalogue.specs.Instruments.{advice_field, boundaries_of, head_of, instrument_name, instrument_of, is_instrument, is_range, kind_field, only_instrument_fields, pair_field, pair_of, range_field, limits_field, spare_field, unit_field};
 
 use crate::allowed::{allowed_field, allowed_of};
 use crate::contents::{Instrument, Key, Kind};
 use crate::fault::{CatalogueDefect, CatalogueFault, CataloguePlace};
 use crate::keys::keys_of;
+use crate::recorders::amount_from;
 use crate::texts::{faults_at, free_text, pair_faults_at};
 use metric_base::{Boundaries, Few, Items, Shared, Text, is_rising};
 use metric_combinations::Combinations;
@@ -21,8 +22,8 @@ use metric_table::{
 use std::alloc::Global;
 use toml::{Table, Value};
 
-// The fields of an instrument's table, of which format 1 has all but the last.
-const INSTRUMENT_FIELDS: [&str; 8] = [
+// The fields of an instrument's table, of which format 1 has all but the last two.
+const INSTRUMENT_FIELDS: [&str; 9] = [
     "name",
     "kind",
     "unit",
@@ -31,6 +32,7 @@ const INSTRUMENT_FIELDS: [&str; 8] = [
     "boundaries",
     "key",
     "allowed",
+    "spare",
 ];
 
 // What names and describes an instrument.
@@ -53,6 +55,13 @@ impl Drop for Head {
     }
 }
 
+// What limits the recordings of an instrument.
+pub(crate) struct Limits {
+    keys: Few<Key, 8>,
+    allowed: Option<Combinations>,
+    spare: u64,
+}
+
 impl Head {
     // The instrument of this head.
     fn instrument(
@@ -60,7 +69,7 @@ impl Head {
         meter: u32,
         range: (i64, i64),
         advice: Option<Shared<Boundaries>>,
-        sets: (Few<Key, 8>, Option<Combinations>),
+        limits: Limits,
     ) -> Instrument
         ensures { result ≡ record {
           meter = meter;
@@ -71,8 +80,9 @@ impl Head {
           lo = range.0;
           hi = range.1;
           advice = advice;
-          keys = sets.0;
-          allowed = sets.1;
+          keys = limits.keys;
+          allowed = limits.allowed;
+          spare = limits.spare;
         } }
     {
         let Head {
@@ -82,7 +92,11 @@ impl Head {
             description,
         } = self;
         let (lo, hi) = range;
-        let (keys, allowed) = sets;
+        let Limits {
+            keys,
+            allowed,
+            spare,
+        } = limits;
         Instrument {
             meter,
             name,
@@ -94,6 +108,7 @@ impl Head {
             advice,
             keys,
             allowed,
+            spare,
         }
     }
 }
@@ -135,30 +150,49 @@ fn instrument_of(
     let range = range_field(table, head.kind, at)?;
     let advice = advice_field(alloc, table, at)?;
     let is_taken = has_instrument(before, meter, head.name.get());
-    let sets = sets_field(alloc, table, at, is_taken)?;
-    Ok(head.instrument(meter, range, advice, sets))
+    let limits = limits_field(alloc, table, at, is_taken)?;
+    Ok(head.instrument(meter, range, advice, limits))
 }
 
-// The keys of an instrument, and the combinations that it allows where it lists them. That its name is taken is told
-// before a fault of a key or a row.
-#[tactic(auto, unfolding(crate::specs::Instruments::sets_field))]
-fn sets_field(
+// The keys of an instrument, the combinations that it allows where it lists them, and its spare budget. That its name
+// is taken is told before a fault of a key or a row.
+#[tactic(auto, unfolding(crate::specs::Instruments::limits_field))]
+fn limits_field(
     alloc: Global,
     table: &Table,
     at: CataloguePlace,
     is_taken: bool,
-) -> Result<(Few<Key, 8>, Option<Combinations>), CatalogueFault>
+) -> Result<Limits, CatalogueFault>
     ensures { Gives CatalogueFault.Memory result
-        (sets_field at is_taken (table_view table.now)) }
+        (limits_field at is_taken (table_view table.now)) }
 {
     let tables = tables_field(alloc, table, "key", 8, &faults_at(at))?;
     let rows = allowed_field(table, at)?;
+    let spare = spare_field(table, at)?;
     if is_taken {
         return Err(CatalogueFault::At(CatalogueDefect::DuplicateInstrument, at));
     }
     let keys = keys_of(alloc, tables.as_slice(), at)?;
     let allowed = allowed_of(alloc, rows, keys.as_slice(), at)?;
-    Ok((Few::from_items(keys), allowed))
+    Ok(Limits {
+        keys: Few::from_items(keys),
+        allowed,
+        spare,
+    })
+}
+
+// The spare budget of an instrument, 0 where the table leaves it out.
+#[tactic(auto, unfolding(crate::specs::Instruments::spare_field))]
+fn spare_field(table: &Table, at: CataloguePlace) -> Result<u64, CatalogueFault>
+    ensures { result ≡ spare_field at (table_view table.now) }
+{
+    match member(table, "spare") {
+        Some(value) => {
+            let number = integer_of(value, &faults_at(at))?;
+            amount_from(number).ok_or(CatalogueFault::At(CatalogueDefect::BadRange, at))
+        }
+        None => Ok(0),
+    }
 }
 
 fn has_instrument(instruments: &[Instrument], meter: u32, name: &Name) -> bool

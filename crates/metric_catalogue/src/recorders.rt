@@ -177,7 +177,7 @@ fn amount_field(table: &Table, at: CataloguePlace) -> Result<u64, CatalogueFault
     amount_from(number).ok_or(CatalogueFault::At(CatalogueDefect::BadRange, at))
 }
 
-fn amount_from(number: i64) -> Option<u64>
+pub(crate) fn amount_from(number: i64) -> Option<u64>
     ensures { result ≡ amount_from number }
 {
     if 0 <= number {

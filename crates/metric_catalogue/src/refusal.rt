@@ -30,8 +30,10 @@ pub enum Refusal {
     ValueRange,
     /// The instrument is closed.
     Closed,
-    /// The recorder's budget for the instrument is spent.
+    /// The recorder's budget for the instrument is spent, with what it was granted.
     Budget,
+    /// Less is left of the instrument's spare budget than a grant asks for.
+    NoSpare,
     /// A sum would leave the range of i64, or a count that of u64.
     SumRange,
     /// Memory was refused.
@@ -55,6 +57,7 @@ impl Refusal {
             Refusal::ValueRange => 7,
             Refusal::Closed => 8,
             Refusal::Budget => 9,
+            Refusal::NoSpare => 14,
             Refusal::SumRange => 10,
             Refusal::Memory => 11,
         }
@@ -77,6 +80,7 @@ impl Refusal {
             Refusal::ValueRange => "ValueRange",
             Refusal::Closed => "Closed",
             Refusal::Budget => "Budget",
+            Refusal::NoSpare => "NoSpare",
             Refusal::SumRange => "SumRange",
             Refusal::Memory => "Memory",
         }

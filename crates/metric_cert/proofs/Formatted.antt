@@ -48,7 +48,7 @@ made_formatted contents format entries streams sound same made =
     elim sound.format [
       | inl first ↦
           let is : format ≡ 1 = same ∙ first in
-          let none : list_any has_list entries ≡ false = ap (list_any has_list) made ∙ no_lists contents (plain_list contents (sound.plain first)) streams in
+          let none : list_any has_list entries ≡ false = ap (list_any has_list) made ∙ no_lists contents (plain_list contents (λ k d within. (sound.plain first k d within).0)) streams in
           rw (is, none) refl
       | inr second ↦ let is : format ≡ 2 = same ∙ second in rw is refl
     ]

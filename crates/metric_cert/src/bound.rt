@@ -18,7 +18,7 @@ use toml::Table;
 pub struct InstrumentBound {
     /// The number of the instrument.
     pub instrument: u32,
-    /// How often it may be recorded: the sum of its budgets.
+    /// How often it may be recorded: the sum of its budgets and its spare.
     pub total: u64,
     /// How far apart two sums of its values may be.
     pub amount: u64,

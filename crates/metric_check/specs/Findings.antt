@@ -90,7 +90,7 @@ OrdersFind contents config streams orders = Asks (AllZip (IsOrderOf contents str
 
 -- Bounds
 
--- The bound is in its place, with the sum of the budgets, which is a u64.
+-- The bound is in its place, with the sum of the budgets and the spare, which is a u64.
 abbrev pub IsCountOf : ℕ → ℕ → InstrumentBound → Type 0
 IsCountOf number total bound = (bound.instrument ≡ number) × (bound.total ≡ total) × CountsFit total
 

@@ -35,7 +35,7 @@ ShowSelection contents config reasons =
     → option_map (λ reason. selects_by reason.evidence) (slice_get reasons (view * length contents.instruments + instrument))
     ≡ Some (is_selected contents config instrument view)
 
--- The bounds have the sum of the budgets of each instrument.
+-- The bounds have the sum of the budgets and the spare of each instrument.
 abbrev pub AreTotals : Contents → List InstrumentBound → Type 0
 AreTotals contents bounds =
     (number : ℕ) → number < length contents.instruments → IsSomeAnd (slice_get bounds number) (λ bound. bound.total ≡ total_of contents number)

@@ -12,9 +12,9 @@ use Rattle.metric_history.specs.History.{History, answered}
 use Rattle.metric_history.specs.Legal.{grown}
 use Rattle.metric_history.specs.declared.batch.Batch.{Batch}
 use Rattle.metric_history.specs.declared.event.Event.{Event}
-use Rattle.metric_history.specs.declared.event.Event.TheVariants.{Record, Collect, Close}
+use Rattle.metric_history.specs.declared.event.Event.TheVariants.{Record, Collect, Close, Grant}
 use Rattle.metric_history.specs.declared.event.Reply.{Reply}
-use Rattle.metric_history.specs.declared.event.Reply.TheVariants.{Accepted, Collected, Done, Refused}
+use Rattle.metric_history.specs.declared.event.Reply.TheVariants.{Accepted, Collected, Done, Granted, Refused}
 use Rattle.metric_commands.specs.Accounts.{AddsToAccount, AddsToAccounts, AreAccounts, IsAccount, IsEmptyAccount, batch_at, batches_at, place_of}
 use Rattle.metric_commands.specs.Audits.{AddsSlip, AddsSlips, AreSlipsOf, batches_by, batches_told, slip_in, slip_made, slips_by}
 use Rattle.metric_commands.specs.declared.accounts.Account.{Account}
@@ -36,8 +36,10 @@ other_slips contents i r (Record recorder instrument attrs value) Accepted other
     ap (λ (b : Bool). cond b (slip_made r recorder value (encoded contents i attrs)) []) (ne_eqb instrument i other)
 other_slips contents i r (Collect q instrument now) Accepted other = refl
 other_slips contents i r (Close instrument) Accepted other = refl
+other_slips contents i r (Grant recorder instrument amount) Accepted other = refl
 other_slips contents i r event (Collected b) other = refl
 other_slips contents i r event Done other = refl
+other_slips contents i r event Granted other = refl
 other_slips contents i r event (Refused refusal) other = refl
 
 nothing_more : {A : Type 0} (xs more : List A) → more ≡ [] → xs ≡ xs ++ more
@@ -122,6 +124,7 @@ placed replies place i event (Collected b) found = at (instrument_of event == i)
     at false = refl
 placed replies place i event Accepted found = nowhere replies (instrument_of event == i)
 placed replies place i event Done found = nowhere replies (instrument_of event == i)
+placed replies place i event Granted found = nowhere replies (instrument_of event == i)
 placed replies place i event (Refused refusal) found = nowhere replies (instrument_of event == i)
 
 account_more : (contents : Contents) (replies : List Reply) (h : History) (i place : ℕ) (event : Event) (reply : Reply) (old new : Account)

@@ -6,11 +6,11 @@ use Rattle.metric_catalogue.specs.declared.refusal.Refusal.TheVariants as refusa
 use Rattle.metric_history.specs.declared.batch.Batch.{Batch}
 use Rattle.metric_history.specs.declared.entry.Entry.{Entry}
 use Rattle.metric_history.specs.declared.event.Event.{Event}
-use Rattle.metric_history.specs.declared.event.Event.TheVariants.{Record, Collect, Close}
+use Rattle.metric_history.specs.declared.event.Event.TheVariants.{Record, Collect, Close, Grant}
 use Rattle.metric_history.specs.declared.event.Reply.{Reply}
-use Rattle.metric_history.specs.declared.event.Reply.TheVariants.{Accepted, Collected, Done, Refused}
+use Rattle.metric_history.specs.declared.event.Reply.TheVariants.{Accepted, Collected, Done, Granted, Refused}
 use Rattle.metric_history.specs.History.{History}
-use Rattle.metric_history.specs.Legal.{LegalRecord, LegalCollect, LegalClose, Legal, AllLegal}
+use Rattle.metric_history.specs.Legal.{LegalRecord, LegalCollect, LegalClose, LegalGrant, Legal, AllLegal}
 use Rattle.metric_facts.specs.Facts.{RunFacts}
 use Rattle.metric_commands.specs.Replies.{is_want_of_memory}
 
@@ -25,14 +25,18 @@ one_record (Ok entry) (Refused g) s a b m n = absurd (not_memory g a m)
 one_record (Err refusal) (Refused g) (Refused h) a b m n = ap Refused (a ∙ sym b)
 one_record (Ok entry) Accepted (Collected _) a b m n = elim b [ ]
 one_record (Ok entry) Accepted Done a b m n = elim b [ ]
+one_record (Ok entry) Accepted Granted a b m n = elim b [ ]
 one_record (Ok entry) (Collected _) s a b m n = elim a [ ]
 one_record (Ok entry) Done s a b m n = elim a [ ]
+one_record (Ok entry) Granted s a b m n = elim a [ ]
 one_record (Err refusal) Accepted s a b m n = elim a [ ]
 one_record (Err refusal) (Collected _) s a b m n = elim a [ ]
 one_record (Err refusal) Done s a b m n = elim a [ ]
+one_record (Err refusal) Granted s a b m n = elim a [ ]
 one_record (Err refusal) (Refused g) Accepted a b m n = elim b [ ]
 one_record (Err refusal) (Refused g) (Collected _) a b m n = elim b [ ]
 one_record (Err refusal) (Refused g) Done a b m n = elim b [ ]
+one_record (Err refusal) (Refused g) Granted a b m n = elim b [ ]
 
 one_collect : (due : Result Batch Refusal) (r s : Reply) → LegalCollect due r → LegalCollect due s → is_want_of_memory r ≡ false → is_want_of_memory s ≡ false → r ≡ s
 one_collect (Ok batch) (Collected x) (Collected y) a b m n = ap Collected (a ∙ sym b)
@@ -42,13 +46,17 @@ one_collect (Err refusal) (Refused g) (Refused h) a b m n = ap Refused (a ∙ sy
 one_collect (Ok batch) Accepted s a b m n = elim a [ ]
 one_collect (Ok batch) (Collected x) Accepted a b m n = elim b [ ]
 one_collect (Ok batch) (Collected x) Done a b m n = elim b [ ]
+one_collect (Ok batch) (Collected x) Granted a b m n = elim b [ ]
 one_collect (Ok batch) Done s a b m n = elim a [ ]
+one_collect (Ok batch) Granted s a b m n = elim a [ ]
 one_collect (Err refusal) Accepted s a b m n = elim a [ ]
 one_collect (Err refusal) (Collected x) s a b m n = elim a [ ]
 one_collect (Err refusal) Done s a b m n = elim a [ ]
+one_collect (Err refusal) Granted s a b m n = elim a [ ]
 one_collect (Err refusal) (Refused g) Accepted a b m n = elim b [ ]
 one_collect (Err refusal) (Refused g) (Collected y) a b m n = elim b [ ]
 one_collect (Err refusal) (Refused g) Done a b m n = elim b [ ]
+one_collect (Err refusal) (Refused g) Granted a b m n = elim b [ ]
 
 one_close : (due : Result (Unit {0}) Refusal) (r s : Reply) → LegalClose due r → LegalClose due s → r ≡ s
 one_close (Ok done) Done Done a b = refl
@@ -57,20 +65,45 @@ one_close (Ok done) Accepted s a b = elim a [ ]
 one_close (Ok done) (Collected _) s a b = elim a [ ]
 one_close (Ok done) Done Accepted a b = elim b [ ]
 one_close (Ok done) Done (Collected _) a b = elim b [ ]
+one_close (Ok done) Done Granted a b = elim b [ ]
 one_close (Ok done) Done (Refused h) a b = elim b [ ]
+one_close (Ok done) Granted s a b = elim a [ ]
 one_close (Ok done) (Refused g) s a b = elim a [ ]
 one_close (Err refusal) Accepted s a b = elim a [ ]
 one_close (Err refusal) (Collected _) s a b = elim a [ ]
 one_close (Err refusal) Done s a b = elim a [ ]
+one_close (Err refusal) Granted s a b = elim a [ ]
 one_close (Err refusal) (Refused g) Accepted a b = elim b [ ]
 one_close (Err refusal) (Refused g) (Collected _) a b = elim b [ ]
 one_close (Err refusal) (Refused g) Done a b = elim b [ ]
+one_close (Err refusal) (Refused g) Granted a b = elim b [ ]
+
+one_grant : (due : Result (Unit {0}) Refusal) (r s : Reply) → LegalGrant due r → LegalGrant due s → r ≡ s
+one_grant (Ok done) Granted Granted a b = refl
+one_grant (Err refusal) (Refused g) (Refused h) a b = ap Refused (a ∙ sym b)
+one_grant (Ok done) Accepted s a b = elim a [ ]
+one_grant (Ok done) (Collected _) s a b = elim a [ ]
+one_grant (Ok done) Done s a b = elim a [ ]
+one_grant (Ok done) Granted Accepted a b = elim b [ ]
+one_grant (Ok done) Granted (Collected _) a b = elim b [ ]
+one_grant (Ok done) Granted Done a b = elim b [ ]
+one_grant (Ok done) Granted (Refused h) a b = elim b [ ]
+one_grant (Ok done) (Refused g) s a b = elim a [ ]
+one_grant (Err refusal) Accepted s a b = elim a [ ]
+one_grant (Err refusal) (Collected _) s a b = elim a [ ]
+one_grant (Err refusal) Done s a b = elim a [ ]
+one_grant (Err refusal) Granted s a b = elim a [ ]
+one_grant (Err refusal) (Refused g) Accepted a b = elim b [ ]
+one_grant (Err refusal) (Refused g) (Collected _) a b = elim b [ ]
+one_grant (Err refusal) (Refused g) Done a b = elim b [ ]
+one_grant (Err refusal) (Refused g) Granted a b = elim b [ ]
 
 one_reply : (facts : RunFacts) (start : ℕ) (h : History) (e : Event) (r s : Reply)
     → Legal facts start h e r → Legal facts start h e s → is_want_of_memory r ≡ false → is_want_of_memory s ≡ false → r ≡ s
 one_reply facts start h (Record recorder instrument attrs value) r s a b m n = one_record _ r s a b m n
 one_reply facts start h (Collect reader instrument now) r s a b m n = one_collect _ r s a b m n
 one_reply facts start h (Close instrument) r s a b m n = one_close _ r s a b
+one_reply facts start h (Grant recorder instrument amount) r s a b m n = one_grant _ r s a b
 
 neither : (a b : Bool) → (a || b) ≡ false → (a ≡ false) × (b ≡ false)
 neither true b e = absurd cc

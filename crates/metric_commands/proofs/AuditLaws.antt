@@ -1,5 +1,5 @@
 -- A legal history is audited: the slips that its events make are the entries of each journal, and each batch is right.
-use Rattle.std.proofs.Common.{◌≡◌, ℕ, zero, suc, ◌-◌, ◌<◌, ◌≤◌, ◌≢◌, ℤ, Bool, true, false, ◌&&◌, not, cond, max, List, [], ◌∷◌, ◌++◌, length, map, take, drop, Option, Some, None, Result, Ok, Err, ◌⊎◌, inl, inr, get_or, refl, sym, ap, subst, ◌∙◌, append_assoc, arith}
+use Rattle.std.proofs.Common.{◌≡◌, ℕ, zero, suc, ◌+◌, ◌-◌, ◌<◌, ◌≤◌, ◌≢◌, ℤ, Bool, true, false, ◌&&◌, not, cond, max, List, [], ◌∷◌, ◌++◌, length, map, take, drop, Option, Some, None, Result, Ok, Err, ◌⊎◌, inl, inr, get_or, refl, sym, ap, subst, ◌∙◌, append_assoc, arith}
 use Rattle.std.specs.Prelude.{filter, slice_get, slice_index, slice_range, nat_le, nat_lt, ◌==◌, if◌then◌else◌}
 use Rattle.std.specs.List.{list_all}
 use Rattle.std.specs.Result.{result_unwrap_or}
@@ -33,16 +33,16 @@ use Rattle.metric_facts.specs.declared.facts.NumberedStream.{NumberedStream}
 use Rattle.metric_facts.specs.Facts.{EncodesAllowedSets, RunFacts, in_bounds, is_allowed_set, is_delta, is_full_set, is_of_reader, key_facts}
 use Rattle.metric_history.specs.Answers.{Told, batch, collected, recorded, spent}
 use Rattle.metric_history.specs.Encoded.{encoded}
-use Rattle.metric_history.specs.History.{History, accepted, added_by, batch_time, collects, is_closed, mark_of, previous_of, told_of}
-use Rattle.metric_history.specs.Legal.{AllLegal, IsLegal, KeepsLegal, Legal, LegalClose, LegalCollect, LegalRecord, grown}
+use Rattle.metric_history.specs.History.{History, accepted, added_by, batch_time, collects, granted_of, handed_of, is_closed, mark_of, previous_of, told_of}
+use Rattle.metric_history.specs.Legal.{AllLegal, IsLegal, KeepsLegal, Legal, LegalClose, LegalCollect, LegalGrant, LegalRecord, grown}
 use Rattle.metric_history.specs.Points.{reported}
 use Rattle.metric_history.specs.Windows.{fits_all, fits_stream, window}
 use Rattle.metric_history.specs.declared.batch.Batch.{Batch}
 use Rattle.metric_history.specs.declared.entry.Entry.{Entry}
 use Rattle.metric_history.specs.declared.event.Event.{Event}
-use Rattle.metric_history.specs.declared.event.Event.TheVariants.{Record, Collect, Close}
+use Rattle.metric_history.specs.declared.event.Event.TheVariants.{Record, Collect, Close, Grant}
 use Rattle.metric_history.specs.declared.event.Reply.{Reply}
-use Rattle.metric_history.specs.declared.event.Reply.TheVariants.{Accepted, Collected, Done, Refused}
+use Rattle.metric_history.specs.declared.event.Reply.TheVariants.{Accepted, Collected, Done, Granted, Refused}
 use Rattle.metric_plan.specs.PlanFacts.{plan_facts_at}
 use Rattle.metric_plan.specs.Plans.{IsPlan, PlanValue}
 use Rattle.metric_commands.specs.Accounts.{IsAccount, batches_at}
@@ -106,7 +106,7 @@ recorded_taken run start h i own recorder attrs value entry rest =
     (λ set named later.
     let ranged = require_ok (in_bounds own value) ValueRange _ entry later in
     let opened = require_ok (not (is_closed h i)) Closed _ entry ranged.1 in
-    let budgeted = require_ok (nat_lt (spent (accepted run h i) recorder) (slice_index own.budgets recorder)) Budget _ entry opened.1 in
+    let budgeted = require_ok (nat_lt (spent (accepted run h i) recorder) (slice_index own.budgets recorder + granted_of h i recorder)) Budget _ entry opened.1 in
     let fits = require_ok (fits_all own (mark_of run h i) (accepted run h i) (record { recorder = recorder; set = set; value = value })) SumRange _ entry budgeted.1 in
     record {
       set = set;
@@ -241,6 +241,10 @@ no_batch_of_close : (due : Result (Unit {0}) Refusal) (b : Batch) → LegalClose
 no_batch_of_close (Ok done) b legal = legal
 no_batch_of_close (Err refusal) b legal = legal
 
+no_batch_of_grant : (due : Result (Unit {0}) Refusal) (b : Batch) → LegalGrant due (Collected b) → ⊥
+no_batch_of_grant (Ok done) b legal = legal
+no_batch_of_grant (Err refusal) b legal = legal
+
 happens : (run : RunFacts) (start : ℕ) (h : History) (i : ℕ) (own : Facts) (event : Event) (reply : Reply) → IsOwn run i own → Legal run start h event reply
     → Happens run start h i own event reply
 happens run start h i own (Record recorder instrument attrs value) Accepted o legal = at (instrument == i) refl
@@ -263,14 +267,22 @@ happens run start h i own (Collect q instrument now) (Collected b) o legal = at 
         (inr (inl (tells_batch run start h i own q now b (collect_told own start (told_of run start h i) q now b (slice_get run.instruments i) o.at here))))
 happens run start h i own (Record recorder instrument attrs value) (Collected b) o legal = absurd (no_batch_of_record _ b legal)
 happens run start h i own (Record recorder instrument attrs value) Done o legal = inr (inr (record { adds = refl; slips = λ r. refl; collects_none = λ reader. refl; batches = refl }))
+happens run start h i own (Record recorder instrument attrs value) Granted o legal = inr (inr (record { adds = refl; slips = λ r. refl; collects_none = λ reader. refl; batches = refl }))
 happens run start h i own (Record recorder instrument attrs value) (Refused refusal) o legal = inr (inr (record { adds = refl; slips = λ r. refl; collects_none = λ reader. refl; batches = refl }))
 happens run start h i own (Collect q instrument now) Accepted o legal = inr (inr (record { adds = refl; slips = λ r. refl; collects_none = λ reader. refl; batches = refl }))
 happens run start h i own (Collect q instrument now) Done o legal = inr (inr (record { adds = refl; slips = λ r. refl; collects_none = λ reader. refl; batches = refl }))
+happens run start h i own (Collect q instrument now) Granted o legal = inr (inr (record { adds = refl; slips = λ r. refl; collects_none = λ reader. refl; batches = refl }))
 happens run start h i own (Collect q instrument now) (Refused refusal) o legal = inr (inr (record { adds = refl; slips = λ r. refl; collects_none = λ reader. refl; batches = refl }))
 happens run start h i own (Close instrument) (Collected b) o legal = absurd (no_batch_of_close _ b legal)
 happens run start h i own (Close instrument) Accepted o legal = inr (inr (record { adds = refl; slips = λ r. refl; collects_none = λ reader. refl; batches = refl }))
 happens run start h i own (Close instrument) Done o legal = inr (inr (record { adds = refl; slips = λ r. refl; collects_none = λ reader. refl; batches = refl }))
+happens run start h i own (Close instrument) Granted o legal = inr (inr (record { adds = refl; slips = λ r. refl; collects_none = λ reader. refl; batches = refl }))
 happens run start h i own (Close instrument) (Refused refusal) o legal = inr (inr (record { adds = refl; slips = λ r. refl; collects_none = λ reader. refl; batches = refl }))
+happens run start h i own (Grant recorder instrument amount) (Collected b) o legal = absurd (no_batch_of_grant _ b legal)
+happens run start h i own (Grant recorder instrument amount) Accepted o legal = inr (inr (record { adds = refl; slips = λ r. refl; collects_none = λ reader. refl; batches = refl }))
+happens run start h i own (Grant recorder instrument amount) Done o legal = inr (inr (record { adds = refl; slips = λ r. refl; collects_none = λ reader. refl; batches = refl }))
+happens run start h i own (Grant recorder instrument amount) Granted o legal = inr (inr (record { adds = refl; slips = λ r. refl; collects_none = λ reader. refl; batches = refl }))
+happens run start h i own (Grant recorder instrument amount) (Refused refusal) o legal = inr (inr (record { adds = refl; slips = λ r. refl; collects_none = λ reader. refl; batches = refl }))
 
 -- ---- slips
 
@@ -428,10 +440,10 @@ keeps_entry run start i own entries batches mark previous entry k allowed ranged
 }
 
 -- the batch that a reader is told is right
-told_is_right : (run : RunFacts) (start : ℕ) (i : ℕ) (own : Facts) (entries : List Entry) (batches : List Batch) (mark previous : ℕ → ℕ) (closed : Bool) (reader now : ℕ) (b : Batch)
+told_is_right : (run : RunFacts) (start : ℕ) (i : ℕ) (own : Facts) (entries : List Entry) (batches : List Batch) (mark previous : ℕ → ℕ) (closed : Bool) (granted : ℕ → ℕ) (handed : ℕ) (reader now : ℕ) (b : Batch)
     → own.instrument ≡ i → Keeps run start i own entries batches mark previous → reader < length own.delta
-    → b ≡ batch own start (record { accepted = entries; mark = mark; previous = previous; closed = closed }) reader now → IsRight own i start entries batches b
-told_is_right run start i own entries batches mark previous closed reader now b numbered k known is = subst (λ (told : Batch). IsRight own i start entries batches told) (sym is) (record {
+    → b ≡ batch own start (record { accepted = entries; mark = mark; previous = previous; closed = closed; granted = granted; handed = handed }) reader now → IsRight own i start entries batches b
+told_is_right run start i own entries batches mark previous closed granted handed reader now b numbered k known is = subst (λ (told : Batch). IsRight own i start entries batches told) (sym is) (record {
   known = known;
   follows = rw (k.marks reader, k.times reader) (record {
     headed =
@@ -457,11 +469,11 @@ told_is_right run start i own entries batches mark previous closed reader now b 
     all = take_all (length entries - mark reader) (drop (mark reader) entries) (omega (arith, length-drop (mark reader) entries, k.low reader))
 
 -- after a batch
-keeps_batch : (run : RunFacts) (start : ℕ) (i : ℕ) (own : Facts) (entries : List Entry) (batches : List Batch) (mark previous : ℕ → ℕ) (closed : Bool) (reader now : ℕ) (b : Batch)
+keeps_batch : (run : RunFacts) (start : ℕ) (i : ℕ) (own : Facts) (entries : List Entry) (batches : List Batch) (mark previous : ℕ → ℕ) (closed : Bool) (granted : ℕ → ℕ) (handed : ℕ) (reader now : ℕ) (b : Batch)
     → own.instrument ≡ i → Keeps run start i own entries batches mark previous → reader < length own.delta
-    → b ≡ batch own start (record { accepted = entries; mark = mark; previous = previous; closed = closed }) reader now
+    → b ≡ batch own start (record { accepted = entries; mark = mark; previous = previous; closed = closed; granted = granted; handed = handed }) reader now
     → Keeps run start i own entries (batches ++ b ∷ []) (λ other. cond (reader == other) (length entries) (mark other)) (λ other. cond (reader == other) (max b.time (previous other)) (previous other))
-keeps_batch run start i own entries batches mark previous closed reader now b numbered k known is = record {
+keeps_batch run start i own entries batches mark previous closed granted handed reader now b numbered k known is = record {
   marks = λ other.
       fold-append (λ m (x : Batch). if x.reader == other then x.mark else m) 0 batches (b ∷ [])
       ∙ ap (λ (x : Batch). cond (x.reader == other) x.mark (mark_after other batches)) is
@@ -475,7 +487,7 @@ keeps_batch run start i own entries batches mark previous closed reader now b nu
   right = λ at told found. elim (last_or_before batches b told at found) [
     | inl p ↦ subst (λ (l : List Batch). IsRight own i start entries l told) (sym p.1) (k.right at told p.0)
     | inr p ↦ subst (λ (l : List Batch). IsRight own i start entries l told) (sym p.1)
-        (subst (λ (x : Batch). IsRight own i start entries batches x) p.0 (told_is_right run start i own entries batches mark previous closed reader now b numbered k known is))
+        (subst (λ (x : Batch). IsRight own i start entries batches x) p.0 (told_is_right run start i own entries batches mark previous closed granted handed reader now b numbered k known is))
   ];
 }
   where
@@ -526,7 +538,7 @@ keeps_step run start h i own event reply numbered (inl a) k =
     (λ r. ap (λ (b : Bool). cond b (max (batch_time reply) (previous_of start h i r)) (previous_of start h i r)) (sym (a.collects_none r)))
 keeps_step run start h i own event reply numbered (inr (inl t)) k =
     kept_as run start i own _ _ _ _ _ _ _ _
-    (keeps_batch run start i own (accepted run h i) (batches_told h i) (mark_of run h i) (previous_of start h i) (is_closed h i) t.reader t.now t.told numbered k t.known t.is)
+    (keeps_batch run start i own (accepted run h i) (batches_told h i) (mark_of run h i) (previous_of start h i) (is_closed h i) (granted_of h i) (handed_of h i) t.reader t.now t.told numbered k t.known t.is)
     (sym (append-nil (accepted run h i)) ∙ ap (λ (l : List Entry). accepted run h i ++ l) (sym t.adds))
     (ap (λ (l : List Batch). batches_told h i ++ l) (sym t.batches))
     (λ r. ap (λ (b : Bool). cond b (length (accepted run h i)) (mark_of run h i r)) (sym (t.collects_own r)))

@@ -1,5 +1,5 @@
 -- The replies to events where memory is not refused are those of a run.
-use Rattle.std.specs.Prelude.{◌≡◌, ℕ, ℤ, Bool, true, false, not, ◌||◌, List, [], ◌∷◌, Option, Some, None, Result, Ok, Err, length, map, nat_lt, slice_get, slice_index}
+use Rattle.std.specs.Prelude.{◌≡◌, ℕ, ℤ, Bool, true, false, not, ◌||◌, ◌+◌, ◌-◌, List, [], ◌∷◌, Option, Some, None, Result, Ok, Err, length, map, nat_le, nat_lt, slice_get, slice_index}
 use Rattle.std.proofs.Common.{refl, ap, ◌∙◌}
 use Rattle.std.specs.List.{list_all, list_any}
 use Rattle.metric_base.specs.Steps.{◌>>=◌, require, require_some}
@@ -9,22 +9,22 @@ use Rattle.metric_catalogue.specs.Encoding.{Given, allowed_set, encode_of, has_d
 use Rattle.metric_catalogue.specs.declared.contents.Instrument.{Instrument}
 use Rattle.metric_catalogue.specs.declared.contents.Key.{Key}
 use Rattle.metric_catalogue.specs.declared.refusal.Refusal.{Refusal}
-use Rattle.metric_catalogue.specs.declared.refusal.Refusal.TheVariants.{Budget, Closed, Combination, DuplicateKey, MissingKey, SumRange, UnknownInstrument, UnknownKey, UnknownReader, UnknownRecorder, UnknownValue, ValueRange}
+use Rattle.metric_catalogue.specs.declared.refusal.Refusal.TheVariants.{Budget, Closed, Combination, DuplicateKey, MissingKey, NoSpare, SumRange, UnknownInstrument, UnknownKey, UnknownReader, UnknownRecorder, UnknownValue, ValueRange}
 use Rattle.metric_facts.specs.declared.facts.FactsFields.{FactsFields as Facts}
 use Rattle.metric_facts.specs.Facts.{RunFacts, in_bounds}
-use Rattle.metric_history.specs.Answers.{Told, batch, closing, collected, recorded, spent}
+use Rattle.metric_history.specs.Answers.{Told, batch, closing, collected, granting, recorded, spent}
 use Rattle.metric_history.specs.Encoded.{encoded}
 use Rattle.metric_history.specs.History.{History, answered, told_of}
-use Rattle.metric_history.specs.Legal.{AllLegal, Legal, LegalClose, LegalCollect, LegalRecord, close, collection, recording}
+use Rattle.metric_history.specs.Legal.{AllLegal, Legal, LegalClose, LegalCollect, LegalGrant, LegalRecord, close, collection, grant, recording}
 use Rattle.metric_history.specs.Windows.{fits_all}
 use Rattle.metric_history.specs.declared.batch.Batch.{Batch}
 use Rattle.metric_history.specs.declared.entry.Entry.{Entry}
 use Rattle.metric_history.specs.declared.event.Event.{Event}
-use Rattle.metric_history.specs.declared.event.Event.TheVariants.{Record, Collect, Close}
+use Rattle.metric_history.specs.declared.event.Event.TheVariants.{Record, Collect, Close, Grant}
 use Rattle.metric_history.specs.declared.event.Reply.TheVariants.{Refused}
 use Rattle.metric_plan.specs.Plans.{PlanValue}
 use Rattle.metric_commands.specs.Replies.{is_want_of_memory}
-use Rattle.metric_commands.specs.Runs.{IsRun, close_reply, collect_reply, due_replies, due_reply, record_reply}
+use Rattle.metric_commands.specs.Runs.{IsRun, close_reply, collect_reply, due_replies, due_reply, grant_reply, record_reply}
 
 abbrev pub is_refused_memory : {X : Type 0} → Result X Refusal → Bool
 is_refused_memory (Ok x) = false
@@ -81,7 +81,7 @@ recorded_remembered : (own : Option Facts) (told : Told) (set : Result (List ℕ
 recorded_remembered None told set recorder value known = record { known = refl }
 recorded_remembered (Some facts) told set recorder value known =
     let entry : List ℕ → Entry = λ s. record { recorder = recorder; set = s; value = value } in
-    record_steps (nat_lt recorder (length facts.budgets)) set (in_bounds facts value) (not told.closed) (nat_lt (spent told.accepted recorder) (slice_index facts.budgets recorder))
+    record_steps (nat_lt recorder (length facts.budgets)) set (in_bounds facts value) (not told.closed) (nat_lt (spent told.accepted recorder) (slice_index facts.budgets recorder + told.granted recorder))
     (λ s. fits_all facts told.mark told.accepted (entry s)) entry known
 
 collected_remembered : (own : Option Facts) (start : ℕ) (told : Told) (reader now : ℕ)
@@ -97,6 +97,18 @@ closing_remembered : (own : Option Facts) (told : Told) → IsRemembered (requir
 closing_remembered None told = record { known = refl }
 closing_remembered (Some facts) told = closed_remembered (not told.closed)
 
+grant_steps : (a b c : Bool) → IsRemembered (require a UnknownRecorder >>= λ _. require b Closed >>= λ _. require c NoSpare)
+grant_steps false b c = record { known = refl }
+grant_steps true false c = record { known = refl }
+grant_steps true true false = record { known = refl }
+grant_steps true true true = record { known = refl }
+
+granting_remembered : (own : Option Facts) (told : Told) (recorder amount : ℕ)
+    → IsRemembered (require_some own UnknownInstrument >>= λ facts. granting facts told recorder amount)
+granting_remembered None told recorder amount = record { known = refl }
+granting_remembered (Some facts) told recorder amount =
+    grant_steps (nat_lt recorder (length facts.budgets)) (not told.closed) (nat_le amount (facts.spare - told.handed))
+
 record_kept : (due : Result Entry Refusal) → IsRemembered due → is_want_of_memory (record_reply due) ≡ false
 record_kept (Ok entry) known = refl
 record_kept (Err refusal) known = known.known
@@ -109,6 +121,10 @@ close_kept : (due : Result (Unit {0}) Refusal) → IsRemembered due → is_want_
 close_kept (Ok done) known = refl
 close_kept (Err refusal) known = known.known
 
+grant_kept : (due : Result (Unit {0}) Refusal) → IsRemembered due → is_want_of_memory (grant_reply due) ≡ false
+grant_kept (Ok done) known = refl
+grant_kept (Err refusal) known = known.known
+
 -- no reply is want of memory
 due_kept : (facts : RunFacts) (start : ℕ) (h : History) (event : Event) → is_want_of_memory (due_reply facts start h event) ≡ false
 due_kept facts start h (Record recorder instrument attrs value) =
@@ -120,6 +136,9 @@ due_kept facts start h (Collect reader instrument now) =
     (collected_remembered (slice_get facts.instruments instrument) start (told_of facts start h instrument) reader now)
 due_kept facts start h (Close instrument) =
     close_kept (close facts start h instrument) (closing_remembered (slice_get facts.instruments instrument) (told_of facts start h instrument))
+due_kept facts start h (Grant recorder instrument amount) =
+    grant_kept (grant facts start h recorder instrument amount)
+    (granting_remembered (slice_get facts.instruments instrument) (told_of facts start h instrument) recorder amount)
 
 record_legal : (due : Result Entry Refusal) → LegalRecord due (record_reply due)
 record_legal (Ok entry) = tt
@@ -133,11 +152,16 @@ close_legal : (due : Result (Unit {0}) Refusal) → LegalClose due (close_reply 
 close_legal (Ok done) = tt
 close_legal (Err refusal) = refl
 
+grant_legal : (due : Result (Unit {0}) Refusal) → LegalGrant due (grant_reply due)
+grant_legal (Ok done) = tt
+grant_legal (Err refusal) = refl
+
 -- each reply is legal
 due_legal : (facts : RunFacts) (start : ℕ) (h : History) (event : Event) → Legal facts start h event (due_reply facts start h event)
 due_legal facts start h (Record recorder instrument attrs value) = record_legal (recording facts start h recorder instrument attrs value)
 due_legal facts start h (Collect reader instrument now) = collect_legal (collection facts start h reader instrument now)
 due_legal facts start h (Close instrument) = close_legal (close facts start h instrument)
+due_legal facts start h (Grant recorder instrument amount) = grant_legal (grant facts start h recorder instrument amount)
 
 -- so all are
 pub all_due_legal : (facts : RunFacts) (start : ℕ) (h : History) (events : List Event) → AllLegal facts start h events (due_replies facts start h events)

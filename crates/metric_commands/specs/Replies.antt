@@ -5,7 +5,7 @@ use Rattle.metric_catalogue.specs.Refusals.{refusal_text}
 use Rattle.metric_catalogue.specs.declared.refusal.Refusal.{Refusal}
 use Rattle.metric_catalogue.specs.declared.refusal.Refusal.TheVariants as refusals
 use Rattle.metric_history.specs.declared.event.Reply.{Reply}
-use Rattle.metric_history.specs.declared.event.Reply.TheVariants.{Accepted, Collected, Done, Refused}
+use Rattle.metric_history.specs.declared.event.Reply.TheVariants.{Accepted, Collected, Done, Granted, Refused}
 use Rattle.metric_plan.specs.Plans.{PlanValue}
 use Rattle.metric_lines.specs.Batches.{batch_text}
 use Rattle.metric_commands.specs.Written.{parts_text}
@@ -19,6 +19,7 @@ abbrev pub reply_text : PlanValue → Reply → List ℕ
 reply_text plan Accepted = codes "accepted" ++ 10 ∷ []
 reply_text plan (Collected batch) = batch_text plan.facts.contents plan.config plan.streams batch
 reply_text plan Done = codes "closed" ++ 10 ∷ []
+reply_text plan Granted = codes "granted" ++ 10 ∷ []
 reply_text plan (Refused refusal) = refused_text refusal
 
 -- all of them

@@ -4,13 +4,13 @@ use Rattle.std.specs.List.{list_any}
 use Rattle.metric_catalogue.specs.declared.refusal.Refusal.{Refusal}
 use Rattle.metric_facts.specs.Facts.{RunFacts}
 use Rattle.metric_history.specs.History.{History, answered}
-use Rattle.metric_history.specs.Legal.{AllLegal, close, collection, recording}
+use Rattle.metric_history.specs.Legal.{AllLegal, close, collection, grant, recording}
 use Rattle.metric_history.specs.declared.batch.Batch.{Batch}
 use Rattle.metric_history.specs.declared.entry.Entry.{Entry}
 use Rattle.metric_history.specs.declared.event.Event.{Event}
-use Rattle.metric_history.specs.declared.event.Event.TheVariants.{Record, Collect, Close}
+use Rattle.metric_history.specs.declared.event.Event.TheVariants.{Record, Collect, Close, Grant}
 use Rattle.metric_history.specs.declared.event.Reply.{Reply}
-use Rattle.metric_history.specs.declared.event.Reply.TheVariants.{Accepted, Collected, Done, Refused}
+use Rattle.metric_history.specs.declared.event.Reply.TheVariants.{Accepted, Collected, Done, Granted, Refused}
 use Rattle.metric_plan.specs.Plans.{PlanValue}
 use Rattle.metric_commands.specs.Replies.{is_want_of_memory}
 
@@ -32,11 +32,16 @@ abbrev pub close_reply : Result (Unit {0}) Refusal → Reply
 close_reply (Ok done) = Done
 close_reply (Err refusal) = Refused refusal
 
+abbrev pub grant_reply : Result (Unit {0}) Refusal → Reply
+grant_reply (Ok done) = Granted
+grant_reply (Err refusal) = Refused refusal
+
 -- the reply to an event after a history, where memory is not refused
 abbrev pub due_reply : RunFacts → ℕ → History → Event → Reply
 due_reply facts start h (Record recorder instrument attrs value) = record_reply (recording facts start h recorder instrument attrs value)
 due_reply facts start h (Collect reader instrument now) = collect_reply (collection facts start h reader instrument now)
 due_reply facts start h (Close instrument) = close_reply (close facts start h instrument)
+due_reply facts start h (Grant recorder instrument amount) = grant_reply (grant facts start h recorder instrument amount)
 
 -- the history after more events with these replies
 unfoldable pub due_history : RunFacts → ℕ → History → List Event → History

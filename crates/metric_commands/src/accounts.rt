@@ -52,7 +52,7 @@ fn add_place(places: &mut Vec<usize>, place: usize, reply: &Reply) -> Result<(),
 {
     match reply {
         Reply::Collected(_) => Ok(places.push(place)?),
-        Reply::Accepted | Reply::Done | Reply::Refused(_) => Ok(()),
+        Reply::Accepted | Reply::Done | Reply::Granted | Reply::Refused(_) => Ok(()),
     }
 }
 

@@ -64,7 +64,7 @@ fn add_batch(batches: &mut Vec<Batch>, alloc: Global, reply: &Reply) -> Result<(
 {
     match reply {
         Reply::Collected(batch) => Ok(batches.push(copy_batch(alloc, batch)?)?),
-        Reply::Accepted | Reply::Done | Reply::Refused(_) => Ok(()),
+        Reply::Accepted | Reply::Done | Reply::Granted | Reply::Refused(_) => Ok(()),
     }
 }
 

@@ -156,6 +156,7 @@ impl Parts<Reply> for UnderPlan<'_> {
             Reply::Accepted => write_text(sink, b"accepted\n"),
             Reply::Collected(batch) => write_collected(self.alloc, sink, self.plan, batch),
             Reply::Done => write_text(sink, b"closed\n"),
+            Reply::Granted => write_text(sink, b"granted\n"),
             Reply::Refused(refusal) => {
                 buffer.clear();
                 push_refusal(buffer, refusal)?;

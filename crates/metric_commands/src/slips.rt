@@ -53,7 +53,7 @@ fn recorded(catalogue: &Catalogue, instrument: u32, event: &Event) -> Option<Mad
                 None
             }
         }
-        Event::Collect { .. } | Event::Close { .. } => None,
+        Event::Collect { .. } | Event::Close { .. } | Event::Grant { .. } => None,
     }
 }
 
@@ -64,7 +64,7 @@ fn made(catalogue: &Catalogue, instrument: u32, event: &Event, reply: &Reply) ->
 {
     match reply {
         Reply::Accepted => recorded(catalogue, instrument, event),
-        Reply::Collected(_) | Reply::Done | Reply::Refused(_) => None,
+        Reply::Collected(_) | Reply::Done | Reply::Granted | Reply::Refused(_) => None,
     }
 }
 

@@ -1,4 +1,4 @@
--- What a recording and a collection make of the numbers that a cell keeps.
+-- What a recording, a collection and a grant make of the numbers that a cell keeps.
 use Rattle.std.proofs.Common.{◌≡◌, ◌≢◌, ℕ, zero, suc, ◌+◌, ◌-◌, ◌^◌, ◌<◌, ◌≤◌, Bool, true, false, cond, ℤ, pos, neg_ℤ, ◌+ℤ◌, ◌≤ℤ◌, List, [], ◌∷◌, ◌++◌, length, refl, sym, ap, subst, ◌∙◌, arith}
 use Rattle.std.specs.Prelude.{◌==◌, Ok, nat_lt, replicate, slice_index, slice_index_or, slice_set, sum}
 use Rattle.std.proofs.lemmas.Bool.{and_parts, ltb-true}
@@ -14,12 +14,12 @@ use Rattle.metric_facts.specs.declared.facts.Facts.{Facts}
 use Rattle.metric_history.specs.Answers.{spent}
 use Rattle.metric_facts.specs.Facts.{in_bounds, is_allowed_set, is_full_set}
 use Rattle.metric_history.specs.SumLaws.{sum_push}
-use Rattle.metric_core.proofs.BudgetLaws.{raised_within, sum_raised}
+use Rattle.metric_core.proofs.BudgetLaws.{raised_more, raised_within, sum_raised}
 use Rattle.metric_core.specs.BudgetLaws.{has_room}
 use Rattle.metric_safety.specs.AdmissionLaws.{admitted_more}
 use Rattle.metric_safety.specs.SafeFacts.{is_admitted, total}
 use Rattle.metric_core.specs.Cells.{CellKept, CellStands, CellValue, new_cell}
-use Rattle.metric_core.specs.CellAnswers.{with_batch, with_entry}
+use Rattle.metric_core.specs.CellAnswers.{budget_of, with_batch, with_entry, with_grant}
 
 -- an element after one was replaced
 pub set_at : (xs : List ℕ) (q r x d : ℕ) → q < length xs → slice_index_or (slice_set xs q x) r d ≡ cond (q == r) x (slice_index_or xs r d)
@@ -64,7 +64,7 @@ stands_pushed stands c entry book journal long below s taken = record {
 
 -- the book may take it
 pub may_take : {B : Type 0} (stands : B → Standing) (c : CellValue B) (entry : Entry) → CellKept stands c
-    → entry.recorder < length c.facts.budgets → slice_index c.spent entry.recorder < slice_index c.facts.budgets entry.recorder
+    → entry.recorder < length c.facts.budgets → slice_index c.spent entry.recorder < budget_of c entry.recorder
     → is_allowed_set c.facts entry.set ≡ true → in_bounds c.facts entry.value ≡ true → MayTake (stands c.book) entry
 may_take stands c entry k below room allowed within = (
   c.facts,
@@ -83,8 +83,15 @@ may_take stands c entry k below room allowed within = (
 
 -- a recorder with recordings left has made less than a u64 of them
 pub charge_fits : {B : Type 0} (stands : B → Standing) (c : CellValue B) (recorder : ℕ) → CellKept stands c
-    → recorder < length c.facts.budgets → slice_index c.spent recorder < slice_index c.facts.budgets recorder → slice_index c.spent recorder + 1 < 2 ^ 64
-charge_fits stands c recorder k known left = omega (arith, left, k.budgeted, get_or-le-sum_by (λ (n : ℕ). n) c.facts.budgets recorder 0 known)
+    → recorder < length c.facts.budgets → slice_index c.spent recorder < budget_of c recorder → slice_index c.spent recorder + 1 < 2 ^ 64
+charge_fits stands c recorder k known left =
+    omega (arith, left, k.budgeted, k.shared, get_or-le-sum_by (λ (n : ℕ). n) c.facts.budgets recorder 0 known, get_or-le-sum_by (λ (n : ℕ). n) c.granted recorder 0 (omega (arith, k.one_grant_each)))
+
+-- what a recorder was granted is with a grant more still a u64
+pub grant_fits : {B : Type 0} (stands : B → Standing) (c : CellValue B) (recorder amount : ℕ) → CellKept stands c
+    → recorder < length c.facts.budgets → amount ≤ c.spare → slice_index c.granted recorder + amount < 2 ^ 64
+grant_fits stands c recorder amount k known left =
+    omega (arith, k.budgeted, k.shared, get_or-le-sum_by (λ (n : ℕ). n) c.granted recorder 0 (omega (arith, k.one_grant_each)))
 
 -- where there is room for one more, the sum of those so far is an i128 with room for one value more
 pub sum_low : {B : Type 0} (stands : B → Standing) (c : CellValue B) → CellKept stands c → c.count + 1 ≤ total c.facts → neg_ℤ (pos (2 ^ 127 - 2 ^ 63)) ≤ℤ c.total
@@ -95,7 +102,7 @@ sum_high stands c k room = let before = k.high in let most = k.budgeted in omega
 
 -- what a cell keeps, with one recording more
 pub kept_pushed : {B : Type 0} (stands : B → Standing) (c : CellValue B) (entry : Entry) (book : B) → CellKept stands c
-    → entry.recorder < length c.facts.budgets → slice_index c.spent entry.recorder < slice_index c.facts.budgets entry.recorder
+    → entry.recorder < length c.facts.budgets → slice_index c.spent entry.recorder < budget_of c entry.recorder
     → is_admitted c.facts entry ≡ true → neg_ℤ (pos (2 ^ 63)) ≤ℤ entry.value → entry.value ≤ℤ pos (2 ^ 63)
     → ((journal : List Entry) → stands c.book c.facts journal c.marks → stands book c.facts (journal ++ entry ∷ []) c.marks)
     → CellKept stands (with_entry c entry book)
@@ -106,9 +113,11 @@ kept_pushed stands c entry book k below room one low high taken = record {
   one_mark_each = k.one_mark_each;
   one_time_each = k.one_time_each;
   one_budget_each = length-set c.spent entry.recorder (slice_index c.spent entry.recorder + 1) ∙ k.one_budget_each;
-  within = raised_within c.spent c.facts.budgets entry.recorder (omega (arith, k.one_budget_each)) k.within room;
+  one_grant_each = k.one_grant_each;
+  within = raised_within c.spent (budget_of c) entry.recorder (omega (arith, k.one_budget_each)) k.within room;
+  shared = k.shared;
   past = λ reader. omega (arith, k.past reader);
-  counted = omega (arith, k.counted, sum_raised c.spent entry.recorder (omega (arith, k.one_budget_each)));
+  counted = omega (arith, k.counted, sum_raised c.spent entry.recorder 1 (omega (arith, k.one_budget_each)));
   budgeted = k.budgeted;
   low = let before = k.low in omega (arith, ints);
   high = let before = k.high in omega (arith, ints);
@@ -136,7 +145,9 @@ kept_moved stands c reader time book k below moved = record {
   one_mark_each = length-set c.marks reader c.count ∙ k.one_mark_each;
   one_time_each = length-set c.times reader time ∙ k.one_time_each;
   one_budget_each = k.one_budget_each;
+  one_grant_each = k.one_grant_each;
   within = k.within;
+  shared = k.shared;
   past = λ r. moved_past c.marks reader r c.count (omega (arith, k.one_mark_each)) k.past;
   counted = k.counted;
   budgeted = k.budgeted;
@@ -150,6 +161,30 @@ kept_moved stands c reader time book k below moved = record {
         at : (b : Bool) → slice_index (slice_set xs q n) r ≡ cond b n (slice_index xs r) → slice_index (slice_set xs q n) r ≤ n
         at true e = omega arith
         at false e = omega (arith, past r)
+
+-- the cell after a grant
+pub stands_granted : {B : Type 0} (stands : B → Standing) (c : CellValue B) (recorder amount : ℕ) (journal : List Entry) → CellStands stands c journal
+    → CellStands stands (with_grant c recorder amount) journal
+stands_granted stands c recorder amount journal s = record { book = s.book; counted = s.counted; summed = s.summed; charged = s.charged }
+
+pub kept_granted : {B : Type 0} (stands : B → Standing) (c : CellValue B) (recorder amount : ℕ) → CellKept stands c
+    → recorder < length c.facts.budgets → amount ≤ c.spare → CellKept stands (with_grant c recorder amount)
+kept_granted stands c recorder amount k known left = record {
+  journal = k.journal;
+  known = stands_granted stands c recorder amount k.journal k.known;
+  admitted = k.admitted;
+  one_mark_each = k.one_mark_each;
+  one_time_each = k.one_time_each;
+  one_budget_each = k.one_budget_each;
+  one_grant_each = length-set c.granted recorder (slice_index c.granted recorder + amount) ∙ k.one_grant_each;
+  within = λ r. omega (arith, k.within r, raised_more c.granted recorder amount (omega (arith, k.one_grant_each)) r);
+  shared = omega (arith, k.shared, left, sum_raised c.granted recorder amount (omega (arith, k.one_grant_each)));
+  past = k.past;
+  counted = k.counted;
+  budgeted = k.budgeted;
+  low = k.low;
+  high = k.high;
+}
 
 -- what a cell keeps, where its book is the same
 pub same_kept : {B : Type 0} (stands : B → Standing) (c : CellValue B) (book : B) → book ≡ c.book → CellKept stands c → CellKept stands (record c { book = book })
@@ -172,7 +207,7 @@ new_stands stands facts start book begins = record {
 }
 
 pub new_kept : {B : Type 0} (stands : B → Standing) (facts : Facts) (start : ℕ) (book : B) → stands book facts [] (no_marks facts)
-    → sum facts.budgets < 2 ^ 64 → CellKept stands (new_cell facts start book)
+    → total facts < 2 ^ 64 → CellKept stands (new_cell facts start book)
 new_kept stands facts start book begins budgeted = record {
   journal = [];
   known = new_stands stands facts start book begins;
@@ -180,7 +215,9 @@ new_kept stands facts start book begins budgeted = record {
   one_mark_each = length-replicate (length facts.delta) 0;
   one_time_each = length-replicate (length facts.delta) start;
   one_budget_each = length-replicate (length facts.budgets) 0;
+  one_grant_each = length-replicate (length facts.budgets) 0;
   within = λ r. omega (arith, same_everywhere (length facts.budgets) 0 r);
+  shared = let none : sum (replicate (length facts.budgets) 0) ≡ 0 = sum_by-replicate (λ (n : ℕ). n) (length facts.budgets) 0 ∙ omega arith in omega (arith, none);
   past = λ r. omega (arith, same_everywhere (length facts.delta) 0 r);
   counted = sym (sum_by-replicate (λ (n : ℕ). n) (length facts.budgets) 0 ∙ omega arith);
   budgeted = budgeted;
@@ -189,12 +226,13 @@ new_kept stands facts start book begins budgeted = record {
 }
 
 -- the test of what is left, where the budgets are given
-pub has_left : (made budgets : List ℕ) (recorder : ℕ) (b : Bool) (given : List ℕ) → given ≡ budgets
-    → b ≡ nat_lt (slice_index made recorder) (slice_index given recorder) → b ≡ true → slice_index made recorder < slice_index budgets recorder
-has_left made budgets recorder b given is_budget is holds =
-    let before : nat_lt (slice_index made recorder) (slice_index given recorder) ≡ true = sym is ∙ holds in
-    ltb-true (slice_index made recorder) (slice_index budgets recorder)
-    (subst (λ (xs : List ℕ). nat_lt (slice_index made recorder) (slice_index xs recorder) ≡ true) is_budget before)
+pub has_left : (made budgets granted : List ℕ) (recorder : ℕ) (b : Bool) (given : List ℕ) → given ≡ budgets
+    → b ≡ nat_lt (slice_index made recorder) (slice_index given recorder + slice_index granted recorder) → b ≡ true
+    → slice_index made recorder < slice_index budgets recorder + slice_index granted recorder
+has_left made budgets granted recorder b given is_budget is holds =
+    let before : nat_lt (slice_index made recorder) (slice_index given recorder + slice_index granted recorder) ≡ true = sym is ∙ holds in
+    ltb-true (slice_index made recorder) (slice_index budgets recorder + slice_index granted recorder)
+    (subst (λ (xs : List ℕ). nat_lt (slice_index made recorder) (slice_index xs recorder + slice_index granted recorder) ≡ true) is_budget before)
 
 -- what was taken keeps each series in range
 pub fits_taken : (fits : Bool) → MayAnswer fits (Ok tt) → fits ≡ true
@@ -208,7 +246,7 @@ stands_recorded {B} stands c new entry journal made long below s taken =
     subst (λ (v : CellValue B). CellStands stands v (journal ++ entry ∷ [])) (sym made) (stands_pushed stands c entry new.book journal long below s taken)
 
 pub kept_recorded : {B : Type 0} (stands : B → Standing) (c new : CellValue B) (entry : Entry) → new ≡ with_entry c entry new.book → CellKept stands c
-    → entry.recorder < length c.facts.budgets → slice_index c.spent entry.recorder < slice_index c.facts.budgets entry.recorder
+    → entry.recorder < length c.facts.budgets → slice_index c.spent entry.recorder < budget_of c entry.recorder
     → is_admitted c.facts entry ≡ true → neg_ℤ (pos (2 ^ 63)) ≤ℤ entry.value → entry.value ≤ℤ pos (2 ^ 63)
     → ((journal : List Entry) → stands c.book c.facts journal c.marks → stands new.book c.facts (journal ++ entry ∷ []) c.marks) → CellKept stands new
 kept_recorded {B} stands c new entry made k below room one low high taken =
@@ -218,5 +256,9 @@ pub stands_new : {B : Type 0} (stands : B → Standing) (c : CellValue B) (start
 stands_new {B} stands c start made begins = subst (λ (v : CellValue B). CellStands stands v []) (sym made) (new_stands stands c.facts start c.book begins)
 
 pub kept_new : {B : Type 0} (stands : B → Standing) (c : CellValue B) (start : ℕ) → c ≡ new_cell c.facts start c.book → stands c.book c.facts [] (no_marks c.facts)
-    → sum c.facts.budgets < 2 ^ 64 → CellKept stands c
+    → total c.facts < 2 ^ 64 → CellKept stands c
 kept_new {B} stands c start made begins budgeted = subst (λ (v : CellValue B). CellKept stands v) (sym made) (new_kept stands c.facts start c.book begins budgeted)
+
+pub granted_kept : {B : Type 0} (stands : B → Standing) (c new : CellValue B) (recorder amount : ℕ) → new ≡ with_grant c recorder amount → CellKept stands c
+    → recorder < length c.facts.budgets → amount ≤ c.spare → CellKept stands new
+granted_kept {B} stands c new recorder amount made k known left = subst (λ (v : CellValue B). CellKept stands v) (sym made) (kept_granted stands c recorder amount k known left)

@@ -1,5 +1,5 @@
 -- Which recordings are legal.
-use Rattle.std.proofs.Common.{◌≡◌, ℕ, ◌<◌, Bool, true, false, not, ℤ, List, Result, Ok, length, refl, sym, ap, subst, ◌∙◌, arith}
+use Rattle.std.proofs.Common.{◌≡◌, ℕ, ◌+◌, ◌<◌, Bool, true, false, not, ℤ, List, Result, Ok, length, refl, sym, ap, subst, ◌∙◌, arith}
 use Rattle.std.specs.Prelude.{nat_lt, slice_index}
 use Rattle.std.proofs.lemmas.Bool.Decides.{nat_tests}
 use Rattle.metric_base.specs.Steps.{◌>>=◌, require}
@@ -14,13 +14,13 @@ use Rattle.metric_facts.specs.Facts.{in_bounds}
 use Rattle.metric_history.specs.Legal.{LegalRecord}
 use Rattle.metric_history.specs.Windows.{fits_all}
 use Rattle.metric_core.specs.Cells.{CellStands, CellValue, told_by}
-use Rattle.metric_core.specs.CellAnswers.{GainsEntry, IsJudged, entry_of, with_entry}
+use Rattle.metric_core.specs.CellAnswers.{GainsEntry, IsJudged, budget_of, entry_of, with_entry}
 use Rattle.metric_core.specs.Steps.{RecordStep, encoded_entry, outcome}
 
 -- what a recording comes to, test by test
 recorded_by : (facts : Facts) (told : Told) (recorder : ℕ) (set : List ℕ) (value : ℤ) (given : Result (List ℕ) Refusal) → given ≡ Ok set
     → nat_lt recorder (length facts.budgets) ≡ true → in_bounds facts value ≡ true → told.closed ≡ false
-    → nat_lt (spent told.accepted recorder) (slice_index facts.budgets recorder) ≡ true
+    → nat_lt (spent told.accepted recorder) (slice_index facts.budgets recorder + told.granted recorder) ≡ true
     → fits_all facts told.mark told.accepted (entry_of recorder set value) ≡ true
     → recorded facts told given recorder value ≡ Ok (entry_of recorder set value)
 recorded_by facts told recorder set value given is known within opened left fits =
@@ -28,19 +28,19 @@ recorded_by facts told recorder set value given is known within opened left fits
     given >>= λ s.
     require (in_bounds facts value) ValueRange >>= λ _.
     require (not told.closed) Closed >>= λ _.
-    require (nat_lt (spent told.accepted recorder) (slice_index facts.budgets recorder)) Budget >>= λ _.
+    require (nat_lt (spent told.accepted recorder) (slice_index facts.budgets recorder + told.granted recorder)) Budget >>= λ _.
     require (fits_all facts told.mark told.accepted (entry_of recorder s value)) SumRange >>= λ _. Ok (entry_of recorder s value)) known
     ∙ ap (λ (r : Result (List ℕ) Refusal). r >>= λ s.
     require (in_bounds facts value) ValueRange >>= λ _.
     require (not told.closed) Closed >>= λ _.
-    require (nat_lt (spent told.accepted recorder) (slice_index facts.budgets recorder)) Budget >>= λ _.
+    require (nat_lt (spent told.accepted recorder) (slice_index facts.budgets recorder + told.granted recorder)) Budget >>= λ _.
     require (fits_all facts told.mark told.accepted (entry_of recorder s value)) SumRange >>= λ _. Ok (entry_of recorder s value)) is
     ∙ ap (λ (b : Bool). require b ValueRange >>= λ _.
     require (not told.closed) Closed >>= λ _.
-    require (nat_lt (spent told.accepted recorder) (slice_index facts.budgets recorder)) Budget >>= λ _.
+    require (nat_lt (spent told.accepted recorder) (slice_index facts.budgets recorder + told.granted recorder)) Budget >>= λ _.
     require (fits_all facts told.mark told.accepted (entry_of recorder set value)) SumRange >>= λ _. Ok (entry_of recorder set value)) within
     ∙ ap (λ (b : Bool). require (not b) Closed >>= λ _.
-    require (nat_lt (spent told.accepted recorder) (slice_index facts.budgets recorder)) Budget >>= λ _.
+    require (nat_lt (spent told.accepted recorder) (slice_index facts.budgets recorder + told.granted recorder)) Budget >>= λ _.
     require (fits_all facts told.mark told.accepted (entry_of recorder set value)) SumRange >>= λ _. Ok (entry_of recorder set value)) opened
     ∙ ap (λ (b : Bool). require b Budget >>= λ _.
     require (fits_all facts told.mark told.accepted (entry_of recorder set value)) SumRange >>= λ _. Ok (entry_of recorder set value)) left
@@ -54,7 +54,7 @@ pub accepted_legal : {B : Type 0} (stands : B → Standing) (c : CellValue B) (r
 accepted_legal stands c recorder set value given journal is known within judged s =
     let charged = s.charged recorder known in
     let room = judged.has_budget in
-    let left : nat_lt (spent journal recorder) (slice_index c.facts.budgets recorder) ≡ true = grind (arith, nat_tests) in
+    let left : nat_lt (spent journal recorder) (budget_of c recorder) ≡ true = grind (arith, nat_tests) in
     let counted : nat_lt recorder (length c.facts.budgets) ≡ true = grind (arith, nat_tests) in
     subst (λ (r : Result Entry Refusal). LegalRecord r Accepted)
     (sym (recorded_by c.facts (told_by c journal) recorder set value given is counted within judged.is_open left (judged.fitting journal s))) tt

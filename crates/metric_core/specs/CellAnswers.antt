@@ -1,8 +1,8 @@
 -- What the calls of a cell answer, and what they make of it.
-use Rattle.std.specs.Prelude.{◌≡◌, ◌<◌, ◌≤◌, ◌+◌, ◌+ℤ◌, ℕ, ℤ, Bool, true, false, List, [], ◌∷◌, ◌++◌, Result, Ok, Err, slice_index, slice_set}
+use Rattle.std.specs.Prelude.{◌≡◌, ◌<◌, ◌≤◌, ◌+◌, ◌-◌, ◌+ℤ◌, ℕ, ℤ, Bool, true, false, List, [], ◌∷◌, ◌++◌, Result, Ok, Err, slice_index, slice_set}
 use Rattle.metric_book.specs.Journals.{Standing, kept_of}
 use Rattle.metric_catalogue.specs.declared.refusal.Refusal.{Refusal}
-use Rattle.metric_catalogue.specs.declared.refusal.Refusal.TheVariants.{Closed, Budget, SumRange, Memory}
+use Rattle.metric_catalogue.specs.declared.refusal.Refusal.TheVariants.{Closed, Budget, NoSpare, SumRange, Memory}
 use Rattle.metric_history.specs.declared.batch.Batch.{Batch}
 use Rattle.metric_history.specs.declared.entry.Entry.{Entry}
 use Rattle.metric_history.specs.Answers.{batch}
@@ -12,16 +12,20 @@ use Rattle.metric_core.specs.Cells.{CellValue, CellStands, told_by}
 abbrev pub entry_of : ℕ → List ℕ → ℤ → Entry
 entry_of recorder set value = record { recorder = recorder; set = set; value = value }
 
+-- how many recordings a recorder may make: its budget, and what it was granted
+abbrev pub budget_of : {B : Type 0} → CellValue B → ℕ → ℕ
+budget_of c recorder = slice_index c.facts.budgets recorder + slice_index c.granted recorder
+
 -- The instrument is open, the recorder has recordings left, and whether each series stays in range is this.
 pub record IsJudged {B : Type 0} (stands : B → Standing) (c : CellValue B) (entry : Entry) (fits : Bool) : Type 0 where
   pub is_open : c.is_closed ≡ false
-  pub has_budget : slice_index c.spent entry.recorder < slice_index c.facts.budgets entry.recorder
+  pub has_budget : slice_index c.spent entry.recorder < budget_of c entry.recorder
   pub fitting : (journal : List Entry) → CellStands stands c journal → fits_all c.facts (slice_index c.marks) journal entry ≡ fits
 
 -- The instrument is open, and the recorder has no recordings left.
 pub record IsOverBudget {B : Type 0} (c : CellValue B) (recorder : ℕ) : Type 0 where
   pub is_open : c.is_closed ≡ false
-  pub no_budget : slice_index c.facts.budgets recorder ≤ slice_index c.spent recorder
+  pub no_budget : budget_of c recorder ≤ slice_index c.spent recorder
 
 -- what a recording is answered: `Closed`, `Budget`, `SumRange`, whichever applies first, else done, unless memory is refused
 abbrev pub AnswersRecording : {B : Type 0} → (B → Standing) → CellValue B → Entry → Result (Unit {0}) Refusal → Type 0
@@ -66,6 +70,30 @@ KeepsJournal stands old new = (journal : List Entry) → CellStands stands old j
 abbrev pub AnswersClose : {B : Type 0} → CellValue B → Result (Unit {0}) Refusal → Type 0
 AnswersClose c (Ok done) = c.is_closed ≡ false
 AnswersClose c (Err refusal) = (refusal ≡ Closed) × (c.is_closed ≡ true)
+
+-- The instrument is open, and so much is left of its spare.
+pub record IsSpared {B : Type 0} (c : CellValue B) (amount : ℕ) : Type 0 where
+  pub is_open : c.is_closed ≡ false
+  pub is_left : amount ≤ c.spare
+
+-- The instrument is open, and less is left of its spare.
+pub record IsOverSpare {B : Type 0} (c : CellValue B) (amount : ℕ) : Type 0 where
+  pub is_open : c.is_closed ≡ false
+  pub is_less : c.spare < amount
+
+-- what a grant is answered: `Closed`, `NoSpare`, whichever applies first, else done
+abbrev pub AnswersGrant : {B : Type 0} → CellValue B → ℕ → Result (Unit {0}) Refusal → Type 0
+AnswersGrant c amount (Ok done) = IsSpared c amount
+AnswersGrant c amount (Err Closed) = c.is_closed ≡ true
+AnswersGrant c amount (Err NoSpare) = IsOverSpare c amount
+AnswersGrant c amount (Err other) = ⊥
+
+-- the cell of which a recorder was granted so many recordings of what was left of the spare
+abbrev pub with_grant : {B : Type 0} → CellValue B → ℕ → ℕ → CellValue B
+with_grant c recorder amount = record c {
+  granted = slice_set c.granted recorder (slice_index c.granted recorder + amount);
+  spare = c.spare - amount;
+}
 
 -- the entries are what is kept of each journal for which the cell stands: all of it, or nothing
 abbrev pub TellsEntries : {B : Type 0} → (B → Standing) → Bool → CellValue B → List Entry → Type 0

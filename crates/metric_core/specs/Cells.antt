@@ -1,16 +1,16 @@
 -- The state of one instrument, and for which recordings it stands.
-use Rattle.std.specs.Prelude.{◌≡◌, ◌<◌, ◌≤◌, ◌*◌, ◌^◌, ℕ, ℤ, pos, neg_ℤ, ◌≤ℤ◌, Bool, true, false, List, length, replicate, slice_index, slice_index_or, sum}
+use Rattle.std.specs.Prelude.{◌≡◌, ◌<◌, ◌≤◌, ◌+◌, ◌*◌, ◌^◌, ℕ, ℤ, pos, neg_ℤ, ◌≤ℤ◌, Bool, true, false, List, length, replicate, slice_index, slice_index_or, sum}
 use Rattle.metric_aggregate.specs.Value.{sum_of}
 use Rattle.metric_book.specs.Journals.{Standing, no_marks}
 use Rattle.metric_history.specs.declared.entry.Entry.{Entry}
 use Rattle.metric_facts.specs.declared.facts.Facts.{Facts}
 use Rattle.metric_history.specs.Answers.{Told, spent}
 use Rattle.metric_history.specs.Points.{values}
-use Rattle.metric_safety.specs.SafeFacts.{are_admitted}
+use Rattle.metric_safety.specs.SafeFacts.{are_admitted, total}
 
 -- what its run depends on, the book of its recordings, the start, how many recordings each reader's last batch
--- counted and the time of that batch, how many recordings each recorder made, how many there are and their sum,
--- and whether it is closed
+-- counted and the time of that batch, how many recordings each recorder made, how many each was granted beside its budget and how
+-- many may still be, how many there are and their sum, and whether it is closed
 pub record CellValue (B : Type 0) : Type 0 where
   pub facts : Facts
   pub book : B
@@ -18,6 +18,8 @@ pub record CellValue (B : Type 0) : Type 0 where
   pub marks : List ℕ
   pub times : List ℕ
   pub spent : List ℕ
+  pub granted : List ℕ
+  pub spare : ℕ
   pub count : ℕ
   pub total : ℤ
   pub is_closed : Bool
@@ -31,6 +33,8 @@ new_cell facts start book = record {
   marks = no_marks facts;
   times = replicate (length facts.delta) start;
   spent = replicate (length facts.budgets) 0;
+  granted = replicate (length facts.budgets) 0;
+  spare = facts.spare;
   count = 0;
   total = pos 0;
   is_closed = false;
@@ -43,8 +47,9 @@ pub record CellStands {B : Type 0} (stands : B → Standing) (c : CellValue B) (
   pub summed : c.total ≡ sum_of (values journal)
   pub charged : (recorder : ℕ) → recorder < length c.facts.budgets → slice_index c.spent recorder ≡ spent journal recorder
 
--- What each cell keeps: it stands for some recordings that the instrument admits, no recorder has made more of them than its budget,
--- and the budgets together are a u64.
+-- What each cell keeps: it stands for some recordings that the instrument admits, no recorder has made more of them than its budget
+-- and what it was granted, all grants and what is left of the spare are the instrument's spare, and the budgets with the spare are
+-- a u64.
 pub record CellKept {B : Type 0} (stands : B → Standing) (c : CellValue B) : Type 0 where
   pub journal : List Entry
   pub known : CellStands stands c journal
@@ -52,10 +57,12 @@ pub record CellKept {B : Type 0} (stands : B → Standing) (c : CellValue B) : T
   pub one_mark_each : length c.marks ≡ length c.facts.delta
   pub one_time_each : length c.times ≡ length c.facts.delta
   pub one_budget_each : length c.spent ≡ length c.facts.budgets
-  pub within : (recorder : ℕ) → slice_index c.spent recorder ≤ slice_index c.facts.budgets recorder
+  pub one_grant_each : length c.granted ≡ length c.facts.budgets
+  pub within : (recorder : ℕ) → slice_index c.spent recorder ≤ slice_index c.facts.budgets recorder + slice_index c.granted recorder
+  pub shared : sum c.granted + c.spare ≡ c.facts.spare
   pub past : (reader : ℕ) → slice_index c.marks reader ≤ c.count
   pub counted : c.count ≡ sum c.spent
-  pub budgeted : sum c.facts.budgets < 2 ^ 64
+  pub budgeted : total c.facts < 2 ^ 64
   pub low : neg_ℤ (pos (2 ^ 63 * c.count)) ≤ℤ c.total
   pub high : c.total ≤ℤ pos (2 ^ 63 * c.count)
 
@@ -66,4 +73,6 @@ told_by c journal = record {
   mark = slice_index c.marks;
   previous = λ reader. slice_index_or c.times reader c.start;
   closed = c.is_closed;
+  granted = slice_index c.granted;
+  handed = sum c.granted;
 }

@@ -1,5 +1,5 @@
 -- For which history a core stands.
-use Rattle.std.specs.Prelude.{◌≡◌, ℕ, Bool, List, Some, length, slice_get, slice_index, slice_index_or}
+use Rattle.std.specs.Prelude.{◌≡◌, ℕ, Bool, List, Some, length, slice_get, slice_index, slice_index_or, sum}
 use Rattle.metric_book.specs.Journals.{Standing, kept_of}
 use Rattle.metric_history.specs.declared.entry.Entry.{Entry}
 use Rattle.metric_facts.specs.declared.facts.Facts.{Facts}
@@ -10,15 +10,18 @@ use Rattle.metric_core.specs.Cells.{CellValue, CellStands}
 use Rattle.metric_plan.specs.Plans.{PlanValue}
 
 -- A cell has what was told of its instrument since a start: its book stands for the accepted recordings with the
--- marks of the answered collections.
+-- marks of the answered collections, and it has granted as much.
 pub record CellKeepsTo {B : Type 0} (stands : B → Standing) (c : CellValue B) (since : ℕ) (told : Told) : Type 0 where
   pub known : CellStands stands c told.accepted
   pub begins : c.start ≡ since
   pub mark : (reader : ℕ) → slice_index c.marks reader ≡ told.mark reader
   pub previous : (reader : ℕ) → slice_index_or c.times reader c.start ≡ told.previous reader
   pub closed : c.is_closed ≡ told.closed
+  pub granted : (recorder : ℕ) → slice_index c.granted recorder ≡ told.granted recorder
+  pub handed : sum c.granted ≡ told.handed
   pub one_mark_each : length c.marks ≡ length c.facts.delta
   pub one_time_each : length c.times ≡ length c.facts.delta
+  pub one_grant_each : length c.granted ≡ length c.facts.budgets
 
 -- there is a cell for the facts of each instrument
 pub record AreCellsOf {B : Type 0} (all : List Facts) (cells : List (CellValue B)) : Type 0 where

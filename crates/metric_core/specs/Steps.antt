@@ -7,16 +7,16 @@ use Rattle.metric_catalogue.specs.declared.refusal.Refusal.{Refusal}
 use Rattle.metric_history.specs.Encoded.{encoded}
 use Rattle.metric_history.specs.declared.entry.Entry.{Entry}
 use Rattle.metric_history.specs.declared.event.Event.{Event}
-use Rattle.metric_history.specs.declared.event.Event.TheVariants.{Record, Collect, Close}
+use Rattle.metric_history.specs.declared.event.Event.TheVariants.{Record, Collect, Close, Grant}
 use Rattle.metric_history.specs.declared.event.Reply.{Reply}
-use Rattle.metric_history.specs.declared.event.Reply.TheVariants.{Accepted, Collected, Done}
-use Rattle.metric_history.specs.Answers.{recorded, collected, closing}
+use Rattle.metric_history.specs.declared.event.Reply.TheVariants.{Accepted, Collected, Done, Granted}
+use Rattle.metric_history.specs.Answers.{recorded, collected, closing, granting}
 use Rattle.metric_facts.specs.declared.facts.Facts.{Facts}
 use Rattle.metric_facts.specs.Facts.{RunFacts, is_allowed_set}
 use Rattle.metric_history.specs.History.{History, answered}
-use Rattle.metric_history.specs.Legal.{Legal, LegalRecord, LegalCollect, LegalClose}
+use Rattle.metric_history.specs.Legal.{Legal, LegalRecord, LegalCollect, LegalClose, LegalGrant}
 use Rattle.metric_core.specs.Cells.{CellValue, CellStands, told_by}
-use Rattle.metric_core.specs.CellAnswers.{entry_of, with_batch, with_entry}
+use Rattle.metric_core.specs.CellAnswers.{entry_of, with_batch, with_entry, with_grant}
 use Rattle.metric_core.specs.CoreStands.{AreCellsOf, CellsStand}
 
 -- the entry of a recording whose attributes are encoded to this
@@ -58,12 +58,18 @@ abbrev pub after_close : {B : Type 0} → CellValue B → Reply → CellValue B
 after_close c Done = record c { is_closed = true }
 after_close c _ = c
 
+-- the cell after the reply to a grant to a recorder
+abbrev pub after_grant : {B : Type 0} → CellValue B → ℕ → ℕ → Reply → CellValue B
+after_grant c recorder amount Granted = with_grant c recorder amount
+after_grant c recorder amount _ = c
+
 -- the cell after the reply to an event of the instrument, with this book
 abbrev pub cell_after : {B : Type 0} → Contents → CellValue B → Event → Reply → B → CellValue B
 cell_after contents c (Record recorder instrument attrs value) reply book =
     after_record c (encoded_entry recorder (encoded contents instrument attrs) value) reply book
 cell_after contents c (Collect reader instrument now) reply book = after_collect c reader reply book
 cell_after contents c (Close instrument) reply book = after_close c reply
+cell_after contents c (Grant recorder instrument amount) reply book = after_grant c recorder amount reply
 
 -- what an event is answered, and what it makes of the state that it is a step on
 pub record Outcome (S : Type 0) : Type 0 where
@@ -91,6 +97,12 @@ pub record CloseStep {B : Type 0} (stands : B → Standing) (c : CellValue B) (o
   pub keeps : (journal : List Entry) → CellStands stands c journal → CellStands stands out.state journal
   pub after : out.state ≡ after_close c out.reply
 
+-- the same of a grant
+pub record GrantStep {B : Type 0} (stands : B → Standing) (c : CellValue B) (recorder amount : ℕ) (out : Outcome (CellValue B)) : Type 0 where
+  pub legal : (journal : List Entry) → CellStands stands c journal → LegalGrant (granting c.facts (told_by c journal) recorder amount) out.reply
+  pub keeps : (journal : List Entry) → CellStands stands c journal → CellStands stands out.state journal
+  pub after : out.state ≡ after_grant c recorder amount out.reply
+
 -- a reply that an event of the instrument may get from a cell that stands for these recordings
 abbrev pub LegalOn : {B : Type 0} → Contents → CellValue B → List Entry → Event → Reply → Type 0
 LegalOn contents c journal (Record recorder instrument attrs value) reply =
@@ -98,6 +110,7 @@ LegalOn contents c journal (Record recorder instrument attrs value) reply =
 LegalOn contents c journal (Collect reader instrument now) reply =
     LegalCollect (collected c.facts c.start (told_by c journal) reader now) reply
 LegalOn contents c journal (Close instrument) reply = LegalClose (closing (told_by c journal)) reply
+LegalOn contents c journal (Grant recorder instrument amount) reply = LegalGrant (granting c.facts (told_by c journal) recorder amount) reply
 
 -- The reply is legal for each list of recordings for which the cell stands, and the new cell stands for the longer list.
 pub record CellStep {B : Type 0} (stands : B → Standing) (contents : Contents) (c : CellValue B) (event : Event) (out : Outcome (CellValue B)) : Type 0 where

@@ -1,8 +1,9 @@
 //! The state of one instrument.
-ghost use Rattle.std.specs.Prelude.{◌≡◌, ◌≢◌, ◌≤◌, ◌<◌, ◌-◌, ◌^◌, pos, neg_ℤ, ◌+ℤ◌, ◌≤ℤ◌, Some, [], true, length, slice_get, slice_index, sum, IfOk, IfErr, OnOk, OnErr};
+ghost use Rattle.std.specs.Prelude.{◌≡◌, ◌≢◌, ◌≤◌, ◌<◌, ◌+◌, ◌-◌, ◌^◌, pos, neg_ℤ, ◌+ℤ◌, ◌≤ℤ◌, Some, [], true, length, slice_get, slice_index, sum, IfOk, IfErr, OnOk, OnErr};
 ghost use Rattle.metric_core.specs.Cells.{CellKept, CellStands, new_cell};
-ghost use Rattle.metric_core.specs.CellAnswers.{AnswersClose, AnswersRecording, GainsEntry, KeepsJournal, ReportsBatch, TellsEntries, entry_of, with_batch, with_entry};
+ghost use Rattle.metric_core.specs.CellAnswers.{AnswersClose, AnswersGrant, AnswersRecording, GainsEntry, KeepsJournal, ReportsBatch, TellsEntries, budget_of, entry_of, with_batch, with_entry, with_grant};
 ghost use Rattle.metric_facts.specs.Facts.{in_bounds, is_allowed_set};
+ghost use Rattle.metric_safety.specs.SafeFacts.{total};
 
 use crate::budgets::Budgets;
 use crate::room::numbers_apart;
@@ -60,6 +61,8 @@ impl<B: Book> Model for Cell<B> {
       marks = c.marks.items;
       times = c.times.items;
       spent = c.budgets.spent.items;
+      granted = c.budgets.granted.items;
+      spare = c.budgets.spare;
       count = c.count;
       total = c.total;
       is_closed = c.is_closed;
@@ -72,6 +75,8 @@ impl<B: Book> Model for Cell<B> {
       marks = c.marks.items;
       times = c.times.items;
       spent = c.budgets.spent.items;
+      granted = c.budgets.granted.items;
+      spare = c.budgets.spare;
       count = c.count;
       total = c.total;
       is_closed = c.is_closed;
@@ -115,7 +120,7 @@ impl<B: Book> Cell<B> {
         let book = B::new(alloc, plan, instrument, seed)?;
         let marks = numbers_apart(alloc, 0, facts.delta.len())?;
         let times = numbers_apart(alloc, start, facts.delta.len())?;
-        let budgets = Budgets::new(alloc, facts.budgets.len())?;
+        let budgets = Budgets::new(alloc, facts.budgets.len(), facts.spare)?;
         Ok(Cell {
             facts,
             book,
@@ -130,9 +135,9 @@ impl<B: Book> Cell<B> {
     }
 
     /// Makes a recording (Metrics API, synchronous instruments). `Closed` comes exactly where the instrument is
-    /// closed, else `Budget` exactly where the recorder has made as many recordings as its budget, else `SumRange`
-    /// exactly where some series would leave its range; the only other refusal is `Memory`, which never comes where
-    /// the book says that recordings take none.
+    /// closed, else `Budget` exactly where the recorder has made as many recordings as its budget and what it was
+    /// granted, else `SumRange` exactly where some series would leave its range; the only other refusal is `Memory`,
+    /// which never comes where the book says that recordings take none.
     pub fn record(&mut self, recorder: u32, set: SetKey, value: i64) -> Result<(), Refusal>
         requires recorder { recorder < length self.old.facts.budgets }
         requires set { is_allowed_set self.old.facts set ≡ true }
@@ -211,6 +216,27 @@ impl<B: Book> Cell<B> {
         Ok(())
     }
 
+    /// Grants a recorder so many recordings beside its budget, of what is left of the instrument's spare budget. `Closed`
+    /// comes exactly where the instrument is closed, else `NoSpare` exactly where more is asked for than is left. Takes no
+    /// memory.
+    pub fn grant(&mut self, recorder: u32, amount: u64) -> Result<(), Refusal>
+        requires { recorder < length self.old.facts.budgets }
+        ensures answer { AnswersGrant self.old amount result }
+        ensures new { OnOk result (self.new ≡ with_grant self.old recorder amount) }
+        ensures stands { KeepsJournal B.stands self.old self.new }
+        ensures shared { sum self.old.granted + self.old.spare ≡ self.old.facts.spare }
+        ensures err { OnErr result (self.new ≡ self.old) }
+    {
+        if self.is_closed {
+            return Err(Refusal::Closed);
+        }
+        if self.budgets.spare() < amount {
+            return Err(Refusal::NoSpare);
+        }
+        self.budgets.grant(recorder, amount);
+        Ok(())
+    }
+
     /// What its run depends on.
     pub fn facts(&self) -> &Facts
         ensures facts { result.now ≡ self.now.facts }
@@ -244,9 +270,24 @@ impl<B: Book> Cell<B> {
     /// How many recordings the recorder has made; none for one of another number.
     pub fn spent(&self, recorder: u32) -> u64
         ensures spent { result ≡ slice_index self.now.spent recorder }
-        ensures within { result ≤ slice_index self.now.facts.budgets recorder }
+        ensures within { result ≤ budget_of self.now recorder }
     {
         self.budgets.spent(recorder)
+    }
+
+    /// How many recordings the recorder was granted beside its budget; none for one of another number.
+    pub fn granted(&self, recorder: u32) -> u64
+        ensures { result ≡ slice_index self.now.granted recorder }
+    {
+        self.budgets.granted(recorder)
+    }
+
+    /// How many recordings may still be granted: the instrument's spare budget, less what was granted of it.
+    pub fn spare(&self) -> u64
+        ensures spare { result ≡ self.now.spare }
+        ensures shared { sum self.now.granted + result ≡ self.now.facts.spare }
+    {
+        self.budgets.spare()
     }
 
     /// How many recordings the reader's last batch counted, 0 before one.
@@ -261,7 +302,7 @@ impl<B: Book> Cell<B> {
     pub fn count(&self) -> u64
         ensures count { result ≡ self.now.count }
         ensures counted { result ≡ sum self.now.spent }
-        ensures within { result ≤ sum self.now.facts.budgets }
+        ensures within { result ≤ total self.now.facts }
     {
         self.count
     }

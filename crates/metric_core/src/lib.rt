@@ -1,5 +1,5 @@
-//! Events against the instruments of a plan: recordings, collections and closes, one after the
-//! other.
+//! Events against the instruments of a plan: recordings, collections, closes and grants, one after
+//! the other.
 #![tactic(auto)]
 
 mod budgets;

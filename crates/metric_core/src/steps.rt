@@ -1,7 +1,7 @@
 //! One event after the other.
 ghost use Rattle.std.specs.Prelude.{◌≡◌, ◌≤◌, length, vec_capacity};
 ghost use Rattle.metric_core.specs.CoreStands.{AreCellsOf};
-ghost use Rattle.metric_core.specs.Steps.{CellStep, CloseStep, CollectStep, HasAllowedSet, IsAllowedSet, RecordStep, Steps, encoded_entry, outcome};
+ghost use Rattle.metric_core.specs.Steps.{CellStep, CloseStep, CollectStep, GrantStep, HasAllowedSet, IsAllowedSet, RecordStep, Steps, encoded_entry, outcome};
 ghost use Rattle.metric_history.specs.Events.{attr_count};
 
 use crate::cell::Cell;
@@ -62,6 +62,19 @@ fn close<B: Book>(cell: &mut Cell<B>) -> Reply
     }
 }
 
+// A grant to a recorder.
+fn grant<B: Book>(cell: &mut Cell<B>, recorder: u32, amount: u64) -> Reply
+    ensures { GrantStep B.stands cell.old recorder amount (outcome result cell.new) }
+{
+    if recorder as usize >= cell.facts().budgets.len() {
+        return Reply::Refused(Refusal::UnknownRecorder);
+    }
+    match cell.grant(recorder, amount) {
+        Ok(()) => Reply::Granted,
+        Err(refusal) => Reply::Refused(refusal),
+    }
+}
+
 // Answers an event of the cell's instrument.
 fn answer<'a, B: Book>(
     alloc: Global,
@@ -88,6 +101,11 @@ fn answer<'a, B: Book>(
         }
         Event::Collect { reader, now, .. } => collect(alloc, cell, *reader, *now),
         Event::Close { .. } => close(cell),
+        Event::Grant {
+            recorder,
+            amount,
+            ..
+        } => grant(cell, *recorder, *amount),
     }
 }
 

@@ -84,6 +84,7 @@ facts_of certified flags recorders readers streams number instrument = record {
   lo = instrument.lo;
   hi = instrument.hi;
   budgets = map (λ (recorder : Recorder). amount_of recorder number) recorders;
+  spare = instrument.spare;
   delta = map (is_delta_reader instrument.kind) readers;
   streams = numbered_from flags number 0 streams;
 }

@@ -138,7 +138,7 @@ flat_streams earlier (numbered ∷ streams) =
 abbrev pub flat_instrument : FactsFields → List ℕ
 flat_instrument facts =
     flat_flag facts.certified ++ flat_number facts.instrument ++ flat_list flat_key facts.keys ++ flat_signed facts.lo ++ flat_signed facts.hi
-    ++ flat_list flat_number facts.budgets ++ flat_list flat_flag facts.delta
+    ++ flat_list flat_number facts.budgets ++ flat_number facts.spare ++ flat_list flat_flag facts.delta
 
 -- whether a set key has eight entries, of which those after so many keys are 0
 abbrev pub is_of_keys : ℕ → List ℕ → Bool

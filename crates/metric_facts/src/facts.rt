@@ -46,8 +46,10 @@ pub struct FactsFields {
     pub lo: i64,
     /// The greatest value that may be recorded.
     pub hi: i64,
-    /// How many recordings each recorder may make, in the order of the recorders.
+    /// How many recordings each recorder may make without a grant, in the order of the recorders.
     pub budgets: Items<u64>,
+    /// How many recordings may be granted to recorders beside their budgets.
+    pub spare: u64,
     /// Whether each reader is delta for the instrument's kind (Metrics SDK, temporality), in the order of the readers.
     pub delta: Items<bool>,
     /// The streams of the instrument with their numbers, in order.
@@ -65,6 +67,7 @@ impl Drop for FactsFields {
             lo: _,
             hi: _,
             budgets: _budgets,
+            spare: _,
             delta: _delta,
             streams: _streams,
         } = self;

@@ -422,6 +422,7 @@ fn write_instrument(bytes: &mut Vec<u8>, facts: &FactsFields) -> Result<(), Allo
     write_signed(bytes, &facts.lo)?;
     write_signed(bytes, &facts.hi)?;
     write_list(bytes, facts.budgets.as_slice())?;
+    write_number(bytes, facts.spare)?;
     write_list(bytes, facts.delta.as_slice())
 }
 

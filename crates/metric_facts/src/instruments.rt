@@ -77,6 +77,7 @@ fn instrument_facts(
         lo: instrument.lo,
         hi: instrument.hi,
         budgets,
+        spare: instrument.spare,
         delta,
         streams: Items::new(alloc),
     })

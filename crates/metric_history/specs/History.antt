@@ -1,12 +1,12 @@
 -- What a history of events and replies, newest first, says of one instrument.
-use Rattle.std.specs.Prelude.{ℕ, Bool, true, false, ◌&&◌, List, [], ◌∷◌, ◌++◌, length, max, ◌==◌, if◌then◌else◌}
+use Rattle.std.specs.Prelude.{ℕ, ◌+◌, Bool, true, false, ◌&&◌, List, [], ◌∷◌, ◌++◌, length, max, ◌==◌, if◌then◌else◌}
 use Rattle.std.specs.Result.{result_unwrap_or}
 use Rattle.metric_history.specs.Encoded.{encoded}
 use Rattle.metric_history.specs.declared.entry.Entry.{Entry}
 use Rattle.metric_history.specs.declared.event.Event.{Event}
-use Rattle.metric_history.specs.declared.event.Event.TheVariants.{Record, Collect, Close}
+use Rattle.metric_history.specs.declared.event.Event.TheVariants.{Record, Collect, Close, Grant}
 use Rattle.metric_history.specs.declared.event.Reply.{Reply}
-use Rattle.metric_history.specs.declared.event.Reply.TheVariants.{Accepted, Collected, Done}
+use Rattle.metric_history.specs.declared.event.Reply.TheVariants.{Accepted, Collected, Done, Granted}
 use Rattle.metric_history.specs.Answers.{Told}
 use Rattle.metric_facts.specs.Facts.{RunFacts}
 
@@ -63,6 +63,26 @@ abbrev pub is_closed : History → ℕ → Bool
 is_closed [] i = false
 is_closed (a ∷ older) i = if closes i a.event a.reply then true else is_closed older i
 
+-- how many recordings of the instrument an event granted a recorder
+abbrev pub grants_to : ℕ → ℕ → Event → Reply → ℕ
+grants_to i recorder (Grant to instrument amount) Granted = if (instrument == i) && (to == recorder) then amount else 0
+grants_to i recorder _ _ = 0
+
+-- how many were granted the recorder
+abbrev pub granted_of : History → ℕ → ℕ → ℕ
+granted_of [] i recorder = 0
+granted_of (a ∷ older) i recorder = granted_of older i recorder + grants_to i recorder a.event a.reply
+
+-- how many recordings of the instrument an event granted
+abbrev pub grants_of : ℕ → Event → Reply → ℕ
+grants_of i (Grant to instrument amount) Granted = if instrument == i then amount else 0
+grants_of i _ _ = 0
+
+-- how many were granted in all
+abbrev pub handed_of : History → ℕ → ℕ
+handed_of [] i = 0
+handed_of (a ∷ older) i = handed_of older i + grants_of i a.event a.reply
+
 -- all of it
 abbrev pub told_of : RunFacts → ℕ → History → ℕ → Told
 told_of facts start h i = record {
@@ -70,4 +90,6 @@ told_of facts start h i = record {
   mark = mark_of facts h i;
   previous = previous_of start h i;
   closed = is_closed h i;
+  granted = granted_of h i;
+  handed = handed_of h i;
 }

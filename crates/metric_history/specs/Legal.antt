@@ -7,12 +7,12 @@ use Rattle.metric_catalogue.specs.declared.refusal.Refusal.TheVariants.{UnknownI
 use Rattle.metric_history.specs.Encoded.{encoded}
 use Rattle.metric_history.specs.declared.entry.Entry.{Entry}
 use Rattle.metric_history.specs.declared.event.Event.{Event}
-use Rattle.metric_history.specs.declared.event.Event.TheVariants.{Record, Collect, Close}
+use Rattle.metric_history.specs.declared.event.Event.TheVariants.{Record, Collect, Close, Grant}
 use Rattle.metric_history.specs.declared.event.Reply.{Reply}
-use Rattle.metric_history.specs.declared.event.Reply.TheVariants.{Accepted, Collected, Done, Refused}
+use Rattle.metric_history.specs.declared.event.Reply.TheVariants.{Accepted, Collected, Done, Granted, Refused}
 use Rattle.metric_history.specs.declared.batch.Batch.{Batch}
 use Rattle.metric_facts.specs.Facts.{RunFacts}
-use Rattle.metric_history.specs.Answers.{recorded, collected, closing}
+use Rattle.metric_history.specs.Answers.{recorded, collected, closing, granting}
 use Rattle.metric_history.specs.History.{History, told_of}
 
 -- the entry of a recording after a history, or the first refusal
@@ -33,6 +33,12 @@ close facts start h instrument =
     require_some (slice_get facts.instruments instrument) UnknownInstrument >>= λ own.
     closing (told_of facts start h instrument)
 
+-- a grant after a history, or the first refusal
+abbrev pub grant : RunFacts → ℕ → History → ℕ → ℕ → ℕ → Result (Unit {0}) Refusal
+grant facts start h recorder instrument amount =
+    require_some (slice_get facts.instruments instrument) UnknownInstrument >>= λ own.
+    granting own (told_of facts start h instrument) recorder amount
+
 -- Where nothing refuses a recording it is accepted, unless memory is refused; else the reply is the refusal.
 abbrev pub LegalRecord : Result Entry Refusal → Reply → Type 0
 LegalRecord (Ok entry) Accepted = Unit {0}
@@ -51,11 +57,17 @@ LegalClose (Ok done) Done = Unit {0}
 LegalClose (Err refusal) (Refused given) = given ≡ refusal
 LegalClose _ _ = ⊥
 
+abbrev pub LegalGrant : Result (Unit {0}) Refusal → Reply → Type 0
+LegalGrant (Ok done) Granted = Unit {0}
+LegalGrant (Err refusal) (Refused given) = given ≡ refusal
+LegalGrant _ _ = ⊥
+
 -- a reply that the event may get after the history
 abbrev pub Legal : RunFacts → ℕ → History → Event → Reply → Type 0
 Legal facts start h (Record recorder instrument attrs value) reply = LegalRecord (recording facts start h recorder instrument attrs value) reply
 Legal facts start h (Collect reader instrument now) reply = LegalCollect (collection facts start h reader instrument now) reply
 Legal facts start h (Close instrument) reply = LegalClose (close facts start h instrument) reply
+Legal facts start h (Grant recorder instrument amount) reply = LegalGrant (grant facts start h recorder instrument amount) reply
 
 -- one legal reply for each event, each judged after the events before it
 abbrev pub AllLegal : RunFacts → ℕ → History → List Event → List Reply → Type 0

@@ -33,6 +33,15 @@ pub enum Event {
         /// The number of the instrument.
         instrument: u32,
     },
+    /// A grant: recordings of the instrument's spare budget for a recorder, beside its budget.
+    Grant {
+        /// The number of the recorder.
+        recorder: u32,
+        /// The number of the instrument.
+        instrument: u32,
+        /// How many recordings.
+        amount: u64,
+    },
 }
 
 /// What an event is answered.
@@ -44,6 +53,8 @@ pub enum Reply {
     Collected(Batch),
     /// The instrument is closed.
     Done,
+    /// The recorder may make as many recordings more.
+    Granted,
     /// The event has changed nothing.
     Refused(Refusal),
 }
@@ -59,6 +70,7 @@ impl Event {
             Event::Record { instrument, .. } => *instrument,
             Event::Collect { instrument, .. } => *instrument,
             Event::Close { instrument } => *instrument,
+            Event::Grant { instrument, .. } => *instrument,
         }
     }
 
@@ -68,7 +80,7 @@ impl Event {
     {
         match self {
             Event::Record { attrs, .. } => attrs.len(),
-            Event::Collect { .. } | Event::Close { .. } => 0,
+            Event::Collect { .. } | Event::Close { .. } | Event::Grant { .. } => 0,
         }
     }
 }

@@ -1,5 +1,6 @@
 pub mod Hosts
 pub mod Recordings
+pub mod Grants
 pub mod Listings
 pub mod Collections
 pub mod Settlements

@@ -5,6 +5,7 @@ ghost use Rattle.metric_core.specs.Cells.{CellStands, new_cell};
 ghost use Rattle.metric_facts.specs.Facts.{in_bounds, is_allowed_set};
 ghost use Rattle.metric_facts.specs.Products.{AreAllByProduct};
 ghost use Rattle.metric_hosted.specs.Collections.{with_collected};
+ghost use Rattle.metric_hosted.specs.Grants.{AnswersGranting, with_granted};
 ghost use Rattle.metric_hosted.specs.Hosts.{number_of};
 ghost use Rattle.metric_hosted.specs.Recordings.{with_recorded};
 ghost use Rattle.metric_hosted.specs.Settlements.{Settles, seated};
@@ -87,6 +88,25 @@ impl Hosted {
         ensures err { OnErr result (self.new ≡ self.old) }
     {
         self.slot.close()
+    }
+
+    /// Grants a recorder so many recordings beside its budget, of what is left of the instrument's spare budget. Takes no
+    /// memory.
+    ///
+    /// # Errors
+    ///
+    /// The first of these: `UnknownRecorder` where the instrument has no such recorder; `Closed`; `NoSpare` where more is
+    /// asked for than is left. A grant of 0 is made also where nothing is left.
+    pub fn grant(&mut self, recorder: u32, amount: u64) -> Result<(), Refusal>
+        ensures answer { AnswersGranting self.old recorder amount result }
+        ensures new { OnOk result (self.new ≡ with_granted self.old recorder amount) }
+        ensures stands { KeepsJournal StandsMarked self.old.cell self.new.cell }
+        ensures err { OnErr result (self.new ≡ self.old) }
+    {
+        if recorder as usize >= self.slot.cell().facts().budgets.len() {
+            return Err(Refusal::UnknownRecorder);
+        }
+        self.slot.grant_own(recorder, amount)
     }
 
     /// What the instrument comes to, by what the seats of all its recorders were told, in any order. It is exactly what

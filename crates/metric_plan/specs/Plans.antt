@@ -51,7 +51,7 @@ abbrev pub AreVouched : Bool → List Bool → Type 0
 AreVouched is_certified by_product = (number : ℕ) → IsTrue (is_by_product by_product number) → IsTrue is_certified
 
 -- What each plan keeps: the streams are those that the config gives for the catalogue, and the facts are theirs, one of each
--- instrument. The budgets of each instrument are together a u64, and its range is one of 64-bit numbers. A certified plan can overflow
+-- instrument. The budgets and the spare budget of each instrument are together a u64, and its range is one of 64-bit numbers. A certified plan can overflow
 -- neither a limit nor a number, and its streams by product can have no more series than their limits, whatever is recorded.
 pub record IsPlan (plan : PlanValue) : Type 0 where
   pub one_each : length plan.facts.instruments ≡ length plan.facts.contents.instruments

@@ -5,7 +5,7 @@ ghost use Rattle.metric_plan.specs.Counting.{is_counted};
 use metric_bounds::total;
 use metric_catalogue::Catalogue;
 
-// Whether the budgets of each instrument are together a u64.
+// Whether the budgets and the spare budget of each instrument are together a u64.
 pub(crate) fn is_counted(catalogue: &Catalogue) -> bool
     ensures { result ≡ is_counted catalogue.now }
 {

@@ -31,7 +31,8 @@ pub enum CheckFault {
     SumLow,
     /// The greatest sum of an instrument is another than stated, or is kept and above the range of i64.
     SumHigh,
-    /// The budgets for an instrument are together another number than stated, or above the range of u64.
+    /// The budgets and the spare budget of an instrument are together another number than stated, or above the range
+    /// of u64.
     CountRange,
     /// The sums of an instrument are further apart than stated, or than the range of u64.
     AmountRange,

@@ -23,7 +23,7 @@ use std::marker::Model;
 ///
 /// The type of a certified plan keeps that no two of its streams share an identity, that each can have at
 /// most as many series as its limit, and that no count and no kept sum leaves 64 bits, whatever is recorded
-/// within the budgets. Where a stream of it is by product, it can have at most as many series as its limit
+/// within the budgets and what is granted. Where a stream of it is by product, it can have at most as many series as its limit
 /// whatever the budgets are.
 pub struct Plan {
     catalogue: Catalogue,
@@ -72,8 +72,8 @@ impl Model for Plan {
 
 impl Plan {
     /// The plan of a catalogue and a config without a certificate, for any readers and views. `CountRange` comes
-    /// exactly where the budgets for some instrument are together above the range of u64; the only other fault is
-    /// `Memory`. Where there is no plan, catalogue and config are handed back.
+    /// exactly where the budgets and the spare budget of some instrument are together above the range of u64; the
+    /// only other fault is `Memory`. Where there is no plan, catalogue and config are handed back.
     pub fn trial(
         alloc: Global,
         catalogue: Catalogue,

@@ -8,7 +8,7 @@ use Rattle.std.proofs.lemmas.List.{append-nil, get_or-set_same, length-map, leng
 use Rattle.std.proofs.lemmas.Option.{slice_get-get_or, slice_get_within}
 use Rattle.metric_book.specs.declared.slip.Slip.{Slip}
 use Rattle.metric_catalogue.specs.declared.refusal.Refusal.{Refusal}
-use Rattle.metric_catalogue.specs.declared.refusal.Refusal.TheVariants.{Stranger, UnknownInstrument, UnknownRecorder, UnknownReader, DuplicateKey, UnknownKey, UnknownValue, MissingKey, Combination, ValueRange, Closed, Budget, SumRange, Memory}
+use Rattle.metric_catalogue.specs.declared.refusal.Refusal.TheVariants.{Stranger, UnknownInstrument, UnknownRecorder, UnknownReader, DuplicateKey, UnknownKey, UnknownValue, MissingKey, Combination, ValueRange, Closed, Budget, NoSpare, SumRange, Memory}
 use Rattle.metric_facts.specs.declared.facts.Facts.{Facts}
 use Rattle.metric_plan.specs.Plans.{PlanValue}
 use Rattle.metric_provider.specs.declared.fault.SetsFault.{SetsFault}
@@ -129,6 +129,7 @@ spared_refusal keeps spares own by told UnknownValue why = absurd why
 spared_refusal keeps spares own by told MissingKey why = absurd why
 spared_refusal keeps spares own by told Combination why = absurd why
 spared_refusal keeps spares own by told ValueRange why = absurd why
+spared_refusal keeps spares own by told NoSpare why = absurd why
 spared_refusal keeps spares own by told SumRange why = absurd why
 
 slip_refusal : (spares : Facts → Type 0) (own : Facts) (by : ℕ) (told : Told) (refusal : Refusal) → RefusesSlip refusal → RefusesRecording (SeatSpares true spares) own by told refusal
@@ -145,6 +146,7 @@ slip_refusal spares own by told UnknownValue why = absurd why
 slip_refusal spares own by told MissingKey why = absurd why
 slip_refusal spares own by told Combination why = absurd why
 slip_refusal spares own by told ValueRange why = absurd why
+slip_refusal spares own by told NoSpare why = absurd why
 slip_refusal spares own by told SumRange why = absurd why
 
 if_some : (o : Option Facts) (P Q : Facts → Type 0) → ((own : Facts) → P own → Q own) → IfSome o P → IfSome o Q

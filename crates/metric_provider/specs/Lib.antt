@@ -7,5 +7,6 @@ pub mod PlanFacts
 pub mod AdmitLaws
 pub mod Collections
 pub mod Closing
+pub mod Granting
 pub mod Totals
 pub mod Faults

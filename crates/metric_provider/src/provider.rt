@@ -1,6 +1,8 @@
 //! The instruments of a plan behind their locks.
 ghost use Rattle.std.specs.Prelude.{◌≡◌, ◌<◌, IsTrue, Some, All, length, slice_get, vec_len, IfOk, IfErr, IfSome, OnOk, OnErr};
+ghost use Rattle.metric_core.specs.CellAnswers.{with_grant};
 ghost use Rattle.metric_provider.specs.Closing.{AnswersClosing};
+ghost use Rattle.metric_provider.specs.Granting.{AnswersGrant};
 ghost use Rattle.metric_provider.specs.Collections.{IsNextBatch, RefusesCollection};
 ghost use Rattle.metric_provider.specs.KeyRecordings.{IsRecordable, IsRefusedUnder, KnowsEach, told_each};
 ghost use Rattle.metric_provider.specs.Providers.{IsProvider, KnowsReader, KnowsRecording};
@@ -121,6 +123,39 @@ impl<B: Book, G: Gate> Provider<B, G> {
         answer
     }
 
+    /// Grants a recorder so many recordings on an instrument beside its budget, of what is left of the instrument's spare
+    /// budget. Whoever has the provider may call it for any recorder. Takes no memory.
+    ///
+    /// # Errors
+    ///
+    /// `UnknownInstrument` exactly where the plan has no instrument of this number, else `UnknownRecorder` exactly where it
+    /// has no such recorder; else, under the instrument's lock, `Closed`, or `NoSpare` where more is asked for than is
+    /// left. A grant of 0 is made also where nothing is left.
+    pub fn grant<R: Wait>(
+        &self,
+        rt: &R,
+        recorder: u32,
+        instrument: u32,
+        amount: u64,
+    ) -> Result<(), Refusal>
+        ensures { let known = slice_get self.now.plan.facts.instruments instrument in
+            AnswersGrant known recorder amount result }
+    {
+        let at = instrument as usize;
+        if at >= self.slots.len() {
+            return Err(Refusal::UnknownInstrument);
+        }
+        let facts = self.plan.facts(instrument);
+        if recorder as usize >= facts.budgets.len() {
+            return Err(Refusal::UnknownRecorder);
+        }
+        let slot: &Mutex<Slot<B>> = &self.slots[at];
+        let mut guard = slot.lock(rt);
+        let answer = grant(&mut guard, facts, recorder, amount);
+        self.gate.inside(rt, instrument);
+        answer
+    }
+
     // Makes a recording under the instrument's lock, and tells its recorder of it.
     pub(crate) fn record_inside<R: Wait>(
         &self,
@@ -198,6 +233,27 @@ impl<B: Book, G: Gate> Provider<B, G> {
         let answer = guard.collect(alloc, facts, seen, reader, now);
         self.gate.inside(rt, instrument);
         answer
+    }
+}
+
+// Grants a recorder recordings of a slot. One with other facts takes no recordings of the plan's recorders, so that to
+// them it is closed.
+fn grant<B: Book>(
+    slot: &mut Slot<B>,
+    facts: &Facts,
+    recorder: u32,
+    amount: u64,
+) -> Result<(), Refusal>
+    requires { recorder < length facts.now.budgets }
+    ensures answer { AnswersGrant (Some facts.now) recorder amount result }
+    ensures new { OnOk result (slot.new ≡ with_grant slot.old recorder amount) }
+    ensures err { OnErr result (slot.new ≡ slot.old) }
+{
+    // For the proof alone: what a cell keeps.
+    let _ = slot.cell();
+    match slot.grant(facts, recorder, amount) {
+        Err(Refusal::Stranger) => Err(Refusal::Closed),
+        answer => answer,
     }
 }
 

@@ -1,6 +1,7 @@
 //! The seat of a recorder.
 ghost use Rattle.std.specs.Prelude.{◌≡◌, ◌<◌, ◌-◌, Bool, true, Some, None, length, map, take, slice_get, slice_set, IfOk, IfErr, IfSome, Ok, OnOk, OnErr};
 ghost use Rattle.metric_catalogue.specs.Attributes.{given_by};
+ghost use Rattle.metric_provider.specs.Granting.{AnswersAsking};
 ghost use Rattle.metric_provider.specs.KeyRecordings.{AreAccepted, AreAdmitted, IsRefusedAfter, IsUnadmittedAfter, admitted_key, noted_of_all, slip_of_one, told_of_all};
 ghost use Rattle.metric_provider.specs.Providers.{KnowsRecording};
 ghost use Rattle.metric_provider.specs.Recordings.{AnswersSeat, IsToldOf, RefusesSlip, SeatSpares, admitted, told_at, with_recording, with_slips};
@@ -407,6 +408,26 @@ impl Recorder {
         ensures { result ≡ slice_get self.now.told instrument }
     {
         self.told.get(instrument as usize).copied()
+    }
+
+    /// Asks for so many recordings on an instrument beside the budget, of what is left of the instrument's spare budget.
+    ///
+    /// # Errors
+    ///
+    /// `Stranger` where the seat is none of the provider's, else those of [`Provider::grant`].
+    pub fn ask<R: Wait, B: Book, G: Gate>(
+        &self,
+        rt: &R,
+        provider: &Provider<B, G>,
+        instrument: u32,
+        amount: u64,
+    ) -> Result<(), Refusal>
+        ensures { AnswersAsking provider.now self.now instrument amount result }
+    {
+        if !self.is_of(provider.plan(), provider.run()) {
+            return Err(Refusal::Stranger);
+        }
+        provider.grant(rt, self.number, instrument, amount)
     }
 
     // What it was told of an instrument, nothing for an unknown one.

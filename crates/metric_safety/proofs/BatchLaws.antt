@@ -16,16 +16,16 @@ use Rattle.metric_history.specs.declared.batch.Batch.{Batch}
 use Rattle.metric_history.specs.declared.batch.Point.{Point}
 use Rattle.metric_history.specs.declared.batch.StreamPoints.{StreamPoints}
 use Rattle.metric_history.specs.declared.event.Event.{Event}
-use Rattle.metric_history.specs.declared.event.Event.TheVariants.{Record, Collect, Close}
+use Rattle.metric_history.specs.declared.event.Event.TheVariants.{Record, Collect, Close, Grant}
 use Rattle.metric_history.specs.declared.event.Reply.{Reply}
-use Rattle.metric_history.specs.declared.event.Reply.TheVariants.{Accepted, Collected, Done, Refused}
+use Rattle.metric_history.specs.declared.event.Reply.TheVariants.{Accepted, Collected, Done, Granted, Refused}
 use Rattle.metric_facts.specs.declared.facts.Facts.{Facts}
 use Rattle.metric_facts.specs.declared.facts.NumberedStream.{NumberedStream}
 use Rattle.metric_history.specs.declared.entry.Entry.{Entry}
 use Rattle.metric_history.specs.Answers.{batch, collected, covered}
 use Rattle.metric_facts.specs.Facts.{EncodesAllowedSets, RunFacts, is_delta}
 use Rattle.metric_history.specs.History.{History, accepted, mark_of, told_of}
-use Rattle.metric_history.specs.Legal.{IsLegal, Legal, LegalRecord, LegalCollect, LegalClose, recording, collection, close}
+use Rattle.metric_history.specs.Legal.{IsLegal, Legal, LegalRecord, LegalCollect, LegalClose, LegalGrant, recording, collection, close, grant}
 use Rattle.metric_history.specs.Points.{stream_points, points}
 use Rattle.metric_history.specs.Series.{rows}
 use Rattle.metric_safety.specs.SafeFacts.{IsSafeStream}
@@ -71,6 +71,11 @@ legal_batch facts start h (Close number) b legal = absurd (by (close facts start
     by : (r : Result (Unit {0}) Refusal) → LegalClose r (Collected b) → ⊥
     by (Ok done) legal = legal
     by (Err refusal) legal = legal
+legal_batch facts start h (Grant to number amount) b legal = absurd (by (grant facts start h to number amount) legal)
+  where
+    by : (r : Result (Unit {0}) Refusal) → LegalGrant r (Collected b) → ⊥
+    by (Ok done) legal = legal
+    by (Err refusal) legal = legal
 legal_batch facts start h (Collect reader number now) b legal = by (collection facts start h reader number now) refl legal
   where
     by : (r : Result Batch Refusal) → collection facts start h reader number now ≡ r → LegalCollect r (Collected b) → IsAnswered facts start h b
@@ -91,6 +96,7 @@ all_exported P facts start answers (a ∷ older) legal =
         subst (λ (x : Batch). All P x.streams) (sym shown.is) (answers older legal.0 shown.number shown.reader shown.now shown.own shown.known)
     by event Accepted given = All-nil P
     by event Done given = All-nil P
+    by event Granted given = All-nil P
     by event (Refused refusal) given = All-nil P
 
 -- ---- windows

@@ -10,7 +10,7 @@ use Rattle.std.proofs.lemmas.List.Folds.{list_any_at}
 use Rattle.std.proofs.lemmas.List.Sums.{sum-map}
 use Rattle.std.proofs.lemmas.Option.{slice_get_within, get_or_from_slice_get}
 use Rattle.metric_combinations.specs.Restrictions.{restrictions}
-use Rattle.metric_catalogue.specs.Budgets.{amount_of}
+use Rattle.metric_catalogue.specs.Budgets.{amount_of, spare_in}
 use Rattle.metric_catalogue.specs.Sound.{IsSound}
 use Rattle.metric_catalogue.specs.declared.contents.Contents.{Contents}
 use Rattle.metric_catalogue.specs.declared.contents.Instrument.{Instrument}
@@ -41,9 +41,12 @@ use Rattle.metric_safety.specs.SafeRuns.{GivesSafePlan, IsSafePlan, IsSafeRun}
 total_is : (recorders : List Recorder) (number : ℕ) → sum (map (λ (recorder : Recorder). amount_of recorder number) recorders) ≡ sum_by (λ recorder. amount_of recorder number) recorders
 total_is recorders number = sum-map (λ recorder. amount_of recorder number) recorders
 
-total_same : (contents : Contents) (number : ℕ) → sum (map (λ (recorder : Recorder). amount_of recorder number) contents.recorders) ≡ total_of contents number
+total_same : (contents : Contents) (number : ℕ) (instrument : Instrument) → slice_get contents.instruments number ≡ Some instrument
+    → sum (map (λ (recorder : Recorder). amount_of recorder number) contents.recorders) + instrument.spare ≡ total_of contents number
 unfolding total_of
-total_same contents number = total_is contents.recorders number
+total_same contents number instrument at =
+    ap (λ (n : ℕ). n + instrument.spare) (total_is contents.recorders number)
+    ∙ ap (λ (o : Option Instrument). sum_by (λ recorder. amount_of recorder number) contents.recorders + spare_in o) (sym at)
 
 -- how many series a stream may have, as far as the facts of its instrument tell
 series_are : (contents : Contents) (s : Stream) (instrument : Instrument) → slice_get contents.instruments s.instrument ≡ Some instrument
@@ -62,7 +65,7 @@ stream_safe certified flags contents readers streams number instrument s safe th
     let own_at : slice_get contents.instruments s.instrument ≡ Some instrument = ap (slice_get contents.instruments) of ∙ at in
     let ranges = safe.instruments number instrument at in
     let fits : min (sets_of contents s) (total_of contents s.instrument) ≤ s.limit = All-contains (SetsFit contents) streams s safe.sets there in
-    let same : total_of contents number ≡ sum (map (λ (recorder : Recorder). amount_of recorder number) contents.recorders) = sym (total_same contents number) in
+    let same : total_of contents number ≡ sum (map (λ (recorder : Recorder). amount_of recorder number) contents.recorders) + instrument.spare = sym (total_same contents number instrument at) in
     record {
       flags = subst (FlagsEach s) own_at has ∙ sym (length-map instrument.keys key_facts);
       series = subst (λ (n : ℕ). n ≤ s.limit) (both (series_are contents s instrument own_at) (ap (total_of contents) of ∙ same)) fits;
@@ -83,7 +86,7 @@ facts_safe : (certified : Bool) (flags : List Bool) (contents : Contents) (reade
     → instrument.lo ≤ℤ instrument.hi → IsSafeFacts (facts_of certified flags contents.recorders readers streams number instrument)
 facts_safe certified flags contents readers streams number instrument safe has at ordered =
     let ranges = safe.instruments number instrument at in
-    let same : total_of contents number ≡ sum (map (λ (recorder : Recorder). amount_of recorder number) contents.recorders) = sym (total_same contents number) in
+    let same : total_of contents number ≡ sum (map (λ (recorder : Recorder). amount_of recorder number) contents.recorders) + instrument.spare = sym (total_same contents number instrument at) in
     record {
       ordered = ordered;
       counts = subst (λ (n : ℕ). n < 2 ^ 64) same ranges.counts;

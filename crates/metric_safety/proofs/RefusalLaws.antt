@@ -1,6 +1,6 @@
 -- No recording of a legal history of a safe run is refused for its sums.
-use Rattle.std.proofs.Common.{◌≡◌, ◌≢◌, ℕ, ◌<◌, ℤ, Bool, true, false, not, List, [], ◌∷◌, length, map, All, Option, Some, None, Result, Ok, Err, ◌⊎◌, inl, inr, refl, sym, ap, subst, ◌∙◌}
-use Rattle.std.specs.Prelude.{slice_get, slice_index, nat_lt}
+use Rattle.std.proofs.Common.{◌≡◌, ◌≢◌, ℕ, ◌+◌, ◌-◌, ◌<◌, ℤ, Bool, true, false, not, List, [], ◌∷◌, ◌++◌, length, map, All, Option, Some, None, Result, Ok, Err, ◌⊎◌, inl, inr, refl, sym, ap, subst, ◌∙◌}
+use Rattle.std.specs.Prelude.{slice_get, slice_index, nat_le, nat_lt}
 use Rattle.std.specs.List.{list_all}
 use Rattle.std.proofs.lemmas.Bool.{true≢false, ltb-true, lt-ltb, not_from_false}
 use Rattle.std.proofs.lemmas.List.Elements.{All-nil, All-cons}
@@ -12,24 +12,24 @@ use Rattle.metric_catalogue.specs.declared.attributes.OwnedAttr.{OwnedAttr}
 use Rattle.metric_catalogue.specs.declared.contents.Instrument.{Instrument}
 use Rattle.metric_catalogue.specs.declared.contents.Key.{Key}
 use Rattle.metric_catalogue.specs.declared.refusal.Refusal.{Refusal}
-use Rattle.metric_catalogue.specs.declared.refusal.Refusal.TheVariants.{UnknownInstrument, UnknownRecorder, UnknownReader, DuplicateKey, UnknownKey, UnknownValue, MissingKey, Combination, ValueRange, Closed, Budget, SumRange, Memory}
+use Rattle.metric_catalogue.specs.declared.refusal.Refusal.TheVariants.{UnknownInstrument, UnknownRecorder, UnknownReader, DuplicateKey, UnknownKey, UnknownValue, MissingKey, Combination, ValueRange, Closed, Budget, NoSpare, SumRange, Memory}
 use Rattle.metric_views.specs.declared.stream.Stream.{Stream}
 use Rattle.metric_history.specs.declared.batch.Batch.{Batch}
 use Rattle.metric_history.specs.declared.entry.Entry.{Entry}
 use Rattle.metric_history.specs.declared.event.Event.{Event}
-use Rattle.metric_history.specs.declared.event.Event.TheVariants.{Record, Collect, Close}
+use Rattle.metric_history.specs.declared.event.Event.TheVariants.{Record, Collect, Close, Grant}
 use Rattle.metric_history.specs.declared.event.Reply.{Reply}
-use Rattle.metric_history.specs.declared.event.Reply.TheVariants.{Accepted, Collected, Done, Refused}
+use Rattle.metric_history.specs.declared.event.Reply.TheVariants.{Accepted, Collected, Done, Granted, Refused}
 use Rattle.metric_facts.specs.declared.facts.Facts.{Facts}
-use Rattle.metric_history.specs.Answers.{batch, collected, closing, recorded, spent}
+use Rattle.metric_history.specs.Answers.{batch, collected, closing, granting, recorded, spent}
 use Rattle.metric_history.specs.Encoded.{encoded}
 use Rattle.metric_facts.specs.Facts.{EncodesAllowedSets, RunFacts, in_bounds}
-use Rattle.metric_history.specs.History.{Answered, History, accepted, is_closed, mark_of, told_of}
-use Rattle.metric_history.specs.Legal.{IsLegal, Legal, LegalRecord, LegalCollect, LegalClose, recording, collection, close}
+use Rattle.metric_history.specs.History.{Answered, History, accepted, granted_of, handed_of, is_closed, mark_of, told_of}
+use Rattle.metric_history.specs.Legal.{IsLegal, Legal, LegalRecord, LegalCollect, LegalClose, LegalGrant, recording, collection, close, grant}
 use Rattle.metric_history.specs.Windows.{fits_all}
 use Rattle.metric_safety.specs.SafeRuns.{IsSafeRun, IsWithinBudget, NoSumRefuses}
 use Rattle.metric_safety.proofs.WindowLaws.{journal_fits}
-use Rattle.metric_safety.proofs.HistoryLaws.{accepted_within, admits_set, encoded_set, known_own, one_more}
+use Rattle.metric_safety.proofs.HistoryLaws.{admits_set, encoded_set, grants_within, journal_of, known_own, one_more, spent_within}
 
 -- a step that failed with another fault than its own did so later
 require_other : {B E : Type 0} (b : Bool) (d : E) (f : Unit {0} → Result B E) (fault : E) → (require b d >>= f) ≡ Err fault → d ≢ fault → (b ≡ true) × (f tt ≡ Err fault)
@@ -76,12 +76,14 @@ encoded_never instruments number attrs e =
 -- the next recording within the budget fits
 next_fits : EncodesAllowedSets → (streams : List Stream) (facts : RunFacts) → IsSafeRun streams facts → (start : ℕ) (h : History) → IsLegal facts start h
     → (number : ℕ) (own : Facts) → slice_get facts.instruments number ≡ Some own → (recorder : ℕ) (attrs : List OwnedAttr) (set : List ℕ) (value : ℤ)
-    → encoded facts.contents number attrs ≡ Ok set → in_bounds own value ≡ true → spent (accepted facts h number) recorder < slice_index own.budgets recorder
+    → encoded facts.contents number attrs ≡ Ok set → in_bounds own value ≡ true
+    → spent (accepted facts h number) recorder < slice_index own.budgets recorder + granted_of h number recorder
     → fits_all own (mark_of facts h number) (accepted facts h number) (record { recorder = recorder; set = set; value = value }) ≡ true
 next_fits names streams facts run start h legal number own at recorder attrs set value named ranged left =
-    let longer = one_more own (accepted facts h number) (record { recorder = recorder; set = set; value = value }) (accepted_within names streams facts start h run legal number own at)
-    (admits_set own recorder set value (encoded_set names streams facts run number own at attrs set named) ranged) left in
-    journal_fits own (accepted facts h number) (record { recorder = recorder; set = set; value = value }) (mark_of facts h number) (run.safe number own at) longer.admitted
+    let longer = one_more own (granted_of h number) (accepted facts h number) (record { recorder = recorder; set = set; value = value })
+    (spent_within names streams facts start h run legal number own at) (admits_set own recorder set value (encoded_set names streams facts run number own at attrs set named) ranged) left in
+    journal_fits own (accepted facts h number) (record { recorder = recorder; set = set; value = value }) (mark_of facts h number) (run.safe number own at)
+    (journal_of own (granted_of h number) (handed_of h number) (accepted facts h number ++ record { recorder = recorder; set = set; value = value } ∷ []) longer (grants_within facts start h legal number own at))
 
 recording_never : EncodesAllowedSets → (streams : List Stream) (facts : RunFacts) → IsSafeRun streams facts → (start : ℕ) (h : History) → IsLegal facts start h
     → (recorder number : ℕ) (attrs : List OwnedAttr) (value : ℤ) → recording facts start h recorder number attrs value ≡ Err SumRange → ⊥
@@ -93,9 +95,9 @@ recording_never names streams facts run start h legal recorder number attrs valu
     (λ set named later.
     let ranged = require_other (in_bounds own value) ValueRange _ SumRange later (λ c. absurd cc) in
     let opened = require_other (not (is_closed h number)) Closed _ SumRange ranged.1 (λ c. absurd cc) in
-    let budgeted = require_other (nat_lt (spent (accepted facts h number) recorder) (slice_index own.budgets recorder)) Budget _ SumRange opened.1 (λ c. absurd cc) in
+    let budgeted = require_other (nat_lt (spent (accepted facts h number) recorder) (slice_index own.budgets recorder + granted_of h number recorder)) Budget _ SumRange opened.1 (λ c. absurd cc) in
     let fits = next_fits names streams facts run start h legal number own (known_own (slice_get facts.instruments number) own found) recorder attrs set value named ranged.0
-    (ltb-true (spent (accepted facts h number) recorder) (slice_index own.budgets recorder) budgeted.0) in
+    (ltb-true (spent (accepted facts h number) recorder) (slice_index own.budgets recorder + granted_of h number recorder) budgeted.0) in
     last (record { recorder = recorder; set = set; value = value }) (fits_all own (mark_of facts h number) (accepted facts h number) (record { recorder = recorder; set = set; value = value })) fits budgeted.1)
     (λ refused. encoded_never facts.contents.instruments number (map given_by_owned attrs) refused))
     (λ refused. require_some_other (slice_get facts.instruments number) UnknownInstrument SumRange refused (λ c. absurd cc))
@@ -128,6 +130,19 @@ reply_never names streams facts run start h legal event reply own e = by event (
         closed true e = absurd cc
         closed false e = absurd cc
 
+    grant_never : (to number amount : ℕ) → grant facts start h to number amount ≡ Err SumRange → ⊥
+    grant_never to number amount e =
+        after_fault {P = ⊥} (require_some (slice_get facts.instruments number) UnknownInstrument) (λ own. granting own (told_of facts start h number) to amount) SumRange e
+        (λ own found rest.
+        let known = require_other (nat_lt to (length own.budgets)) UnknownRecorder _ SumRange rest (λ c. absurd cc) in
+        let opened = require_other (not (is_closed h number)) Closed _ SumRange known.1 (λ c. absurd cc) in
+        spare (nat_le amount (own.spare - handed_of h number)) opened.1)
+        (λ refused. require_some_other (slice_get facts.instruments number) UnknownInstrument SumRange refused (λ c. absurd cc))
+      where
+        spare : (b : Bool) → require b NoSpare ≡ Err SumRange → ⊥
+        spare true e = absurd cc
+        spare false e = absurd cc
+
     record_with : (r : Result Entry Refusal) → (r ≡ Err SumRange → ⊥) → LegalRecord r (Refused SumRange) → ⊥
     record_with (Ok entry) never given = absurd cc
     record_with (Err refusal) never given = never (ap Err (sym given))
@@ -140,11 +155,16 @@ reply_never names streams facts run start h legal event reply own e = by event (
     close_with (Ok done) never given = given
     close_with (Err refusal) never given = never (ap Err (sym given))
 
+    grant_with : (r : Result (Unit {0}) Refusal) → (r ≡ Err SumRange → ⊥) → LegalGrant r (Refused SumRange) → ⊥
+    grant_with (Ok done) never given = given
+    grant_with (Err refusal) never given = never (ap Err (sym given))
+
     by : (event : Event) → Legal facts start h event (Refused SumRange) → ⊥
     by (Record recorder number attrs value) given =
         record_with (recording facts start h recorder number attrs value) (recording_never names streams facts run start h legal recorder number attrs value) given
     by (Collect reader number now) given = collect_with (collection facts start h reader number now) (collect_never reader number now) given
     by (Close number) given = close_with (close facts start h number) (close_never number) given
+    by (Grant to number amount) given = grant_with (grant facts start h to number amount) (grant_never to number amount) given
 
 all_never : EncodesAllowedSets → (streams : List Stream) (facts : RunFacts) → IsSafeRun streams facts → (start : ℕ) (h : History) → IsLegal facts start h
     → All (λ (a : Answered). a.reply ≢ Refused SumRange) h
@@ -164,7 +184,7 @@ within_made names streams facts run start h legal recorder number attrs value w 
     ∙ ap (λ (r : Result (List ℕ) Refusal). r >>= λ set. rest set) w.named
     ∙ passed (in_bounds w.own value) ValueRange _ w.ranged
     ∙ passed (not (is_closed h number)) Closed _ (not_from_false (is_closed h number) w.is_open)
-    ∙ passed (nat_lt (spent (accepted facts h number) recorder) (slice_index w.own.budgets recorder)) Budget _ (lt-ltb (spent (accepted facts h number) recorder) (slice_index w.own.budgets recorder) w.budgeted)
+    ∙ passed (nat_lt (spent (accepted facts h number) recorder) (slice_index w.own.budgets recorder + granted_of h number recorder)) Budget _ (lt-ltb (spent (accepted facts h number) recorder) (slice_index w.own.budgets recorder + granted_of h number recorder) w.budgeted)
     ∙ passed (fits_all w.own (mark_of facts h number) (accepted facts h number) (record { recorder = recorder; set = w.set; value = value })) SumRange _ fits
   where
     passed : {B : Type 0} (b : Bool) (d : Refusal) (f : Unit {0} → Result B Refusal) → b ≡ true → (require b d >>= f) ≡ f tt
@@ -175,7 +195,7 @@ within_made names streams facts run start h legal recorder number attrs value w 
     rest set =
         require (in_bounds w.own value) ValueRange >>= λ _.
         require (not (is_closed h number)) Closed >>= λ _.
-        require (nat_lt (spent (accepted facts h number) recorder) (slice_index w.own.budgets recorder)) Budget >>= λ _.
+        require (nat_lt (spent (accepted facts h number) recorder) (slice_index w.own.budgets recorder + granted_of h number recorder)) Budget >>= λ _.
         require (fits_all w.own (mark_of facts h number) (accepted facts h number) (record { recorder = recorder; set = set; value = value })) SumRange >>= λ _.
         Ok (record { recorder = recorder; set = set; value = value })
 
@@ -184,6 +204,7 @@ answers_of (Ok x) entry e Accepted legal = inl refl
 answers_of (Ok x) entry e (Refused refusal) legal = inr (ap Refused legal)
 answers_of (Ok x) entry e (Collected b) legal = absurd legal
 answers_of (Ok x) entry e Done legal = absurd legal
+answers_of (Ok x) entry e Granted legal = absurd legal
 answers_of (Err refusal) entry e reply legal = absurd cc
 
 -- sums refuse nothing

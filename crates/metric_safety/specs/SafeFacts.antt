@@ -1,5 +1,5 @@
 -- When the facts of an instrument let no limit and no number overflow, whatever is recorded within its budgets.
-use Rattle.std.specs.Prelude.{◌≡◌, ℕ, ◌^◌, ◌<◌, ◌≤◌, pos, ◌≤ℤ◌, ◌<ℤ◌, min, Bool, true, ◌&&◌, ◌==◌, IsTrue, All, List, length, sum, FitsSigned}
+use Rattle.std.specs.Prelude.{◌≡◌, ℕ, ◌+◌, ◌^◌, ◌<◌, ◌≤◌, pos, ◌≤ℤ◌, ◌<ℤ◌, min, Bool, true, ◌&&◌, ◌==◌, IsTrue, All, List, length, sum, FitsSigned}
 use Rattle.std.specs.Int.{w64}
 use Rattle.std.specs.List.{list_all}
 use Rattle.std.specs.Option.{option_map}
@@ -14,9 +14,9 @@ use Rattle.metric_facts.specs.declared.facts.NumberedStream.{NumberedStream}
 use Rattle.metric_facts.specs.Facts.{in_bounds, is_allowed_set}
 use Rattle.metric_facts.specs.Products.{product_of}
 
--- how often the instrument may be recorded
+-- how often the instrument may be recorded: the budgets of all recorders, and what may be granted beside them
 abbrev pub total : Facts → ℕ
-total facts = sum facts.budgets
+total facts = sum facts.budgets + facts.spare
 
 -- how many series a stream of an instrument can have: as many as the distinct restrictions of its combinations, where these are listed,
 -- or else the product over the keys that the stream keeps
@@ -27,14 +27,14 @@ series_of facts s = count_or (product_of s.kept facts.keys) (option_map (restric
 pub record IsSafeStream (facts : Facts) (s : Stream) : Type 0 where
   -- it says of each key whether it is kept
   pub flags : length s.kept ≡ length facts.keys
-  -- the series that it can have are within the limit, or all budgets are
+  -- the series that it can have are within the limit, or the budgets and the spare are
   pub series : min (series_of facts s) (total facts) ≤ s.limit
   -- no sum of recordings is below the least i64
   pub low : IsTrue (keeps_sum s) → FitsSigned w64 (low_with (total facts) facts.lo)
   -- no sum of recordings is above the greatest i64
   pub high : IsTrue (keeps_sum s) → FitsSigned w64 (high_with (total facts) facts.hi)
 
--- The facts of an instrument of which a certificate can vouch: its range is not empty, the recordings that its budgets allow are a
+-- The facts of an instrument of which a certificate can vouch: its range is not empty, the recordings that its budgets and its spare allow are a
 -- u64, any two sums of their values are less than 2^64 apart, and each stream is safe. What a certified plan keeps of each instrument,
 -- and each slot behind a lock of its own. Nothing of a journal is said here: the laws of windows hold of every journal of these facts.
 pub record IsSafeFacts (facts : Facts) : Type 0 where
@@ -52,7 +52,7 @@ is_admitted facts entry = length entry.set == 8 && (is_allowed_set facts entry.s
 abbrev pub are_admitted : Facts → List Entry → Bool
 are_admitted facts entries = list_all (is_admitted facts) entries
 
--- The recordings that an instrument may have accepted: it admits each, and they are no more than its budgets allow.
+-- The recordings that an instrument may have accepted: it admits each, and they are no more than its budgets and its spare allow.
 pub record IsJournal (facts : Facts) (journal : List Entry) : Type 0 where
   pub admitted : are_admitted facts journal ≡ true
   pub budgeted : length journal ≤ total facts

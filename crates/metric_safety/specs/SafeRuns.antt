@@ -1,5 +1,5 @@
 -- What holds of every legal history of a safe plan.
-use Rattle.std.specs.Prelude.{◌≡◌, ◌≢◌, ℕ, ℤ, ◌<◌, ◌≤◌, ◌⊎◌, Bool, true, false, All, Contains, IsSome, List, [], ◌∷◌, ◌++◌, Ok, Err, Some, None, length, map, slice_get, slice_index}
+use Rattle.std.specs.Prelude.{◌≡◌, ◌≢◌, ℕ, ℤ, ◌+◌, ◌<◌, ◌≤◌, ◌⊎◌, Bool, true, false, All, Contains, IsSome, List, [], ◌∷◌, ◌++◌, Ok, Err, Some, None, length, map, slice_get, slice_index}
 use Rattle.metric_catalogue.specs.declared.attributes.OwnedAttr.{OwnedAttr}
 use Rattle.metric_catalogue.specs.declared.contents.Contents.{Contents}
 use Rattle.metric_catalogue.specs.declared.contents.Instrument.{Instrument}
@@ -13,16 +13,15 @@ use Rattle.metric_bounds.specs.Safe.{AreDistinct, AreSafe, IsSafe}
 use Rattle.metric_plan.specs.Plans.{PlanValue, RangesFit, plan_of, run_facts}
 use Rattle.metric_history.specs.declared.batch.Point.{Point}
 use Rattle.metric_history.specs.declared.batch.StreamPoints.{StreamPoints}
-use Rattle.metric_history.specs.declared.entry.Entry.{Entry}
 use Rattle.metric_history.specs.declared.event.Event.TheVariants.{Record}
 use Rattle.metric_history.specs.declared.event.Reply.{Reply}
 use Rattle.metric_history.specs.declared.event.Reply.TheVariants.{Accepted, Collected, Refused}
 use Rattle.metric_facts.specs.declared.facts.Facts.{Facts}
 use Rattle.metric_facts.specs.declared.facts.NumberedStream.{NumberedStream}
-use Rattle.metric_history.specs.Answers.{batch, covered, spent}
+use Rattle.metric_history.specs.Answers.{Told, batch, covered, spent}
 use Rattle.metric_history.specs.Encoded.{encoded}
 use Rattle.metric_facts.specs.Facts.{RunFacts, in_bounds, key_facts}
-use Rattle.metric_history.specs.History.{Answered, History, accepted, is_closed, told_of}
+use Rattle.metric_history.specs.History.{Answered, History, accepted, granted_of, is_closed, told_of}
 use Rattle.metric_history.specs.Legal.{IsLegal, Legal, recording}
 use Rattle.metric_history.specs.Series.{rows}
 use Rattle.metric_safety.specs.SafeFacts.{IsSafeFacts, IsJournal}
@@ -58,14 +57,16 @@ pub record AreIdentified (contents : Contents) (streams : List Stream) (h : Hist
   pub distinct : (s other : StreamPoints) → Contains (exported h) s → Contains (exported h) other → s.stream ≢ other.stream
       → identity_at contents streams s.stream ≢ identity_at contents streams other.stream
 
--- The accepted recordings of an instrument are within its budgets, and each is admitted.
-pub record KeepsBudgets (own : Facts) (journal : List Entry) : Type 0 where
-  pub admitted : IsJournal own journal
-  pub within : (recorder : ℕ) → spent journal recorder ≤ slice_index own.budgets recorder
+-- The accepted recordings of an instrument are admitted, each recorder's are within its budget and what it was granted, and no more
+-- than the spare was granted in all.
+pub record KeepsBudgets (own : Facts) (told : Told) : Type 0 where
+  pub admitted : IsJournal own told.accepted
+  pub within : (recorder : ℕ) → spent told.accepted recorder ≤ slice_index own.budgets recorder + told.granted recorder
+  pub handed : told.handed ≤ own.spare
 
 -- Those of each instrument are after a history.
-abbrev pub AllKeepBudgets : RunFacts → History → Type 0
-AllKeepBudgets facts h = (number : ℕ) (own : Facts) → slice_get facts.instruments number ≡ Some own → KeepsBudgets own (accepted facts h number)
+abbrev pub AllKeepBudgets : RunFacts → ℕ → History → Type 0
+AllKeepBudgets facts start h = (number : ℕ) (own : Facts) → slice_get facts.instruments number ≡ Some own → KeepsBudgets own (told_of facts start h number)
 
 -- Every window of every reader of an instrument is bounded after a history.
 abbrev pub AreWindowsBounded : RunFacts → ℕ → History → Type 0
@@ -89,7 +90,7 @@ pub record NumbersFit (facts : RunFacts) (start : ℕ) (h : History) : Type 0 wh
       → AreInRange (batch own start (told_of facts start h number) reader now).streams
   pub batches : AreInRange (exported h)
 
--- A recording is declared, of an open instrument, and within the budget of its recorder.
+-- A recording is declared, of an open instrument, and within the budget of its recorder and what it was granted.
 pub record IsWithinBudget (facts : RunFacts) (h : History) (recorder number : ℕ) (attrs : List OwnedAttr) (value : ℤ) : Type 0 where
   pub own : Facts
   pub set : List ℕ
@@ -98,7 +99,7 @@ pub record IsWithinBudget (facts : RunFacts) (h : History) (recorder number : �
   pub named : encoded facts.contents number attrs ≡ Ok set
   pub ranged : in_bounds own value ≡ true
   pub is_open : is_closed h number ≡ false
-  pub budgeted : spent (accepted facts h number) recorder < slice_index own.budgets recorder
+  pub budgeted : spent (accepted facts h number) recorder < slice_index own.budgets recorder + granted_of h number recorder
 
 -- No recording was or would be refused for its sums, so each declared one within its budget is accepted, or memory is refused.
 pub record NoSumRefuses (facts : RunFacts) (start : ℕ) (h : History) : Type 0 where

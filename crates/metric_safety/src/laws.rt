@@ -36,9 +36,10 @@ pub fn journals_are_bounded()
     ensures reports { BoundsReports }
 {}
 
-/// The accepted recordings of an instrument are admitted, and each recorder's are within its budget.
+/// The accepted recordings of an instrument are admitted, each recorder's are within its budget and what it was
+/// granted, and no more than the spare budget was granted in all.
 pub fn accepted_recordings_are_within_budgets()
-    ensures { OfSafeRuns (λ _ facts _ h. AllKeepBudgets facts h) }
+    ensures { OfSafeRuns (λ _ facts start h. AllKeepBudgets facts start h) }
 {
     attributes_name_allowed_sets();
 }
@@ -63,8 +64,8 @@ pub fn no_series_overflows()
     attributes_name_allowed_sets();
 }
 
-/// No recording is refused for the range of a sum, so a declared one within its recorder's budget is
-/// accepted, unless the instrument is closed or memory is refused.
+/// No recording is refused for the range of a sum, so a declared one within its recorder's budget and what it was
+/// granted is accepted, unless the instrument is closed or memory is refused.
 pub fn no_sum_refuses_a_recording()
     ensures { OfSafeRuns (λ _ facts start h. NoSumRefuses facts start h) }
 {

@@ -7,12 +7,12 @@ use Rattle.std.specs.Str.{bytes_eq}
 use Rattle.std.proofs.lemmas.Slice.Eq.{bytes_eq-Decides}
 use Rattle.metric_catalogue.specs.declared.attributes.OwnedAttr.{OwnedAttr}
 use Rattle.metric_history.specs.declared.event.Event.{Event}
-use Rattle.metric_history.specs.declared.event.Event.TheVariants.{Record, Collect, Close}
+use Rattle.metric_history.specs.declared.event.Event.TheVariants.{Record, Collect, Close, Grant}
 use Rattle.metric_text.specs.Reading.{◌>>=◌, after_in, word_in, number_of, number_in}
 use Rattle.metric_text.specs.ReadingLaws.{IsWordEnd, after_some, after_in-some, word_in-whole, number_in-text, number_in-some, signed_in-text, signed_in-some, number_of-text, number_of-some}
 use Rattle.metric_script.specs.Spelling.{attribute_text, two_numbers_text, event_text, start_text, FitsEvent}
 use Rattle.metric_script.specs.Scripts.{is_passed_over}
-use Rattle.metric_script.specs.Reading.{all_attributes_in, two_numbers_in, amount_in, record_in, collect_in, close_in, event_in, start_in}
+use Rattle.metric_script.specs.Reading.{all_attributes_in, two_numbers_in, amount_in, record_in, collect_in, close_in, grant_in, event_in, start_in}
 use Rattle.metric_script.proofs.AttributeLaws.{attributes_end, attributes_in-text, attributes_in-some}
 
 two_numbers_in-text : (a b : ℕ) (rest : List ℕ) → a < 2 ^ 32 → b < 2 ^ 32 → IsWordEnd rest → two_numbers_in (two_numbers_text a b rest) ≡ Some (a, b, rest)
@@ -112,12 +112,32 @@ close_in-some bytes event e =
     subst (ReadsAfter (codes "close ") bytes) (some_is (Close instrument) event made)
     (number.0, ap (λ xs. codes "close " ++ xs) number.1))
 
+grant_in-text : (recorder instrument amount : ℕ) → FitsEvent (Grant recorder instrument amount)
+    → grant_in (two_numbers_text recorder instrument (32 ∷ decimal amount)) ≡ Some (Grant recorder instrument amount)
+unfolding grant_in
+grant_in-text recorder instrument amount fits =
+    rw (two_numbers_in-text recorder instrument (32 ∷ decimal amount) fits.0 fits.1 refl, number_of-text (2 ^ 64) amount fits.2 (lit≤ tt)) refl
+
+grant_in-some : (bytes : List ℕ) (event : Event) → grant_in bytes ≡ Some event → ReadsAfter (codes "grant ") bytes event
+unfolding grant_in
+grant_in-some bytes event e =
+    after_some (two_numbers_in bytes) _ event e (λ numbers read e.
+    after_some (after_in (32 ∷ []) numbers.2) _ event e (λ space mark e.
+    after_some (number_of (2 ^ 64) space) _ event e (λ amount given made.
+    let front = two_numbers_in-some bytes numbers read in
+    let back = number_of-some (2 ^ 64) amount space given in
+    let whole : bytes ≡ two_numbers_text numbers.0 numbers.1 (32 ∷ decimal amount) =
+    front.2 ∙ ap (two_numbers_text numbers.0 numbers.1) (after_in-some (32 ∷ []) numbers.2 space mark ∙ ap (λ xs. 32 ∷ xs) back.1) in
+    subst (ReadsAfter (codes "grant ") bytes) (some_is (Grant numbers.0 numbers.1 amount) event made)
+    ((front.0, front.1, back.0), ap (λ xs. codes "grant " ++ xs) whole))))
+
 -- the line of an event is read
 pub event_in-text : (event : Event) → FitsEvent event → event_in (event_text event) ≡ Some event
 unfolding event_in
 event_in-text (Record recorder instrument attrs value) fits = record_in-text recorder instrument attrs value fits
 event_in-text (Collect reader instrument now) fits = collect_in-text reader instrument now fits
 event_in-text (Close instrument) fits = close_in-text instrument fits
+event_in-text (Grant recorder instrument amount) fits = grant_in-text recorder instrument amount fits
 
 by_test : {A P : Type 0} (test : Bool) (x y r : A) → (if test then x else y) ≡ r → (test ≡ true → x ≡ r → P) → (y ≡ r → P) → P
 by_test true x y r e yes_case no_case = yes_case refl e
@@ -142,7 +162,9 @@ event_in-some line event e =
     (λ test found. worded line (codes "collect") collect_in event test found (λ rest read. collect_in-some rest event read))
     (λ e. by_test (bytes_eq (word_in line).0 (codes "close")) _ _ (Some event) e
     (λ test found. worded line (codes "close") close_in event test found (λ rest read. close_in-some rest event read))
-    (λ e. absurd cc)))
+    (λ e. by_test (bytes_eq (word_in line).0 (codes "grant")) _ _ (Some event) e
+    (λ test found. worded line (codes "grant") grant_in event test found (λ rest read. grant_in-some rest event read))
+    (λ e. absurd cc))))
 
 -- the line of a start is read
 pub start_in-text : (start : ℕ) → start < 2 ^ 64 → start_in (start_text start) ≡ Some start
@@ -161,6 +183,7 @@ pub event_is_read : (event : Event) → is_passed_over (event_text event) ≡ fa
 event_is_read (Record recorder instrument attrs value) = refl
 event_is_read (Collect reader instrument now) = refl
 event_is_read (Close instrument) = refl
+event_is_read (Grant recorder instrument amount) = refl
 
 pub start_is_read : (start : ℕ) → is_passed_over (start_text start) ≡ false
 start_is_read start = refl

@@ -4,7 +4,7 @@ use Rattle.std.specs.Option.{option_map}
 use Rattle.std.specs.Str.{bytes_eq}
 use Rattle.metric_catalogue.specs.declared.attributes.OwnedAttr.{OwnedAttr}
 use Rattle.metric_history.specs.declared.event.Event.{Event}
-use Rattle.metric_history.specs.declared.event.Event.TheVariants.{Record, Collect, Close}
+use Rattle.metric_history.specs.declared.event.Event.TheVariants.{Record, Collect, Close, Grant}
 use Rattle.metric_text.specs.Reading.{◌>>=◌, after_in, word_in, number_of, number_in, signed_in, text_in, value_in}
 
 -- an attribute, and what follows it
@@ -64,11 +64,20 @@ close_in bytes = do
   instrument ← number_of (2 ^ 32) bytes
   Some (Close instrument)
 
+-- what stands after `grant `
+unfoldable pub grant_in : List ℕ → Option Event
+grant_in bytes = do
+  numbers ← two_numbers_in bytes
+  space ← after_in (32 ∷ []) numbers.2
+  amount ← number_of (2 ^ 64) space
+  Some (Grant numbers.0 numbers.1 amount)
+
 -- the event of a line that is no recording, by its first word and what follows
 abbrev pub other_event_in : List ℕ → List ℕ → Option Event
 other_event_in word rest =
     if bytes_eq word (codes "collect") then after_in (32 ∷ []) rest >>= collect_in else (
-    if bytes_eq word (codes "close") then after_in (32 ∷ []) rest >>= close_in else None)
+    if bytes_eq word (codes "close") then after_in (32 ∷ []) rest >>= close_in else (
+    if bytes_eq word (codes "grant") then after_in (32 ∷ []) rest >>= grant_in else None))
 
 -- the event that a line spells: its first word says which it is
 unfoldable pub event_in : List ℕ → Option Event

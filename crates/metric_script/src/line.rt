@@ -3,7 +3,7 @@ ghost use Rattle.std.specs.Prelude.{◌≡◌, ◌^◌, length};
 ghost use Rattle.std.specs.Option.{option_map};
 ghost use Rattle.metric_text.specs.Reading.{Tells};
 ghost use Rattle.metric_script.specs.Scripts.{is_passed_over};
-ghost use Rattle.metric_script.specs.Reading.{all_attributes_in, amount_in, attribute_in, close_in, collect_in, event_in, other_event_in, record_in, start_in, two_numbers_in};
+ghost use Rattle.metric_script.specs.Reading.{all_attributes_in, amount_in, attribute_in, close_in, collect_in, event_in, grant_in, other_event_in, record_in, start_in, two_numbers_in};
 
 use metric_base::Items;
 use metric_catalogue::OwnedAttr;
@@ -55,6 +55,9 @@ fn other_event_of(word: &[u8], rest: &[u8]) -> Option<Event>
     if word == b"close".as_slice() {
         return close_of(after_byte(rest, b' ')?);
     }
+    if word == b"grant".as_slice() {
+        return grant_of(after_byte(rest, b' ')?);
+    }
     None
 }
 
@@ -96,6 +99,21 @@ fn close_of(bytes: &[u8]) -> Option<Event>
 {
     let instrument = u32_of(bytes)?;
     Some(Event::Close { instrument })
+}
+
+// The grant after `grant `.
+#[tactic(auto, unfolding(crate::specs::Reading::grant_in))]
+fn grant_of(bytes: &[u8]) -> Option<Event>
+    ensures { result ≡ grant_in bytes.now }
+{
+    let (recorder, instrument, rest) = two_numbers_at(bytes)?;
+    let word = after_byte(rest, b' ')?;
+    let amount = u64_of(word)?;
+    Some(Event::Grant {
+        recorder,
+        instrument,
+        amount,
+    })
 }
 
 // Two numbers with a space between, and what follows.

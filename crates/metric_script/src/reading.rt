@@ -16,8 +16,8 @@ use std::alloc::Global;
 /// The start of a script and its events in order.
 ///
 /// A line that is empty or begins with `#` is passed over. The first other line is `start T`, and
-/// each further one is `record R I V [K=A]...`, `collect Q I T` or `close I`, with one space
-/// between two words and none at the line's ends. Numbers are in decimal and keys and texts in
+/// each further one is `record R I V [K=A]...`, `collect Q I T`, `close I` or `grant R I N`, with one
+/// space between two words and none at the line's ends. Numbers are in decimal and keys and texts in
 /// quotes, each in its one spelling. Times are in nanoseconds.
 ///
 /// # Errors

@@ -25,6 +25,9 @@
 //!    `Recorder::admits` answers the [`SetKey`] that the attributes come to, `Recorder::accepted` what the seat was [`Told`]
 //!    of. `Recorder::record_set` records by a set key, and `Recorder::record_sets` a list of [`Measurement`]s of one
 //!    instrument under one lock, up to a [`SetsFault`].
+//!    An instrument may have a spare budget, for what no recorder's budget foresees: while the run goes on, `Provider::grant`
+//!    gives some of it to any recorder, and by `Recorder::ask` a recorder whose budget is spent ([`Refusal::Budget`]) asks for
+//!    some itself, until nothing is left ([`Refusal::NoSpare`]). The certificate vouches for the budgets and the spare together.
 //! 5. **Collection.** A thread collects with a [`Collector`]: a [`Batch`] of an instrument has the [`StreamPoints`] of
 //!    each of its streams, a [`Point`] the [`PointValue`] of one series. A collection of all instruments that is
 //!    refused midway answers an [`AllFault`], with the batches before.

@@ -21,6 +21,7 @@ use std::sync::atomic::{AtomicU64, Ordering};
 use std::thread::{Threads, join, map_vec};
 use std::time::Clock;
 use std::{env, fs};
+use worker::{Counts, DURATION};
 
 // When the service starts and ends, in nanoseconds. A real one asks its clock; of the start the seed of the tables is made.
 const START: u64 = 0;
@@ -101,7 +102,10 @@ fn serve<R: Threads + Wait + Clock + Print + Sync>(
     log: Log,
 ) -> anyhow::Result<Vec<Recorder>> {
     let stop = StopFlag::new();
-    let refused = AtomicU64::new(0);
+    let counts = Counts {
+        refused: AtomicU64::new(0),
+        granted: AtomicU64::new(0),
+    };
     let (failed, recorders) = join(
         rt,
         || {
@@ -112,14 +116,18 @@ fn serve<R: Threads + Wait + Clock + Print + Sync>(
                 .failed
         },
         || {
-            let work = |recorder| worker::work(rt, provider, recorder, &refused);
+            let work = |recorder| worker::work(rt, provider, recorder, &counts);
             let recorders = map_vec(rt, recorders, &work);
             stop.set(rt);
             recorders
         },
     );
-    let refused = refused.load(Ordering::SeqCst);
+    let refused = counts.refused.load(Ordering::SeqCst);
+    let granted = counts.granted.load(Ordering::SeqCst);
+    let spare = provider.plan().catalogue().spare(DURATION);
+    let left = spare.saturating_sub(granted);
     println!(rt; "refused recordings: {refused}, failed exports: {failed}")?;
+    println!(rt; "durations to spare: {left} of {spare}")?;
     Ok(recorders?)
 }
 

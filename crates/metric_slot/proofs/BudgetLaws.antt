@@ -1,4 +1,4 @@
--- How far the values of recordings within the budgets are above the least.
+-- How far the values of recordings within the budgets and the spare are above the least.
 use Rattle.std.proofs.Common.{◌≡◌, ℕ, zero, suc, ◌+◌, ◌*◌, ◌^◌, ◌<◌, ◌≤◌, ℤ, pos, negsuc, ◌-ℤ◌, ◌*ℤ◌, ◌≤ℤ◌, ◌<ℤ◌, true, List, [], ◌∷◌, refl, arith}
 use Rattle.std.specs.Prelude.{slice_index, sum, unsigned_abs}
 use Rattle.std.proofs.lemmas.Bool.Decides.{nat_tests}

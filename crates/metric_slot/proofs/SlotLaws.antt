@@ -7,7 +7,7 @@ use Rattle.metric_catalogue.specs.declared.refusal.Refusal.{Refusal}
 use Rattle.metric_catalogue.specs.declared.refusal.Refusal.TheVariants as refusals
 use Rattle.metric_core.specs.BudgetLaws.{has_room, kept_journal}
 use Rattle.metric_core.specs.Cells.{CellKept, CellValue}
-use Rattle.metric_core.specs.CellAnswers.{AnswersRecording, IsJudged, ReportsBatch}
+use Rattle.metric_core.specs.CellAnswers.{AnswersRecording, IsJudged, ReportsBatch, budget_of}
 use Rattle.metric_history.specs.declared.batch.Batch.{Batch}
 use Rattle.metric_history.specs.declared.batch.StreamPoints.{StreamPoints}
 use Rattle.metric_history.specs.declared.entry.Entry.{Entry}
@@ -32,7 +32,7 @@ pub record IsNext (facts : Facts) (entry : Entry) : Type 0 where
 
 -- the recordings of a cell with one more
 journal_more : {B : Type 0} (stands : B → Standing) (c : CellValue B) (k : CellKept stands c) (entry : Entry)
-    → slice_index c.spent entry.recorder < slice_index c.facts.budgets entry.recorder → IsNext c.facts entry → IsJournal c.facts (k.journal ++ entry ∷ [])
+    → slice_index c.spent entry.recorder < budget_of c entry.recorder → IsNext c.facts entry → IsJournal c.facts (k.journal ++ entry ∷ [])
 journal_more stands c k entry left next = record {
   admitted = admitted_more c.facts k.journal entry k.admitted (admitted c.facts entry next.eight next.allowed next.value);
   budgeted = omega (arith, length_push k.journal entry, k.known.counted, has_room stands c entry.recorder k left);
@@ -62,6 +62,7 @@ recorder_answers stands c own told entry (Err refusals.Combination) law safe k m
 recorder_answers stands c own told entry (Err refusals.ValueRange) law safe k mine next answer = absurd answer
 recorder_answers stands c own told entry (Err refusals.Closed) law safe k mine next answer = (mine, answer)
 recorder_answers stands c own told entry (Err refusals.Budget) law safe k mine next answer = (mine, answer)
+recorder_answers stands c own told entry (Err refusals.NoSpare) law safe k mine next answer = absurd answer
 recorder_answers stands c own told entry (Err refusals.SumRange) law safe k mine next answer =
     never_out_of_range stands c entry law safe k (subst (λ (f : Facts). IsNext f entry) (sym mine.facts) next) answer
 recorder_answers stands c own told entry (Err refusals.Memory) law safe k mine next answer = (mine, answer)
@@ -69,7 +70,7 @@ recorder_answers stands c own told entry (Err refusals.Memory) law safe k mine n
 -- what a recorder is told of has room for one recording more
 pub told_room : {B : Type 0} (stands : B → Standing) (c : CellValue B) (own : Facts) (told : Told) (recorder : ℕ) (value : ℤ)
     → IsSafeFacts c.facts → CellKept stands c → IsOwnRecorder c own told recorder
-    → slice_index c.spent recorder < slice_index c.facts.budgets recorder → in_bounds own value ≡ true
+    → slice_index c.spent recorder < budget_of c recorder → in_bounds own value ≡ true
     → HasRoom told own.lo value
 told_room stands c own told recorder value safe k mine left within =
     let counted : told.count + 1 ≤ total c.facts = omega (arith, mine.spent, element_le c.spent recorder, k.counted, has_room stands c recorder k left) in

@@ -4,7 +4,7 @@ use Rattle.metric_book.specs.Journals.{Standing}
 use Rattle.metric_catalogue.specs.declared.refusal.Refusal.{Refusal}
 use Rattle.metric_catalogue.specs.declared.refusal.Refusal.TheVariants.{Stranger, SumRange, Memory}
 use Rattle.metric_core.specs.Cells.{CellValue}
-use Rattle.metric_core.specs.CellAnswers.{AnswersRecording}
+use Rattle.metric_core.specs.CellAnswers.{AnswersGrant, AnswersRecording}
 use Rattle.metric_history.specs.declared.batch.Batch.{Batch}
 use Rattle.metric_history.specs.declared.entry.Entry.{Entry}
 use Rattle.metric_facts.specs.declared.facts.Facts.{Facts}
@@ -22,6 +22,11 @@ abbrev pub AnswersRecorder : {B : Type 0} → (B → Standing) → CellValue B �
 AnswersRecorder stands c facts told entry (Err Stranger) = IsOwnRecorder c facts told entry.recorder → ⊥
 AnswersRecorder stands c facts told entry (Err SumRange) = ⊥
 AnswersRecorder stands c facts told entry result = IsOwnRecorder c facts told entry.recorder × AnswersRecording stands c entry result
+
+-- what a grant is answered: `Stranger` exactly where the cell's facts are not these, else what the cell answers
+abbrev pub AnswersGranter : {B : Type 0} → CellValue B → Facts → ℕ → Result (Unit {0}) Refusal → Type 0
+AnswersGranter c facts amount (Err Stranger) = c.facts ≡ facts → ⊥
+AnswersGranter c facts amount result = (c.facts ≡ facts) × AnswersGrant c amount result
 
 -- A batch goes on where the reader's last one ended.
 pub record Continues (facts : Facts) (of seen : ℕ) (told : Batch) : Type 0 where

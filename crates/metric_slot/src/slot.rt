@@ -1,12 +1,12 @@
 //! The cell of one instrument as it stands behind a lock.
 ghost use Rattle.std.specs.Prelude.{◌≡◌, ◌≢◌, ◌↔◌, ◌<◌, ◌≤◌, ◌≤ℤ◌, Some, IsTrue, [], true, length, slice_get, slice_index, IfOk, IfErr, OnOk, OnErr};
 ghost use Rattle.metric_core.specs.Cells.{CellKept, CellStands, new_cell};
-ghost use Rattle.metric_core.specs.CellAnswers.{AnswersClose, GainsEntry, KeepsJournal, ReportsBatch, entry_of, with_batch, with_entry};
+ghost use Rattle.metric_core.specs.CellAnswers.{AnswersClose, AnswersGrant, GainsEntry, KeepsJournal, ReportsBatch, entry_of, with_batch, with_entry, with_grant};
 ghost use Rattle.metric_facts.specs.Facts.{in_bounds, is_allowed_set};
 ghost use Rattle.metric_safety.specs.SafeFacts.{IsSafeFacts};
 ghost use Rattle.metric_safety.specs.WindowBounds.{IsReportWithin};
 ghost use Rattle.metric_slot.specs.Slots.{IsCertified, IsOwnReader, IsOwnRecorder};
-ghost use Rattle.metric_slot.specs.SlotAnswers.{AnswersRecorder, Continues, RefusesReader, ReportsJournal};
+ghost use Rattle.metric_slot.specs.SlotAnswers.{AnswersGranter, AnswersRecorder, Continues, RefusesReader, ReportsJournal};
 ghost use Rattle.metric_slot.specs.Tellings.{HasRoom, told_more};
 
 use crate::safety::certified_facts_are_safe;
@@ -86,8 +86,8 @@ impl<B: Book> Slot<B> {
     /// Makes a recording for a recorder that was told of its earlier ones (Metrics API, synchronous instruments), and tells it
     /// of this one too. `Stranger` comes exactly where the cell's facts are not these, or its number of the recorder's
     /// recordings is not the one told, or so many values can not be as far above the least as was told. Else `Closed`
-    /// comes exactly where the instrument is closed, else `Budget` exactly where the recorder has made as many recordings as its budget;
-    /// the only other refusal is `Memory`, which never comes where the book says that recordings take none.
+    /// comes exactly where the instrument is closed, else `Budget` exactly where the recorder has made as many recordings as its budget
+    /// and what it was granted; the only other refusal is `Memory`, which never comes where the book says that recordings take none.
     pub fn record(
         &mut self,
         facts: &Facts,
@@ -203,6 +203,33 @@ impl<B: Book> Slot<B> {
         ensures err { OnErr result (self.new ≡ self.old) }
     {
         self.cell.close()
+    }
+
+    /// Grants a recorder so many recordings beside its budget, of what is left of the instrument's spare budget. `Stranger`
+    /// comes exactly where the cell's facts are not these. Else `Closed` comes exactly where the instrument is closed, else
+    /// `NoSpare` exactly where more is asked for than is left. Takes no memory.
+    pub fn grant(&mut self, facts: &Facts, recorder: u32, amount: u64) -> Result<(), Refusal>
+        requires { recorder < length facts.now.budgets }
+        ensures answer { AnswersGranter self.old facts.now amount result }
+        ensures new { OnOk result (self.new ≡ with_grant self.old recorder amount) }
+        ensures stands { KeepsJournal B.stands self.old self.new }
+        ensures err { OnErr result (self.new ≡ self.old) }
+    {
+        if !self.is_of(facts) {
+            return Err(Refusal::Stranger);
+        }
+        self.grant_own(recorder, amount)
+    }
+
+    /// The same for who holds the slot and brings no facts: a recorder is one of the slot's own.
+    pub fn grant_own(&mut self, recorder: u32, amount: u64) -> Result<(), Refusal>
+        requires { recorder < length self.old.facts.budgets }
+        ensures answer { AnswersGrant self.old amount result }
+        ensures new { OnOk result (self.new ≡ with_grant self.old recorder amount) }
+        ensures stands { KeepsJournal B.stands self.old self.new }
+        ensures err { OnErr result (self.new ≡ self.old) }
+    {
+        self.cell.grant(recorder, amount)
     }
 
     /// The instrument's state: its facts, its recorders' numbers, how many recordings there are and their sum.

@@ -26,6 +26,8 @@ mod memory;
 #[cfg(test)]
 mod patterns;
 #[cfg(test)]
+mod spares;
+#[cfg(test)]
 mod streams;
 #[cfg(test)]
 mod unknown_fields;

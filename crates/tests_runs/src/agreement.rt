@@ -66,28 +66,36 @@ pub(crate) const SMALL: Lines = &["0", "2", "9", "1000"];
 // The first recorder alone may have a very large budget, since the sum of budgets is a u64.
 const LARGE: Lines = &["0", "2", "9", "1000", "9223372036854775807"];
 
+// The spare budget of an instrument.
+const SPARE: Lines = &["", "spare = 1\n", "spare = 4\n"];
+
 const CATALOGUE: &[Lines] = &[
     &["%% catalogue\nformat = 2\n[[meter]]\nname = 'm'\n"],
     &["[[meter.instrument]]\nname = 'i0'\n"],
     COUNTER,
     BOUNDARIES,
     KEYS,
+    SPARE,
     &["[[meter.instrument]]\nname = 'i1'\n"],
     UP_DOWN,
     BOUNDARIES,
     KEYS,
+    SPARE,
     &["[[meter.instrument]]\nname = 'i2'\n"],
     HISTOGRAM,
     BOUNDARIES,
     KEYS,
+    SPARE,
     &["[[meter.instrument]]\nname = 'i3'\n"],
     GAUGE,
     BOUNDARIES,
     KEYS,
+    SPARE,
     &["[[meter.instrument]]\nname = 'i4'\n"],
     COUNTER,
     BOUNDARIES,
     COMBINED,
+    SPARE,
     &["[[recorder]]\nname = 'p0'\nbudget = [{ instrument = 0, amount = "],
     LARGE,
     &[" }, { instrument = 1, amount = "],
@@ -225,10 +233,15 @@ const COLLECT: &[Lines] = &[&["collect "], READER_NUMBER, INSTRUMENT, TIME];
 
 const CLOSE: &[Lines] = &[&["close"], INSTRUMENT, &["\n"]];
 
+const AMOUNT: Lines = &[" 0\n", " 1\n", " 2\n", " 3\n", " 18446744073709551615\n"];
+
+const GRANT: &[Lines] = &[&["grant "], RECORDER, INSTRUMENT, AMOUNT];
+
 // What the replies to all scripts have in them.
 const SEEN: Lines = &[
     "accepted",
     "closed",
+    "granted",
     "UnknownInstrument",
     "UnknownRecorder",
     "UnknownReader",
@@ -240,6 +253,7 @@ const SEEN: Lines = &[
     "ValueRange",
     "Closed",
     "Budget",
+    "NoSpare",
     "SumRange",
     "kind=sum",
     "kind=last",
@@ -278,7 +292,8 @@ fn push_views(out: &mut String, dice: &mut Dice) -> Result<(), Fail> {
 fn push_event(out: &mut String, dice: &mut Dice) -> Result<(), Fail> {
     match dice.roll(80) {
         0 => push_lines(out, dice, CLOSE),
-        1..=50 => push_lines(out, dice, RECORD),
+        1..=48 => push_lines(out, dice, RECORD),
+        49..=52 => push_lines(out, dice, GRANT),
         _ => push_lines(out, dice, COLLECT),
     }
 }

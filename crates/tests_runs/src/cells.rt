@@ -1,6 +1,7 @@
 //! A cell by its own calls.
 use crate::equal::assert_equal;
 use crate::plans::plan_of;
+use metric_catalogue::Refusal;
 use metric_core::Cell;
 use metric_facts::is_allowed_set;
 use metric_lines::push_batch;
@@ -10,7 +11,7 @@ use metric_text::push_text;
 use std::alloc::Global;
 use std::test::Fail;
 
-const SHOP: &str = "format = 1
+const SHOP: &str = "format = 2
 [[meter]]
 name = 'm'
 [[meter.instrument]]
@@ -21,6 +22,7 @@ range = [-9, 9]
 name = 'hits'
 kind = 'counter'
 range = [2, 50]
+spare = 3
 [[recorder]]
 name = 'r'
 budget = [{ instrument = 1, amount = 3 }]
@@ -44,18 +46,19 @@ aggregation = 'explicit_bucket_histogram'
 boundaries = [5]
 ";
 
-// What each batch covers with its text, and at last what the getters give.
+// What each batch covers with its text, and at last what the getters give and what grants were answered.
 const TOLD: &str = "1 1 [0, 2, 100, 130]: collected 130 2
 stream reader=\"D\" meter=\"m\" version=\"\" schema=\"\" name=\"hits\" unit=\"\" description=\"\" kind=sum monotonic=yes temporality=delta
 point {} start=100 time=130 value=14
 stream reader=\"D\" meter=\"m\" version=\"\" schema=\"\" name=\"h\" unit=\"\" description=\"\" kind=histogram bounds=[5] temporality=delta
 point {} start=100 time=130 count=2 buckets=[1,1] sum=14 min=5 max=9
-1 1 [2, 3, 130, 130]: collected 130 2
+1 1 [2, 4, 130, 130]: collected 130 2
 stream reader=\"D\" meter=\"m\" version=\"\" schema=\"\" name=\"hits\" unit=\"\" description=\"\" kind=sum monotonic=yes temporality=delta
-point {} start=130 time=130 value=2
+point {} start=130 time=130 value=6
 stream reader=\"D\" meter=\"m\" version=\"\" schema=\"\" name=\"h\" unit=\"\" description=\"\" kind=histogram bounds=[5] temporality=delta
-point {} start=130 time=130 count=1 buckets=[1,0] sum=2 min=2 max=2
-[1, 2, 16] [3, 2, 1, 0] [0, 3, 0]
+point {} start=130 time=130 count=2 buckets=[2,0] sum=6 min=2 max=4
+[1, 2, 20] [4, 2, 2, 0] [0, 4, 0] [0, 2, 0, 1]
+[Err(NoSpare), Ok(()), Ok(())] Err(Closed)
 ";
 
 // Makes a recording without attributes.
@@ -68,6 +71,14 @@ fn record(cell: &mut Cell<Marked>, recorder: u32, value: i64) -> Result<(), Fail
     } else {
         Err("not of this instrument".into())
     }
+}
+
+// Grants a recorder so many recordings.
+fn grant(cell: &mut Cell<Marked>, recorder: u32, amount: u64) -> Result<(), Refusal> {
+    if recorder as usize >= cell.facts().budgets.len() {
+        return Err(Refusal::UnknownRecorder);
+    }
+    cell.grant(recorder, amount)
 }
 
 fn push_collected(
@@ -96,7 +107,13 @@ fn getters_text(alloc: Global, cell: &Cell<Marked>) -> Result<String, Fail> {
         i128::from(cell.lo()),
         cell.sum(),
     ];
-    Ok(format!(in alloc; "{own:?} {recorded:?} {marks:?}\n")?)
+    let granted = [
+        cell.granted(0),
+        cell.granted(1),
+        cell.granted(2),
+        cell.spare(),
+    ];
+    Ok(format!(in alloc; "{own:?} {recorded:?} {marks:?} {granted:?}\n")?)
 }
 
 fn push_calls(
@@ -109,9 +126,14 @@ fn push_calls(
     record(cell, 1, 9)?;
     push_collected(out, alloc, plan, cell, 130)?;
     record(cell, 0, 2)?;
+    let open = [grant(cell, 1, 4), grant(cell, 1, 2), grant(cell, 1, 0)];
+    record(cell, 1, 4)?;
     cell.close()?;
+    let closed = grant(cell, 0, 0);
     push_collected(out, alloc, plan, cell, 120)?;
-    Ok(push_text(out, &getters_text(alloc, cell)?)?)
+    push_text(out, &getters_text(alloc, cell)?)?;
+    let grants = format!(in alloc; "{open:?} {closed:?}\n")?;
+    Ok(push_text(out, &grants)?)
 }
 
 fn push_told(out: &mut Vec<u8>, alloc: Global, plan: &Plan) -> Result<(), Fail> {

@@ -1,6 +1,7 @@
 //! Command lines on whole inputs: what is written, and the line and the exit status of the fault.
 mod combinations;
 mod devices;
+mod grants;
 
 use crate::equal::assert_equal;
 use crate::inputs::{

@@ -21,6 +21,7 @@ fn push_reply(out: &mut Vec<u8>, alloc: Global, plan: &Plan, reply: &Reply) -> R
     match reply {
         Reply::Accepted => Ok(push_text(out, "accepted\n")?),
         Reply::Done => Ok(push_text(out, "closed\n")?),
+        Reply::Granted => Ok(push_text(out, "granted\n")?),
         Reply::Refused(refusal) => push_refusal(out, alloc, *refusal),
         Reply::Collected(batch) => Ok(push_batch(
             out,

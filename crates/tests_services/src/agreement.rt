@@ -1,6 +1,6 @@
 //! The answers of seats in one thread beside the replies of a core.
 use crate::equal::assert_equal;
-use crate::samples::{BOTH, CODES, HITS, MAIN, PAIRS};
+use crate::samples::{BOTH, CODES, HITS, MAIN, PAIRS, SPARED};
 use crate::seats::{BookSeats, seats_of};
 use crate::texts::write_reply;
 use metric_audit::Audited;
@@ -53,36 +53,31 @@ fn write_run<B: Book>(
     write_replies(out, &replies)
 }
 
-// Writes a line for the reply of a core to each event.
-fn write_core<B: Book>(
+/// Writes a line for the reply of a core to each event.
+pub(crate) fn write_core<B: Book>(
     out: &mut String,
     alloc: Global,
-    sample: &Sample,
+    catalogue: &str,
+    config: &str,
     script: &ScriptEvents,
 ) -> Result<(), Fail> {
-    let plan = certified_plan(alloc, sample.catalogue, sample.config)?;
+    let plan = certified_plan(alloc, catalogue, config)?;
     match Core::<B>::new(alloc, plan, script.start) {
         Ok(mut core) => Ok(write_run(out, alloc, &mut core, script.events.as_slice())?),
         Err(_) => Err(Fail::from("memory")),
     }
 }
 
-// Writes a line for the answer of a seat or the provider to each event.
-fn write_seats<R: Wait, B: Book>(
+/// Writes a line for the answer of a seat or the provider to each event.
+pub(crate) fn write_seats<R: Wait, B: Book>(
     out: &mut String,
     rt: &R,
     alloc: Global,
-    sample: &Sample,
+    catalogue: &str,
+    config: &str,
     script: &ScriptEvents,
 ) -> Result<(), Fail> {
-    let mut seats: BookSeats<B> = seats_of(
-        rt,
-        alloc,
-        sample.catalogue,
-        sample.config,
-        script.start,
-        1,
-    )?;
+    let mut seats: BookSeats<B> = seats_of(rt, alloc, catalogue, config, script.start, 1)?;
     Ok(seats.write_answers(out, rt, alloc, script.events.as_slice())?)
 }
 
@@ -269,6 +264,55 @@ accepted
 0 0, 0 to 2, 0 to 5: stream 0 [1 1] 2 [2 2] 1
 ",
     },
+    // A grant moves what is left of the spare to a recorder, which may then record more.
+    Sample {
+        catalogue: SPARED,
+        config: MAIN,
+        script: "%% catalogue
+%% config
+%% script
+start 0
+record 0 0 4
+record 0 0 4
+grant 0 1 1
+grant 2 0 1
+grant 2 1 1
+grant 0 0 1
+record 0 0 5
+record 0 0 5
+grant 1 0 2
+record 1 0 6
+grant 1 0 1
+record 1 0 6
+record 1 0 6
+grant 0 0 1
+grant 0 0 0
+collect 0 0 1
+close 0
+grant 0 0 0
+grant 2 0 0
+",
+        answers: "accepted
+9 Budget
+1 UnknownInstrument
+2 UnknownRecorder
+1 UnknownInstrument
+granted
+accepted
+9 Budget
+14 NoSpare
+9 Budget
+granted
+accepted
+9 Budget
+14 NoSpare
+granted
+0 0, 0 to 3, 0 to 1: stream 0 [0 0] 15
+done
+8 Closed
+2 UnknownRecorder
+",
+    },
 ];
 
 // Writes the answers of seats after those of a core.
@@ -279,8 +323,9 @@ fn write_both<R: Wait, B: Book>(
     sample: &Sample,
 ) -> Result<(), Fail> {
     let script = script_of(alloc, sample.script)?;
-    write_core::<B>(out, alloc, sample, &script)?;
-    write_seats::<R, B>(out, rt, alloc, sample, &script)
+    let (catalogue, config) = (sample.catalogue, sample.config);
+    write_core::<B>(out, alloc, catalogue, config, &script)?;
+    write_seats::<R, B>(out, rt, alloc, catalogue, config, &script)
 }
 
 // The answers of a core and of seats over each book, one after the other.

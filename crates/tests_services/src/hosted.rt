@@ -20,6 +20,8 @@ enum Step {
     RecordSet(u16, i64),
     RecordSets(&'static [(u16, i64)]),
     Collect(u64),
+    // A grant to the recorder of a number.
+    Grant(u32, u64),
     Close,
     Settle,
 }
@@ -42,9 +44,14 @@ const CASES: &[Case] = &[
             Step::RecordSet(2, 9),
             Step::Collect(10),
             Step::RecordSets(&[(1, 2), (1, 1)]),
+            Step::Grant(1, 1),
+            Step::Grant(0, 2),
+            Step::Grant(0, 1),
+            Step::RecordSet(1, 1),
             Step::Collect(9),
             Step::Close,
             Step::RecordSet(1, 1),
+            Step::Grant(0, 0),
             Step::Close,
             Step::Settle,
         ],
@@ -55,11 +62,16 @@ const CASES: &[Case] = &[
 accepted
 0 0, 0 to 2, 7 to 10: stream 0 [1 0] 5 [2 0] 9
 1 made, then 9 Budget
-0 0, 0 to 3, 7 to 10: stream 0 [1 0] 7 [2 0] 9
+2 UnknownRecorder
+14 NoSpare
+granted
+accepted
+0 0, 0 to 4, 7 to 10: stream 0 [1 0] 8 [2 0] 9
 done
 8 Closed
 8 Closed
-3 come to 16
+8 Closed
+4 come to 17
 ",
     },
     // Seats of another run.
@@ -198,6 +210,10 @@ fn write_step(
         }
         Step::RecordSets(list) => write_list(out, alloc, held, list),
         Step::Collect(now) => write_collected(out, alloc, held, *now),
+        Step::Grant(recorder, amount) => {
+            let answer = held.instrument.grant(*recorder, *amount);
+            write_reply(out, &reply_of(answer, Reply::Granted))
+        }
         Step::Close => {
             let answer = held.instrument.close();
             write_reply(out, &reply_of(answer, Reply::Done))

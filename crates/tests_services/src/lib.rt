@@ -22,6 +22,10 @@ mod exporters;
 #[cfg(test)]
 mod gates;
 #[cfg(test)]
+mod generated;
+#[cfg(test)]
+mod grants;
+#[cfg(test)]
 mod hosted;
 #[cfg(test)]
 mod keys;

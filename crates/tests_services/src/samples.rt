@@ -15,6 +15,22 @@ instrument = 0
 amount = 10
 ";
 
+/// A counter with a spare of two recordings, a recorder with a budget of one, and one without.
+pub(crate) const SPARED: &str = "format = 2
+[[meter]]
+name = 'm'
+[[meter.instrument]]
+name = 'c'
+kind = 'counter'
+range = [0, 9]
+spare = 2
+[[recorder]]
+name = 'r'
+budget = [{ instrument = 0, amount = 1 }]
+[[recorder]]
+name = 's'
+";
+
 /// A counter with a required and an optional key, and a budget of one recording.
 pub(crate) const CODES: &str = "format = 1
 [[meter]]
@@ -37,8 +53,8 @@ instrument = 0
 amount = 1
 ";
 
-/// A counter of values from 1 with a key of two values, and a budget of three recordings.
-pub(crate) const ROUTES: &str = "format = 1
+/// A counter of values from 1 with a key of two values, a budget of three recordings, and a spare of one.
+pub(crate) const ROUTES: &str = "format = 2
 [[meter]]
 name = 'm'
 [[meter.instrument]]
@@ -46,6 +62,7 @@ name = 'c'
 kind = 'counter'
 range = [1, 9]
 key = [{ name = 'route', values = ['/a', '/b'] }]
+spare = 1
 [[recorder]]
 name = 'r'
 budget = [{ instrument = 0, amount = 3 }]

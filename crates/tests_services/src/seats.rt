@@ -106,6 +106,13 @@ impl<B: Book> BookSeats<B> {
         }
     }
 
+    fn grant<R: Wait>(&self, rt: &R, recorder: u32, instrument: u32, amount: u64) -> Reply {
+        match self.provider.grant(rt, recorder, instrument, amount) {
+            Ok(()) => Reply::Granted,
+            Err(refusal) => Reply::Refused(refusal),
+        }
+    }
+
     /// The answer of a seat or the provider to an event.
     pub(crate) fn answer<R: Wait>(
         &mut self,
@@ -129,6 +136,11 @@ impl<B: Book> BookSeats<B> {
                 now,
             } => self.collect(rt, alloc, *reader, *instrument, *now),
             Event::Close { instrument } => self.close(rt, *instrument),
+            Event::Grant {
+                recorder,
+                instrument,
+                amount,
+            } => self.grant(rt, *recorder, *instrument, *amount),
         })
     }
 

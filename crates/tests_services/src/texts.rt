@@ -78,6 +78,7 @@ pub(crate) fn write_reply(out: &mut String, reply: &Reply) -> Result<(), AllocEr
     match reply {
         Reply::Accepted => out.push_str("accepted\n"),
         Reply::Done => out.push_str("done\n"),
+        Reply::Granted => out.push_str("granted\n"),
         Reply::Refused(refusal) => write_refusal(out, *refusal),
         Reply::Collected(batch) => write_batch(out, batch),
     }

@@ -1,12 +1,14 @@
 //! Why calls are refused.
 use std::fmt;
 
-/// Why a recording, a collection or a close is refused. What is refused has changed nothing.
+/// Why a recording, a collection, a grant or a close is refused. What is refused has changed nothing.
 #[derive(Clone, Copy, Debug, PartialEq, Eq)]
 #[non_exhaustive]
 pub enum Refusal {
     /// The instrument is none of the recorder's or reader's plan.
     UnknownInstrument,
+    /// The instrument has no recorder of this number.
+    UnknownRecorder,
     /// A key stands twice among the attributes.
     DuplicateKey,
     /// The instrument does not declare a key.
@@ -21,8 +23,10 @@ pub enum Refusal {
     ValueRange,
     /// The instrument is closed.
     Closed,
-    /// The recorder's budget for the instrument is spent.
+    /// The recorder's budget for the instrument is spent, and what it was granted.
     Budget,
+    /// Less is left of the instrument's spare budget than a grant asks for.
+    NoSpare,
     /// Memory was refused.
     Memory,
     /// The recorder or reader is of another run.
@@ -35,6 +39,7 @@ impl Refusal {
     pub(crate) fn of(code: u32) -> Refusal {
         match code {
             1 => Refusal::UnknownInstrument,
+            2 => Refusal::UnknownRecorder,
             3 => Refusal::DuplicateKey,
             4 => Refusal::UnknownKey,
             5 => Refusal::UnknownValue,
@@ -43,6 +48,7 @@ impl Refusal {
             7 => Refusal::ValueRange,
             8 => Refusal::Closed,
             9 => Refusal::Budget,
+            14 => Refusal::NoSpare,
             11 => Refusal::Memory,
             12 => Refusal::Stranger,
             other => Refusal::Other(other),
@@ -54,6 +60,7 @@ impl fmt::Display for Refusal {
     fn fmt(&self, f: &mut fmt::Formatter<'_>) -> fmt::Result {
         match self {
             Refusal::UnknownInstrument => write!(f, "the plan has no such instrument"),
+            Refusal::UnknownRecorder => write!(f, "the instrument has no such recorder"),
             Refusal::DuplicateKey => write!(f, "a key stands twice among the attributes"),
             Refusal::UnknownKey => write!(f, "the instrument does not declare a key"),
             Refusal::UnknownValue => write!(f, "a key does not declare its value"),
@@ -62,6 +69,7 @@ impl fmt::Display for Refusal {
             Refusal::ValueRange => write!(f, "the value is outside the instrument's range"),
             Refusal::Closed => write!(f, "the instrument is closed"),
             Refusal::Budget => write!(f, "the recorder's budget is spent"),
+            Refusal::NoSpare => write!(f, "less is left of the spare budget than is asked for"),
             Refusal::Memory => write!(f, "memory was refused"),
             Refusal::Stranger => write!(f, "the recorder or reader is of another run"),
             Refusal::Other(code) => write!(f, "the library answered {code}"),

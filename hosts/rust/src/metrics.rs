@@ -125,6 +125,21 @@ impl Instrument {
         Arc::ptr_eq(&self.own, &other.own)
     }
 
+    /// Grants the recorder of a number (from 0, in the order of the catalogue) so many recordings beside its budget, of
+    /// what is left of the spare budget.
+    ///
+    /// # Errors
+    ///
+    /// The first of these: [`Refusal::UnknownRecorder`]; [`Refusal::Closed`]; [`Refusal::NoSpare`] where more is asked for
+    /// than is left.
+    pub fn grant(&self, recorder: u32, amount: u64) -> Result<(), Refusal> {
+        // SAFETY: the handle is as the library left it, and this call has it alone.
+        match unsafe { raw::wormweekly_grant(&mut self.lock(), recorder, amount) } {
+            0 => Ok(()),
+            code => Err(Refusal::of(code)),
+        }
+    }
+
     /// Ends the recordings. It is collected and settled as before.
     ///
     /// # Errors

@@ -217,6 +217,7 @@ unsafe extern "C" {
         room: usize,
         text_length: &mut usize,
     ) -> u32;
+    pub fn wormweekly_grant(instrument: &mut Handle, recorder: u32, amount: u64) -> u32;
     pub fn wormweekly_close(instrument: &mut Handle) -> u32;
     pub fn wormweekly_settle(
         instrument: &mut Handle,

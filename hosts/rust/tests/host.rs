@@ -228,6 +228,33 @@ fn seats_of_other_runs_are_strangers() -> Result<(), Box<dyn std::error::Error>>
 }
 
 #[test]
+fn recorders_are_granted_what_is_spare() -> Result<(), Box<dyn std::error::Error>> {
+    let catalogue = "format = 2
+[[meter]]
+name = 'shop'
+instrument = [{ name = 'hits', kind = 'counter', range = [0, 100], spare = 2 }]
+[[recorder]]
+name = 'one'
+budget = [{ instrument = 0, amount = 1 }]
+";
+    let mut opened = open(catalogue, CONFIG, 0)?;
+    let hits = opened.metrics.instrument("hits")?;
+    let one = &mut opened.recorders[0];
+    one.record(hits, &[], 4)?;
+    assert_eq!(one.record(hits, &[], 5), Err(Refusal::Budget));
+    assert_eq!(hits.grant(1, 1), Err(Refusal::UnknownRecorder));
+    assert_eq!(hits.grant(0, 3), Err(Refusal::NoSpare));
+    hits.grant(0, 1)?;
+    one.record(hits, &[], 5)?;
+    assert_eq!(one.record(hits, &[], 6), Err(Refusal::Budget));
+    hits.close()?;
+    assert_eq!(hits.grant(0, 1), Err(Refusal::Closed));
+    let totals = opened.metrics.settle(&mut opened.recorders)?;
+    assert_eq!(totals, [Total { count: 2, sum: 9 }]);
+    Ok(())
+}
+
+#[test]
 fn threads_lose_nothing() -> Result<(), Box<dyn std::error::Error>> {
     let Opened {
         metrics,

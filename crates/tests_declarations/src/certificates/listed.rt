@@ -96,7 +96,7 @@ order = [{ reader = 0, streams = [0, 1] }]"#,
 };
 
 // Keys that may be left out, rows that are not in order and that fall together where a key is not kept, an instrument that
-// lists no combinations, and one that allows none.
+// lists no combinations but has a spare, and one that allows none.
 pub(crate) const MIXED: Sample = Sample {
     catalogue: r#"
 format = 2
@@ -112,6 +112,7 @@ allowed = [[2, 0, 3], [0, 1, 1], [2, 0, 1]]
 name = "n"
 kind = "counter"
 range = [0, 1]
+spare = 2
 [[meter.instrument]]
 name = "e"
 kind = "gauge"
@@ -120,7 +121,7 @@ key = [{ name = "a", values = [1, 2, 3] }]
 allowed = []
 [[recorder]]
 name = "r"
-budget = [{ instrument = 0, amount = 10 }, { instrument = 1, amount = 5 }]
+budget = [{ instrument = 0, amount = 10 }, { instrument = 1, amount = 3 }]
 "#,
     config: r#"
 format = 1

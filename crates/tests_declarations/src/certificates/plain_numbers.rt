@@ -85,7 +85,7 @@ fn is_left(kept: &[bool], row: &SetKey, set: &SetKey) -> bool {
 
 // How often an instrument may be recorded.
 fn total_of(catalogue: &Catalogue, instrument: u32) -> i128 {
-    let mut total: i128 = 0;
+    let mut total = i128::from(catalogue.spare(instrument));
     for recorder in catalogue.recorders() {
         total = total.saturating_add(budget_in(recorder.budgets.as_slice(), instrument));
     }

@@ -1,5 +1,5 @@
 -- one recorder more
-use Rattle.std.proofs.Common.{◌≡◌, ◌<◌, ◌+◌, ℕ, length, get_or, take, sym, ap, subst, ◌∙◌, arith}
+use Rattle.std.proofs.Common.{◌≡◌, ◌<◌, ◌+◌, ℕ, length, get_or, take, take_all, sym, ap, subst, refl, ◌∙◌, arith}
 use Rattle.std.specs.Prelude.{List, find, sum_by}
 use Rattle.std.proofs.lemmas.List.Elements.{All-get_or}
 use Rattle.std.proofs.lemmas.List.Sums.{sum_by_more}
@@ -10,6 +10,13 @@ use Rattle.metric_catalogue.specs.Recorders.{is_budget}
 use Rattle.metric_catalogue.specs.Sound.{IsSoundRecorder}
 use Rattle.metric_bounds.proofs.Budgets.{amount_limited}
 use Rattle.metric_bounds.proofs.amounts.add_recorders.Goals as goal
+
+pub loop-recorder-init : goal.loop-recorder-init
+loop-recorder-init c = record {
+  long = refl;
+  done = λ i inside. omega arith;
+  bounded = λ i inside. let low = c.requires.low i in omega arith;
+}
 
 pub loop-recorder-preserved : goal.loop-recorder-preserved
 loop-recorder-preserved c =
@@ -28,12 +35,20 @@ loop-recorder-preserved c =
     record {
       long = c.add_budgets.ensures.length ∙ long;
       done = λ i inside.
-          added i inside ∙ ap (λ (m : ℕ). m + amount_of r i) (c.loop-recorder.invariant.done i inside)
-          ∙ ap (λ (x : Recorder). sum_by (λ recorder. amount_of recorder i) (take j recorders) + amount_of x i) c.recorder-item.is
-          ∙ sym (sum_by_more (λ recorder. amount_of recorder i) recorders j r within);
+          let now = added i inside in
+          let before = c.loop-recorder.invariant.done i inside in
+          let one = ap (λ (x : Recorder). sum_by (λ recorder. amount_of recorder i) (take j recorders) + amount_of x i) c.recorder-item.is in
+          let more = sum_by_more (λ recorder. amount_of recorder i) recorders j r within in
+          omega arith;
       bounded = λ i inside.
           let now = added i inside in
           let before = c.loop-recorder.invariant.bounded i inside in
           let few = amount_limited n i r.budgets own.budgets.each in
           omega arith;
     }
+
+pub returns-clause-added : goal.returns-clause-added
+returns-clause-added c = λ i inside.
+    c.loop-recorder.invariant.done i inside
+    ∙ ap (λ (rs : List Recorder). sum_by (λ recorder. amount_of recorder i) rs + get_or c.args.totals.now i 0)
+    (take_all c.loop-recorder.recorder-index c.args.recorders.now (omega arith))

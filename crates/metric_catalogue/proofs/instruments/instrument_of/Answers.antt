@@ -25,17 +25,17 @@ returns-in_err-advice c =
     let range = sym c.range_field.ensures ∙ c.in_ok-range.was in
     rw (p.1, p.2) (λ other. rw (c.in_ok-head.ensures, range, c.in_err-advice.ensures other) refl)
 
-pub returns-in_err-sets : goal.returns-in_err-sets
+pub returns-in_err-limits : goal.returns-in_err-limits
 unfolding instrument_of
-returns-in_err-sets c =
-    let p = err_from_is_err_and c.from_residual-in_err-sets.result c.from_residual-in_err-sets.ensures.1 in
+returns-in_err-limits c =
+    let p = err_from_is_err_and c.from_residual-in_err-limits.result c.from_residual-in_err-limits.ensures.1 in
     let range = sym c.range_field.ensures ∙ c.in_ok-range.was in
     let taken = sym (c.has_instrument-is_taken.ensures ∙ ap (λ (name : List ℕ). list_any (is_instrument c.args.meter name) c.args.before.now) c.get.ensures) in
-    rw (p.1, p.2) (λ other. rw (c.in_ok-head.ensures, range, c.in_ok-advice.ensures, taken, c.in_err-sets.ensures other) refl)
+    rw (p.1, p.2) (λ other. rw (c.in_ok-head.ensures, range, c.in_ok-advice.ensures, taken, c.in_err-limits.ensures other) refl)
 
 pub returns : goal.returns
 unfolding instrument_of
 returns c =
     let range = sym c.range_field.ensures ∙ c.in_ok-range.was in
     let taken = sym (c.has_instrument-is_taken.ensures ∙ ap (λ (name : List ℕ). list_any (is_instrument c.args.meter name) c.args.before.now) c.get.ensures) in
-    rw (c.in_ok-head.ensures, range, c.in_ok-advice.ensures, taken, c.in_ok-sets.ensures, c.instrument.ensures) refl
+    rw (c.in_ok-head.ensures, range, c.in_ok-advice.ensures, taken, c.in_ok-limits.ensures, c.instrument.ensures) refl

@@ -1,4 +1,4 @@
--- a close is told by what is written for it
+-- a close and a grant are told by what is written for them
 use Rattle.std.proofs.Common.{rules}
 use Rattle.metric_commands.proofs.replies.UnderPlanPartsReply.write_part.Goals as goal
 
@@ -7,3 +7,9 @@ returns-in-Done-clause-ok g c = search rules
 
 pub returns-in-Done-clause-prefix : goal.returns-in-Done-clause-prefix
 returns-in-Done-clause-prefix g c = search rules
+
+pub returns-in-Granted-clause-ok : goal.returns-in-Granted-clause-ok
+returns-in-Granted-clause-ok g c = search rules
+
+pub returns-in-Granted-clause-prefix : goal.returns-in-Granted-clause-prefix
+returns-in-Granted-clause-prefix g c = search rules

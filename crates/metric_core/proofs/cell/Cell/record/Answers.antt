@@ -20,30 +20,30 @@ push-requires g c =
     let known : c.args.recorder < length c.self.inside.facts.budgets = subst (λ (v : CellValue g.row.B.Denot). c.args.recorder < length v.facts.budgets) (sym c.self.view_is) c.requires.recorder in
     let allowed : is_allowed_set c.self.inside.facts c.args.set ≡ true = subst (λ (v : CellValue g.row.B.Denot). is_allowed_set v.facts c.args.set ≡ true) (sym c.self.view_is) c.requires.set in
     let within : in_bounds c.self.inside.facts c.args.value ≡ true = subst (λ (v : CellValue g.row.B.Denot). in_bounds v.facts c.args.value ≡ true) (sym c.self.view_is) c.requires.value in
-    let left = has_left c.self.inside.budgets.spent.items c.self.inside.facts.budgets c.args.recorder c.has_left.result _ (c.as_slice-declared.ensures ∙ ap (λ (f : Facts). f.budgets) c.deref.ensures) c.has_left.ensures c.if-not-has_left.false in
+    let left = has_left c.self.inside.budgets.spent.items c.self.inside.facts.budgets c.self.inside.budgets.granted.items c.args.recorder c.has_left.result _ (c.as_slice-declared.ensures ∙ ap (λ (f : Facts). f.budgets) c.deref.ensures) c.has_left.ensures c.if-not-has_left.false in
     subst (λ (v : ℤ). MayTake (g.B.Book.stands c.self.inside.book) (entry_of c.args.recorder c.args.set v)) (sym same)
     (may_take g.B.Book.stands _ (entry_of c.args.recorder c.args.set c.args.value) c.self.invariant known left allowed within)
 
 pub charge-requires-clause-room : goal.charge-requires-clause-room
 charge-requires-clause-room g c =
     let known : c.args.recorder < length c.self.inside.facts.budgets = subst (λ (v : CellValue g.row.B.Denot). c.args.recorder < length v.facts.budgets) (sym c.self.view_is) c.requires.recorder in
-    let left = has_left c.self.inside.budgets.spent.items c.self.inside.facts.budgets c.args.recorder c.has_left.result _ (c.as_slice-declared.ensures ∙ ap (λ (f : Facts). f.budgets) c.deref.ensures) c.has_left.ensures c.if-not-has_left.false in
+    let left = has_left c.self.inside.budgets.spent.items c.self.inside.facts.budgets c.self.inside.budgets.granted.items c.args.recorder c.has_left.result _ (c.as_slice-declared.ensures ∙ ap (λ (f : Facts). f.budgets) c.deref.ensures) c.has_left.ensures c.if-not-has_left.false in
     charge_fits g.B.Book.stands _ c.args.recorder c.self.invariant known left
 
 pub total_with-self-inside-requires-clause-low : goal.total_with-self-inside-requires-clause-low
 total_with-self-inside-requires-clause-low g c =
-    let left = has_left c.self.inside.budgets.spent.items c.self.inside.facts.budgets c.args.recorder c.has_left.result _ (c.as_slice-declared.ensures ∙ ap (λ (f : Facts). f.budgets) c.deref.ensures) c.has_left.ensures c.if-not-has_left.false in
+    let left = has_left c.self.inside.budgets.spent.items c.self.inside.facts.budgets c.self.inside.budgets.granted.items c.args.recorder c.has_left.result _ (c.as_slice-declared.ensures ∙ ap (λ (f : Facts). f.budgets) c.deref.ensures) c.has_left.ensures c.if-not-has_left.false in
     sum_low g.B.Book.stands _ c.self.invariant (has_room g.B.Book.stands _ c.args.recorder c.self.invariant left)
 
 pub total_with-self-inside-requires-clause-high : goal.total_with-self-inside-requires-clause-high
 total_with-self-inside-requires-clause-high g c =
-    let left = has_left c.self.inside.budgets.spent.items c.self.inside.facts.budgets c.args.recorder c.has_left.result _ (c.as_slice-declared.ensures ∙ ap (λ (f : Facts). f.budgets) c.deref.ensures) c.has_left.ensures c.if-not-has_left.false in
+    let left = has_left c.self.inside.budgets.spent.items c.self.inside.facts.budgets c.self.inside.budgets.granted.items c.args.recorder c.has_left.result _ (c.as_slice-declared.ensures ∙ ap (λ (f : Facts). f.budgets) c.deref.ensures) c.has_left.ensures c.if-not-has_left.false in
     sum_high g.B.Book.stands _ c.self.invariant (has_room g.B.Book.stands _ c.args.recorder c.self.invariant left)
 
 pub overflow_add-self : goal.overflow_add-self
 overflow_add-self g c =
     let known : c.args.recorder < length c.self.inside.facts.budgets = subst (λ (v : CellValue g.row.B.Denot). c.args.recorder < length v.facts.budgets) (sym c.self.view_is) c.requires.recorder in
-    let left = has_left c.self.inside.budgets.spent.items c.self.inside.facts.budgets c.args.recorder c.has_left.result _ (c.as_slice-declared.ensures ∙ ap (λ (f : Facts). f.budgets) c.deref.ensures) c.has_left.ensures c.if-not-has_left.false in
+    let left = has_left c.self.inside.budgets.spent.items c.self.inside.facts.budgets c.self.inside.budgets.granted.items c.args.recorder c.has_left.result _ (c.as_slice-declared.ensures ∙ ap (λ (f : Facts). f.budgets) c.deref.ensures) c.has_left.ensures c.if-not-has_left.false in
     record { fits = omega (arith, c.self.invariant.budgeted, has_room g.B.Book.stands _ c.args.recorder c.self.invariant left) }
 
 pub invariant_of-self : goal.invariant_of-self
@@ -56,7 +56,7 @@ invariant_of-self-2 g c =
     let known : c.args.recorder < length c.self.inside.facts.budgets = subst (λ (v : CellValue g.row.B.Denot). c.args.recorder < length v.facts.budgets) (sym c.self.view_is) c.requires.recorder in
     let allowed : is_allowed_set c.self.inside.facts c.args.set ≡ true = subst (λ (v : CellValue g.row.B.Denot). is_allowed_set v.facts c.args.set ≡ true) (sym c.self.view_is) c.requires.set in
     let within : in_bounds c.self.inside.facts c.args.value ≡ true = subst (λ (v : CellValue g.row.B.Denot). in_bounds v.facts c.args.value ≡ true) (sym c.self.view_is) c.requires.value in
-    let left = has_left c.self.inside.budgets.spent.items c.self.inside.facts.budgets c.args.recorder c.has_left.result _ (c.as_slice-declared.ensures ∙ ap (λ (f : Facts). f.budgets) c.deref.ensures) c.has_left.ensures c.if-not-has_left.false in
+    let left = has_left c.self.inside.budgets.spent.items c.self.inside.facts.budgets c.self.inside.budgets.granted.items c.args.recorder c.has_left.result _ (c.as_slice-declared.ensures ∙ ap (λ (f : Facts). f.budgets) c.deref.ensures) c.has_left.ensures c.if-not-has_left.false in
     let eight : length c.args.set ≡ 8 = search rules in
     let low : neg_ℤ (pos (2 ^ 63)) ≤ℤ c.args.value = omega (arith, ints) in
     let high : c.args.value ≤ℤ pos (2 ^ 63) = omega (arith, ints) in
@@ -68,7 +68,7 @@ pub returns-clause-answer : goal.returns-clause-answer
 returns-clause-answer g c =
     let entry : Entry = entry_of c.args.recorder c.args.set c.args.value in
     let same : to_z w64 (of_z w64 c.args.value) ≡ c.args.value = to_z-of_z w64 c.args.value c.ranges.value in
-    let left = has_left c.self.inside.budgets.spent.items c.self.inside.facts.budgets c.args.recorder c.has_left.result _ (c.as_slice-declared.ensures ∙ ap (λ (f : Facts). f.budgets) c.deref.ensures) c.has_left.ensures c.if-not-has_left.false in
+    let left = has_left c.self.inside.budgets.spent.items c.self.inside.facts.budgets c.self.inside.budgets.granted.items c.args.recorder c.has_left.result _ (c.as_slice-declared.ensures ∙ ap (λ (f : Facts). f.budgets) c.deref.ensures) c.has_left.ensures c.if-not-has_left.false in
     subst (λ (v : CellValue g.row.B.Denot). IsJudged g.B.Book.stands v entry true) c.self.view_is (record {
       is_open = c.if-self.false;
       has_budget = left;

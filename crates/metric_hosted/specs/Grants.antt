@@ -1,0 +1,15 @@
+-- What a grant on an instrument that a host holds is answered.
+use Rattle.std.specs.Prelude.{◌≡◌, ◌<◌, ◌≤◌, ℕ, Result, Ok, Err, length}
+use Rattle.metric_catalogue.specs.declared.refusal.Refusal.{Refusal}
+use Rattle.metric_catalogue.specs.declared.refusal.Refusal.TheVariants.{UnknownRecorder}
+use Rattle.metric_core.specs.CellAnswers.{AnswersGrant, with_grant}
+use Rattle.metric_hosted.specs.Hosts.{HostedValue}
+
+-- `UnknownRecorder` exactly where the instrument has no budget of the recorder, else what the instrument answers
+abbrev pub AnswersGranting : HostedValue → ℕ → ℕ → Result (Unit {0}) Refusal → Type 0
+AnswersGranting h recorder amount (Err UnknownRecorder) = length h.cell.facts.budgets ≤ recorder
+AnswersGranting h recorder amount result = (recorder < length h.cell.facts.budgets) × AnswersGrant h.cell amount result
+
+-- the instrument of which a recorder was granted so many recordings
+abbrev pub with_granted : HostedValue → ℕ → ℕ → HostedValue
+with_granted h recorder amount = record h { cell = with_grant h.cell recorder amount }

@@ -1,0 +1,130 @@
+//! Scripts that numbers put together of lines, answered by the seats over each book as by a core.
+use crate::agreement::{script_of, write_core, write_seats};
+use crate::equal::assert_equal;
+use crate::samples::BOTH;
+use metric_audit::Audited;
+use metric_book::Book;
+use metric_journal::JournalBook;
+use metric_marked::Marked;
+use metric_script::ScriptEvents;
+use std::alloc::{AllocError, Global};
+use std::sync::Wait;
+use std::test::Fail;
+
+// How many scripts there are.
+const SCRIPTS: u64 = 64;
+
+// Two counters with spares, and two recorders with small budgets for each.
+const SHARED: &str = "format = 2
+[[meter]]
+name = 'm'
+instrument = [
+    { name = 'A', kind = 'counter', range = [0, 9], spare = 3 },
+    { name = 'B', kind = 'counter', range = [2, 7], spare = 1, key = [{ name = 'k', values = ['a', 'b'] }] },
+]
+[[recorder]]
+name = 'r'
+budget = [{ instrument = 0, amount = 2 }, { instrument = 1, amount = 1 }]
+[[recorder]]
+name = 's'
+budget = [{ instrument = 1, amount = 1 }]
+";
+
+// What an event may be.
+const EVENTS: [&str; 16] = [
+    "record 0 0 4\n",
+    "record 0 0 9\n",
+    "record 0 0 10\n",
+    "record 1 0 6\n",
+    "record 0 1 2 \"k\"=\"a\"\n",
+    "record 1 1 7 \"k\"=\"b\"\n",
+    "record 1 1 5 \"k\"=\"c\"\n",
+    "grant 0 0 1\n",
+    "grant 1 0 2\n",
+    "grant 1 1 1\n",
+    "grant 0 1 0\n",
+    "grant 2 0 1\n",
+    "grant 0 2 1\n",
+    "collect 0 0 9\n",
+    "collect 1 1 5\n",
+    "close 1\n",
+];
+
+// What the answers to all scripts have in them.
+const SEEN: &[&str] = &[
+    "accepted",
+    "granted",
+    "done",
+    "UnknownInstrument",
+    "UnknownRecorder",
+    "UnknownValue",
+    "ValueRange",
+    "Closed",
+    "Budget",
+    "NoSpare",
+    "stream 0",
+    "stream 3",
+];
+
+// Sixteen events that the digits of a number choose.
+fn input_of(alloc: Global, number: u64) -> Result<String, AllocError> {
+    let mut digits = number.wrapping_mul(0x9E37_79B9_7F4A_7C15);
+    let mut input = String::from_str(alloc, "%% catalogue\n%% config\n%% script\nstart 3\n")?;
+    for _ in 0..16 {
+        input.push_str(EVENTS[(digits % 16) as usize])?;
+        digits /= 16;
+    }
+    Ok(input)
+}
+
+// Whether the seats over a book answer this, and its core too.
+fn is_answered<R: Wait, B: Book>(
+    rt: &R,
+    alloc: Global,
+    script: &ScriptEvents,
+    wanted: &str,
+) -> Result<[bool; 2], Fail> {
+    let mut core = String::new(alloc);
+    write_core::<B>(&mut core, alloc, SHARED, BOTH, script)?;
+    let mut seats = String::new(alloc);
+    write_seats::<R, B>(&mut seats, rt, alloc, SHARED, BOTH, script)?;
+    Ok([core.as_str() == wanted, seats.as_str() == wanted])
+}
+
+// Whether each book answers a script as the plain one does.
+fn agreement<R: Wait>(
+    seen: &mut String,
+    rt: &R,
+    alloc: Global,
+    number: u64,
+) -> Result<[[bool; 2]; 3], Fail> {
+    let script = script_of(alloc, &input_of(alloc, number)?)?;
+    let mut wanted = String::new(alloc);
+    write_core::<JournalBook>(&mut wanted, alloc, SHARED, BOTH, &script)?;
+    seen.push_str(&wanted)?;
+    Ok([
+        is_answered::<R, JournalBook>(rt, alloc, &script, &wanted)?,
+        is_answered::<R, Marked>(rt, alloc, &script, &wanted)?,
+        is_answered::<R, Audited>(rt, alloc, &script, &wanted)?,
+    ])
+}
+
+fn first_unseen(seen: &str) -> Option<&'static str> {
+    for word in SEEN {
+        if !seen.contains(*word) {
+            return Some(*word);
+        }
+    }
+    None
+}
+
+#[test]
+fn seats_answer_scripts_as_core(rt: HostRuntime) -> Result<(), Fail> {
+    let mut seen = String::new(rt.alloc());
+    for number in 1..=SCRIPTS {
+        let found = agreement(&mut seen, &rt, rt.alloc(), number)?;
+        assert_equal(&rt, (number, found), (number, [[true, true]; 3]));
+    }
+    assert_equal(&rt, first_unseen(&seen), None);
+    Ok(())
+}

@@ -1,0 +1,80 @@
+//! Recordings beside the budget, by what a service's recorders are granted, from the first to the totals.
+use crate::equal::assert_equal;
+use crate::runs::write_finish;
+use crate::samples::{MAIN, SPARED};
+use crate::seats::{Seats, seats_of};
+use metric_catalogue::Refusal;
+use std::alloc::Global;
+use std::sync::Wait;
+use std::test::Fail;
+
+// What is asked of a running provider.
+enum Step {
+    // A recording of a recorder with this value.
+    Record(usize, i64),
+    // A recorder's request for so many recordings.
+    Ask(usize, u64),
+    // The provider's grant of so many to the recorder of a number.
+    Grant(u32, u64),
+}
+
+// The steps, with what each is answered.
+const STEPS: &[(Step, Result<(), Refusal>)] = &[
+    (Step::Record(0, 4), Ok(())),
+    (Step::Record(0, 5), Err(Refusal::Budget)),
+    (Step::Ask(0, 3), Err(Refusal::NoSpare)),
+    (Step::Ask(0, 1), Ok(())),
+    (Step::Record(0, 5), Ok(())),
+    (Step::Record(0, 5), Err(Refusal::Budget)),
+    (Step::Grant(2, 1), Err(Refusal::UnknownRecorder)),
+    (Step::Record(1, 6), Err(Refusal::Budget)),
+    (Step::Grant(1, 1), Ok(())),
+    (Step::Record(1, 6), Ok(())),
+    (Step::Record(1, 6), Err(Refusal::Budget)),
+    (Step::Ask(1, 1), Err(Refusal::NoSpare)),
+    (Step::Ask(1, 0), Ok(())),
+];
+
+fn answer<R: Wait>(rt: &R, seats: &mut Seats, step: &Step) -> Result<(), Refusal> {
+    let unseated = Refusal::UnknownRecorder;
+    match step {
+        Step::Record(recorder, value) => {
+            let seat = seats.recorders.get_mut(*recorder).ok_or(unseated)?;
+            seat.record(rt, &seats.provider, 0, &[], *value)
+        }
+        Step::Ask(recorder, amount) => {
+            let seat = seats.recorders.get(*recorder).ok_or(unseated)?;
+            seat.ask(rt, &seats.provider, 0, *amount)
+        }
+        Step::Grant(recorder, amount) => seats.provider.grant(rt, *recorder, 0, *amount),
+    }
+}
+
+const TOTALS: &str = "[Total { count: 3, sum: 15 }], 1 journals, 1 slips\n";
+
+fn totals<R: Wait>(rt: &R, alloc: Global, seats: Seats) -> Result<String, Fail> {
+    let mut out = String::new(alloc);
+    write_finish(&mut out, rt, alloc, seats)?;
+    Ok(out)
+}
+
+#[test]
+fn what_is_spared_is_recorded(rt: HostRuntime) -> Result<(), Fail> {
+    let mut seats: Seats = seats_of(&rt, rt.alloc(), SPARED, MAIN, 0, 1)?;
+    for (step, wanted) in STEPS {
+        assert_equal(&rt, answer(&rt, &mut seats, step), *wanted);
+    }
+    assert_equal(&rt, totals(&rt, rt.alloc(), seats)?.as_str(), TOTALS);
+    Ok(())
+}
+
+#[test]
+fn a_stranger_is_granted_nothing(rt: HostRuntime) -> Result<(), Fail> {
+    let seats: Seats = seats_of(&rt, rt.alloc(), SPARED, MAIN, 0, 1)?;
+    let others: Seats = seats_of(&rt, rt.alloc(), SPARED, MAIN, 0, 2)?;
+    for seat in &others.recorders {
+        let answer = seat.ask(&rt, &seats.provider, 0, 0);
+        assert_equal(&rt, answer, Err(Refusal::Stranger));
+    }
+    Ok(())
+}
