@@ -12,19 +12,24 @@ use std::test::Fail;
 use std::thread;
 use std::thread::{Threads, join};
 
-// How often a thread looks at a flag at most.
+// How often a thread looks at most at a flag that is to be set.
 const TURNS: u32 = 1_000_000;
 
-// Whether the first instrument was entered, whether the second recording was answered, and whether that was seen inside.
+// How often at one that is not: each look hands the processor on, and on a busy machine takes long.
+const HELD_TURNS: u32 = 20_000;
+
+// Whether the first instrument was entered, whether the second recording was answered, whether that was seen inside, and
+// how often it is looked for there.
 #[derive(Drop)]
 struct Flags {
     is_inside: AtomicBool,
     is_answered: AtomicBool,
     is_seen: AtomicBool,
+    turns: u32,
 }
 
-fn is_set_in_time(flag: &AtomicBool) -> bool {
-    for _ in 0..TURNS {
+fn is_set_in_time(flag: &AtomicBool, turns: u32) -> bool {
+    for _ in 0..turns {
         if flag.load(Ordering::SeqCst) {
             return true;
         }
@@ -43,7 +48,7 @@ impl Gate for Holding<'_> {
     fn inside<R: Wait>(&self, _rt: &R, instrument: u32) {
         if instrument == 0 {
             self.flags.is_inside.store(true, Ordering::SeqCst);
-            let is_seen = is_set_in_time(&self.flags.is_answered);
+            let is_seen = is_set_in_time(&self.flags.is_answered, self.flags.turns);
             self.flags.is_seen.store(is_seen, Ordering::SeqCst);
         }
     }
@@ -90,7 +95,7 @@ fn record_second<R: Wait>(
     instrument: u32,
     flags: &Flags,
 ) -> Result<(), Refusal> {
-    is_set_in_time(&flags.is_inside);
+    is_set_in_time(&flags.is_inside, TURNS);
     let answer = record(rt, provider, seat, instrument);
     flags.is_answered.store(true, Ordering::SeqCst);
     answer
@@ -141,6 +146,7 @@ fn a_held_instrument_keeps_its_own_recordings(rt: HostRuntime) -> Result<(), Fai
             is_inside: AtomicBool::new(false),
             is_answered: AtomicBool::new(false),
             is_seen: AtomicBool::new(false),
+            turns: if *wanted { TURNS } else { HELD_TURNS },
         };
         let answers = answers(&rt, rt.alloc(), (*is_list, *instrument), &flags)?;
         let is_seen = flags.is_seen.load(Ordering::SeqCst);
