@@ -1,7 +1,8 @@
 /* Watches what a program asks of the C library's heap between two marks: allocations of exactly MARK bytes, which the
    program makes for that alone. At each second mark the number since the first is written to the file descriptor
    WATCH_TELL, a line each. With WATCH_REFUSE in the environment each allocation between two marks is refused, and
-   counts. It is loaded before the C library: cc -O2 -shared -fPIC -o watch.so watch.c */
+   counts. With WATCH_AT=n there only the n-th after the first mark is refused, where it comes before the second.
+   It is loaded before the C library: cc -O2 -shared -fPIC -o watch.so watch.c */
 #include <errno.h>
 #include <stdatomic.h>
 #include <stdio.h>
@@ -10,8 +11,9 @@
 
 enum { MARK = 12345677 };
 static atomic_long asked;
-static atomic_int watches;
+static atomic_int watches, marks;
 static int refuses, tell = -1;
+static long at;
 
 /* the C library's own, below the names that are taken here */
 void *__libc_malloc(size_t bytes);
@@ -21,11 +23,13 @@ void *__libc_memalign(size_t alignment, size_t bytes);
 
 __attribute__((constructor)) static void begin(void) {
   refuses = getenv("WATCH_REFUSE") != NULL;
-  const char *fd = getenv("WATCH_TELL");
+  const char *fd = getenv("WATCH_TELL"), *number = getenv("WATCH_AT");
   if (fd) tell = atoi(fd);
+  if (number) at = atol(number);
 }
 
 static void mark(void) {
+  atomic_fetch_add(&marks, 1);
   if (atomic_fetch_xor(&watches, 1)) {
     char line[40];
     int length = snprintf(line, sizeof line, "%ld\n", atomic_load(&asked));
@@ -37,9 +41,10 @@ static void mark(void) {
 /* whether an allocation is refused, which counts */
 static int is_refused(void) {
   if (!atomic_load(&watches)) return 0;
-  atomic_fetch_add(&asked, 1);
-  if (refuses) errno = ENOMEM;
-  return refuses;
+  long number = atomic_fetch_add(&asked, 1) + 1;
+  int refused = refuses || (number == at && atomic_load(&marks) == 1);
+  if (refused) errno = ENOMEM;
+  return refused;
 }
 
 void *malloc(size_t bytes) {

@@ -1,0 +1,56 @@
+//! A script replayed.
+use crate::answers::Answers;
+use crate::inputs::Data;
+use crate::mark::mark;
+use crate::prepared::input_of;
+use anyhow::bail;
+use metric_commands::{KitFault, ReplayOptions, replay};
+use metric_sdk::{CutSource, StdSink};
+use std::alloc::{AllocError, Global};
+
+// Room for all that a replay writes, so that its sink asks for none while it is called.
+const ROOM: usize = 1_000_000;
+
+// With a certificate, and without an audit.
+const OPTIONS: ReplayOptions = ReplayOptions {
+    trial: false,
+    audit: false,
+};
+
+// A sink in memory.
+type Held = StdSink<Vec<u8>>;
+
+/// Replays the input that a data is.
+pub(crate) fn replayed(alloc: Global, data: &Data) -> anyhow::Result<Answers> {
+    let mut answers = Answers::new(alloc);
+    let input = input_of(alloc, data)?;
+    let mut sink = sink_with_room(alloc)?;
+    let mut source = CutSource::new(input.as_bytes(), None);
+    mark(alloc)?;
+    let first = replay(alloc, OPTIONS, &mut source, &mut sink);
+    mark(alloc)?;
+    push_replayed(&mut answers.first, first, sink)?;
+    let mut sink = sink_with_room(alloc)?;
+    let mut source = CutSource::new(input.as_bytes(), None);
+    let second = replay(alloc, OPTIONS, &mut source, &mut sink);
+    push_replayed(&mut answers.second, second, sink)?;
+    Ok(answers)
+}
+
+fn sink_with_room(alloc: Global) -> Result<Held, AllocError> {
+    Ok(StdSink::new(Vec::with_capacity(alloc, ROOM)?))
+}
+
+// Adds what was written, and how the replay ended.
+fn push_replayed(out: &mut String, answer: Result<(), KitFault>, sink: Held) -> anyhow::Result<()> {
+    let written = sink.into_inner();
+    let Ok(text) = str::from_utf8(written.as_slice()) else {
+        bail!("replies that are no text");
+    };
+    out.push_str(text)?;
+    match answer {
+        Ok(()) => out.push_str("all replayed\n")?,
+        Err(fault) => writeln!(out, "fault {fault}")?,
+    }
+    Ok(())
+}

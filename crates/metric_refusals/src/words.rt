@@ -1,0 +1,150 @@
+//! The words of the command line.
+use crate::inputs::{DATA, Data};
+use anyhow::{Context, bail};
+
+/// A call that needs no book.
+#[derive(Clone, Copy)]
+pub(crate) enum Plain {
+    Make,
+    Write,
+    Read,
+    Check,
+    Trial,
+    Audit,
+    Replay,
+}
+
+/// A call over a book.
+#[derive(Clone, Copy)]
+pub(crate) enum Booked {
+    New,
+    Run,
+    Start,
+    Record,
+    Collect,
+    CollectAll,
+    Shutdown,
+    Finish,
+    Grant,
+}
+
+/// A call.
+#[derive(Clone, Copy)]
+pub(crate) enum Call {
+    Plain(Plain),
+    Booked(Booked),
+}
+
+/// A book.
+#[derive(Clone, Copy)]
+pub(crate) enum BookName {
+    Journal,
+    Marked,
+    Audited,
+}
+
+/// The calls by their words.
+pub(crate) const CALLS: &[(&str, Call)] = &[
+    ("make", Call::Plain(Plain::Make)),
+    ("write", Call::Plain(Plain::Write)),
+    ("read", Call::Plain(Plain::Read)),
+    ("check", Call::Plain(Plain::Check)),
+    ("trial", Call::Plain(Plain::Trial)),
+    ("new", Call::Booked(Booked::New)),
+    ("run", Call::Booked(Booked::Run)),
+    ("start", Call::Booked(Booked::Start)),
+    ("record", Call::Booked(Booked::Record)),
+    ("collect", Call::Booked(Booked::Collect)),
+    ("collect-all", Call::Booked(Booked::CollectAll)),
+    ("shutdown", Call::Booked(Booked::Shutdown)),
+    ("finish", Call::Booked(Booked::Finish)),
+    ("audit", Call::Plain(Plain::Audit)),
+    ("grant", Call::Booked(Booked::Grant)),
+    ("replay", Call::Plain(Plain::Replay)),
+];
+
+/// The books by their words.
+pub(crate) const BOOKS: &[(&str, BookName)] = &[
+    ("journal", BookName::Journal),
+    ("marked", BookName::Marked),
+    ("audited", BookName::Audited),
+];
+
+/// What is called, over what.
+#[derive(Clone, Copy)]
+pub(crate) struct Words {
+    pub call: Call,
+    pub book: BookName,
+    pub data: &'static Data,
+    /// The event that the first call of `run` leaves out, counted from 1.
+    pub left: Option<usize>,
+    /// Whether the call is made once.
+    pub is_once: bool,
+}
+
+/// What the words ask for, the first of which is the program's name; nothing where there is no other.
+pub(crate) fn words_of(owned: &[String]) -> anyhow::Result<Option<Words>> {
+    match owned {
+        [] | [_] => Ok(None),
+        [_, call, book, of] => Ok(Some(asked(call, book, of)?)),
+        [_, call, book, of, how] => {
+            let words = asked(call, book, of)?;
+            Ok(Some(made(words, how)?))
+        }
+        _ => bail!("usage: metric_refusals [CALL BOOK DATA [once|N]]"),
+    }
+}
+
+fn asked(call: &str, book: &str, of: &str) -> anyhow::Result<Words> {
+    Ok(Words {
+        call: call_of(call).context("no such call")?,
+        book: book_of(book).context("no such book")?,
+        data: data_of(of).context("no such data")?,
+        left: None,
+        is_once: false,
+    })
+}
+
+// How the calls are made.
+fn made(words: Words, how: &str) -> anyhow::Result<Words> {
+    if how == "once" {
+        return Ok(Words {
+            is_once: true,
+            ..words
+        });
+    }
+    match how.parse::<usize>() {
+        Ok(number) => Ok(Words {
+            left: Some(number),
+            ..words
+        }),
+        Err(_) => bail!("neither once nor a number"),
+    }
+}
+
+fn call_of(word: &str) -> Option<Call> {
+    for (name, call) in CALLS {
+        if *name == word {
+            return Some(*call);
+        }
+    }
+    None
+}
+
+fn book_of(word: &str) -> Option<BookName> {
+    for (name, book) in BOOKS {
+        if *name == word {
+            return Some(*book);
+        }
+    }
+    None
+}
+
+fn data_of(word: &str) -> Option<&'static Data> {
+    for data in DATA {
+        if data.name == word {
+            return Some(data);
+        }
+    }
+    None
+}
