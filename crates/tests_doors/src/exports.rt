@@ -1,0 +1,1 @@
+//! Tests of exporters that keep, try again and tell.

@@ -1,0 +1,12 @@
+//! Tests of the doors of a service: instruments and seats by name, exports that fail, and a life of many runs.
+//!
+//! A module has what no clause says: that a call succeeds while memory is there, what it prints, and what stands behind a
+//! lock. Most tests are one loop over a table.
+#![tactic(auto)]
+
+#[cfg(test)]
+mod exports;
+#[cfg(test)]
+mod handles;
+#[cfg(test)]
+mod life;

@@ -1,0 +1,1 @@
+//! Tests of a service from its two files to its totals.
