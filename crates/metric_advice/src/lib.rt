@@ -13,6 +13,7 @@ mod linting;
 mod position;
 mod remark;
 mod selected;
+mod unsafe_part;
 
 pub use explanation::{Explanation, Mistake, explain_refusal};
 pub use headroom::{Headroom, headrooms};
@@ -20,3 +21,4 @@ pub use limit::Limit;
 pub use linting::lint;
 pub use position::{Position, locate_in_catalogue, locate_in_config};
 pub use remark::{KeyList, Remark};
+pub use unsafe_part::{UnsafePart, explain_unsafe};
