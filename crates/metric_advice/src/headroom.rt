@@ -235,9 +235,11 @@ pub(crate) fn most_by_series(
     }
 }
 
-// How many distinct sets of the kept keys recordings of a stream may have.
+/// How many distinct sets of the kept keys recordings of a stream may have, and so how many series it may have beside the overflow
+/// point: as many as the combinations that its instrument lists leave, else the product of the numbers of values. Fails only
+/// where memory is refused.
 #[tactic(auto, unfolding(metric_bounds::specs::Sets::sets_of))]
-fn sets_of(alloc: Global, catalogue: &Catalogue, stream: &Stream) -> Result<u128, AllocError>
+pub fn sets_of(alloc: Global, catalogue: &Catalogue, stream: &Stream) -> Result<u128, AllocError>
     ensures { IfOk result (λ count. count ≡ sets_of catalogue.now stream.now) }
 {
     match listed(alloc, catalogue, stream)? {

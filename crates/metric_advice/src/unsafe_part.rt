@@ -25,7 +25,7 @@ pub enum UnsafePart {
         /// The number of the later stream.
         later: u32,
     },
-    /// The budgets of an instrument are together more than is safe.
+    /// The budgets of an instrument and its spare are together more than is safe.
     TooOften {
         /// The number of the instrument.
         instrument: u32,

@@ -1,5 +1,8 @@
 //! What is told of one fault.
+ghost use Rattle.std.specs.Prelude.{◌≡◌};
+
 use crate::excerpt::Excerpt;
+use crate::sources::Source;
 use metric_advice::Position;
 use std::fmt;
 
@@ -18,7 +21,27 @@ pub struct Diagnosis<'t, F> {
     pub words: String,
 }
 
-impl<F> Diagnosis<'_, F> {
+impl<'t, F> Diagnosis<'t, F> {
+    // What is told of a fault at a position of a text.
+    pub(crate) fn new(
+        source: Source<'t>,
+        fault: F,
+        position: Option<Position>,
+        words: String,
+    ) -> Diagnosis<'t, F>
+        ensures fault { result.fault ≡ fault }
+        ensures file { result.file.now ≡ source.entry.name.now }
+        ensures position { result.position ≡ position }
+    {
+        Diagnosis {
+            fault,
+            file: source.name,
+            position,
+            line: line_at(source.text, position),
+            words,
+        }
+    }
+
     /// The line of the text with a mark below the place. It is empty where there is no position.
     pub fn excerpt(&self) -> Excerpt<'_> {
         Excerpt::new(self.position, self.line)
@@ -33,5 +56,16 @@ impl<F> fmt::Display for Diagnosis<'_, F> {
             Some(Position { line, column }) => write!(f, "{file}:{line}:{column}: {words}"),
             None => write!(f, "{file}: {words}"),
         }
+    }
+}
+
+// The line at a position of a text.
+fn line_at(text: &str, position: Option<Position>) -> &str {
+    match position {
+        Some(position) => text
+            .lines()
+            .nth(position.line.saturating_sub(1))
+            .unwrap_or(""),
+        None => "",
     }
 }

@@ -5,13 +5,27 @@
 #![tactic(auto)]
 
 mod catalogue;
+mod catalogue_cause;
+mod cause;
 mod certificate;
 mod config;
+mod config_cause;
 mod diagnosis;
 mod excerpt;
+mod fields;
+mod mistake;
+mod places;
 mod remarks;
+mod room;
+mod rows;
+mod shown;
 mod sources;
+mod tables;
+mod told;
+mod toml_fault;
 mod unsafe_parts;
+mod values;
+mod walk;
 
 pub use catalogue::diagnose_catalogue;
 pub use certificate::{diagnose_certificate, diagnose_check};

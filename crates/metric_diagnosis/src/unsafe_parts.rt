@@ -2,8 +2,16 @@
 ghost use Rattle.std.specs.Prelude.{◌≡◌, IfOk};
 
 use crate::diagnosis::Diagnosis;
+use crate::places::{Place, position_of, source_of};
+use crate::room::{told_room, told_series};
 use crate::sources::Pair;
+use crate::told::told_stream;
+use crate::toml_fault::want_of_memory;
+use metric_advice::{Limit, UnsafePart, explain_unsafe};
+use metric_catalogue::CataloguePlace;
 use metric_cert::MakeFault;
+use metric_resolve::resolve_streams;
+use metric_views::{ConfigPlace, Stream};
 use std::alloc::{AllocError, Global};
 
 /// What a person is told of a catalogue and a config that get no certificate: the first part of safety that fails, with the
@@ -17,12 +25,82 @@ pub fn diagnose_make<'t>(
 ) -> Result<Diagnosis<'t, MakeFault>, AllocError>
     ensures fault { IfOk result (λ told. told.fault ≡ fault) }
 {
-    let words = format!(in alloc; "{fault}")?;
-    Ok(Diagnosis {
-        fault,
-        file: pair.catalogue_source.name,
-        position: None,
-        line: "",
-        words,
-    })
+    let (place, words) = told_of(alloc, pair, fault)?;
+    let position = position_of(alloc, pair, place)?;
+    Ok(Diagnosis::new(source_of(pair, place), fault, position, words))
+}
+
+fn told_of(alloc: Global, pair: Pair<'_>, fault: MakeFault) -> Result<(Place, String), AllocError> {
+    if matches!(fault, MakeFault::Memory) {
+        return Ok((TOP, want_of_memory(alloc)?));
+    }
+    match explain_unsafe(alloc, pair.catalogue, pair.config)? {
+        Some(part) => told_part(alloc, pair, part),
+        None => Ok((
+            TOP,
+            String::from_str(alloc, "the catalogue and the config are safe")?,
+        )),
+    }
+}
+
+const TOP: Place = Place::Catalogue(CataloguePlace::Top);
+
+// The place of a part of safety, and what is told of it.
+fn told_part(
+    alloc: Global,
+    pair: Pair<'_>,
+    part: UnsafePart,
+) -> Result<(Place, String), AllocError> {
+    match part {
+        UnsafePart::Collision { first, later } => told_collision(alloc, pair, first, later),
+        UnsafePart::TooOften {
+            instrument,
+            limit: Limit::Series { stream },
+        } => told_series(alloc, pair, instrument, stream),
+        UnsafePart::TooOften { instrument, .. } => {
+            let place = Place::Catalogue(CataloguePlace::Instrument(instrument));
+            Ok((place, told_room(alloc, pair, instrument)?))
+        }
+    }
+}
+
+// Two streams of one identity. The place is that of a view, since without views no two streams have one.
+pub(crate) fn told_collision(
+    alloc: Global,
+    pair: Pair<'_>,
+    first: u32,
+    later: u32,
+) -> Result<(Place, String), AllocError> {
+    let streams = resolve_streams(alloc, pair.catalogue, pair.config)?;
+    let streams = streams.as_slice();
+    match (streams.get(first as usize), streams.get(later as usize)) {
+        (Some(one), Some(other)) => {
+            let words = words_of_two(alloc, pair, (first, one), (later, other))?;
+            Ok((place_of_two(one, other), words))
+        }
+        _ => {
+            let words = format!(in alloc; "streams {first} and {later} have one identity")?;
+            Ok((TOP, words))
+        }
+    }
+}
+
+fn words_of_two(
+    alloc: Global,
+    pair: Pair<'_>,
+    one: (u32, &Stream),
+    other: (u32, &Stream),
+) -> Result<String, AllocError> {
+    let one = told_stream(alloc, pair, one.0, one.1)?;
+    let other = told_stream(alloc, pair, other.0, other.1)?;
+    format!(in alloc; "{one} and {other} have one identity: the same name in one meter")
+}
+
+// The view of the later stream, else that of the first.
+fn place_of_two(one: &Stream, other: &Stream) -> Place {
+    match (one.view, other.view) {
+        (_, Some(view)) => Place::Config(ConfigPlace::View(view)),
+        (Some(view), None) => Place::Config(ConfigPlace::View(view)),
+        (None, None) => TOP,
+    }
 }
