@@ -124,7 +124,7 @@ fn write_character<W: fmt::Write>(
 ) -> fmt::Result {
     write!(
         f,
-        ": {text:?} is no {what}: what stands after {at} characters may not be in one"
+        ": {text:?} is no {what}: the character at {at}, counted from 0, may not be in one"
     )
 }
 
@@ -152,7 +152,7 @@ impl fmt::Display for WrongRow<'_> {
                 write!(f, "has {value}, which is no {what}")
             }
             WrongRow::Length(entries, keys) => {
-                write!(f, "has {entries} entries, and the instrument {keys} keys")
+                write!(f, "has {entries} entries for {keys} key(s)")
             }
             WrongRow::Entry(key, entry, values) => write_entry(f, key, entry, values),
             WrongRow::Repeated(row) => write!(f, "is the same as row {row}"),

@@ -1,6 +1,6 @@
 //! Where the tables of a catalogue and a config that were read stand.
 ghost use Rattle.std.specs.Prelude.{◌≡◌, IfOk};
-ghost use Rattle.metric_advice.specs.Positions.{config_place, located};
+ghost use Rattle.metric_diagnosis.specs.Places.{standing};
 
 use crate::sources::{Pair, Source};
 use metric_advice::{Position, locate_in_catalogue, locate_in_config};
@@ -28,7 +28,10 @@ pub(crate) fn position_of(
     alloc: Global,
     pair: Pair<'_>,
     place: Place,
-) -> Result<Option<Position>, AllocError> {
+) -> Result<Option<Position>, AllocError>
+    ensures { IfOk result (λ found. found ≡ standing pair.entry.catalogue_source.text.now
+        pair.entry.config_source.text.now place) }
+{
     match place {
         Place::Catalogue(place) => locate_in_catalogue(alloc, pair.catalogue_source.text, place),
         Place::Config(place) => locate_in_config(alloc, pair.config_source.text, place),

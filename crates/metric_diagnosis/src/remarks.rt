@@ -1,7 +1,7 @@
 //! What a person is told of a remark.
 ghost use Rattle.std.specs.Prelude.{◌≡◌, IfOk};
+ghost use Rattle.metric_diagnosis.specs.Places.{IsAbout, RemarkStands};
 
-use crate::cause::Named;
 use crate::diagnosis::Diagnosis;
 use crate::places::{Place, position_of, source_of};
 use crate::room::told_room;
@@ -22,43 +22,82 @@ pub fn diagnose_remark<'t>(
     remark: Remark,
 ) -> Result<Diagnosis<'t, Remark>, AllocError>
     ensures fault { IfOk result (λ told. told.fault ≡ remark) }
+    ensures place { IfOk result (λ told. RemarkStands pair.entry.catalogue_source.text.now
+        pair.entry.config_source.text.now remark told.position) }
 {
     let (place, words) = told_of(alloc, pair, remark)?;
     let position = position_of(alloc, pair, place)?;
     Ok(Diagnosis::new(source_of(pair, place), remark, position, words))
 }
 
-fn told_of(alloc: Global, pair: Pair<'_>, remark: Remark) -> Result<(Place, String), AllocError> {
+fn told_of(alloc: Global, pair: Pair<'_>, remark: Remark) -> Result<(Place, String), AllocError>
+    ensures { IfOk result (λ told. IsAbout remark told.0) }
+{
     match remark {
         Remark::Unfit { view, instrument } => {
-            let instrument = instrument_of(pair.catalogue, instrument);
-            let words = words_of_unfit(alloc, view, instrument)?;
-            Ok((place_of_view(view), words))
+            Ok((
+                place_of_view(view),
+                words_of_unfit(alloc, pair, view, instrument)?,
+            ))
         }
         Remark::Collision { first, later } => told_collision(alloc, pair, first, later),
         Remark::SelectsNothing { view } => {
-            let words = format!(in alloc; "view {view} selects no instrument")?;
-            Ok((place_of_view(view), words))
+            Ok((
+                place_of_view(view),
+                words_of_view(alloc, view, "selects no instrument")?,
+            ))
         }
         Remark::UnknownKey { view, list, place } => {
-            let words = words_of_key(alloc, pair, view, list, place)?;
-            Ok((place_of_view(view), words))
+            Ok((
+                place_of_view(view),
+                words_of_key(alloc, pair, view, list, place)?,
+            ))
         }
         Remark::UnusedBoundaries { view } => {
-            let words = format!(in alloc;
-                "view {view} gives boundaries, and no stream of it is a histogram"
-            )?;
-            Ok((place_of_view(view), words))
+            Ok((place_of_view(view), words_of_view(alloc, view, UNUSED)?))
         }
-        _ => told_of_numbers(alloc, pair, remark),
+        Remark::NoBudget {
+            instrument,
+            recorder,
+        } => {
+            let words = words_of_budget(alloc, pair, instrument, recorder)?;
+            Ok((Place::Catalogue(CataloguePlace::Recorder(recorder)), words))
+        }
+        Remark::OverBudget { instrument } => {
+            let words = told_room(alloc, pair, instrument)?;
+            Ok((
+                Place::Catalogue(CataloguePlace::Instrument(instrument)),
+                words,
+            ))
+        }
+        Remark::NoReader => Ok((
+            Place::Config(ConfigPlace::Top),
+            String::from_str(alloc, NONE)?,
+        )),
     }
 }
 
-fn place_of_view(view: u32) -> Place {
+const UNUSED: &str = "gives boundaries, and no stream of it is a histogram";
+
+const NONE: &str = "there is no reader, so nothing is collected";
+
+fn words_of_view(alloc: Global, view: u32, what: &str) -> Result<String, AllocError> {
+    format!(in alloc; "view {view} {what}")
+}
+
+fn place_of_view(view: u32) -> Place
+    ensures { result ≡ Place.Config (ConfigPlace.View view) }
+{
     Place::Config(ConfigPlace::View(view))
 }
 
-fn words_of_unfit(alloc: Global, view: u32, instrument: Named<'_>) -> Result<String, AllocError> {
+fn words_of_unfit(
+    alloc: Global,
+    pair: Pair<'_>,
+    view: u32,
+    instrument: u32,
+) -> Result<String, AllocError> {
+    let instrument = instrument_of(pair.catalogue, instrument);
     format!(in alloc;
         "view {view} selects {instrument} and names an aggregation that does not fit it: a gauge has no sum"
     )
@@ -104,31 +143,15 @@ fn key_at(view: &View, list: KeyList, place: u32) -> &str {
     }
 }
 
-// What is told of budgets and of readers.
-fn told_of_numbers(
+fn words_of_budget(
     alloc: Global,
     pair: Pair<'_>,
-    remark: Remark,
-) -> Result<(Place, String), AllocError> {
-    match remark {
-        Remark::NoBudget {
-            instrument,
-            recorder,
-        } => {
-            let instrument = instrument_of(pair.catalogue, instrument);
-            let named = recorder_of(pair.catalogue, recorder);
-            let words = format!(in alloc;
-                "{named} has no budget for {instrument}, and records there only with a grant"
-            )?;
-            Ok((Place::Catalogue(CataloguePlace::Recorder(recorder)), words))
-        }
-        Remark::OverBudget { instrument } => {
-            let place = Place::Catalogue(CataloguePlace::Instrument(instrument));
-            Ok((place, told_room(alloc, pair, instrument)?))
-        }
-        _ => {
-            let words = String::from_str(alloc, "there is no reader, so nothing is collected")?;
-            Ok((Place::Config(ConfigPlace::Top), words))
-        }
-    }
+    instrument: u32,
+    recorder: u32,
+) -> Result<String, AllocError> {
+    let instrument = instrument_of(pair.catalogue, instrument);
+    let recorder = recorder_of(pair.catalogue, recorder);
+    format!(in alloc;
+        "{recorder} has no budget for {instrument}, and records there only with a grant"
+    )
 }

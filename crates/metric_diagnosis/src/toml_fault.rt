@@ -1,7 +1,7 @@
 //! Why a text is no TOML.
 use metric_advice::Position;
 use std::alloc::{AllocError, Global};
-use toml::Error;
+use toml::de::Error;
 
 // Where a text that is no TOML breaks off, and why.
 pub(crate) fn told_of_toml(

@@ -1,5 +1,7 @@
 //! Why a catalogue and a config are not safe.
-ghost use Rattle.std.specs.Prelude.{◌≡◌, IfOk};
+ghost use Rattle.std.specs.Prelude.{◌≡◌, ◌≢◌, IfOk, IsTrue};
+ghost use Rattle.metric_diagnosis.specs.Places.{IsAboutPart};
+ghost use Rattle.metric_diagnosis.specs.Unsafe.{IsPlaced, PartStands};
 
 use crate::diagnosis::Diagnosis;
 use crate::places::{Place, position_of, source_of};
@@ -24,14 +26,18 @@ pub fn diagnose_make<'t>(
     fault: MakeFault,
 ) -> Result<Diagnosis<'t, MakeFault>, AllocError>
     ensures fault { IfOk result (λ told. told.fault ≡ fault) }
+    ensures place { IfOk result (λ told. fault ≢ MakeFault.Memory
+        → PartStands pair.entry told.position) }
 {
     let (place, words) = told_of(alloc, pair, fault)?;
     let position = position_of(alloc, pair, place)?;
     Ok(Diagnosis::new(source_of(pair, place), fault, position, words))
 }
 
-fn told_of(alloc: Global, pair: Pair<'_>, fault: MakeFault) -> Result<(Place, String), AllocError> {
-    if matches!(fault, MakeFault::Memory) {
+fn told_of(alloc: Global, pair: Pair<'_>, fault: MakeFault) -> Result<(Place, String), AllocError>
+    ensures { IfOk result (λ told. fault ≢ MakeFault.Memory → IsPlaced pair.entry told.0) }
+{
+    if is_memory(fault) {
         return Ok((TOP, want_of_memory(alloc)?));
     }
     match explain_unsafe(alloc, pair.catalogue, pair.config)? {
@@ -43,23 +49,41 @@ fn told_of(alloc: Global, pair: Pair<'_>, fault: MakeFault) -> Result<(Place, St
     }
 }
 
+fn is_memory(fault: MakeFault) -> bool
+    ensures { IsTrue result → fault ≡ MakeFault.Memory }
+{
+    matches!(fault, MakeFault::Memory)
+}
+
 const TOP: Place = Place::Catalogue(CataloguePlace::Top);
 
 // The place of a part of safety, and what is told of it.
-fn told_part(
-    alloc: Global,
-    pair: Pair<'_>,
-    part: UnsafePart,
-) -> Result<(Place, String), AllocError> {
+fn told_part(alloc: Global, pair: Pair<'_>, part: UnsafePart) -> Result<(Place, String), AllocError>
+    ensures { IfOk result (λ told. IsAboutPart part told.0) }
+{
     match part {
         UnsafePart::Collision { first, later } => told_collision(alloc, pair, first, later),
-        UnsafePart::TooOften {
-            instrument,
-            limit: Limit::Series { stream },
-        } => told_series(alloc, pair, instrument, stream),
-        UnsafePart::TooOften { instrument, .. } => {
-            let place = Place::Catalogue(CataloguePlace::Instrument(instrument));
-            Ok((place, told_room(alloc, pair, instrument)?))
+        UnsafePart::TooOften { instrument, limit } => told_limit(alloc, pair, instrument, limit),
+    }
+}
+
+// The same of an instrument that may be recorded too often.
+fn told_limit(
+    alloc: Global,
+    pair: Pair<'_>,
+    instrument: u32,
+    limit: Limit,
+) -> Result<(Place, String), AllocError>
+    ensures { IfOk result (λ told. IsAboutPart (UnsafePart.TooOften instrument limit) told.0) }
+{
+    match limit {
+        Limit::Series { stream } => told_series(alloc, pair, instrument, stream),
+        Limit::Count | Limit::Amount | Limit::SumLow | Limit::SumHigh => {
+            let words = told_room(alloc, pair, instrument)?;
+            Ok((
+                Place::Catalogue(CataloguePlace::Instrument(instrument)),
+                words,
+            ))
         }
     }
 }

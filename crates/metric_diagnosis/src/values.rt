@@ -56,7 +56,7 @@ fn wrong_instrument(value: &Value, instruments: usize) -> Option<Wrong<'_>> {
 fn wrong_flag(value: &Value) -> Option<Wrong<'_>> {
     match value.as_bool() {
         Some(_) => None,
-        None => Some(Wrong::NotA(value, "true or false")),
+        None => Some(Wrong::NotA(value, "flag, true or false")),
     }
 }
 
@@ -138,7 +138,7 @@ fn fall_of<'v>(two: &[Value]) -> Option<Wrong<'v>> {
     match two {
         [first, second] => match (first.as_integer(), second.as_integer()) {
             (Some(first), Some(second)) if second <= first => {
-                Some(Wrong::Order(first, second, "boundaries rise"))
+                Some(Wrong::Order(first, second, "boundaries must rise"))
             }
             _ => None,
         },
@@ -167,12 +167,10 @@ fn wrong_value(value: &Value) -> Option<Wrong<'_>> {
 
 // The first value that stands before, too.
 fn first_repeated(values: &[Value]) -> Option<Wrong<'_>> {
-    let mut left = values;
-    while let [first, rest @ ..] = left {
-        if rest.iter().any(|other| other == first) {
-            return Some(Wrong::Repeated(first));
+    for (place, value) in values.iter().enumerate() {
+        if values.iter().take(place).any(|other| other == value) {
+            return Some(Wrong::Repeated(value));
         }
-        left = rest;
     }
     None
 }
