@@ -6,45 +6,50 @@
 //!    [`MeterProvider`] with the seat of each recorder and each reader, in the order of the texts, or the first [`SetupFault`].
 //!    [`open_certified`] takes a certificate that somebody else made, whom it does not trust. [`now`] gives the moment of the
 //!    start, [`Runs`] the number of the run. (512 instruments with 256 views take some 150 ns for each pair of the two.)
-//! 2. **Recording.** A thread records with a [`Recorder`], by the number of an instrument, its [`Attr`]s, each a key with a
-//!    [`ValueRef`], and the value: 85 to 107 ns with three attributes, less than a lock and a map of three texts. What is not
+//! 2. **Names.** [`counter`], [`up_down_counter`], [`histogram`] and [`gauge`] find an instrument of the plan by the names of its
+//!    meter and its own, and compare its kind and its keys with what the service is going to record: a [`Handle`] of that kind
+//!    ([`Counter`] and so on), or a [`HandleFault`] before anything was recorded. [`take_recorder`] and [`take_reader`] take a
+//!    seat out of those that `open` gave.
+//! 3. **Recording.** A thread records with a [`Recorder`]: by a handle's `add` or `record`, with the [`Attr`]s, each a key with a
+//!    [`ValueRef`], and the value; 85 to 107 ns with three attributes, less than a lock and a map of three texts. What is not
 //!    counted is answered by a [`Refusal`], also attributes of which each is declared, but not together
 //!    ([`Refusal::Combination`] of the allowed [`Combinations`]); [`explain_refusal`] gives its [`Explanation`]. Nothing is
 //!    counted in another series, and no new series appears. `Recorder::accepted` tells what the seat was [`Told`] of.
-//! 3. **Set keys.** `Recorder::admits` answers the [`SetKey`] that attributes come to, in 40 of these ns for three of them.
-//!    `Recorder::record_set` records by it, in 46, and `Recorder::record_sets` a list of [`Measurement`]s of one instrument under
-//!    one lock, in 34 each, up to a [`SetsFault`].
-//! 4. **Export.** [`Periodic`] collects at each [`Tick`] of a [`Ticker`], a [`ClockTicker`] until its [`StopFlag`] is set or a
+//! 4. **Bound attributes.** `Handle::bind` looks attributes up once, 40 of these ns for three of them; the [`Bound`] that it gives
+//!    records without them, in 46, and a [`BoundList`] hands on many under one lock, in 34 each. Below both are set keys:
+//!    `Recorder::admits` gives the [`SetKey`] of attributes, `Recorder::record_set` records by it, and `Recorder::record_sets` a
+//!    list of [`Measurement`]s, up to a [`SetsFault`].
+//! 5. **Export.** [`Periodic`] collects at each [`Tick`] of a [`Ticker`], a [`ClockTicker`] until its [`StopFlag`] is set or a
 //!    [`ListTicker`]; it hands each batch on to a [`MetricExporter`], as a [`TextExporter`] is, and at its end collects a last
 //!    time. What it did is a [`PeriodicEnd`], an exporter's fault an [`ExportFault`]. By hand: a [`Collector`] collects the
 //!    [`Batch`] of one instrument or of all, up to an [`AllFault`]; a batch has the [`StreamPoints`] of each stream, a [`Point`]
 //!    the [`PointValue`] of one series, and [`write_batch`] writes its text. (A collection takes 23 to 54 ns a point.)
-//! 5. **End.** [`shutdown_all`] lets readers collect a last time, exports what they give, and finishes the provider; an
+//! 6. **End.** [`shutdown_all`] lets readers collect a last time, exports what they give, and finishes the provider; an
 //!    [`EndFault`] has each cause, and hands back what is left. `Provider::finish` alone gives the [`Totals`], a [`Total`] for
 //!    each instrument, exactly what the recorders were told, or a [`FinishFault`]; `Provider::finish_keeping` also the plan. Calls
 //!    that hand things back have them in a tuple with the fault: `?` makes a [`ServiceFault`] of each.
-//! 6. **A long life.** Budgets end: [`headrooms`] tells how often each instrument may be recorded, its [`Headroom`]. So
+//! 7. **A long life.** Budgets end: [`headrooms`] tells how often each instrument may be recorded, its [`Headroom`]. So
 //!    `Provider::roll_over` ends a run and starts the next one of the same plan, with new seats and full budgets, or hands all
 //!    back with a [`RollFault`]. For what no recorder's budget foresees an instrument may have a spare: while the run goes on,
 //!    `Provider::grant` gives some of it to any recorder, and by `Recorder::ask` a recorder whose budget is spent
 //!    ([`Refusal::Budget`]) asks for some itself, until nothing is left ([`Refusal::NoSpare`]). The certificate vouches for the
 //!    budgets and the spare together.
-//! 7. **Files that are wrong.** [`lint`] gives a [`Remark`] on each thing in the files that looks like a mistake;
+//! 8. **Files that are wrong.** [`lint`] gives a [`Remark`] on each thing in the files that looks like a mistake;
 //!    [`locate_in_catalogue`] and [`locate_in_config`] give the [`Position`] of a fault.
-//! 8. **By steps.** What `open` does: [`Catalogue::read`] and [`Config::read`], each up to its first fault, a
+//! 9. **By steps.** What `open` does: [`Catalogue::read`] and [`Config::read`], each up to its first fault, a
 //!    [`CatalogueFault`] or a [`ViewFault`] with its place; [`make`] gives a [`Certificate`], or a [`MakeFault`];
 //!    `Certificate::write` and `Certificate::read` take it from one machine to another; [`check`] trusts nobody and gives the
 //!    certified [`Plan`], or a [`CheckFault`]; [`start`] makes the [`Provider`] of a plan. [`certified_plan`] and
 //!    [`vouched_plan`] give the plan of texts. Wherever a value has a [`Text`] or an [`Items`], it is a `String` or a `Vec` that
 //!    contracts see as a text or a list: read it by `as_str` and `as_slice`.
-//! 9. **Other books.** A provider is generic over the book that keeps the recordings of an instrument, and over a [`Gate`], by
+//! 10. **Other books.** A provider is generic over the book that keeps the recordings of an instrument, and over a [`Gate`], by
 //!    which a test holds threads inside a lock. Services take [`Marked`] and [`NoGate`], of whose tables
 //!    [`tables_are_bounded`] speaks. A service that has to prove its numbers to somebody, for billing or after an incident,
 //!    starts with [`Audited`]: beside the tables it keeps each recording, 32 bytes in the list of its instrument and 24 in the
 //!    seat of its recorder, so it takes memory as long as a run lasts, and some 70 ns more for each of them. Its totals have the
 //!    journal of each instrument, its recordings as [`Entry`], and the [`Slip`]s of each recorder; [`audit`] tells whether these
 //!    and the batches agree, or an [`AuditFault`].
-//! 10. **Devices.** A [`Sink`] takes bytes, a [`Source`] gives them: [`StdSink`] and [`StdSource`] are those of std,
+//! 11. **Devices.** A [`Sink`] takes bytes, a [`Source`] gives them: [`StdSink`] and [`StdSource`] are those of std,
 //!     [`CutSink`] and [`CutSource`] are of memory, for tests. [`read_all`] and [`write_all`] move a whole text.
 #![tactic(auto)]
 
@@ -111,6 +116,31 @@ pub use metric_export::TextExporter;
 pub use metric_export::Tick;
 pub use metric_export::Ticker;
 pub use metric_export::write_batch;
+pub use metric_handles::Adds;
+pub use metric_handles::Bound;
+pub use metric_handles::BoundCounter;
+pub use metric_handles::BoundGauge;
+pub use metric_handles::BoundHistogram;
+pub use metric_handles::BoundList;
+pub use metric_handles::BoundUpDownCounter;
+pub use metric_handles::Counter;
+pub use metric_handles::Gauge;
+pub use metric_handles::Handle;
+pub use metric_handles::HandleFault;
+pub use metric_handles::Histogram;
+pub use metric_handles::IsCounter;
+pub use metric_handles::IsGauge;
+pub use metric_handles::IsHistogram;
+pub use metric_handles::IsUpDownCounter;
+pub use metric_handles::ListFault;
+pub use metric_handles::Records;
+pub use metric_handles::UpDownCounter;
+pub use metric_handles::counter;
+pub use metric_handles::gauge;
+pub use metric_handles::histogram;
+pub use metric_handles::take_reader;
+pub use metric_handles::take_recorder;
+pub use metric_handles::up_down_counter;
 pub use metric_history::Batch;
 pub use metric_history::Entry;
 pub use metric_history::Point;
