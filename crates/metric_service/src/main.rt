@@ -61,16 +61,12 @@ fn serve<R: Threads + Wait + Clock + Sync + AllocGlobal>(
         let end = log.run(rt, rt.alloc(), work.provider, reader, &mut ticker);
         count(&work.failed, end.failed.saturating_add(end.refused));
     };
+    let serve = |_, seat: &mut Recorder| work.serve(rt, seat);
     let (exports, recorders) = join(
         rt,
         || map_vec(rt, readers, &export),
         || {
-            for_each_mut(
-                rt,
-                recorders.as_mut_slice(),
-                64,
-                &|_, seat| work.serve(rt, seat),
-            );
+            for_each_mut(rt, recorders.as_mut_slice(), 64, &serve);
             stop.set(rt);
             recorders
         },
