@@ -43,17 +43,32 @@ pub(crate) fn deliver<F: Folder, W: Sink>(
         status ≡ answer_status request.now.options.strict answer.now) }
     ensures device { IfErr result IsDeviceFault }
 {
-    let options = request.options;
+    write_answer(alloc, request, texts, answer, columns, folder, sink)?;
+    Ok(status_of(request.options.strict, answer))
+}
+
+// Writes an answer where the request wants it.
+fn write_answer<F: Folder, W: Sink>(
+    alloc: Global,
+    request: &Request,
+    texts: &Texts,
+    answer: &Answer,
+    columns: u32,
+    folder: &mut F,
+    sink: &mut W,
+) -> Result<(), KitFault>
+    ensures delivered { OnOk result (IsDeliveredAnswer request.now.files.output answer.now
+        (F.made folder.old) (F.made folder.new) (W.contents sink.old) (W.contents sink.new)) }
+    ensures device { IfErr result IsDeviceFault }
+{
     match answer {
-        Answer::Certificate(text) | Answer::Picture(text) => {
-            put(&request.files.output, text, folder, sink)?;
-        }
-        Answer::Accepted => print(sink, "accepted\n")?,
-        Answer::Streams(listing) => print_sheet(alloc, sink, listing, options, columns)?,
-        Answer::Rooms(rooms) => print_rooms(alloc, sink, rooms, options, columns)?,
-        Answer::Notes(notes) => print_notes(alloc, sink, request, texts, notes)?,
+        Answer::Certificate(text) => put(&request.files.output, text, folder, sink),
+        Answer::Picture(text) => put(&request.files.output, text, folder, sink),
+        Answer::Accepted => print(sink, "accepted\n"),
+        Answer::Streams(listing) => { print_sheet(alloc, sink, listing, request.options, columns) }
+        Answer::Rooms(rooms) => print_rooms(alloc, sink, rooms, request.options, columns),
+        Answer::Notes(notes) => print_notes(alloc, sink, request, texts, notes),
     }
-    Ok(status_of(options.strict, answer))
 }
 
 // The exit status of an answer that is written.

@@ -14,7 +14,7 @@ use metric_sheet::{Cell, Sheet};
 use metric_views::Stream;
 use std::alloc::{AllocError, Global};
 
-const TITLES: &[&str] = &[
+static TITLES: [&str; 12] = [
     "number",
     "reader",
     "instrument",
@@ -63,7 +63,7 @@ pub(crate) fn listing_of(alloc: Global, parts: &Parts<'_>) -> Result<Listing, Ki
 
 impl Sheet for Listing {
     fn titles(&self) -> &'static [&'static str] {
-        TITLES
+        TITLES.as_slice()
     }
 
     fn rows(&self) -> usize {

@@ -1,8 +1,9 @@
 //! A request, run.
-ghost use Rattle.std.specs.Prelude.{◌≡◌, ◌≢◌, IfErr, IfOk};
+ghost use Rattle.std.specs.Prelude.{◌≡◌, ◌≢◌, IfErr, IfOk, OnErr};
 ghost use Rattle.metric_console.specs.Faults.{IsRefusal};
 ghost use Rattle.metric_commands.specs.Commands.{sink_run};
-ghost use Rattle.metric_console.specs.Runs.{Answers, RefusesFor, Replays, writing};
+ghost use Rattle.metric_console.specs.Runs.{Answers, RefusesFor, Replays, RunsRequest, RunsTexts, writing};
+ghost use Rattle.metric_console.specs.Told.{IsLineEnd};
 
 use crate::answer::answer_of;
 use crate::delivering::deliver;
@@ -28,14 +29,21 @@ pub fn run_request<F: Folder, W: Sink, E: Sink>(
     folder: &mut F,
     sink: &mut W,
     errors: &mut E,
-) -> u8 {
+) -> u8
+    ensures asked { IfOk request (λ asked. RunsRequest (F.text folder.old) asked
+        (writing F.made W.contents folder.old folder.new sink.old sink.new)
+        (sink_run W.contents W.failures sink.old sink.new) result) }
+    ensures unasked { IfErr request (λ fault.
+        IsLineEnd fault (W.contents sink.old) (W.contents sink.new) result) }
+    ensures unmade { OnErr request (folder.new ≡ folder.old) }
+{
     match request {
         Ok(request) => run_files(alloc, &request, columns, folder, sink, errors),
         Err(fault) => tell_line(fault, sink, errors),
     }
 }
 
-// Runs a command on its files.
+// Runs a command on its files, and tells how it ends.
 fn run_files<F: Folder, W: Sink, E: Sink>(
     alloc: Global,
     request: &Request,
@@ -43,35 +51,43 @@ fn run_files<F: Folder, W: Sink, E: Sink>(
     folder: &mut F,
     sink: &mut W,
     errors: &mut E,
-) -> u8 {
-    match texts_of(alloc, folder, &request.files) {
-        Ok(texts) => run_texts(alloc, request, &texts, columns, folder, sink, errors),
-        Err(fault) => stop(alloc, request, None, fault, errors),
+) -> u8
+    ensures { RunsRequest (F.text folder.old) request.now
+        (writing F.made W.contents folder.old folder.new sink.old sink.new)
+        (sink_run W.contents W.failures sink.old sink.new) result }
+{
+    let texts = match texts_of(alloc, folder, &request.files) {
+        Ok(texts) => texts,
+        Err(fault) => return stop(alloc, request, None, fault, errors),
+    };
+    match run_texts(alloc, request, &texts, columns, folder, sink) {
+        Ok(status) => status,
+        Err(fault) => stop(alloc, request, Some(&texts), fault, errors),
     }
 }
 
-// Runs a command on the texts of its files.
-fn run_texts<F: Folder, W: Sink, E: Sink>(
+// Runs a command on the texts of its files. The exit status.
+fn run_texts<F: Folder, W: Sink>(
     alloc: Global,
     request: &Request,
     texts: &Texts,
     columns: u32,
     folder: &mut F,
     sink: &mut W,
-    errors: &mut E,
-) -> u8 {
-    let end = if request.task == Task::Replay {
+) -> Result<u8, ConsoleFault>
+    ensures { RunsTexts request.now texts.now
+        (writing F.made W.contents folder.old folder.new sink.old sink.new)
+        (sink_run W.contents W.failures sink.old sink.new) result }
+{
+    if request.task == Task::Replay {
         run_replay(alloc, texts, request.options.audit, sink)
     } else {
         run_answer(alloc, request, texts, columns, folder, sink)
-    };
-    match end {
-        Ok(status) => status,
-        Err(fault) => stop(alloc, request, Some(texts), fault, errors),
     }
 }
 
 // Answers of the texts what a request asks for, and writes the answer. The exit status.
+#[tactic(auto, using(crate::proofs::Devices::device_is_not_refused))]
 fn run_answer<F: Folder, W: Sink>(
     alloc: Global,
     request: &Request,

@@ -18,7 +18,7 @@ use metric_resolve::resolve_streams;
 use metric_sheet::{Cell, Sheet};
 use std::alloc::{AllocError, Global};
 
-const TITLES: &[&str] = &[
+static TITLES: [&str; 9] = [
     "number",
     "instrument",
     "kind",
@@ -30,7 +30,7 @@ const TITLES: &[&str] = &[
     "fleet",
 ];
 
-const FIELDS: &[&str] = &[
+static FIELDS: [&str; 9] = [
     "number",
     "instrument",
     "kind",
@@ -84,7 +84,11 @@ pub(crate) struct RoomSheet<'a> {
 
 impl Sheet for RoomSheet<'_> {
     fn titles(&self) -> &'static [&'static str] {
-        if self.options.json { FIELDS } else { TITLES }
+        if self.options.json {
+            FIELDS.as_slice()
+        } else {
+            TITLES.as_slice()
+        }
     }
 
     fn rows(&self) -> usize {
