@@ -152,7 +152,7 @@ fn headed(parts: &Parts<'_>) -> Option<Role> {
         Some(Role::Catalogue)
     } else if has_header(&parts.config) {
         Some(Role::Config)
-    } else if parts.certificate.as_ref().is_some_and(has_header) {
+    } else if parts.certificate.as_ref().is_some_and(|text| has_header(text)) {
         Some(Role::Certificate)
     } else {
         None

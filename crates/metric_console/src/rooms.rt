@@ -77,6 +77,7 @@ pub(crate) fn rooms_of(alloc: Global, parts: &Parts<'_>) -> Result<Rooms, KitFau
 }
 
 /// The headrooms as they are asked for.
+#[derive(Clone, Copy)]
 pub(crate) struct RoomSheet<'a> {
     pub rooms: &'a Rooms,
     pub options: Options,

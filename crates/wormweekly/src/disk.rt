@@ -7,6 +7,7 @@ use std::fs::{self, File};
 use std::io::ErrorKind;
 
 /// The files of the machine.
+#[derive(Clone, Copy)]
 pub struct Disk<'a> {
     pub rt: &'a HostRuntime,
 }
