@@ -81,6 +81,7 @@ impl<K> Bound<K> {
 impl<K: Adds> Bound<K> {
     /// Adds a value to the series of the attributes (Metrics API, Add): [`Recorder::record_set`] at the instrument's number
     /// with the set key, with its refusals.
+    #[inline(always)]
     pub fn add<R: Wait, B: Book, G: Gate>(
         &self,
         rt: &R,
@@ -100,6 +101,7 @@ impl<K: Adds> Bound<K> {
 impl<K: Records> Bound<K> {
     /// Records a value with the attributes (Metrics API, Record): [`Recorder::record_set`] at the instrument's number with the
     /// set key, with its refusals.
+    #[inline(always)]
     pub fn record<R: Wait, B: Book, G: Gate>(
         &self,
         rt: &R,

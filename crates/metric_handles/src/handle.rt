@@ -90,6 +90,7 @@ impl<K> Handle<K> {
 impl<K: Adds> Handle<K> {
     /// Adds a value to the series of these attributes (Metrics API, Add): [`Recorder::record`] at the handle's number, with its
     /// refusals.
+    #[inline(always)]
     pub fn add<R: Wait, B: Book, G: Gate>(
         &self,
         rt: &R,
@@ -110,6 +111,7 @@ impl<K: Adds> Handle<K> {
 impl<K: Records> Handle<K> {
     /// Records a value with these attributes (Metrics API, Record): [`Recorder::record`] at the handle's number, with its
     /// refusals.
+    #[inline(always)]
     pub fn record<R: Wait, B: Book, G: Gate>(
         &self,
         rt: &R,

@@ -8,16 +8,24 @@
 
 mod bound;
 mod bound_list;
+mod budget;
+mod counted;
 mod fault;
+mod found;
 mod handle;
 mod kinds;
 mod named;
+mod replaced;
 mod seats;
 
 pub use bound::{Bound, BoundCounter, BoundGauge, BoundHistogram, BoundUpDownCounter};
 pub use bound_list::{BoundList, ListFault};
+pub use budget::left;
+pub use counted::Counted;
 pub use fault::HandleFault;
+pub use found::value_of;
 pub use handle::{Counter, Gauge, Handle, Histogram, UpDownCounter};
 pub use kinds::{Adds, IsCounter, IsGauge, IsHistogram, IsUpDownCounter, Records};
 pub use named::{counter, gauge, histogram, up_down_counter};
+pub use replaced::Replaced;
 pub use seats::{take_reader, take_recorder};

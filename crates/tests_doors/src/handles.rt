@@ -1,11 +1,11 @@
 //! Tests of instruments and seats by name.
 use metric_handles::{
-    BoundCounter, BoundList, Counter, HandleFault, counter, gauge, histogram, take_reader,
-    take_recorder, up_down_counter,
+    BoundCounter, BoundList, Counted, Counter, HandleFault, Replaced, counter, gauge, histogram,
+    left, take_reader, take_recorder, up_down_counter, value_of,
 };
 use metric_sdk::{
-    Attr, Batch, Collector, Kind, MeterProvider, NoGate, Plan, Recorder, ValueRef, certified_plan,
-    start,
+    Attr, Batch, Collector, Kind, MeterProvider, NoGate, Plan, Recorder, Refusal, ValueRef,
+    certified_plan, start,
 };
 use std::alloc::{AllocError, Global};
 use std::fmt::Debug;
@@ -320,6 +320,16 @@ fn write_points(out: &mut String, batch: &Batch) -> Result<(), AllocError> {
     Ok(())
 }
 
+// Writes what is found by name and attributes.
+fn write_found(out: &mut String, plan: &Plan, batches: &[Batch]) -> Result<(), AllocError> {
+    for name in ["de", "fr", "it"] {
+        let value = value_of(plan, batches, "Orders", &[country(name)]);
+        writeln!(out, "{name} {value:?}")?;
+    }
+    let value = value_of(plan, batches, "orders", &[]);
+    writeln!(out, "none {value:?}")
+}
+
 const SOLD: &str = "Ok(())
 Err(UnknownValue)
 Ok(())
@@ -329,6 +339,11 @@ Err(SetsFault { place: 2, refusal: Budget })
 3
 0 Sum(2)
 0 Sum(25)
+de Some(Sum(2))
+fr Some(Sum(25))
+it None
+none None
+left Some(0)
 ";
 
 #[test]
@@ -345,6 +360,77 @@ fn handles_record_what_they_say(rt: HostRuntime) -> Result<(), Fail> {
     };
     let batch = reader.collect(&rt, rt.alloc(), provider, 0, 10)?;
     write_points(&mut out, &batch)?;
+    write_found(&mut out, provider.plan(), &[batch])?;
+    let left = left(&seat, provider.plan(), 0);
+    writeln!(&mut out, "left {left:?}")?;
     assert_equal(&rt, out.as_str(), SOLD);
+    Ok(())
+}
+
+// Two values of a key and an end of the range, beside what is declared.
+#[test]
+fn what_is_not_declared_is_replaced_and_counted(rt: HostRuntime) -> Result<(), Fail> {
+    let plan = certified_plan(rt.alloc(), SHOP, READERS)?;
+    let mut replaced = Replaced::none();
+    let mut out = String::new(rt.alloc());
+    for name in ["de", "it", "fr"] {
+        let (value, other) = (ValueRef::Text(name), ValueRef::Text("fr"));
+        let known = replaced.known_or(plan.catalogue(), 0, "country", value, other);
+        out.push_str(text_of(known))?;
+    }
+    for value in [0, 1, 100, 101] {
+        let amount = replaced.clamped(plan.catalogue(), 0, value);
+        write!(&mut out, " {amount}")?;
+    }
+    write!(&mut out, " {replaced:?}")?;
+    let wanted = "defrfr 1 1 100 100 Replaced { values: 1, amounts: 2 }";
+    assert_equal(&rt, out.as_str(), wanted);
+    Ok(())
+}
+
+fn text_of(value: ValueRef<'_>) -> &str {
+    match value {
+        ValueRef::Text(text) => text,
+        _ => "?",
+    }
+}
+
+// An instrument, a country, and a value: one that is accepted, and three refusals.
+const COUNTED: &[(u32, &str, i64)] = &[
+    (0, "de", 2),
+    (0, "it", 2),
+    (0, "de", 0),
+    (0, "fr", 101),
+    (9, "de", 2),
+];
+
+// An instrument, a refusal, and how often it came; all unknown instruments are one.
+const REFUSED: &[(u32, Refusal, u64)] = &[
+    (0, Refusal::UnknownValue, 1),
+    (0, Refusal::ValueRange, 2),
+    (1, Refusal::ValueRange, 0),
+    (9, Refusal::UnknownInstrument, 1),
+    (77, Refusal::UnknownInstrument, 1),
+    (5, Refusal::UnknownInstrument, 0),
+];
+
+#[test]
+fn a_seat_counts_what_it_is_refused(rt: HostRuntime) -> Result<(), Fail> {
+    let mut service = make_service(&rt, rt.alloc())?;
+    let provider = &service.provider;
+    let Some(seat) = take_recorder(provider.plan(), &mut service.recorders, "till") else {
+        return Err(Fail::from("no till"));
+    };
+    let Ok(mut counted) = Counted::new(rt.alloc(), provider.plan(), seat) else {
+        return Err(Fail::from("no memory"));
+    };
+    for (instrument, name, value) in COUNTED {
+        let _ = counted.record(&rt, provider, *instrument, &[country(name)], *value);
+    }
+    for (instrument, refusal, times) in REFUSED {
+        assert_equal(&rt, counted.refused(*instrument, *refusal), *times);
+    }
+    let told = counted.into_seat().accepted(0).map(|told| told.count);
+    assert_equal(&rt, told, Some(1));
     Ok(())
 }
