@@ -39,7 +39,7 @@ fn main(rt: HostRuntime) -> Result<()> {
     let ended = ended.map_err(ServiceFault::from)?;
     let instruments = ended.plan.catalogue().instruments();
     for (instrument, total) in instruments.iter().zip(ended.totals.instruments.as_slice()) {
-        let name = instrument.name.as_str();
+        let name = instrument.name.get().as_str();
         println!(rt; "{name}: {} recordings, sum {}", total.count, total.sum)?;
     }
     Ok(())
