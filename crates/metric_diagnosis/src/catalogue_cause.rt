@@ -74,7 +74,7 @@ fn meter_mistake<'v>(
     }
     match field_mistake(alloc, table, METER_FIELDS, 0) {
         Some(mistake) => Some(mistake),
-        None => same_meter(meters, table),
+        None => same_meter(meters, number, table),
     }
 }
 
@@ -86,9 +86,10 @@ fn own_meter_fields() -> &'static [Field] {
     }
 }
 
-// The first meter with the same name, version and schema URL.
-fn same_meter<'v>(meters: &[Value], table: &Table) -> Option<Mistake<'v>> {
-    match meters.iter().position(|other| is_same_meter(other, table)) {
+// The first meter, before this one, with the same name, version and schema URL.
+fn same_meter<'v>(meters: &[Value], number: usize, table: &Table) -> Option<Mistake<'v>> {
+    let mut before = meters.iter().take(number);
+    match before.position(|other| is_same_meter(other, table)) {
         Some(first) => {
             let wrong = Wrong::Taken("meter", first, ", as are version and schema_url");
             Some(Mistake::of("name", wrong))

@@ -64,7 +64,7 @@ fn told_of(alloc: Global, pair: Pair<'_>, remark: Remark) -> Result<(Place, Stri
             Ok((Place::Catalogue(CataloguePlace::Recorder(recorder)), words))
         }
         Remark::OverBudget { instrument } => {
-            let words = told_room(alloc, pair, instrument)?;
+            let words = told_room(alloc, pair, instrument, None)?;
             Ok((
                 Place::Catalogue(CataloguePlace::Instrument(instrument)),
                 words,

@@ -11,8 +11,13 @@ use metric_views::{ConfigPlace, Stream};
 use std::alloc::{AllocError, Global};
 use std::fmt;
 
-// What is told of an instrument whose budgets are together more than is safe.
-pub(crate) fn told_room(alloc: Global, pair: Pair<'_>, number: u32) -> Result<String, AllocError> {
+// What is told of an instrument whose budgets are together more than is safe for this reason, or by its headroom.
+pub(crate) fn told_room(
+    alloc: Global,
+    pair: Pair<'_>,
+    number: u32,
+    reason: Option<Limit>,
+) -> Result<String, AllocError> {
     let named = instrument_of(pair.catalogue, number);
     let rooms = headrooms(alloc, pair.catalogue, pair.config)?;
     let place = number as usize;
@@ -20,7 +25,7 @@ pub(crate) fn told_room(alloc: Global, pair: Pair<'_>, number: u32) -> Result<St
         rooms.as_slice().get(place),
         pair.catalogue.instruments().get(place),
     ) {
-        (Some(room), Some(instrument)) => words_of_room(alloc, named, *room, instrument),
+        (Some(room), Some(instrument)) => words_of_room(alloc, named, *room, reason, instrument),
         _ => format!(in alloc; "{named} may be recorded more often than is safe"),
     }
 }
@@ -29,10 +34,11 @@ fn words_of_room(
     alloc: Global,
     named: Named<'_>,
     room: Headroom,
+    reason: Option<Limit>,
     instrument: &Instrument,
 ) -> Result<String, AllocError> {
     let Headroom { total, most, limit } = room;
-    let why = why_of(total, limit, instrument);
+    let why = why_of(total, reason.unwrap_or(limit), instrument);
     format!(in alloc;
         "{named}: its budgets and its spare are {total} recordings together, and at most {most} are safe: {why}"
     )

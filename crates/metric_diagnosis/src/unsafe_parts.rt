@@ -79,7 +79,7 @@ fn told_limit(
     match limit {
         Limit::Series { stream } => told_series(alloc, pair, instrument, stream),
         Limit::Count | Limit::Amount | Limit::SumLow | Limit::SumHigh => {
-            let words = told_room(alloc, pair, instrument)?;
+            let words = told_room(alloc, pair, instrument, Some(limit))?;
             Ok((
                 Place::Catalogue(CataloguePlace::Instrument(instrument)),
                 words,
