@@ -4,6 +4,7 @@ pub mod States
 pub mod Queues
 pub mod Attributes
 pub mod Keepings
+pub mod Reopens
 pub mod ExporterCalls
 pub mod Calls
 pub mod Ticks

@@ -17,6 +17,7 @@ mod laws;
 mod list_ticker;
 mod point_attributes;
 mod queued;
+mod reopening_exporter;
 mod state;
 mod stop_flag;
 mod text_exporter;
@@ -32,6 +33,7 @@ pub use laws::{shut_down_exporters_stay_shut_down, write_faults_are_of_the_devic
 pub use list_ticker::ListTicker;
 pub use point_attributes::attributes;
 pub use queued::{Queued, every_batch_is_accounted_for};
+pub use reopening_exporter::{OpenSink, ReopeningExporter};
 pub use state::ExporterState;
 pub use stop_flag::StopFlag;
 pub use text_exporter::TextExporter;

@@ -227,8 +227,8 @@ fn try_each<E: MetricExporter>(
     (sent, Ok(()))
 }
 
-// The count of the calls in which the device failed, after one with this answer.
-fn failures_after(failures: u64, answer: &Result<(), ExportFault>) -> u64
+/// The count of the calls in which the device failed, after one with this answer.
+pub(crate) fn failures_after(failures: u64, answer: &Result<(), ExportFault>) -> u64
     ensures { result ≡ failures_after failures answer.now }
 {
     match answer {

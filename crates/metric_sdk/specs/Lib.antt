@@ -5,3 +5,8 @@ pub use Rattle.metric_bounds.specs.Safe
 pub use Rattle.metric_catalogue.specs.Catalogues
 pub use Rattle.metric_plan.specs.Plans
 pub use Rattle.metric_views.specs.Configs
+pub use Rattle.metric_io.specs.Counts
+pub use Rattle.metric_export.specs.ExporterCalls
+pub use Rattle.metric_export.specs.Exports
+pub use Rattle.metric_export.specs.Queues
+pub use Rattle.metric_export.specs.States

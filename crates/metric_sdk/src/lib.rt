@@ -21,9 +21,12 @@
 //!    list of [`Measurement`]s, up to a [`SetsFault`].
 //! 5. **Export.** [`Periodic`] collects at each [`Tick`] of a [`Ticker`], a [`ClockTicker`] until its [`StopFlag`] is set or a
 //!    [`ListTicker`]; it hands each batch on to a [`MetricExporter`], as a [`TextExporter`] is, and at its end collects a last
-//!    time. What it did is a [`PeriodicEnd`], an exporter's fault an [`ExportFault`]. By hand: a [`Collector`] collects the
-//!    [`Batch`] of one instrument or of all, up to an [`AllFault`]; a batch has the [`StreamPoints`] of each stream, a [`Point`]
-//!    the [`PointValue`] of one series, and [`write_batch`] writes its text. (A collection takes 23 to 54 ns a point.)
+//!    time. What it did is a [`PeriodicEnd`], and what it has done so far other threads read of its [`RunningCounts`];
+//!    `StopFlag::wake` lets it export now. An exporter's fault is an [`ExportFault`]: a [`Queued`] keeps what was refused and
+//!    tries it again before the next, so that the window of a delta reader is not lost. An exporter of one's own takes a batch
+//!    apart: it has the [`StreamPoints`] of each [`Stream`], a [`Point`] the [`PointValue`] of one series, whose [`attributes`]
+//!    the plan knows. By hand: a [`Collector`] collects the [`Batch`] of one instrument or of all, up to an [`AllFault`], and
+//!    [`write_batch`] writes its text. (A collection takes 23 to 54 ns a point.)
 //! 6. **End.** [`shutdown_all`] lets readers collect a last time, exports what they give, and finishes the provider; an
 //!    [`EndFault`] has each cause, and hands back what is left. `Provider::finish` alone gives the [`Totals`], a [`Total`] for
 //!    each instrument, exactly what the recorders were told, or a [`FinishFault`]; `Provider::finish_keeping` also the plan. Calls
@@ -35,7 +38,8 @@
 //!    ([`Refusal::Budget`]) asks for some itself, until nothing is left ([`Refusal::NoSpare`]). The certificate vouches for the
 //!    budgets and the spare together.
 //! 8. **Files that are wrong.** [`lint`] gives a [`Remark`] on each thing in the files that looks like a mistake;
-//!    [`locate_in_catalogue`] and [`locate_in_config`] give the [`Position`] of a fault.
+//!    [`locate_in_catalogue`] and [`locate_in_config`] give the [`Position`] of a fault, and [`explain_unsafe`] the
+//!    [`UnsafePart`] for which there is no certificate.
 //! 9. **By steps.** What `open` does: [`Catalogue::read`] and [`Config::read`], each up to its first fault, a
 //!    [`CatalogueFault`] or a [`ViewFault`] with its place; [`make`] gives a [`Certificate`], or a [`MakeFault`];
 //!    `Certificate::write` and `Certificate::read` take it from one machine to another; [`check`] trusts nobody and gives the
@@ -50,7 +54,8 @@
 //!    journal of each instrument, its recordings as [`Entry`], and the [`Slip`]s of each recorder; [`audit`] tells whether these
 //!    and the batches agree, or an [`AuditFault`].
 //! 11. **Devices.** A [`Sink`] takes bytes, a [`Source`] gives them: [`StdSink`] and [`StdSource`] are those of std,
-//!     [`CutSink`] and [`CutSource`] are of memory, for tests. [`read_all`] and [`write_all`] move a whole text.
+//!     [`CutSink`] and [`CutSource`] are of memory, and a [`KeepingExporter`] keeps its batches, for tests. [`read_all`] and [`write_all`] move a whole
+//!     text.
 #![tactic(auto)]
 
 mod ended;
@@ -78,7 +83,9 @@ pub use metric_advice::Limit;
 pub use metric_advice::Mistake;
 pub use metric_advice::Position;
 pub use metric_advice::Remark;
+pub use metric_advice::UnsafePart;
 pub use metric_advice::explain_refusal;
+pub use metric_advice::explain_unsafe;
 pub use metric_advice::headrooms;
 pub use metric_advice::lint;
 pub use metric_advice::locate_in_catalogue;
@@ -87,7 +94,10 @@ pub use metric_aggregate::PointValue;
 pub use metric_audit::AuditFault;
 pub use metric_audit::Audited;
 pub use metric_audit::audit;
+pub use metric_base::Boundaries;
+pub use metric_base::Few;
 pub use metric_base::Items;
+pub use metric_base::Shared;
 pub use metric_base::Text;
 pub use metric_catalogue::Attr;
 pub use metric_catalogue::Catalogue;
@@ -100,6 +110,7 @@ pub use metric_catalogue::Kind;
 pub use metric_catalogue::Meter;
 pub use metric_catalogue::Refusal;
 pub use metric_catalogue::SetKey;
+pub use metric_catalogue::Values;
 pub use metric_cert::CertFault;
 pub use metric_cert::Certificate;
 pub use metric_cert::MakeFault;
@@ -109,12 +120,15 @@ pub use metric_combinations::Combinations;
 pub use metric_export::ClockTicker;
 pub use metric_export::ExportFault;
 pub use metric_export::ExporterState;
+pub use metric_export::KeepingExporter;
 pub use metric_export::ListTicker;
 pub use metric_export::MetricExporter;
+pub use metric_export::Queued;
 pub use metric_export::StopFlag;
 pub use metric_export::TextExporter;
 pub use metric_export::Tick;
 pub use metric_export::Ticker;
+pub use metric_export::attributes;
 pub use metric_export::write_batch;
 pub use metric_handles::Adds;
 pub use metric_handles::Bound;
@@ -161,6 +175,7 @@ pub use metric_names::AttrValue;
 pub use metric_names::ValueRef;
 pub use metric_periodic::Periodic;
 pub use metric_periodic::PeriodicEnd;
+pub use metric_periodic::RunningCounts;
 pub use metric_plan::CheckFault;
 pub use metric_plan::Plan;
 pub use metric_provider::AllFault;
@@ -182,7 +197,10 @@ pub use metric_provider::Totals;
 pub use metric_provider::start;
 pub use metric_views::Config;
 pub use metric_views::ConfigPlace;
+pub use metric_views::Reader;
 pub use metric_views::Stream;
+pub use metric_views::StreamAggregation;
+pub use metric_views::Temporality;
 pub use metric_views::ViewDefect;
 pub use metric_views::ViewFault;
 pub use opening::open;

@@ -8,8 +8,8 @@ mod work;
 
 use anyhow::{Result, bail};
 use metric_sdk::{
-    ClockTicker, Collector, Periodic, Recorder, Runs, ServiceFault, StdSink, StopFlag,
-    TextExporter, now, open,
+    ClockTicker, Collector, MeterProvider, Periodic, Recorder, Runs, ServiceFault, StdSink,
+    StopFlag, TextExporter, now, open,
 };
 use std::io::Stderr;
 use std::sync::Wait;
@@ -31,34 +31,33 @@ fn main(rt: HostRuntime) -> Result<()> {
     let config = fs::read_to_string(&rt, config.as_str())?;
     let (start, run) = (now(&rt)?, Runs::new().next());
     let (provider, recorders, readers) = open(&rt, rt.alloc(), &catalogue, &config, start, run)?;
-    let work = Work::new(&provider)?;
-    let recorders = serve(&rt, rt.stderr(), &work, recorders, readers);
-    let [refused, failed] = [&work.refused, &work.failed].map(|n| n.load(Ordering::SeqCst));
+    let (recorders, [refused, failed]) = serve(&rt, rt.stderr(), &provider, recorders, readers)?;
     println!(rt; "refused recordings: {refused}, failed exports: {failed}")?;
     let ended = provider.finish_keeping(&rt, rt.alloc(), recorders);
     let ended = ended.map_err(ServiceFault::from)?;
     let instruments = ended.plan.catalogue().instruments();
     for (instrument, total) in instruments.iter().zip(ended.totals.instruments.as_slice()) {
-        let name = instrument.name.as_str();
+        let name = instrument.name.get().as_str();
         println!(rt; "{name}: {} recordings, sum {}", total.count, total.sum)?;
     }
     Ok(())
 }
 
-// Serves until the workers have ended. The seats of the recorders.
+// Serves until the workers have ended. Their seats, and how many recordings and exports were refused.
 fn serve<R: Threads + Wait + Clock + Sync + AllocGlobal>(
     rt: &R,
     stderr: Stderr,
-    work: &Work<'_>,
+    provider: &MeterProvider,
     mut recorders: Vec<Recorder>,
     readers: Vec<Collector>,
-) -> Vec<Recorder> {
+) -> Result<(Vec<Recorder>, [u64; 2])> {
+    let work = Work::new(provider)?;
     let stop = StopFlag::new();
     let export = |reader| {
         // Once a period, and a last time when the workers have ended.
         let mut ticker = ClockTicker::new(PERIOD, u64::MAX, &stop);
         let log = Periodic::new(TextExporter::new(StdSink::new(stderr)), u32::MAX);
-        let end = log.run(rt, rt.alloc(), work.provider, reader, &mut ticker);
+        let end = log.run(rt, rt.alloc(), provider, reader, &mut ticker);
         count(&work.failed, end.failed.saturating_add(end.refused));
     };
     let serve = |_, seat: &mut Recorder| work.serve(rt, seat);
@@ -72,5 +71,6 @@ fn serve<R: Threads + Wait + Clock + Sync + AllocGlobal>(
         },
     );
     count(&work.failed, u64::from(exports.is_err()));
-    recorders
+    let counts = [&work.refused, &work.failed].map(|n| n.load(Ordering::SeqCst));
+    Ok((recorders, counts))
 }

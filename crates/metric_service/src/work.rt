@@ -15,8 +15,9 @@ const SERVED: [[(&str, i64, i64); 2]; 3] = [
 ];
 
 /// What the workers share: the instruments, found by their names, and how many recordings and exports were refused.
+#[derive(Drop)]
 pub(crate) struct Work<'a> {
-    pub provider: &'a MeterProvider,
+    provider: &'a MeterProvider,
     requests: Counter,
     duration: Histogram,
     active: UpDownCounter,

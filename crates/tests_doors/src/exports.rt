@@ -1,1 +1,264 @@
 //! Tests of exporters that keep, try again and tell.
+ghost use Rattle.std.specs.Prelude.{[], None};
+
+use metric_sdk::{
+    Batch, ClockTicker, Collector, ExportFault, ExporterState, KeepingExporter, ListTicker, Marked,
+    MeterProvider, MetricExporter, NoGate, Periodic, PeriodicEnd, Plan, Queued, RunningCounts,
+    StopFlag, Tick, certified_plan, start,
+};
+use std::alloc::Global;
+use std::fmt::Debug;
+use std::process::Abort;
+use std::sync::Wait;
+use std::test::Fail;
+use std::thread::{self, Threads, join};
+use std::time::Clock;
+
+const HITS: &str = "format = 1
+[[meter]]
+name = 'm'
+[[meter.instrument]]
+name = 'hits'
+kind = 'counter'
+range = [0, 100]
+[[recorder]]
+name = 'r'
+budget = [{ instrument = 0, amount = 9 }]
+";
+
+const DELTA: &str = "format = 1
+[[reader]]
+name = 'd'
+temporality = { counter = 'delta' }
+";
+
+const TICKS: &[Tick] = &[Tick::At(10), Tick::At(20), Tick::Stop(30)];
+
+fn assert_equal<R: Abort, T: PartialEq + Debug + Drop>(rt: &R, told: T, wanted: T) {
+    assert_eq!(rt; told, wanted);
+}
+
+// An exporter whose calls of these numbers, counted from 1, fail. It keeps the time of each batch that it takes, with how many
+// points the first stream has.
+#[derive(Drop)]
+struct Failing {
+    taken: Vec<(u64, usize)>,
+    number: u64,
+    fails_at: &'static [u64],
+    failures: u64,
+    state: ExporterState,
+}
+
+impl MetricExporter for Failing {
+    ghost text = { λ _ _. [] };
+
+    ghost contents = { λ _. None };
+
+    ghost failures = { λ e. e.failures };
+
+    ghost state = { λ e. e.state };
+
+    ghost export_gives = { λ _ _ _ _ _. Unit {0} };
+
+    ghost shutdown_gives = { λ _ _ _. Unit {0} };
+
+    fn export(&mut self, _alloc: Global, _plan: &Plan, batch: &Batch) -> Result<(), ExportFault> {
+        self.state.admit()?;
+        self.number = self.number.saturating_add(1);
+        if self.fails_at.contains(&self.number) {
+            self.failures = self.failures.saturating_add(1);
+            return Err(ExportFault::Write);
+        }
+        match self.taken.push((batch.time, points_of(batch))) {
+            Ok(()) => Ok(()),
+            Err(_) => Err(ExportFault::Memory),
+        }
+    }
+
+    fn force_flush(&mut self) -> Result<(), ExportFault> {
+        self.state.admit()
+    }
+
+    fn shutdown(&mut self) -> Result<(), ExportFault> {
+        let answer = self.state.admit();
+        self.state = ExporterState::ShutDown;
+        answer
+    }
+}
+
+// How many points the first stream of a batch has.
+fn points_of(batch: &Batch) -> usize {
+    match batch.streams.as_slice().first() {
+        Some(stream) => stream.points.as_slice().len(),
+        None => 0,
+    }
+}
+
+// A provider of one counter with a recording of 5, and its delta reader.
+fn hit_once<R: Wait>(rt: &R, alloc: Global, run: u64) -> Result<(MeterProvider, Collector), Fail> {
+    let plan = certified_plan(alloc, HITS, DELTA)?;
+    match start::<R, Marked, NoGate>(rt, alloc, plan, 0, run, NoGate) {
+        Ok((provider, mut recorders, mut collectors)) => {
+            let recorder = recorders.first_mut().ok_or("no recorder")?;
+            recorder.record(rt, &provider, 0, &[], 5)?;
+            let collector = collectors.pop().ok_or("no reader")?;
+            Ok((provider, collector))
+        }
+        Err(_) => Err(Fail::from("no provider")),
+    }
+}
+
+// The end of a run of the delta reader.
+fn end_of<R: Wait, E: MetricExporter + Drop>(
+    rt: &R,
+    alloc: Global,
+    exporter: E,
+    run: u64,
+) -> Result<PeriodicEnd<E>, Fail> {
+    let (provider, collector) = hit_once(rt, alloc, run)?;
+    let mut ticker = ListTicker::new(TICKS);
+    Ok(Periodic::new(exporter, 9).run(rt, alloc, &provider, collector, &mut ticker))
+}
+
+// How many batches a queue keeps at most, and which calls of the exporter below it fail. Then the batches that this one took;
+// how many exports of the queue were Ok and how many failed; and how many batches went out, are kept and were dropped.
+struct Case {
+    most: usize,
+    fails_at: &'static [u64],
+    taken: &'static [(u64, usize)],
+    counts: (u64, u64),
+    told: (u64, usize, u64),
+}
+
+const CASES: &[Case] = &[
+    Case {
+        most: 4,
+        fails_at: &[],
+        taken: &[(10, 1), (20, 0), (30, 0)],
+        counts: (3, 0),
+        told: (3, 0, 0),
+    },
+    Case {
+        most: 4,
+        fails_at: &[1],
+        taken: &[(10, 1), (20, 0), (30, 0)],
+        counts: (2, 1),
+        told: (3, 0, 0),
+    },
+    Case {
+        most: 4,
+        fails_at: &[1, 3],
+        taken: &[(10, 1), (20, 0), (30, 0)],
+        counts: (1, 2),
+        told: (3, 0, 0),
+    },
+    Case {
+        most: 1,
+        fails_at: &[1, 2],
+        taken: &[(20, 0), (30, 0)],
+        counts: (1, 2),
+        told: (2, 0, 1),
+    },
+    Case {
+        most: 4,
+        fails_at: &[3],
+        taken: &[(10, 1), (20, 0)],
+        counts: (2, 1),
+        told: (2, 1, 0),
+    },
+    Case {
+        most: 2,
+        fails_at: &[1, 2, 3],
+        taken: &[],
+        counts: (0, 3),
+        told: (0, 2, 1),
+    },
+    Case {
+        most: 0,
+        fails_at: &[1],
+        taken: &[(20, 0), (30, 0)],
+        counts: (2, 1),
+        told: (2, 0, 1),
+    },
+];
+
+fn assert_case<R: Abort + Wait>(rt: &R, alloc: Global, case: &Case) -> Result<(), Fail> {
+    let failing = Failing {
+        taken: Vec::new(alloc),
+        number: 0,
+        fails_at: case.fails_at,
+        failures: 0,
+        state: ExporterState::Open,
+    };
+    let end = end_of(rt, alloc, Queued::new(alloc, failing, case.most), 70)?;
+    let queue = &end.exporter;
+    assert_equal(rt, queue.inner().taken.as_slice(), case.taken);
+    assert_equal(rt, (end.exported, end.failed), case.counts);
+    assert_equal(
+        rt,
+        (queue.sent(), queue.kept().len(), queue.dropped()),
+        case.told,
+    );
+    Ok(())
+}
+
+#[test]
+fn a_queue_tries_again_in_order(rt: HostRuntime) -> Result<(), Fail> {
+    for case in CASES {
+        assert_case(&rt, rt.alloc(), case)?;
+    }
+    Ok(())
+}
+
+#[test]
+fn a_keeping_exporter_keeps_each_batch(rt: HostRuntime) -> Result<(), Fail> {
+    let alloc = rt.alloc();
+    let end = end_of(&rt, alloc, KeepingExporter::new(alloc), 71)?;
+    let mut times = Vec::new(alloc);
+    for batch in &end.exporter.into_batches() {
+        times.push((batch.time, points_of(batch)))?;
+    }
+    assert_equal(&rt, times.as_slice(), &[(10, 1), (20, 0), (30, 0)]);
+    Ok(())
+}
+
+// Wakes the reader, waits until it has exported a batch, and stops it.
+fn wake_and_stop<R: Wait>(rt: &R, flag: &StopFlag, counts: &RunningCounts) {
+    flag.wake(rt);
+    for _turn in 0..u64::MAX {
+        if counts.exported() > 0 {
+            break;
+        }
+        thread::yield_now();
+    }
+    flag.set(rt);
+}
+
+// How many batches a reader exports that is to tick every hour, and is woken once before it is stopped.
+fn exported_by_waking<R: Threads + Wait + Clock + Sync>(
+    rt: &R,
+    alloc: Global,
+) -> Result<(u64, u64), Fail> {
+    let (provider, collector) = hit_once(rt, alloc, 72)?;
+    let flag = StopFlag::new();
+    let counts = RunningCounts::new();
+    let exporter = KeepingExporter::new(alloc);
+    let (exported, ()) = join(
+        rt,
+        || {
+            let mut ticker = ClockTicker::new(3_600_000, 9, &flag);
+            Periodic::new(exporter, 9)
+                .run_counted(rt, alloc, &provider, collector, &mut ticker, &counts)
+                .exported
+        },
+        || wake_and_stop(rt, &flag, &counts),
+    );
+    Ok((exported, counts.exported()))
+}
+
+#[test]
+fn a_woken_reader_exports_at_once(rt: HostRuntime) -> Result<(), Fail> {
+    let exported = exported_by_waking(&rt, rt.alloc())?;
+    assert_equal(&rt, exported, (2, 2));
+    Ok(())
+}

@@ -1,0 +1,17 @@
+-- the text is written to the sink that is open, or else to a new one
+use Rattle.std.proofs.Common.{refl}
+use Rattle.metric_export.proofs.reopening_exporter.ReopeningExporterMetricExporter.export.Goals as goal
+
+pub returns-clause-gives : goal.returns-clause-gives
+returns-clause-gives g c =
+    rw (← c.self.view_is)
+    (record {
+      writes = λ _. record {
+        found = c.take_sink-found.result;
+        finds = c.take_sink-found.ensures;
+        writes = c.write_to_found-left.ensures.written;
+        counted = c.failures_after-self-inside.ensures;
+        state = refl;
+      };
+      unwritten = λ shut. absurd (shut c.in_ok-admit.ensures);
+    })

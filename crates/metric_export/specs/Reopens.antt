@@ -1,0 +1,74 @@
+-- An exporter of texts that opens a new sink after a failure.
+use Rattle.std.specs.Prelude.{◌≡◌, ◌≢◌, ℕ, List, Option, Some, None, Result, Ok, Err}
+use Rattle.metric_io.specs.declared.devices.Broken.{Broken}
+use Rattle.metric_history.specs.declared.batch.Batch.{Batch}
+use Rattle.metric_plan.specs.Plans.{PlanValue}
+use Rattle.metric_export.specs.Exports.{Exports, plan_text}
+use Rattle.metric_export.specs.Queues.{failures_after}
+use Rattle.metric_export.specs.declared.fault.ExportFault.{ExportFault}
+use Rattle.metric_export.specs.declared.fault.ExportFault.TheVariants as fault
+use Rattle.metric_export.specs.declared.state.ExporterState.{ExporterState}
+use Rattle.metric_export.specs.declared.state.ExporterState.TheVariants.{Open}
+
+-- such an exporter, as contracts see it: what opens sinks, the sink that is open, how often a call failed, and its state
+pub record ReopeningValue (O W : Type 0) : Type 0 where
+  pub opener : O
+  pub sink : Option W
+  pub failures : ℕ
+  pub state : ExporterState
+
+-- what is said of opening a sink: the opener before and after it, and the answer
+abbrev pub Opening : Type 0 → Type 0 → Type 1
+Opening O W = O → O → Result W Broken → Type 0
+
+-- the sink that is open, or else a new one
+abbrev pub FindsSink : {O W : Type 0} → Opening O W → O → O → Option W → Result W Broken → Type 0
+FindsSink opens old new None found = opens old new found
+FindsSink opens old new (Some sink) found = (found ≡ Ok sink) × (new ≡ old)
+
+-- a sink stays open but where it failed
+abbrev pub left_open : {W : Type 0} → W → Result (Unit {0}) ExportFault → Option W
+left_open sink (Ok done) = Some sink
+left_open sink (Err fault.Write) = None
+left_open sink (Err fault.ShutDown) = Some sink
+left_open sink (Err fault.Memory) = Some sink
+
+-- A text was written to a sink, or a prefix of it where the sink failed, which then is let go.
+pub record WritesText {W : Type 0}
+    (contents : W → Option (List ℕ))
+    (text : List ℕ)
+    (sink : W)
+    (left : Option W)
+    (answer : Result (Unit {0}) ExportFault) : Type 0 where
+  pub after : W
+  pub exports : Exports (contents sink) (contents after) text answer
+  pub left_is : left ≡ left_open after answer
+
+-- the same of the sink that was found; where none could be opened, the answer is Write
+abbrev pub WritesToFound : {W : Type 0} → (W → Option (List ℕ)) → List ℕ → Result W Broken → Option W → Result (Unit {0}) ExportFault → Type 0
+WritesToFound contents text (Ok sink) left answer = WritesText contents text sink left answer
+WritesToFound contents text (Err broken) left answer = (left ≡ None) × (answer ≡ Err fault.Write)
+
+-- One text was handed on by an exporter that takes calls.
+pub record WritesAnew {O W : Type 0}
+    (opens : Opening O W)
+    (contents : W → Option (List ℕ))
+    (text : List ℕ)
+    (old new : ReopeningValue O W)
+    (answer : Result (Unit {0}) ExportFault) : Type 0 where
+  pub found : Result W Broken
+  pub finds : FindsSink opens old.opener new.opener old.sink found
+  pub writes : WritesToFound contents text found new.sink answer
+  pub counted : new.failures ≡ failures_after old.failures answer
+  pub state : new.state ≡ old.state
+
+-- One call of `export`: where the exporter was shut down, nothing is done.
+pub record ExportsAnew {O W : Type 0}
+    (opens : Opening O W)
+    (contents : W → Option (List ℕ))
+    (old new : ReopeningValue O W)
+    (plan : PlanValue)
+    (batch : Batch)
+    (answer : Result (Unit {0}) ExportFault) : Type 0 where
+  pub writes : old.state ≡ Open → WritesAnew opens contents (plan_text plan batch) old new answer
+  pub unwritten : old.state ≢ Open → new ≡ old

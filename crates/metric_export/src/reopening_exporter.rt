@@ -1,0 +1,187 @@
+//! An exporter of texts that opens a new sink after a failure.
+ghost use Rattle.std.specs.Prelude.{◌≡◌, ◌≢◌, IsErrOf, IsOkUnless, None, Result};
+ghost use Rattle.metric_io.specs.declared.devices.Broken.{Broken};
+ghost use Rattle.metric_export.specs.Exports.{plan_text};
+ghost use Rattle.metric_export.specs.Reopens.{ExportsAnew, FindsSink, WritesText, WritesToFound};
+ghost use Rattle.metric_export.specs.States.{IsShutDown};
+
+use crate::batch::write_batch;
+use crate::exporter::MetricExporter;
+use crate::fault::ExportFault;
+use crate::queued::failures_after;
+use crate::state::ExporterState;
+use metric_history::Batch;
+use metric_io::{Broken, Sink};
+use metric_plan::Plan;
+use std::alloc::Global;
+use std::marker::Model;
+
+/// What opens sinks, as a log's next file or a new connection.
+///
+/// Contracts see what it says of its calls, by which a caller can promise that each sink that it writes to is one that was
+/// given.
+pub trait OpenSink<W> {
+    // What opening does to the opener, by the answer.
+    ghost opens: { Self → Self → Result W Broken → Type 0 };
+
+    /// A new sink, or [`Broken`] where none can be opened now. It may be asked again.
+    fn open(&mut self) -> Result<W, Broken>
+        ensures { opens self.old self.new result };
+}
+
+/// An exporter that writes the text of each batch to a sink, and after a failure opens a new one at the next export.
+///
+/// A sink that failed is let go, so what was written to a sink is whole texts, one after the other, but for the last, which
+/// may be a prefix. A batch whose export failed is not written again: a [`Queued`](crate::Queued) over this exporter tries
+/// that. Contracts see what opens the sinks, the open sink, the count of the calls that failed, and the state.
+#[derive(Drop)]
+pub struct ReopeningExporter<O, W> {
+    opener: O,
+    sink: Option<W>,
+    failures: u64,
+    state: ExporterState,
+}
+
+impl<O, W> Model for ReopeningExporter<O, W> {
+    ghost use Rattle.metric_export.specs.Reopens.{ReopeningValue};
+
+    ghost Value = { ReopeningValue O W };
+
+    ghost view = { λ e. record {
+      opener = e.opener;
+      sink = e.sink;
+      failures = e.failures;
+      state = e.state;
+    } };
+}
+
+impl<O: OpenSink<W>, W: Sink + Drop> ReopeningExporter<O, W> {
+    /// An exporter that opens its sinks by this opener, the first one at the first export.
+    pub fn new(opener: O) -> ReopeningExporter<O, W>
+        ensures { result ≡ record {
+          opener = opener;
+          sink = None;
+          failures = 0;
+          state = ExporterState.Open;
+        } }
+    {
+        ReopeningExporter {
+            opener,
+            sink: None,
+            failures: 0,
+            state: ExporterState::Open,
+        }
+    }
+
+    /// The opener, and the sink that is open.
+    pub fn into_parts(self) -> (O, Option<W>)
+        ensures opener { result.0 ≡ self.opener }
+        ensures sink { result.1 ≡ self.sink }
+    {
+        let ReopeningExporter {
+            opener,
+            sink,
+            failures: _,
+            state: _,
+        } = self;
+        (opener, sink)
+    }
+}
+
+impl<O: OpenSink<W>, W: Sink + Drop> MetricExporter for ReopeningExporter<O, W> {
+    ghost text = { plan_text };
+
+    // One sink comes after the other.
+    ghost contents = { λ _. None };
+
+    ghost failures = { λ e. e.failures };
+
+    ghost state = { λ e. e.state };
+
+    ghost export_gives = { ExportsAnew O.opens W.contents };
+
+    ghost shutdown_gives = { λ _ new _. IsShutDown new.state };
+
+    fn export(&mut self, alloc: Global, plan: &Plan, batch: &Batch) -> Result<(), ExportFault> {
+        self.state.admit()?;
+        let found = take_sink(&mut self.opener, &mut self.sink);
+        let (left, answer) = write_to_found(alloc, plan, batch, found);
+        self.sink = left;
+        self.failures = failures_after(self.failures, &answer);
+        answer
+    }
+
+    fn force_flush(&mut self) -> Result<(), ExportFault> {
+        self.state.admit()?;
+        let (left, answer) = flush(self.sink.take());
+        self.sink = left;
+        self.failures = failures_after(self.failures, &answer);
+        answer
+    }
+
+    fn shutdown(&mut self) -> Result<(), ExportFault> {
+        let answer = self.force_flush();
+        self.state = ExporterState::ShutDown;
+        answer
+    }
+}
+
+// Takes the sink that is open, or else a new one.
+fn take_sink<O: OpenSink<W>, W>(opener: &mut O, sink: &mut Option<W>) -> Result<W, Broken>
+    ensures { FindsSink O.opens opener.old opener.new sink.old result }
+{
+    match sink.take() {
+        Some(sink) => Ok(sink),
+        None => opener.open(),
+    }
+}
+
+// Writes the text of a batch to the sink that was found. The sink that stays open, and the answer.
+fn write_to_found<W: Sink + Drop>(
+    alloc: Global,
+    plan: &Plan,
+    batch: &Batch,
+    found: Result<W, Broken>,
+) -> (Option<W>, Result<(), ExportFault>)
+    ensures written { WritesToFound W.contents (plan_text plan.now batch.now)
+        found result.0 result.1 }
+    ensures not_shut_down { IsErrOf result.1 ExportFault.ShutDown → ⊥ }
+{
+    match found {
+        Ok(sink) => write_to(alloc, plan, batch, sink),
+        Err(_) => (None, Err(ExportFault::Write)),
+    }
+}
+
+// Writes the text of a batch to a sink, which stays open unless it failed.
+fn write_to<W: Sink + Drop>(
+    alloc: Global,
+    plan: &Plan,
+    batch: &Batch,
+    sink: W,
+) -> (Option<W>, Result<(), ExportFault>)
+    ensures written { WritesText W.contents (plan_text plan.now batch.now)
+        sink result.0 result.1 }
+    ensures not_shut_down { IsErrOf result.1 ExportFault.ShutDown → ⊥ }
+{
+    let mut sink = sink;
+    match write_batch(alloc, &mut sink, plan, batch) {
+        Ok(()) => (Some(sink), Ok(())),
+        Err(ExportFault::Write) => (None, Err(ExportFault::Write)),
+        Err(ExportFault::ShutDown) => (Some(sink), Err(ExportFault::ShutDown)),
+        Err(ExportFault::Memory) => (Some(sink), Err(ExportFault::Memory)),
+    }
+}
+
+// Flushes the sink that is open, which stays open unless that fails.
+fn flush<W: Sink + Drop>(sink: Option<W>) -> (Option<W>, Result<(), ExportFault>)
+    ensures { IsOkUnless result.1 ExportFault.Write }
+{
+    let Some(mut sink) = sink else {
+        return (None, Ok(()));
+    };
+    match sink.flush() {
+        Ok(()) => (Some(sink), Ok(())),
+        Err(_) => (None, Err(ExportFault::Write)),
+    }
+}
