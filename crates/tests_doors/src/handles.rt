@@ -1,1 +1,350 @@
 //! Tests of instruments and seats by name.
+use metric_handles::{
+    BoundCounter, BoundList, Counter, HandleFault, counter, gauge, histogram, take_reader,
+    take_recorder, up_down_counter,
+};
+use metric_sdk::{
+    Attr, Batch, Collector, Kind, MeterProvider, NoGate, Plan, Recorder, ValueRef, certified_plan,
+    start,
+};
+use std::alloc::{AllocError, Global};
+use std::fmt::Debug;
+use std::process::Abort;
+use std::sync::Wait;
+use std::test::Fail;
+
+// Two versions of a meter, of which each has something that waits.
+const SHOP: &str = "format = 2
+[[meter]]
+name = 'shop'
+[[meter.instrument]]
+name = 'orders'
+kind = 'counter'
+range = [1, 100]
+key = [{ name = 'country', values = ['de', 'fr'] }, { name = 'paid', values = [true, false], optional = true }]
+[[meter.instrument]]
+name = 'waiting'
+kind = 'up_down_counter'
+range = [-5, 5]
+[[meter]]
+name = 'shop'
+version = '2'
+[[meter.instrument]]
+name = 'Waiting'
+kind = 'up_down_counter'
+range = [-5, 5]
+[[meter.instrument]]
+name = 'latency'
+kind = 'histogram'
+range = [0, 100]
+[[meter.instrument]]
+name = 'stock'
+kind = 'gauge'
+range = [0, 9]
+[[meter]]
+name = 'door'
+[[meter.instrument]]
+name = 'inside'
+kind = 'up_down_counter'
+range = [-1, 1]
+[[recorder]]
+name = 'till'
+budget = [{ instrument = 0, amount = 6 }, { instrument = 3, amount = 2 }, { instrument = 4, amount = 2 }]
+[[recorder]]
+name = 'web'
+budget = [{ instrument = 0, amount = 2 }, { instrument = 5, amount = 2 }]
+[[recorder]]
+name = 'Web'
+";
+
+const READERS: &str = "format = 1
+[[reader]]
+name = 'push'
+[[reader]]
+name = 'pull'
+";
+
+// Ends the test where something else was told than wanted, and prints both.
+fn assert_equal<R: Abort, T: PartialEq + Debug + Drop>(rt: &R, told: T, wanted: T) {
+    assert_eq!(rt; told, wanted);
+}
+
+// What a program asks for, a kind, a meter, a name and keys, and what it is told.
+type Asked = (
+    Kind,
+    &'static str,
+    &'static str,
+    &'static [&'static str],
+    &'static str,
+);
+
+const ASKED: &[Asked] = &[
+    (Kind::Counter, "shop", "orders", &["country"], "0"),
+    (Kind::Counter, "shop", "ORDERS", &["paid", "country"], "0"),
+    (Kind::Histogram, "shop", "latency", &[], "3"),
+    (Kind::Gauge, "shop", "stock", &[], "4"),
+    (Kind::UpDownCounter, "door", "inside", &[], "5"),
+    (
+        Kind::Counter,
+        "Shop",
+        "orders",
+        &["country"],
+        "the catalogue has no meter of this name",
+    ),
+    (
+        Kind::UpDownCounter,
+        "shop",
+        "inside",
+        &[],
+        "the meter has no instrument of this name",
+    ),
+    (
+        Kind::UpDownCounter,
+        "shop",
+        "waiting",
+        &[],
+        "instrument 1 is not the only one of this name in meters of this name",
+    ),
+    (
+        Kind::Gauge,
+        "shop",
+        "orders",
+        &["country"],
+        "the instrument is declared as Counter",
+    ),
+    (
+        Kind::Counter,
+        "shop",
+        "orders",
+        &["region", "country", "country"],
+        "key 1 of the list stands again after it",
+    ),
+    (
+        Kind::Counter,
+        "shop",
+        "orders",
+        &["paid", "Country"],
+        "key 1 of the list is not declared",
+    ),
+    (
+        Kind::Counter,
+        "shop",
+        "orders",
+        &["paid"],
+        "declared key 0 is not in the list, and may not be left out",
+    ),
+];
+
+// The number of the handle that is asked for.
+fn number_of(plan: &Plan, asked: &Asked) -> Result<u32, HandleFault> {
+    let (kind, meter, name, keys, _) = asked;
+    match kind {
+        Kind::Counter => Ok(counter(plan, meter, name, keys)?.number()),
+        Kind::UpDownCounter => Ok(up_down_counter(plan, meter, name, keys)?.number()),
+        Kind::Histogram => Ok(histogram(plan, meter, name, keys)?.number()),
+        Kind::Gauge => Ok(gauge(plan, meter, name, keys)?.number()),
+    }
+}
+
+fn told(alloc: Global, plan: &Plan, asked: &Asked) -> Result<String, AllocError> {
+    match number_of(plan, asked) {
+        Ok(number) => format!(in alloc; "{number}"),
+        Err(fault) => format!(in alloc; "{fault}"),
+    }
+}
+
+#[test]
+fn an_instrument_is_found_by_name_kind_and_keys(rt: HostRuntime) -> Result<(), Fail> {
+    let plan = certified_plan(rt.alloc(), SHOP, READERS)?;
+    for asked in ASKED {
+        let told = told(rt.alloc(), &plan, asked)?;
+        assert_equal(&rt, told.as_str(), asked.4);
+    }
+    Ok(())
+}
+
+// A provider with the seats that it hands out.
+#[derive(Drop)]
+struct Service {
+    provider: MeterProvider,
+    recorders: Vec<Recorder>,
+    collectors: Vec<Collector>,
+}
+
+fn make_service<R: Wait>(rt: &R, alloc: Global) -> Result<Service, Fail> {
+    let plan = certified_plan(alloc, SHOP, READERS)?;
+    match start(rt, alloc, plan, 0, 1, NoGate) {
+        Ok((provider, recorders, collectors)) => Ok(Service {
+            provider,
+            recorders,
+            collectors,
+        }),
+        Err((_, _, refused)) => Err(Fail::from(refused)),
+    }
+}
+
+// Writes what was taken by a name and which seats are left.
+fn write_taken(
+    out: &mut String,
+    name: &str,
+    taken: Option<u32>,
+    left: &[u32],
+) -> Result<(), AllocError> {
+    write!(out, "{name} {taken:?}, left")?;
+    for number in left {
+        write!(out, " {number}")?;
+    }
+    out.push_str("\n")
+}
+
+fn recorder_numbers(alloc: Global, seats: &[Recorder]) -> Result<Vec<u32>, AllocError> {
+    let mut numbers = Vec::new(alloc);
+    for seat in seats {
+        numbers.push(seat.number())?;
+    }
+    Ok(numbers)
+}
+
+fn collector_numbers(alloc: Global, seats: &[Collector]) -> Result<Vec<u32>, AllocError> {
+    let mut numbers = Vec::new(alloc);
+    for seat in seats {
+        numbers.push(seat.number())?;
+    }
+    Ok(numbers)
+}
+
+// Writes what is taken of the recorders, one name after the other.
+fn write_recorders(out: &mut String, alloc: Global, service: &mut Service) -> Result<(), Fail> {
+    for name in ["Web", "push", "till", "till"] {
+        let plan = service.provider.plan();
+        let taken = take_recorder(plan, &mut service.recorders, name).map(|seat| seat.number());
+        let left = recorder_numbers(alloc, service.recorders.as_slice())?;
+        write_taken(out, name, taken, left.as_slice())?;
+    }
+    Ok(())
+}
+
+// Writes what is taken of the readers, one name after the other.
+fn write_readers(out: &mut String, alloc: Global, service: &mut Service) -> Result<(), Fail> {
+    for name in ["web", "push", "pull"] {
+        let plan = service.provider.plan();
+        let taken = take_reader(plan, &mut service.collectors, name).map(|seat| seat.number());
+        let left = collector_numbers(alloc, service.collectors.as_slice())?;
+        write_taken(out, name, taken, left.as_slice())?;
+    }
+    Ok(())
+}
+
+const TAKEN: &str = "Web Some(2), left 0 1
+push None, left 0 1
+till Some(0), left 1
+till None, left 1
+web None, left 0 1
+push Some(0), left 1
+pull Some(1), left
+";
+
+#[test]
+fn seats_are_taken_by_name(rt: HostRuntime) -> Result<(), Fail> {
+    let mut service = make_service(&rt, rt.alloc())?;
+    let mut out = String::new(rt.alloc());
+    write_recorders(&mut out, rt.alloc(), &mut service)?;
+    write_readers(&mut out, rt.alloc(), &mut service)?;
+    assert_equal(&rt, out.as_str(), TAKEN);
+    Ok(())
+}
+
+fn country(name: &str) -> Attr<'_> {
+    Attr {
+        key: "country",
+        value: ValueRef::Text(name),
+    }
+}
+
+// Writes what is answered to a call.
+fn write_answer<E: Debug + Drop>(
+    out: &mut String,
+    answer: Result<(), E>,
+) -> Result<(), AllocError> {
+    writeln!(out, "{answer:?}")
+}
+
+// Orders with attributes at the call, with bound ones, and as lists.
+fn sell<R: Wait>(
+    out: &mut String,
+    rt: &R,
+    alloc: Global,
+    provider: &MeterProvider,
+    seat: &mut Recorder,
+) -> Result<(), Fail> {
+    let orders = counter(provider.plan(), "shop", "orders", &["country"])?;
+    write_answer(out, orders.add(rt, provider, seat, &[country("de")], 2))?;
+    write_answer(out, orders.add(rt, provider, seat, &[country("it")], 2))?;
+    let french = orders.bind(provider.plan(), &[country("fr")])?;
+    write_answer(out, french.add(rt, provider, seat, 3))?;
+    write_answer(out, french.add(rt, provider, seat, 0))?;
+    sell_all(out, rt, alloc, provider, seat, &orders, &french)
+}
+
+// Two lists, of which the second meets the end of the budget, and a list of another instrument.
+fn sell_all<R: Wait>(
+    out: &mut String,
+    rt: &R,
+    alloc: Global,
+    provider: &MeterProvider,
+    seat: &mut Recorder,
+    orders: &Counter,
+    french: &BoundCounter,
+) -> Result<(), Fail> {
+    let mut list: BoundList<_> = orders.list(alloc);
+    list.push(french, 4)?;
+    list.push(french, 5)?;
+    write_answer(out, list.add(rt, provider, seat))?;
+    list.clear();
+    for value in 6..9 {
+        list.push(french, value)?;
+    }
+    write_answer(out, list.add(rt, provider, seat))?;
+    write!(out, "{}\n", list.len())?;
+    Ok(())
+}
+
+// Writes each point of a batch.
+fn write_points(out: &mut String, batch: &Batch) -> Result<(), AllocError> {
+    for stream in batch.streams.as_slice() {
+        for point in stream.points.as_slice() {
+            let value = &point.value;
+            writeln!(out, "{} {value:?}", batch.instrument)?;
+        }
+    }
+    Ok(())
+}
+
+const SOLD: &str = "Ok(())
+Err(UnknownValue)
+Ok(())
+Err(ValueRange)
+Ok(())
+Err(SetsFault { place: 2, refusal: Budget })
+3
+0 Sum(2)
+0 Sum(25)
+";
+
+#[test]
+fn handles_record_what_they_say(rt: HostRuntime) -> Result<(), Fail> {
+    let mut service = make_service(&rt, rt.alloc())?;
+    let mut out = String::new(rt.alloc());
+    let provider = &service.provider;
+    let Some(mut seat) = take_recorder(provider.plan(), &mut service.recorders, "till") else {
+        return Err(Fail::from("no till"));
+    };
+    sell(&mut out, &rt, rt.alloc(), provider, &mut seat)?;
+    let Some(mut reader) = take_reader(provider.plan(), &mut service.collectors, "pull") else {
+        return Err(Fail::from("no pull"));
+    };
+    let batch = reader.collect(&rt, rt.alloc(), provider, 0, 10)?;
+    write_points(&mut out, &batch)?;
+    assert_equal(&rt, out.as_str(), SOLD);
+    Ok(())
+}

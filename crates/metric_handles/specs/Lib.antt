@@ -1,0 +1,4 @@
+pub mod Named
+pub mod Bounds
+pub mod Calls
+pub mod Seats

@@ -1,0 +1,80 @@
+-- The instrument that a meter's name, a name, a kind and a list of keys are of, or the first fault.
+use Rattle.std.specs.Prelude.{ℕ, ◌+◌, Bool, false, not, ◌&&◌, List, [], ◌∷◌, Option, None, Some, Result, Ok, drop, slice_get, if◌then◌else◌}
+use Rattle.std.specs.List.{list_any, position_from}
+use Rattle.std.specs.Option.{option_map_or}
+use Rattle.std.specs.Str.{bytes_eq}
+use Rattle.metric_base.specs.Steps.{◌>>=◌, require, require_none, require_some}
+use Rattle.metric_names.specs.Names.{folded}
+use Rattle.metric_catalogue.specs.declared.contents.Contents.{Contents}
+use Rattle.metric_catalogue.specs.declared.contents.Instrument.{Instrument}
+use Rattle.metric_catalogue.specs.declared.contents.Key.{Key}
+use Rattle.metric_catalogue.specs.declared.contents.Kind.{Kind}
+use Rattle.metric_catalogue.specs.declared.contents.Meter.{Meter}
+use Rattle.metric_catalogue.specs.Keys.{is_key}
+use Rattle.metric_views.specs.Selection.{is_kind}
+use Rattle.metric_handles.specs.declared.fault.HandleFault.{HandleFault}
+use Rattle.metric_handles.specs.declared.fault.HandleFault.TheVariants.{UnknownMeter, UnknownInstrument, Ambiguous, OtherKind, RepeatedKey, UnknownKey, MissingKey}
+
+-- the meter has this name
+abbrev pub is_meter_named : List ℕ → Meter → Bool
+is_meter_named name meter = bytes_eq meter.name name
+
+-- the meter of a number has this name
+abbrev pub is_of_meter : List Meter → List ℕ → ℕ → Bool
+is_of_meter meters name number = option_map_or (is_meter_named name) (slice_get meters number) false
+
+-- the instrument has this name without ASCII case, and its meter has that name
+abbrev pub is_named : List Meter → List ℕ → List ℕ → Instrument → Bool
+is_named meters meter name instrument =
+    bytes_eq (folded instrument.name) (folded name) && is_of_meter meters meter instrument.meter
+
+-- what is unknown where no instrument has the name: the meter, or the instrument alone
+abbrev pub unknown_of : List Meter → List ℕ → HandleFault
+unknown_of meters meter = if list_any (is_meter_named meter) meters then UnknownInstrument else UnknownMeter
+
+-- the number of the only instrument of this name in the meters of that name
+unfoldable pub number_named : Contents → List ℕ → List ℕ → Result ℕ HandleFault
+number_named contents meter name = do
+  let named = is_named contents.meters meter name
+  first ← require_some (position_from named 0 contents.instruments) (unknown_of contents.meters meter)
+  _ ← require (not (list_any named (drop (first + 1) contents.instruments))) (Ambiguous first)
+  Ok first
+
+-- the text is the same
+abbrev pub is_text : List ℕ → List ℕ → Bool
+is_text text other = bytes_eq other text
+
+-- the place of the first key that stands again after it, where the list starts at a place
+abbrev pub repeated_from : ℕ → List (List ℕ) → Option ℕ
+repeated_from place [] = None
+repeated_from place (key ∷ keys) =
+    if list_any (is_text key) keys then Some place else repeated_from (place + 1) keys
+
+-- no declared key has this name
+abbrev pub is_undeclared : List Key → List ℕ → Bool
+is_undeclared declared key = not (list_any (is_key key) declared)
+
+-- the key may not be left out, and is not among these
+abbrev pub is_missing : List (List ℕ) → Key → Bool
+is_missing keys key = not key.optional && not (list_any (is_text key.name) keys)
+
+-- the keys are declared and none stands twice, and each that may not be left out is among them
+unfoldable pub keys_checked : List Key → List (List ℕ) → Result (Unit {0}) HandleFault
+keys_checked declared keys = do
+  _ ← require_none (repeated_from 0 keys) RepeatedKey
+  _ ← require_none (position_from (is_undeclared declared) 0 keys) UnknownKey
+  require_none (position_from (is_missing keys) 0 declared) MissingKey
+
+-- the instrument is of the kind, and the keys are in order
+unfoldable pub checked : Instrument → Kind → List (List ℕ) → Result (Unit {0}) HandleFault
+checked instrument kind keys = do
+  _ ← require (is_kind kind instrument.kind) (OtherKind instrument.kind)
+  keys_checked instrument.keys keys
+
+-- the number of the instrument that all this is of, or the first fault
+unfoldable pub handle_of : Contents → Kind → List ℕ → List ℕ → List (List ℕ) → Result ℕ HandleFault
+handle_of contents kind meter name keys = do
+  number ← number_named contents meter name
+  instrument ← require_some (slice_get contents.instruments number) UnknownInstrument
+  _ ← checked instrument kind keys
+  Ok number

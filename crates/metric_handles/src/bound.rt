@@ -1,0 +1,117 @@
+//! Attributes that are bound to an instrument.
+ghost use Rattle.std.specs.Prelude.{◌≡◌};
+ghost use Rattle.metric_provider.specs.KeyRecordings.{admitted_key, measurement_of};
+ghost use Rattle.metric_handles.specs.Calls.{MakesRecording};
+
+use crate::kinds::{Adds, IsCounter, IsGauge, IsHistogram, IsUpDownCounter, Records};
+use metric_book::Book;
+use metric_catalogue::{Refusal, SetKey};
+use metric_provider::{Gate, Measurement, Provider, Recorder};
+use std::marker::{Model, PhantomData};
+use std::sync::Wait;
+
+/// Attributes that are bound to an instrument of one kind: its number, and the set key of the attributes. It is 20 bytes
+/// that own nothing, so it is copied and kept wherever recordings are made.
+#[derive(Clone, Copy)]
+pub struct Bound<K> {
+    instrument: u32,
+    set: SetKey,
+    kind: PhantomData<K>,
+}
+
+impl<K> Model for Bound<K> {
+    ghost use Rattle.metric_handles.specs.Bounds.{BoundValue};
+
+    ghost Value = { BoundValue };
+
+    ghost view = { λ b. record { instrument = b.instrument; set = b.set } };
+
+    ghost inverse = { λ b. record { instrument = b.instrument; set = b.set; kind = record {} } };
+}
+
+/// Attributes that are bound to a counter.
+pub type BoundCounter = Bound<IsCounter>;
+
+/// Attributes that are bound to an up-down counter.
+pub type BoundUpDownCounter = Bound<IsUpDownCounter>;
+
+/// Attributes that are bound to a histogram.
+pub type BoundHistogram = Bound<IsHistogram>;
+
+/// Attributes that are bound to a gauge.
+pub type BoundGauge = Bound<IsGauge>;
+
+impl<K> Bound<K> {
+    // What this set key is bound to.
+    pub(crate) fn of(instrument: u32, set: SetKey) -> Bound<K>
+        ensures { result ≡ record { instrument = instrument; set = set } }
+    {
+        Bound {
+            instrument,
+            set,
+            kind: PhantomData,
+        }
+    }
+
+    /// The number of the instrument in the catalogue.
+    pub fn number(&self) -> u32
+        ensures { result ≡ self.now.instrument }
+    {
+        self.instrument
+    }
+
+    /// The set key of the attributes.
+    pub fn set(&self) -> SetKey
+        ensures { result ≡ self.now.set }
+    {
+        self.set
+    }
+
+    // A recording of this value.
+    pub(crate) fn of_value(&self, value: i64) -> Measurement
+        ensures { result ≡ measurement_of self.now.set value }
+    {
+        Measurement {
+            set: self.set,
+            value,
+        }
+    }
+}
+
+impl<K: Adds> Bound<K> {
+    /// Adds a value to the series of the attributes (Metrics API, Add): [`Recorder::record_set`] at the instrument's number
+    /// with the set key, with its refusals.
+    pub fn add<R: Wait, B: Book, G: Gate>(
+        &self,
+        rt: &R,
+        provider: &Provider<B, G>,
+        recorder: &mut Recorder,
+        value: i64,
+    ) -> Result<(), Refusal>
+        ensures { let at = self.now.instrument in
+            let admission = admitted_key provider.now recorder.old at self.now.set value in
+            MakesRecording B.KEEPS_ENTRIES B.spares_memory provider.now recorder.old recorder.new
+            at value admission result }
+    {
+        recorder.record_set(rt, provider, self.instrument, self.set, value)
+    }
+}
+
+impl<K: Records> Bound<K> {
+    /// Records a value with the attributes (Metrics API, Record): [`Recorder::record_set`] at the instrument's number with the
+    /// set key, with its refusals.
+    pub fn record<R: Wait, B: Book, G: Gate>(
+        &self,
+        rt: &R,
+        provider: &Provider<B, G>,
+        recorder: &mut Recorder,
+        value: i64,
+    ) -> Result<(), Refusal>
+        ensures { let at = self.now.instrument in
+            let admission = admitted_key provider.now recorder.old at self.now.set value in
+            MakesRecording B.KEEPS_ENTRIES B.spares_memory provider.now recorder.old recorder.new
+            at value admission result }
+    {
+        recorder.record_set(rt, provider, self.instrument, self.set, value)
+    }
+}

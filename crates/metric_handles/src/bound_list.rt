@@ -1,0 +1,123 @@
+//! Lists of bound recordings.
+ghost use Rattle.std.specs.Prelude.{◌≡◌, ◌≢◌, ◌↔◌, [], ◌∷◌, ◌++◌, length, IsErrOf, OnErr, OnOk};
+ghost use Rattle.metric_provider.specs.KeyRecordings.{measurement_of};
+ghost use Rattle.metric_handles.specs.Calls.{MakesRecordings};
+
+use crate::bound::Bound;
+use crate::kinds::{Adds, Records};
+use metric_book::Book;
+use metric_provider::{Gate, Measurement, Provider, Recorder, SetsFault};
+use std::alloc::Global;
+use std::marker::{Model, PhantomData};
+use std::sync::Wait;
+use thiserror::Error;
+
+/// Recordings of one instrument with bound attributes, which are made under one lock. Threads that record on one instrument wait
+/// for its lock and for little else, so lists are what makes them faster (`docs/PERFORMANCE.md`, "by set keys").
+#[derive(Drop)]
+pub struct BoundList<K> {
+    instrument: u32,
+    all: Vec<Measurement>,
+    kind: PhantomData<K>,
+}
+
+impl<K> Model for BoundList<K> {
+    ghost use Rattle.metric_handles.specs.Bounds.{BoundListValue};
+
+    ghost Value = { BoundListValue };
+
+    ghost view = { λ l. record { instrument = l.instrument; all = l.all.items } };
+}
+
+/// Why a list does not take a recording.
+#[derive(Clone, Copy, Debug, PartialEq, Eq, Drop, Error)]
+pub enum ListFault {
+    /// The attributes are bound to another instrument than the list's.
+    #[error("the attributes are bound to another instrument")]
+    OtherInstrument,
+    /// Memory was refused.
+    #[error("no memory")]
+    Memory,
+}
+
+impl<K> BoundList<K> {
+    // An empty list for the instrument of this number.
+    pub(crate) fn new(alloc: Global, instrument: u32) -> BoundList<K>
+        ensures { result ≡ record { instrument = instrument; all = [] } }
+    {
+        BoundList {
+            instrument,
+            all: Vec::new(alloc),
+            kind: PhantomData,
+        }
+    }
+
+    /// How many recordings stand in the list.
+    pub fn len(&self) -> usize
+        ensures { result ≡ length self.now.all }
+    {
+        self.all.len()
+    }
+
+    /// Puts a recording last. Takes memory only where the list has never been as long.
+    ///
+    /// # Errors
+    ///
+    /// `OtherInstrument` exactly where the attributes are bound to another instrument than the list's, else nothing but
+    /// `Memory`. The list is then as it was.
+    pub fn push(&mut self, bound: &Bound<K>, value: i64) -> Result<(), ListFault>
+        ensures put { let last = measurement_of bound.now.set value in
+            let all = self.old.all ++ last ∷ [] in
+            OnOk result (self.new ≡ record self.old { all = all }) }
+        ensures other { IsErrOf result ListFault.OtherInstrument
+            ↔ (bound.now.instrument ≢ self.old.instrument) }
+        ensures err { OnErr result (self.new ≡ self.old) }
+    {
+        if bound.number() != self.instrument {
+            return Err(ListFault::OtherInstrument);
+        }
+        match self.all.push(bound.of_value(value)) {
+            Ok(()) => Ok(()),
+            Err(_) => Err(ListFault::Memory),
+        }
+    }
+
+    /// Takes all recordings out of the list. It keeps their room.
+    pub fn clear(&mut self)
+        ensures { self.new ≡ record self.old { all = [] } }
+    {
+        self.all.clear();
+    }
+}
+
+impl<K: Adds> BoundList<K> {
+    /// Adds the values in order and under one lock, up to the first that is refused (Metrics API, Add):
+    /// [`Recorder::record_sets`] at the instrument's number, with its fault. The list stays as it is.
+    pub fn add<R: Wait, B: Book, G: Gate>(
+        &self,
+        rt: &R,
+        provider: &Provider<B, G>,
+        recorder: &mut Recorder,
+    ) -> Result<(), SetsFault>
+        ensures { MakesRecordings B.KEEPS_ENTRIES B.spares_memory provider.now
+            recorder.old recorder.new self.now.instrument self.now.all result }
+    {
+        recorder.record_sets(rt, provider, self.instrument, self.all.as_slice())
+    }
+}
+
+impl<K: Records> BoundList<K> {
+    /// Records the values in order and under one lock, up to the first that is refused (Metrics API, Record):
+    /// [`Recorder::record_sets`] at the instrument's number, with its fault. The list stays as it is.
+    pub fn record<R: Wait, B: Book, G: Gate>(
+        &self,
+        rt: &R,
+        provider: &Provider<B, G>,
+        recorder: &mut Recorder,
+    ) -> Result<(), SetsFault>
+        ensures { MakesRecordings B.KEEPS_ENTRIES B.spares_memory provider.now
+            recorder.old recorder.new self.now.instrument self.now.all result }
+    {
+        recorder.record_sets(rt, provider, self.instrument, self.all.as_slice())
+    }
+}

@@ -1,0 +1,23 @@
+//! Instruments and seats by name, and attributes that are bound once.
+//!
+//! A number in place of a name is wrong without a word once a file is put in another order. Here names, kinds and keys are
+//! compared with the plan's catalogue once, at the start, and a handle is kept: [`counter`], [`up_down_counter`],
+//! [`histogram`] and [`gauge`] give one, or the first [`HandleFault`]. What a call by a handle does is what the seat's call at
+//! the handle's number does. `specs/Named.antt` says which instrument a name is of, `specs/Calls.antt` what a call does.
+#![tactic(auto)]
+
+mod bound;
+mod bound_list;
+mod fault;
+mod handle;
+mod kinds;
+mod named;
+mod seats;
+
+pub use bound::{Bound, BoundCounter, BoundGauge, BoundHistogram, BoundUpDownCounter};
+pub use bound_list::{BoundList, ListFault};
+pub use fault::HandleFault;
+pub use handle::{Counter, Gauge, Handle, Histogram, UpDownCounter};
+pub use kinds::{Adds, IsCounter, IsGauge, IsHistogram, IsUpDownCounter, Records};
+pub use named::{counter, gauge, histogram, up_down_counter};
+pub use seats::{take_reader, take_recorder};

@@ -1,0 +1,281 @@
+//! Handles by names.
+ghost use Rattle.std.specs.Prelude.{◌≡◌, ◌<◌, IfSome, length, map, not};
+ghost use Rattle.std.specs.List.{list_any, position_from};
+ghost use Rattle.metric_catalogue.specs.declared.contents.Kind.TheVariants as kinds;
+ghost use Rattle.metric_catalogue.specs.Keys.{is_key};
+ghost use Rattle.metric_views.specs.Selection.{is_kind};
+ghost use Rattle.metric_handles.specs.Named.{checked, handle_of, is_meter_named, is_missing, is_named, is_of_meter, is_text, is_undeclared, keys_checked, number_named, repeated_from, unknown_of};
+
+use crate::fault::HandleFault;
+use crate::handle::{Counter, Gauge, Handle, Histogram, UpDownCounter};
+use metric_catalogue::{Catalogue, Instrument, Key, Kind, Meter};
+use metric_plan::Plan;
+
+/// The handle of a counter of this name in a meter of that name, to which the program is going to give attributes of these keys
+/// (Metrics API, Counter creation). Instrument names are compared without ASCII case; those of meters and keys exactly, as where
+/// views select them.
+///
+/// # Errors
+///
+/// The first [`HandleFault`], in the order in which it lists them: of the names, of the kind, and of the keys, each tried over
+/// the whole list before the next. So a catalogue that renames an instrument or a key, takes another kind or declares one more
+/// key that may not be left out is refused before anything is recorded, and one in another order makes no difference.
+pub fn counter(plan: &Plan, meter: &str, name: &str, keys: &[&str]) -> Result<Counter, HandleFault>
+    ensures { let keys = map (λ key. key.now) keys.now in
+        result ≡ handle_of plan.now.facts.contents kinds.Counter meter.now name.now keys }
+{
+    let number = handle_of(plan.catalogue(), Kind::Counter, meter, name, keys)?;
+    Ok(Handle::of(number))
+}
+
+/// The same of an up-down counter (Metrics API, UpDownCounter creation).
+///
+/// # Errors
+///
+/// Those of [`counter`].
+pub fn up_down_counter(
+    plan: &Plan,
+    meter: &str,
+    name: &str,
+    keys: &[&str],
+) -> Result<UpDownCounter, HandleFault>
+    ensures { let keys = map (λ key. key.now) keys.now in
+        result ≡ handle_of plan.now.facts.contents kinds.UpDownCounter meter.now name.now keys }
+{
+    let number = handle_of(plan.catalogue(), Kind::UpDownCounter, meter, name, keys)?;
+    Ok(Handle::of(number))
+}
+
+/// The same of a histogram (Metrics API, Histogram creation).
+///
+/// # Errors
+///
+/// Those of [`counter`].
+pub fn histogram(
+    plan: &Plan,
+    meter: &str,
+    name: &str,
+    keys: &[&str],
+) -> Result<Histogram, HandleFault>
+    ensures { let keys = map (λ key. key.now) keys.now in
+        result ≡ handle_of plan.now.facts.contents kinds.Histogram meter.now name.now keys }
+{
+    let number = handle_of(plan.catalogue(), Kind::Histogram, meter, name, keys)?;
+    Ok(Handle::of(number))
+}
+
+/// The same of a gauge (Metrics API, Gauge creation).
+///
+/// # Errors
+///
+/// Those of [`counter`].
+pub fn gauge(plan: &Plan, meter: &str, name: &str, keys: &[&str]) -> Result<Gauge, HandleFault>
+    ensures { let keys = map (λ key. key.now) keys.now in
+        result ≡ handle_of plan.now.facts.contents kinds.Gauge meter.now name.now keys }
+{
+    let number = handle_of(plan.catalogue(), Kind::Gauge, meter, name, keys)?;
+    Ok(Handle::of(number))
+}
+
+// The number of the instrument that all this is of, or the first fault.
+#[tactic(auto, unfolding(crate::specs::Named::handle_of))]
+fn handle_of(
+    catalogue: &Catalogue,
+    kind: Kind,
+    meter: &str,
+    name: &str,
+    keys: &[&str],
+) -> Result<u32, HandleFault>
+    ensures { let keys = map (λ key. key.now) keys.now in
+        result ≡ handle_of catalogue.now kind meter.now name.now keys }
+{
+    let number = number_named(catalogue, meter, name)?;
+    match catalogue.instruments().get(number) {
+        Some(instrument) => {
+            checked(instrument, kind, keys)?;
+            Ok(number as u32)
+        }
+        None => Err(HandleFault::UnknownInstrument),
+    }
+}
+
+// The number of the only instrument of this name in the meters of that name.
+#[tactic(auto, unfolding(crate::specs::Named::number_named))]
+fn number_named(catalogue: &Catalogue, meter: &str, name: &str) -> Result<usize, HandleFault>
+    ensures { result ≡ number_named catalogue.now meter.now name.now }
+{
+    let meters = catalogue.meters();
+    let instruments = catalogue.instruments();
+    let Some(first) = place_named(meters, instruments, meter, name) else {
+        return Err(unknown_of(meters, meter));
+    };
+    if has_named(meters, &instruments[first + 1..], meter, name) {
+        return Err(HandleFault::Ambiguous(first));
+    }
+    Ok(first)
+}
+
+// What is unknown where no instrument has the name.
+fn unknown_of(meters: &[Meter], meter: &str) -> HandleFault
+    ensures { result ≡ unknown_of meters.now meter.now }
+{
+    if has_meter(meters, meter) {
+        HandleFault::UnknownInstrument
+    } else {
+        HandleFault::UnknownMeter
+    }
+}
+
+fn has_meter(meters: &[Meter], name: &str) -> bool
+    ensures { result ≡ list_any (is_meter_named name.now) meters.now }
+{
+    meters.iter().any(|meter| meter.name.as_str() == name)
+}
+
+// The place of the first instrument of this name in a meter of that name.
+fn place_named(
+    meters: &[Meter],
+    instruments: &[Instrument],
+    meter: &str,
+    name: &str,
+) -> Option<usize>
+    ensures place { result
+        ≡ position_from (is_named meters.now meter.now name.now) 0 instruments.now }
+    ensures within { IfSome result (λ place. place < length instruments.now) }
+{
+    instruments
+        .iter()
+        .position(|instrument| is_named(meters, meter, name, instrument))
+}
+
+// Whether there is one.
+fn has_named(meters: &[Meter], instruments: &[Instrument], meter: &str, name: &str) -> bool
+    ensures { result ≡ list_any (is_named meters.now meter.now name.now) instruments.now }
+{
+    instruments
+        .iter()
+        .any(|instrument| is_named(meters, meter, name, instrument))
+}
+
+// Whether the instrument has this name, and its meter has that name.
+fn is_named(meters: &[Meter], meter: &str, name: &str, instrument: &Instrument) -> bool
+    ensures { result ≡ is_named meters.now meter.now name.now instrument.now }
+{
+    instrument.name.get().as_str().eq_ignore_ascii_case(name)
+        && is_of_meter(meters, meter, instrument.meter)
+}
+
+// Whether the meter of this number has the name.
+fn is_of_meter(meters: &[Meter], name: &str, number: u32) -> bool
+    ensures { result ≡ is_of_meter meters.now name.now number }
+{
+    match meters.get(number as usize) {
+        Some(meter) => meter.name.as_str() == name,
+        None => false,
+    }
+}
+
+// Whether the instrument is of the kind and the keys are in order, or the first fault.
+#[tactic(auto, unfolding(crate::specs::Named::checked))]
+fn checked(instrument: &Instrument, kind: Kind, keys: &[&str]) -> Result<(), HandleFault>
+    ensures { result ≡ checked instrument.now kind (map (λ key. key.now) keys.now) }
+{
+    if !is_kind(kind, instrument.kind) {
+        return Err(HandleFault::OtherKind(instrument.kind));
+    }
+    keys_checked(instrument.keys.as_slice(), keys)
+}
+
+fn is_kind(kind: Kind, other: Kind) -> bool
+    ensures { result ≡ is_kind kind other }
+{
+    kind == other
+}
+
+// Whether the keys are declared, none stands twice and none is missing, or the first fault.
+#[tactic(auto, unfolding(crate::specs::Named::keys_checked))]
+fn keys_checked(declared: &[Key], keys: &[&str]) -> Result<(), HandleFault>
+    ensures { result ≡ keys_checked declared.now (map (λ key. key.now) keys.now) }
+{
+    if let Some(place) = repeated(keys) {
+        return Err(HandleFault::RepeatedKey(place));
+    }
+    if let Some(place) = undeclared(declared, keys) {
+        return Err(HandleFault::UnknownKey(place));
+    }
+    if let Some(place) = missing(declared, keys) {
+        return Err(HandleFault::MissingKey(place));
+    }
+    Ok(())
+}
+
+// The place of the first key that stands again after it. Each key is compared with all after it.
+fn repeated(keys: &[&str]) -> Option<usize>
+    ensures { result ≡ repeated_from 0 (map (λ key. key.now) keys.now) }
+{
+    let mut left = keys;
+    let mut place = 0;
+    while let [first, rest @ ..] = left {
+        if is_given(rest, first) {
+            return Some(place);
+        }
+        left = rest;
+        place += 1;
+    }
+    None
+}
+
+// The place of the first key that is not declared.
+#[tactic(auto, using(crate::proofs::Mapped::maps))]
+fn undeclared(declared: &[Key], keys: &[&str]) -> Option<usize>
+    ensures { result
+        ≡ position_from (is_undeclared declared.now) 0 (map (λ key. key.now) keys.now) }
+{
+    place_undeclared(declared, keys)
+}
+
+fn place_undeclared(declared: &[Key], keys: &[&str]) -> Option<usize>
+    ensures { result ≡ position_from (λ key. is_undeclared declared.now key.now) 0 keys.now }
+{
+    keys.iter().position(|key| is_undeclared(declared, key))
+}
+
+fn is_undeclared(declared: &[Key], name: &str) -> bool
+    ensures { result ≡ is_undeclared declared.now name.now }
+{
+    !has_key(declared, name)
+}
+
+fn has_key(keys: &[Key], name: &str) -> bool
+    ensures { result ≡ list_any (is_key name.now) keys.now }
+{
+    keys.iter().any(|key| key.name.as_str() == name)
+}
+
+// The place of the first declared key that is missing.
+fn missing(declared: &[Key], keys: &[&str]) -> Option<usize>
+    ensures { result
+        ≡ position_from (is_missing (map (λ key. key.now) keys.now)) 0 declared.now }
+{
+    declared.iter().position(|key| is_missing(keys, key))
+}
+
+fn is_missing(keys: &[&str], key: &Key) -> bool
+    ensures { result ≡ is_missing (map (λ key. key.now) keys.now) key.now }
+{
+    !key.optional && !is_given(keys, key.name.as_str())
+}
+
+// Whether a key is among these.
+#[tactic(auto, using(crate::proofs::Mapped::maps))]
+fn is_given(keys: &[&str], name: &str) -> bool
+    ensures { result ≡ list_any (is_text name.now) (map (λ key. key.now) keys.now) }
+{
+    is_some_key(keys, name)
+}
+
+fn is_some_key(keys: &[&str], name: &str) -> bool
+    ensures { result ≡ list_any (λ key. is_text name.now key.now) keys.now }
+{
+    keys.iter().any(|key| *key == name)
+}
