@@ -88,7 +88,7 @@ fn put<F: Folder, W: Sink>(
     folder: &mut F,
     sink: &mut W,
 ) -> Result<(), KitFault>
-    ensures put { OnOk result (IsDelivered path.now text.now
+    ensures delivered { OnOk result (IsDelivered path.now text.now
         (F.made folder.old) (F.made folder.new) (W.contents sink.old) (W.contents sink.new)) }
     ensures device { IfErr result IsDeviceFault }
 {

@@ -47,13 +47,13 @@ impl From<AllocError> for Unread {
 /// Contracts see the text that is under a path, where the folder knows it, and the files that were made, in order, where it
 /// knows these.
 pub trait Folder {
-    ghost text: { Self → List ℕ → Option (List ℕ) };
+    ghost held: { Self → List ℕ → Option (List ℕ) };
 
     ghost made: { Self → Option (List MadeFile) };
 
     /// The text of the file at a path.
     fn read(&self, alloc: Global, path: &str) -> Result<Text, Unread>
-        ensures { IfOk result (λ read. IfSome (text self.now path.now) (λ known. read ≡ known)) };
+        ensures { IfOk result (λ read. IfSome (held self.now path.now) (λ known. read ≡ known)) };
 
     /// Makes a file of this text at a path, in place of one that is there. After [`Broken`] some of it may be there.
     fn write(&mut self, path: &str, text: &[u8]) -> Result<(), Broken>

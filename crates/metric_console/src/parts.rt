@@ -31,7 +31,7 @@ pub(crate) fn texts_of<F: Folder>(
     folder: &F,
     files: &Files,
 ) -> Result<Texts, ConsoleFault>
-    ensures texts { IfOk result (AreTexts (F.text folder.now) files.now) }
+    ensures texts { IfOk result (AreTexts (F.held folder.now) files.now) }
     ensures unread { IfErr result IsUnread }
 {
     let catalogue = text_at(alloc, folder, &files.catalogue, Role::Catalogue)?;
@@ -54,7 +54,7 @@ fn optional_text<F: Folder>(
     path: &Option<Text>,
     role: Role,
 ) -> Result<Option<Text>, ConsoleFault>
-    ensures held { IfOk result (MayBeHeld (F.text folder.now) path.now) }
+    ensures read { IfOk result (MayBeHeld (F.held folder.now) path.now) }
     ensures unread { IfErr result IsUnread }
 {
     match path {
@@ -70,7 +70,7 @@ fn text_at<F: Folder>(
     path: &Text,
     role: Role,
 ) -> Result<Text, ConsoleFault>
-    ensures held { IfOk result (λ text. IsHeld (F.text folder.now) path.now text) }
+    ensures read { IfOk result (λ text. IsHeld (F.held folder.now) path.now text) }
     ensures unread { IfErr result IsUnread }
 {
     match folder.read(alloc, path.as_str()) {

@@ -30,7 +30,7 @@ pub fn run_request<F: Folder, W: Sink, E: Sink>(
     sink: &mut W,
     errors: &mut E,
 ) -> u8
-    ensures asked { IfOk request (λ asked. RunsRequest (F.text folder.old) asked
+    ensures asked { IfOk request (λ asked. RunsRequest (F.held folder.old) asked
         (writing F.made W.contents folder.old folder.new sink.old sink.new)
         (sink_run W.contents W.failures sink.old sink.new) result) }
     ensures unasked { IfErr request (λ fault.
@@ -52,7 +52,7 @@ fn run_files<F: Folder, W: Sink, E: Sink>(
     sink: &mut W,
     errors: &mut E,
 ) -> u8
-    ensures { RunsRequest (F.text folder.old) request.now
+    ensures { RunsRequest (F.held folder.old) request.now
         (writing F.made W.contents folder.old folder.new sink.old sink.new)
         (sink_run W.contents W.failures sink.old sink.new) result }
 {
@@ -152,7 +152,11 @@ fn headed(parts: &Parts<'_>) -> Option<Role> {
         Some(Role::Catalogue)
     } else if has_header(&parts.config) {
         Some(Role::Config)
-    } else if parts.certificate.as_ref().is_some_and(|text| has_header(text)) {
+    } else if parts
+        .certificate
+        .as_ref()
+        .is_some_and(|text| has_header(text))
+    {
         Some(Role::Certificate)
     } else {
         None

@@ -15,7 +15,7 @@ pub struct Disk<'a> {
 impl Folder for Disk<'_> {
     ghost use Rattle.std.specs.Prelude.{None};
 
-    ghost text = { λ _ _. None };
+    ghost held = { λ _ _. None };
 
     ghost made = { λ _. None };
 

@@ -43,7 +43,7 @@ impl Drawer {
 impl Folder for Drawer {
     ghost use Rattle.std.specs.Prelude.{None};
 
-    ghost text = { λ _ _. None };
+    ghost held = { λ _ _. None };
 
     ghost made = { λ _. None };
 
