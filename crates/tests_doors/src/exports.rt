@@ -2,9 +2,9 @@
 ghost use Rattle.std.specs.Prelude.{[], None};
 
 use metric_sdk::{
-    Batch, ClockTicker, Collector, ExportFault, ExporterState, KeepingExporter, ListTicker, Marked,
-    MeterProvider, MetricExporter, NoGate, Periodic, PeriodicEnd, Plan, Queued, RunningCounts,
-    StopFlag, Tick, certified_plan, start,
+    Batch, Broken, ClockTicker, Collector, CutSink, ExportFault, ExporterState, KeepingExporter,
+    ListTicker, Marked, MeterProvider, MetricExporter, NoGate, OpenSink, Periodic, PeriodicEnd,
+    Plan, Queued, ReopeningExporter, RunningCounts, StopFlag, Tick, certified_plan, start,
 };
 use std::alloc::Global;
 use std::fmt::Debug;
@@ -219,6 +219,64 @@ fn a_keeping_exporter_keeps_each_batch(rt: HostRuntime) -> Result<(), Fail> {
         times.push((batch.time, points_of(batch)))?;
     }
     assert_equal(&rt, times.as_slice(), &[(10, 1), (20, 0), (30, 0)]);
+    Ok(())
+}
+
+// Opens sinks in memory with room for so many bytes, one after the other, and then none.
+#[derive(Drop)]
+struct Rooms {
+    alloc: Global,
+    rooms: &'static [usize],
+}
+
+impl OpenSink<CutSink> for Rooms {
+    ghost opens = { λ _ _ _. Unit {0} };
+
+    fn open(&mut self) -> Result<CutSink, Broken> {
+        let Some((room, later)) = self.rooms.split_first() else {
+            return Err(Broken);
+        };
+        self.rooms = later;
+        Ok(CutSink::new(self.alloc, Some(*room)))
+    }
+}
+
+// The texts of the three batches.
+const ALL: &str = "collected 10 1
+stream reader=\"d\" meter=\"m\" version=\"\" schema=\"\" name=\"hits\" unit=\"\" description=\"\" kind=sum monotonic=yes temporality=delta
+point {} start=0 time=10 value=5
+collected 20 0
+collected 30 0
+";
+
+// The rooms of the sinks, how many exports of a queue were Ok and how many failed, and what the last sink holds.
+const REOPENED: &[(&[usize], (u64, u64), &str)] = &[
+    (&[1_000], (3, 0), ALL),
+    (&[20, 1_000], (2, 1), ALL),
+    (&[20, 3, 1_000], (1, 2), ALL),
+    (&[20], (0, 3), ""),
+];
+
+#[test]
+fn a_queue_writes_to_a_sink_that_is_opened_anew(rt: HostRuntime) -> Result<(), Fail> {
+    let alloc = rt.alloc();
+    for (rooms, counts, held) in REOPENED {
+        let opener = Rooms { alloc, rooms };
+        let end = end_of(
+            &rt,
+            alloc,
+            Queued::new(alloc, ReopeningExporter::new(opener), 4),
+            73,
+        )?;
+        assert_equal(&rt, (end.exported, end.failed), *counts);
+        let (exporter, _kept) = end.exporter.into_parts();
+        let (_opener, sink) = exporter.into_parts();
+        let is_held = match &sink {
+            Some(sink) => sink.taken() == held.as_bytes(),
+            None => held.is_empty(),
+        };
+        assert_equal(&rt, is_held, true);
+    }
     Ok(())
 }
 
