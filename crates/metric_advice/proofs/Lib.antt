@@ -3,6 +3,7 @@ mod Headers
 mod Lists
 pub mod Mapped
 mod Numbers
+mod Overs
 mod Refusing
 mod Rooms
 mod Told

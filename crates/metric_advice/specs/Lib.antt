@@ -4,3 +4,4 @@ pub mod Headrooms
 pub mod Limits
 pub mod Positions
 pub mod Remarks
+pub mod UnsafeParts

@@ -132,7 +132,7 @@ impl Headroom {
 }
 
 // At how many recordings no two sums are 2^64 or more apart.
-fn most_by_amount(instrument: &Instrument) -> Option<u64>
+pub(crate) fn most_by_amount(instrument: &Instrument) -> Option<u64>
     requires { instrument.now.lo ≤ℤ instrument.now.hi }
     ensures { IsMost (λ count. AmountsFit count instrument.now) result }
 {
@@ -140,7 +140,7 @@ fn most_by_amount(instrument: &Instrument) -> Option<u64>
 }
 
 // At how many recordings no sum is below the least i64, where sums are kept.
-fn most_by_low(instrument: &Instrument, is_summed: bool) -> Option<u64>
+pub(crate) fn most_by_low(instrument: &Instrument, is_summed: bool) -> Option<u64>
     ensures { IsMost (λ count. IsTrue is_summed → LowFits count instrument.now) result }
 {
     if !is_summed {
@@ -150,7 +150,7 @@ fn most_by_low(instrument: &Instrument, is_summed: bool) -> Option<u64>
 }
 
 // At how many recordings no sum is above the greatest i64, where sums are kept.
-fn most_by_high(instrument: &Instrument, is_summed: bool) -> Option<u64>
+pub(crate) fn most_by_high(instrument: &Instrument, is_summed: bool) -> Option<u64>
     ensures { IsMost (λ count. IsTrue is_summed → HighFits count instrument.now) result }
 {
     if !is_summed {
@@ -220,7 +220,7 @@ fn tighten_one(all: &mut [Headroom], instrument: u32, most: Option<u64>, limit: 
 }
 
 // At how many recordings the series of a stream are within its limit.
-fn most_by_series(
+pub(crate) fn most_by_series(
     alloc: Global,
     catalogue: &Catalogue,
     stream: &Stream,
@@ -235,9 +235,11 @@ fn most_by_series(
     }
 }
 
-// How many distinct sets of the kept keys recordings of a stream may have.
+/// How many distinct sets of the kept keys recordings of a stream may have, and so how many series it may have beside the overflow
+/// point: as many as the combinations that its instrument lists leave, else the product of the numbers of values. Fails only
+/// where memory is refused.
 #[tactic(auto, unfolding(metric_bounds::specs::Sets::sets_of))]
-fn sets_of(alloc: Global, catalogue: &Catalogue, stream: &Stream) -> Result<u128, AllocError>
+pub fn sets_of(alloc: Global, catalogue: &Catalogue, stream: &Stream) -> Result<u128, AllocError>
     ensures { IfOk result (λ count. count ≡ sets_of catalogue.now stream.now) }
 {
     match listed(alloc, catalogue, stream)? {

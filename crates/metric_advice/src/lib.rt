@@ -1,8 +1,8 @@
 //! What an operator and a service want to know before they run: how often each instrument may be recorded, what looks like a
-//! mistake in a catalogue and a config, what a refusal is about, and where a fault stands in its text.
+//! mistake in a catalogue and a config, which part of safety fails, what a refusal is about, and where a fault stands in its text.
 //!
-//! `specs/Limits.antt` and `specs/Headrooms.antt` say what a headroom is, `specs/Remarks.antt` what is remarked, and
-//! `specs/Explanations.antt` what a refusal is about.
+//! `specs/Limits.antt` and `specs/Headrooms.antt` say what a headroom is, `specs/Remarks.antt` what is remarked,
+//! `specs/UnsafeParts.antt` which part of safety fails first, and `specs/Explanations.antt` what a refusal is about.
 #![tactic(auto)]
 
 mod explanation;
@@ -13,10 +13,12 @@ mod linting;
 mod position;
 mod remark;
 mod selected;
+mod unsafe_part;
 
 pub use explanation::{Explanation, Mistake, explain_refusal};
-pub use headroom::{Headroom, headrooms};
+pub use headroom::{Headroom, headrooms, sets_of};
 pub use limit::Limit;
 pub use linting::lint;
 pub use position::{Position, locate_in_catalogue, locate_in_config};
 pub use remark::{KeyList, Remark};
+pub use unsafe_part::{UnsafePart, explain_unsafe};

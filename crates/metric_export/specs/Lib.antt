@@ -1,6 +1,9 @@
 pub mod Faults
 pub mod Exports
 pub mod States
+pub mod Queues
+pub mod Attributes
+pub mod Keepings
 pub mod ExporterCalls
 pub mod Calls
 pub mod Ticks

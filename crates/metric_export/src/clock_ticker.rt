@@ -12,7 +12,7 @@ use std::time::{Clock, Duration};
 
 /// A ticker that waits for a time before each tick, and gives the moment that the system's clock then
 /// has, in nanoseconds since 1970. It stops after a number of ticks, when its [`StopFlag`] is set,
-/// or where the clock cannot be read.
+/// or where the clock cannot be read. By [`StopFlag::wake`] a tick comes at once.
 ///
 /// No moment is before the one that was given last: where the clock went back, that one is given
 /// again. Nothing is promised of how long a wait takes. Contracts see the nanoseconds of a wait, the
@@ -24,6 +24,8 @@ pub struct ClockTicker<'a> {
     left: u64,
     last: u64,
     asked: u64,
+    // How many ticks at once the flag had asked for at the last wait.
+    seen: u64,
     flag: &'a StopFlag,
 }
 
@@ -56,6 +58,7 @@ impl<'a> ClockTicker<'a> {
             left: ticks,
             last: 0,
             asked: 0,
+            seen: 0,
             flag,
         }
     }
@@ -79,7 +82,7 @@ impl<'a> ClockTicker<'a> {
             self.old self.new result }
         ensures asked { self.new.asked ≡ next_count self.old.asked }
     {
-        let is_set = self.left == 0 || watch.is_set_within(self.period);
+        let is_set = self.left == 0 || watch.is_set_within(self.period, &mut self.seen);
         self.tick(is_set, watch.moment())
     }
 

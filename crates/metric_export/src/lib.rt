@@ -2,16 +2,21 @@
 //!
 //! [`write_batch`] writes the text of one batch to a sink. A [`MetricExporter`] takes batch after
 //! batch until it is shut down (Metrics SDK, push metric exporter); [`TextExporter`] writes their
-//! texts to a sink. A [`Ticker`] gives the moments of a periodic reader: [`ListTicker`] those of a
+//! texts to a sink, a [`KeepingExporter`] keeps the batches in memory, and a [`Queued`] keeps those that the exporter below it
+//! refused and tries them again. [`attributes`] are those of a point. A [`Ticker`] gives the moments of a periodic reader: [`ListTicker`] those of a
 //! list, [`ClockTicker`] those of a clock, until a [`StopFlag`] is set.
 #![tactic(auto)]
 
 mod batch;
 mod clock_ticker;
+mod copies;
 mod exporter;
 mod fault;
+mod keeping_exporter;
 mod laws;
 mod list_ticker;
+mod point_attributes;
+mod queued;
 mod state;
 mod stop_flag;
 mod text_exporter;
@@ -22,8 +27,11 @@ pub use batch::write_batch;
 pub use clock_ticker::ClockTicker;
 pub use exporter::MetricExporter;
 pub use fault::ExportFault;
+pub use keeping_exporter::KeepingExporter;
 pub use laws::{shut_down_exporters_stay_shut_down, write_faults_are_of_the_device};
 pub use list_ticker::ListTicker;
+pub use point_attributes::attributes;
+pub use queued::{Queued, every_batch_is_accounted_for};
 pub use state::ExporterState;
 pub use stop_flag::StopFlag;
 pub use text_exporter::TextExporter;

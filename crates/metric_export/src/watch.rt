@@ -16,8 +16,8 @@ pub(crate) trait Watch {
     // What the clock tells.
     ghost reads: { Self → Option ℕ → Type 0 };
 
-    /// Waits for so long, or until the flag is set. Whether it was set.
-    fn is_set_within(&self, time: Duration) -> bool
+    /// Waits for so long, or until the flag is set or asks for a tick that `seen` does not count yet. Whether it was set.
+    fn is_set_within(&self, time: Duration, seen: &mut u64) -> bool
         ensures { waits self.now (as_nanos time) result };
 
     /// The nanoseconds since 1970, where the clock can be read.
@@ -37,8 +37,8 @@ impl<R: Wait + Clock> Watch for FlagAndClock<'_, R> {
 
     ghost reads = { λ _ _. Unit {0} };
 
-    fn is_set_within(&self, time: Duration) -> bool {
-        self.flag.is_set_within(self.rt, time)
+    fn is_set_within(&self, time: Duration, seen: &mut u64) -> bool {
+        self.flag.is_set_within(self.rt, time, seen)
     }
 
     fn moment(&self) -> Option<u64> {

@@ -4,6 +4,7 @@ ghost use Rattle.metric_export.specs.ExporterCalls.{IsExport, IsShutdown};
 ghost use Rattle.metric_periodic.specs.Counts.{IsCounted};
 ghost use Rattle.metric_periodic.specs.Exported.{ExportsCollected, ExportsEach, ExportsOne, ShutsDown, with_collection};
 
+use crate::counts::RunningCounts;
 use metric_export::{ExportFault, MetricExporter};
 use metric_history::Batch;
 use metric_plan::Plan;
@@ -109,6 +110,11 @@ impl<E: MetricExporter> Exports<E> {
             Ok(()) => self.exported = self.exported.saturating_add(1),
             Err(_) => self.failed = self.failed.saturating_add(1),
         }
+    }
+
+    /// Tells the counts to who reads them while the reader runs.
+    pub(crate) fn tell(&self, counts: &RunningCounts) {
+        counts.set(self.exported, self.failed, self.refused);
     }
 
     /// Shuts the exporter down, and counts its failure.

@@ -2,9 +2,11 @@
 //! (Metrics SDK, periodic exporting metric reader).
 #![tactic(auto)]
 
+mod counts;
 mod exports;
 mod periodic;
 mod reading;
 mod seat;
 
+pub use counts::RunningCounts;
 pub use periodic::{Periodic, PeriodicEnd};

@@ -9,6 +9,7 @@ ghost use Rattle.metric_periodic.specs.Exported.{tally};
 ghost use Rattle.metric_periodic.specs.Runs.{IsRun};
 ghost use Rattle.metric_periodic.specs.Turns.{progress};
 
+use crate::counts::RunningCounts;
 use crate::exports::Exports;
 use crate::reading::{Ended, Reading, read_to_end};
 use metric_book::Book;
@@ -91,10 +92,48 @@ impl<E: MetricExporter> Periodic<E> {
         ensures shut_down { E.state result.exporter ≡ ExporterState.ShutDown }
         ensures kept { IsSome result.kept → 0 < result.refused }
     {
+        self.run_counted(
+            rt,
+            alloc,
+            provider,
+            collector,
+            ticker,
+            &RunningCounts::new(),
+        )
+    }
+
+    /// The same, and the reader tells its counts while it runs.
+    pub fn run_counted<R: Wait, B: Book, G: Gate, T: Ticker<R>>(
+        self,
+        rt: &R,
+        alloc: Global,
+        provider: &Provider<B, G>,
+        collector: Collector,
+        ticker: &mut T,
+        counts: &RunningCounts,
+    ) -> PeriodicEnd<E>
+        ensures run { let exports = IsExport E.export_gives E.text E.contents E.failures
+            E.state provider.now.plan in
+            let shuts_down = IsShutdown E.shutdown_gives E.contents E.failures E.state in
+            IsRun T.next_gives (Collects provider.now) (CollectsLast provider.now)
+            exports shuts_down self.turns
+            (progress ticker.old 0 collector (tally self.exporter 0 0 0))
+            ticker.new result.stopped result.kept
+            (tally result.exporter result.exported result.failed result.refused) }
+        ensures asked { T.asked ticker.new ≤ T.asked ticker.old + self.turns }
+        ensures all_turns { result.stopped ≡ false →
+            higher_count (T.asked ticker.old) self.turns ≤ T.asked ticker.new }
+        ensures handed { HandsOnToEnd (E.text provider.now.plan)
+            (handed (E.contents self.exporter) 0 0)
+            (handed (E.contents result.exporter) result.exported result.failed) }
+        ensures shut_down { E.state result.exporter ≡ ExporterState.ShutDown }
+        ensures kept { IsSome result.kept → 0 < result.refused }
+    {
         let Periodic { exporter, turns } = self;
         let reading = Reading {
             seat: collector,
             exports: Exports::new(exporter),
+            counts,
         };
         let plan = provider.plan();
         let ended = read_to_end(rt, alloc, plan, provider, turns, reading, ticker);

@@ -5,16 +5,18 @@ ghost use Rattle.metric_export.specs.ExporterCalls.{IsExport, IsShutdown};
 ghost use Rattle.metric_periodic.specs.Runs.{IsRun};
 ghost use Rattle.metric_periodic.specs.Turns.{IsCollectedAt, MakesTurns, is_stop, progress};
 
+use crate::counts::RunningCounts;
 use crate::exports::Exports;
 use crate::seat::Seat;
 use metric_export::{MetricExporter, Tick, Ticker};
 use metric_plan::Plan;
 use std::alloc::Global;
 
-/// A seat, and the exporter that its batches are handed on to.
-pub(crate) struct Reading<C, E> {
+/// A seat, the exporter that its batches are handed on to, and who is told of its counts while it runs.
+pub(crate) struct Reading<'a, C, E> {
     pub seat: C,
     pub exports: Exports<E>,
+    pub counts: &'a RunningCounts,
 }
 
 /// What a run leaves: the exporter with the counts, whether the ticker said that the run was to stop,
@@ -34,7 +36,7 @@ pub(crate) fn read_to_end<R, P, C: Seat<R, P>, E: MetricExporter, T: Ticker<R>>(
     plan: &Plan,
     provider: &P,
     turns: u32,
-    reading: Reading<C, E>,
+    reading: Reading<'_, C, E>,
     ticker: &mut T,
 ) -> Ended<C, E>
     ensures run { let exports =
@@ -42,7 +44,7 @@ pub(crate) fn read_to_end<R, P, C: Seat<R, P>, E: MetricExporter, T: Ticker<R>>(
         let shuts_down = IsShutdown E.shutdown_gives E.contents E.failures E.state in
         IsRun T.next_gives (C.collects provider.now) (C.collects_last provider.now)
         exports shuts_down turns
-        (progress ticker.old 0 reading.seat reading.exports)
+        (progress ticker.old 0 reading.entry.seat reading.entry.exports)
         ticker.new result.stopped result.kept result.exports }
     ensures asked { T.asked ticker.new ≤ T.asked ticker.old + turns }
     ensures all_turns { result.stopped ≡ false →
@@ -50,11 +52,16 @@ pub(crate) fn read_to_end<R, P, C: Seat<R, P>, E: MetricExporter, T: Ticker<R>>(
 {
     let mut reading = reading;
     let last = make_turns(rt, alloc, plan, provider, turns, &mut reading, ticker);
-    let Reading { seat, exports } = reading;
+    let Reading {
+        seat,
+        exports,
+        counts,
+    } = reading;
     let (collected, kept) = seat.collect_last_at(rt, alloc, provider, last.moment());
     let mut exports = exports;
     exports.hand_on_collected(alloc, plan, &collected);
     exports.shut_down();
+    exports.tell(counts);
     Ended {
         exports,
         stopped: stops(last),
@@ -79,7 +86,7 @@ fn make_turns<R, P, C: Seat<R, P>, E: MetricExporter, T: Ticker<R>>(
     plan: &Plan,
     provider: &P,
     turns: u32,
-    reading: &mut Reading<C, E>,
+    reading: &mut Reading<'_, C, E>,
     ticker: &mut T,
 ) -> Tick
     ensures turns { let exports =
@@ -111,7 +118,7 @@ fn collect_and_export<R, P, C: Seat<R, P>, E: MetricExporter>(
     plan: &Plan,
     provider: &P,
     now: u64,
-    reading: &mut Reading<C, E>,
+    reading: &mut Reading<'_, C, E>,
 )
     ensures { let exports =
         IsExport E.export_gives E.text E.contents E.failures E.state plan.now in
@@ -120,4 +127,5 @@ fn collect_and_export<R, P, C: Seat<R, P>, E: MetricExporter>(
 {
     let collected = reading.seat.collect_at(rt, alloc, provider, now);
     reading.exports.hand_on_collected(alloc, plan, &collected);
+    reading.exports.tell(reading.counts);
 }

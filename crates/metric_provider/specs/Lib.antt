@@ -9,4 +9,5 @@ pub mod Collections
 pub mod Closing
 pub mod Granting
 pub mod Totals
+pub mod Rolling
 pub mod Faults

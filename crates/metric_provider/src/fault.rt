@@ -18,6 +18,22 @@ pub struct AllFault {
     pub refusal: Refusal,
 }
 
+impl fmt::Display for AllFault {
+    fn fmt<W: fmt::Write>(&self, f: &mut fmt::Formatter<W>) -> fmt::Result {
+        let instrument = self.instrument;
+        let refusal = self.refusal;
+        write!(f, "instrument {instrument}: {refusal}")
+    }
+}
+
+impl fmt::Debug for AllFault {
+    fn fmt<W: fmt::Write>(&self, f: &mut fmt::Formatter<W>) -> fmt::Result {
+        write!(f, "{self}")
+    }
+}
+
+impl std::error::Error for AllFault {}
+
 /// Where a list of recordings ended: those before it were made.
 #[derive(Clone, Copy, Debug, PartialEq, Eq, Drop)]
 pub struct SetsFault {
@@ -26,6 +42,16 @@ pub struct SetsFault {
     /// Why.
     pub refusal: Refusal,
 }
+
+impl fmt::Display for SetsFault {
+    fn fmt<W: fmt::Write>(&self, f: &mut fmt::Formatter<W>) -> fmt::Result {
+        let place = self.place;
+        let refusal = self.refusal;
+        write!(f, "recording {place}: {refusal}")
+    }
+}
+
+impl std::error::Error for SetsFault {}
 
 /// Why a provider is not finished, in the order in which the faults are tried: `Stranger`, `RecorderMissing`,
 /// `AuditMismatch`, `Memory`.
@@ -90,3 +116,23 @@ impl fmt::Display for FinishFault {
 }
 
 impl std::error::Error for FinishFault {}
+
+/// Why a provider does not go over into the next run of its plan. `SameRun` is tried first.
+#[derive(Clone, Copy, Debug, PartialEq, Eq, Drop)]
+pub enum RollFault {
+    /// The next run was to have the number of this one, by which their seats are told apart.
+    SameRun,
+    /// The provider is not finished, or there was no memory for the next one.
+    Finish(FinishFault),
+}
+
+impl fmt::Display for RollFault {
+    fn fmt<W: fmt::Write>(&self, f: &mut fmt::Formatter<W>) -> fmt::Result {
+        match self {
+            RollFault::SameRun => f.write_str("the next run has the number of this one"),
+            RollFault::Finish(fault) => write!(f, "{fault}"),
+        }
+    }
+}
+
+impl std::error::Error for RollFault {}

@@ -1,5 +1,5 @@
 //! The end of a provider: its instruments leave their locks and are compared with what the recorders were told.
-ghost use Rattle.std.specs.Prelude.{◌≡◌, ◌≤◌, ◌+◌, Ok, true, length, map, vec_capacity, vec_len, IfOk, IfErr, OnErr, OnOk};
+ghost use Rattle.std.specs.Prelude.{◌≡◌, ◌≤◌, ◌+◌, IsTrue, Ok, true, length, map, vec_capacity, vec_len, IfOk, IfErr, OnErr, OnOk};
 ghost use Rattle.std.specs.List.{list_all};
 ghost use Rattle.metric_provider.specs.Providers.{IsProvider};
 ghost use Rattle.metric_provider.specs.Seats.{is_recorder_of, provider_of};
@@ -11,7 +11,7 @@ use crate::journals::{journals_of, slips_of_seats};
 use crate::provider::{Locked, Provider};
 use crate::recorder::Recorder;
 use crate::settling::settle;
-use crate::totals::Totals;
+use crate::totals::{Finished, Totals};
 use crossbeam_utils::CachePadded;
 use metric_book::Book;
 use metric_plan::Plan;
@@ -35,7 +35,7 @@ impl<B: Book, G: Gate> Provider<B, G> {
     /// - [`FinishFault::Memory`], which may stand in the place of `AuditMismatch`.
     pub fn finish<R: Wait>(
         self,
-        _rt: &R,
+        rt: &R,
         alloc: Global,
         recorders: Vec<Recorder>,
     ) -> Result<Totals, (Provider<B, G>, Vec<Recorder>, FinishFault)>
@@ -55,9 +55,44 @@ impl<B: Book, G: Gate> Provider<B, G> {
         ensures provider { IfErr result (λ refused. refused.0 ≡ self) }
         ensures recorders { IfErr result (λ refused. refused.1.items ≡ recorders.items) }
     {
+        match self.finish_keeping(rt, alloc, recorders) {
+            Ok(finished) => {
+                let Finished {
+                    totals,
+                    plan: _plan,
+                    gate: _gate,
+                } = finished;
+                Ok(totals)
+            }
+            Err(refused) => Err(refused),
+        }
+    }
+
+    /// [`Provider::finish`], which hands the plan and the gate out too, so that a provider can be started of them again.
+    ///
+    /// # Errors
+    ///
+    /// Those of [`Provider::finish`].
+    pub fn finish_keeping<R: Wait>(
+        self,
+        _rt: &R,
+        alloc: Global,
+        recorders: Vec<Recorder>,
+    ) -> Result<Finished<G>, (Provider<B, G>, Vec<Recorder>, FinishFault)>
+        ensures totals { IfOk result (λ finished. let end = finished.totals in
+            Finishes B.KEEPS_ENTRIES self.plan recorders.items
+            end.instruments.items end.journals.items end.slips.items) }
+        ensures plan { IfOk result (λ finished. finished.plan ≡ self.plan) }
+        ensures certified { IfOk result (λ finished. IsTrue finished.plan.is_certified) }
+        ensures seated { OnOk result (seated self recorders.items ≡ Ok tt) }
+        ensures refused { IfErr result (λ refused.
+            RefusesFinish (seated self recorders.items) refused.2) }
+        ensures provider { IfErr result (λ refused. refused.0 ≡ self) }
+        ensures recorders { IfErr result (λ refused. refused.1.items ≡ recorders.items) }
+    {
         let (plan, run, gate, mut slots) = self.into_slots();
         match settle_seated(alloc, &plan, run, &mut slots, recorders.as_slice()) {
-            Ok(totals) => Ok(totals),
+            Ok(totals) => Ok(Finished { totals, plan, gate }),
             Err(fault) => {
                 let provider = Provider::from_slots(plan, run, gate, slots);
                 Err((provider, recorders, fault))
@@ -89,8 +124,8 @@ fn settle_seated<B: Book>(
     }
 }
 
-// What instruments come to that leave their locks; refused, they are locked again. All room for that is made first.
-fn settle_locked<B: Book>(
+/// What instruments come to that leave their locks; refused, they are locked again. All room for that is made first.
+pub(crate) fn settle_locked<B: Book>(
     alloc: Global,
     plan: &Plan,
     locked: &mut Vec<Locked<B>>,
@@ -169,8 +204,8 @@ pub(crate) fn put_back<B: Book>(slots: &mut Vec<Slot<B>>, locked: &mut Vec<Locke
     }
 }
 
-// Whether the seats are those of all recorders of this run of the plan, or the first fault.
-fn seated(plan: &Plan, run: u64, recorders: &[Recorder]) -> Result<(), FinishFault>
+/// Whether the seats are those of all recorders of this run of the plan, or the first fault.
+pub(crate) fn seated(plan: &Plan, run: u64, recorders: &[Recorder]) -> Result<(), FinishFault>
     ensures exact { result ≡ seated (provider_of plan.now run) recorders.now }
     ensures all { OnOk result (AreAllSeats plan.now recorders.now) }
 {

@@ -46,8 +46,8 @@ pub fn start<R: Wait, B: Book, G: Gate>(
     }
 }
 
-// The slots, and the seats of the recorders and the readers.
-fn new_parts<B: Book>(
+/// The slots, and the seats of the recorders and the readers.
+pub(crate) fn new_parts<B: Book>(
     alloc: Global,
     plan: &Plan,
     start: u64,

@@ -1,7 +1,12 @@
 //! What a provider's instruments come to.
+use crate::collector::Collector;
+use crate::gate::Gate;
+use crate::provider::Provider;
+use crate::recorder::Recorder;
 use metric_base::Items;
-use metric_book::Slip;
+use metric_book::{Book, Slip};
 use metric_history::Entry;
+use metric_plan::Plan;
 
 /// What the recordings of one instrument come to.
 #[derive(Clone, Copy, Debug, PartialEq, Eq, Drop)]
@@ -22,4 +27,28 @@ pub struct Totals {
     pub journals: Vec<Items<Entry>>,
     /// The slips of each recorder on each instrument, both in order. Each list is empty where the books keep no entries.
     pub slips: Vec<Items<Items<Slip>>>,
+}
+
+/// What a finished provider comes to, and what it was started of.
+#[derive(Drop)]
+pub struct Finished<G> {
+    /// What it comes to.
+    pub totals: Totals,
+    /// The certified plan.
+    pub plan: Plan,
+    /// What was done inside its locks.
+    pub gate: G,
+}
+
+/// A provider of the next run of a plan with its seats, and what the run before came to.
+#[derive(Drop)]
+pub struct Rolled<B: Book, G: Gate> {
+    /// The provider of the next run.
+    pub provider: Provider<B, G>,
+    /// The seat of each recorder for the next run, in order, told of nothing.
+    pub recorders: Vec<Recorder>,
+    /// The seat of each reader for the next run, in order, which has seen nothing.
+    pub collectors: Vec<Collector>,
+    /// What the run before came to.
+    pub totals: Totals,
 }

@@ -1,3 +1,4 @@
+pub mod Endings
 pub mod Setups
 pub mod Tables
 pub use Rattle.metric_bounds.specs.Safe

@@ -11,14 +11,18 @@ use Rattle.metric_resolve.specs.Resolved.{streams_of}
 use Rattle.metric_bounds.specs.Finding.{SafetyFinds}
 use Rattle.metric_bounds.specs.Safe.{IsSafe}
 use Rattle.metric_bounds.specs.Sets.{product_of}
+use Rattle.metric_cert.specs.Certificates.{certificate_from}
 use Rattle.metric_cert.specs.Making.{entry_of, make_faults}
 use Rattle.metric_cert.specs.Valid.{IsValid}
 use Rattle.metric_cert.specs.declared.claims.Claims.{Claims as Certificate}
+use Rattle.metric_cert.specs.declared.fault.CertFault.{CertFault}
 use Rattle.metric_cert.specs.declared.make_fault.MakeFault.{MakeFault}
+use Rattle.metric_check.specs.Findings.{CheckFinds}
 use Rattle.metric_check.specs.Products.{by_product_of}
 use Rattle.metric_plan.specs.Plans.{PlanValue, plan_of}
+use Rattle.metric_plan.specs.declared.fault.CheckFault.{CheckFault}
 use Rattle.metric_sdk.specs.declared.fault.SetupFault.{SetupFault}
-use Rattle.metric_sdk.specs.declared.fault.SetupFault.TheVariants.{Catalogue, Config, Unsafe, Memory}
+use Rattle.metric_sdk.specs.declared.fault.SetupFault.TheVariants.{Catalogue, Config, Unsafe, Certificate as BadCertificate, Check, Memory}
 
 -- The texts are this catalogue and this config.
 pub record IsDeclared (catalogue config : List ℕ) (contents : Contents) (setup : Setup) : Type 0 where
@@ -60,6 +64,7 @@ IsFirstFault (Catalogue fault) catalogue config = catalogue_of catalogue ≡ Err
 IsFirstFault (Config fault) catalogue config = IsFaultyConfig catalogue config fault
 IsFirstFault (Unsafe fault) catalogue config = IsUnsafeSetup catalogue config fault
 IsFirstFault Memory catalogue config = Unit {0}
+IsFirstFault _ catalogue config = ⊥
 
 -- a catalogue, or its first fault, unless memory was refused
 abbrev pub ReadsCatalogue : Result Contents SetupFault → Result Contents CatalogueFault → Type 0
@@ -93,3 +98,58 @@ abbrev pub Plans : Result PlanValue SetupFault → Contents → Setup → Certif
 Plans (Ok plan) contents setup certificate = plan ≡ plan_of true (by_product_of certificate) contents setup
 Plans (Err Memory) contents setup certificate = Unit {0}
 Plans (Err _) contents setup certificate = ⊥
+
+-- ---- a certificate that somebody else made
+
+-- The texts are this catalogue, this config and this certificate.
+pub record IsClaimed (catalogue config certificate : List ℕ) (contents : Contents) (setup : Setup) (claims : Certificate) : Type 0 where
+  pub declared : IsDeclared catalogue config contents setup
+  pub is_certificate : certificate_from certificate ≡ Ok claims
+
+-- The certificate is valid, and this is the plan that it certifies.
+pub record IsVouchedPlan (catalogue config certificate : List ℕ) (plan : PlanValue) : Type 0 where
+  pub contents : Contents
+  pub setup : Setup
+  pub claims : Certificate
+  pub claimed : IsClaimed catalogue config certificate contents setup claims
+  pub valid : IsValid contents setup claims
+  pub planned : plan ≡ plan_of true (by_product_of claims) contents setup
+
+-- The catalogue and the config are right, and the certificate has this first fault.
+pub record IsFaultyCertificate (catalogue config certificate : List ℕ) (fault : CertFault) : Type 0 where
+  pub contents : Contents
+  pub setup : Setup
+  pub declared : IsDeclared catalogue config contents setup
+  pub first : certificate_from certificate ≡ Err fault
+
+-- The texts are right, and this is the first fault that the certificate's check finds.
+pub record IsRefusedCheck (catalogue config certificate : List ℕ) (fault : CheckFault) : Type 0 where
+  pub contents : Contents
+  pub setup : Setup
+  pub claims : Certificate
+  pub claimed : IsClaimed catalogue config certificate contents setup claims
+  pub found : CheckFinds contents setup claims (Some fault)
+
+-- The fault is the first of the catalogue, the config, the certificate and its check, unless memory was refused.
+abbrev pub IsFirstClaimFault : SetupFault → List ℕ → List ℕ → List ℕ → Type 0
+IsFirstClaimFault (Catalogue fault) catalogue config certificate = catalogue_of catalogue ≡ Err fault
+IsFirstClaimFault (Config fault) catalogue config certificate = IsFaultyConfig catalogue config fault
+IsFirstClaimFault (BadCertificate fault) catalogue config certificate = IsFaultyCertificate catalogue config certificate fault
+IsFirstClaimFault (Check fault) catalogue config certificate = IsRefusedCheck catalogue config certificate fault
+IsFirstClaimFault Memory catalogue config certificate = Unit {0}
+IsFirstClaimFault _ catalogue config certificate = ⊥
+
+-- a certificate, or its first fault, unless memory was refused
+abbrev pub ReadsCertificate : Result Certificate SetupFault → Result Certificate CertFault → Type 0
+ReadsCertificate (Ok certificate) read = read ≡ Ok certificate
+ReadsCertificate (Err (BadCertificate fault)) read = read ≡ Err fault
+ReadsCertificate (Err Memory) read = Unit {0}
+ReadsCertificate (Err _) read = ⊥
+
+-- the plan that a certificate shows to be safe, or the first fault that its check finds, unless memory was refused
+abbrev pub Vouches : Result PlanValue SetupFault → Contents → Setup → Certificate → Type 0
+Vouches (Ok plan) contents setup certificate =
+    IsValid contents setup certificate × (plan ≡ plan_of true (by_product_of certificate) contents setup)
+Vouches (Err (Check fault)) contents setup certificate = CheckFinds contents setup certificate (Some fault)
+Vouches (Err Memory) contents setup certificate = Unit {0}
+Vouches (Err _) contents setup certificate = ⊥

@@ -1,12 +1,14 @@
 //! Why a service gets no plan.
 use metric_catalogue::CatalogueFault;
-use metric_cert::MakeFault;
+use metric_cert::{CertFault, MakeFault};
+use metric_plan::CheckFault;
 use metric_views::ViewFault;
 use std::alloc::AllocError;
 use thiserror::Error;
 
-/// Why a catalogue and a config come to no certified plan: the first fault of the catalogue, then that of the config,
-/// then the first part of safety that fails, or want of memory.
+/// Why a catalogue and a config come to no certified plan: the first fault of the catalogue, then that of the config; then the
+/// first part of safety that fails, or, where somebody else has made the certificate, its first fault and then the first that its
+/// check finds; or want of memory.
 #[derive(Clone, Copy, Debug, PartialEq, Eq, Drop, Error)]
 pub enum SetupFault {
     /// The catalogue is none.
@@ -18,6 +20,12 @@ pub enum SetupFault {
     /// The catalogue and the config are not safe together, so nothing can certify them.
     #[error("make {0}")]
     Unsafe(MakeFault),
+    /// The certificate is none.
+    #[error("certificate {0}")]
+    Certificate(CertFault),
+    /// The certificate does not show that the catalogue and the config are safe.
+    #[error("check {0}")]
+    Check(CheckFault),
     /// Memory was refused.
     #[error("memory")]
     Memory,

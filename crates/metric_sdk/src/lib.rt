@@ -1,86 +1,196 @@
-//! One door for a service: all that it needs, from its two files to the totals at its end.
+//! One door for a service: all that it needs, in the order in which it meets it. What a call costs was measured on one machine
+//! and stands in whole in `docs/PERFORMANCE.md`.
 //!
-//! In the order in which a service meets them:
-//!
-//! 1. **Files.** [`Catalogue::read`] reads what may be recorded: instruments with the values of their attributes, and
-//!    recorders with their budgets. [`Config::read`] reads the metric readers and views. Each answers its first fault,
-//!    a [`CatalogueFault`] or a [`ViewFault`], with its place. Wherever a value has a [`Text`] or an [`Items`], it is a
-//!    `String` or a `Vec` that contracts see as a text or a list: read it by `as_str` and `as_slice`.
-//!    Of the two together [`lint`] gives a [`Remark`] on each thing that looks like a mistake, and [`headrooms`] how often each
-//!    instrument may be recorded, its [`Headroom`]. [`locate_in_catalogue`] and [`locate_in_config`] give the [`Position`] of
-//!    a fault, [`explain_refusal`] the [`Explanation`] of a recording that is refused for what it says.
-//! 2. **Certificate.** [`make`] gives a [`Certificate`] that catalogue and config are safe, or a [`MakeFault`];
-//!    `Certificate::write` and `Certificate::read` take it from one machine to another. [`check`] trusts nobody: it
-//!    gives the certified [`Plan`], or a [`CheckFault`]. [`certified_plan`] does all this from the two texts.
-//! 3. **Start.** [`start`] makes a [`Provider`] of a certified plan, with a seat for each recorder and each reader that
-//!    the files declare. A provider is generic over the book that keeps the recordings of an instrument, and over a
-//!    [`Gate`], by which a test holds threads inside a lock. Services take [`Marked`] and [`NoGate`]: a
-//!    [`MeterProvider`], of whose tables [`tables_are_bounded`] speaks. A service that has to prove its numbers to somebody,
-//!    for billing or after an incident, takes [`Audited`] in place of [`Marked`]: beside the tables it keeps each recording,
-//!    32 bytes in the list of its instrument and 24 in the seat of its recorder, so it takes memory as long as it runs, and
-//!    some 70 nanoseconds more for each of them.
-//! 4. **Recording.** A thread records with a [`Recorder`], by the number of the instrument, its [`Attr`]s, each a key
-//!    with a [`ValueRef`], and the value. What is not counted is answered by a [`Refusal`]: where an instrument lists its
-//!    allowed [`Combinations`], also attributes that are none of them ([`Refusal::Combination`]), though each is declared.
-//!    `Recorder::admits` answers the [`SetKey`] that the attributes come to, `Recorder::accepted` what the seat was [`Told`]
-//!    of. `Recorder::record_set` records by a set key, and `Recorder::record_sets` a list of [`Measurement`]s of one
-//!    instrument under one lock, up to a [`SetsFault`].
-//!    An instrument may have a spare budget, for what no recorder's budget foresees: while the run goes on, `Provider::grant`
-//!    gives some of it to any recorder, and by `Recorder::ask` a recorder whose budget is spent ([`Refusal::Budget`]) asks for
-//!    some itself, until nothing is left ([`Refusal::NoSpare`]). The certificate vouches for the budgets and the spare together.
-//! 5. **Collection.** A thread collects with a [`Collector`]: a [`Batch`] of an instrument has the [`StreamPoints`] of
-//!    each of its streams, a [`Point`] the [`PointValue`] of one series. A collection of all instruments that is
-//!    refused midway answers an [`AllFault`], with the batches before.
-//! 6. **Export.** [`write_batch`] writes the text of a batch. A [`MetricExporter`] takes batch after batch until it is
-//!    shut down, or answers an [`ExportFault`]; a [`TextExporter`] writes them to a sink. [`Periodic`] collects at each
-//!    [`Tick`] of a [`Ticker`], a [`ClockTicker`] until its [`StopFlag`] is set or a [`ListTicker`], hands on to an
-//!    exporter, and tells what it did by a [`PeriodicEnd`].
-//! 7. **Devices.** A [`Sink`] takes bytes, a [`Source`] gives them: [`StdSink`] and [`StdSource`] are those of std,
-//!    [`CutSink`] and [`CutSource`] are of memory, for tests. [`read_all`] and [`write_all`] move a whole text.
-//! 8. **End.** `Provider::finish` takes the seats of all recorders back and gives the [`Totals`], a [`Total`] for each
-//!    instrument, or a [`FinishFault`]. Over [`Audited`] they have the journal of each instrument, its recordings as
-//!    [`Entry`], and the [`Slip`]s of each recorder; [`audit`] tells whether these and the batches agree, or an
-//!    [`AuditFault`].
+//! 1. **Open.** Two texts declare a service: a catalogue says what may be recorded, a config which metric readers and views there
+//!    are. [`open`] reads them, makes a certificate that no limit and no number can overflow, checks it, and starts: a
+//!    [`MeterProvider`] with the seat of each recorder and each reader, in the order of the texts, or the first [`SetupFault`].
+//!    [`open_certified`] takes a certificate that somebody else made, whom it does not trust. [`now`] gives the moment of the
+//!    start, [`Runs`] the number of the run. (512 instruments with 256 views take some 150 ns for each pair of the two.)
+//! 2. **Names.** [`counter`], [`up_down_counter`], [`histogram`] and [`gauge`] find an instrument of the plan by the names of its
+//!    meter and its own, and compare its kind and its keys with what the service is going to record: a [`Handle`] of that kind
+//!    ([`Counter`] and so on), or a [`HandleFault`] before anything was recorded. [`take_recorder`] and [`take_reader`] take a
+//!    seat out of those that `open` gave.
+//! 3. **Recording.** A thread records with a [`Recorder`]: by a handle's `add` or `record`, with the [`Attr`]s, each a key with a
+//!    [`ValueRef`], and the value; 85 to 107 ns with three attributes, less than a lock and a map of three texts. What is not
+//!    counted is answered by a [`Refusal`], also attributes of which each is declared, but not together
+//!    ([`Refusal::Combination`] of the allowed [`Combinations`]); [`explain_refusal`] gives its [`Explanation`]. Nothing is
+//!    counted in another series, and no new series appears. `Recorder::accepted` tells what the seat was [`Told`] of.
+//! 4. **Bound attributes.** `Handle::bind` looks attributes up once, 40 of these ns for three of them; the [`Bound`] that it gives
+//!    records without them, in 46, and a [`BoundList`] hands on many under one lock, in 34 each. Below both are set keys:
+//!    `Recorder::admits` gives the [`SetKey`] of attributes, `Recorder::record_set` records by it, and `Recorder::record_sets` a
+//!    list of [`Measurement`]s, up to a [`SetsFault`].
+//! 5. **Export.** [`Periodic`] collects at each [`Tick`] of a [`Ticker`], a [`ClockTicker`] until its [`StopFlag`] is set or a
+//!    [`ListTicker`]; it hands each batch on to a [`MetricExporter`], as a [`TextExporter`] is, and at its end collects a last
+//!    time. What it did is a [`PeriodicEnd`], an exporter's fault an [`ExportFault`]. By hand: a [`Collector`] collects the
+//!    [`Batch`] of one instrument or of all, up to an [`AllFault`]; a batch has the [`StreamPoints`] of each stream, a [`Point`]
+//!    the [`PointValue`] of one series, and [`write_batch`] writes its text. (A collection takes 23 to 54 ns a point.)
+//! 6. **End.** [`shutdown_all`] lets readers collect a last time, exports what they give, and finishes the provider; an
+//!    [`EndFault`] has each cause, and hands back what is left. `Provider::finish` alone gives the [`Totals`], a [`Total`] for
+//!    each instrument, exactly what the recorders were told, or a [`FinishFault`]; `Provider::finish_keeping` also the plan. Calls
+//!    that hand things back have them in a tuple with the fault: `?` makes a [`ServiceFault`] of each.
+//! 7. **A long life.** Budgets end: [`headrooms`] tells how often each instrument may be recorded, its [`Headroom`]. So
+//!    `Provider::roll_over` ends a run and starts the next one of the same plan, with new seats and full budgets, or hands all
+//!    back with a [`RollFault`]. For what no recorder's budget foresees an instrument may have a spare: while the run goes on,
+//!    `Provider::grant` gives some of it to any recorder, and by `Recorder::ask` a recorder whose budget is spent
+//!    ([`Refusal::Budget`]) asks for some itself, until nothing is left ([`Refusal::NoSpare`]). The certificate vouches for the
+//!    budgets and the spare together.
+//! 8. **Files that are wrong.** [`lint`] gives a [`Remark`] on each thing in the files that looks like a mistake;
+//!    [`locate_in_catalogue`] and [`locate_in_config`] give the [`Position`] of a fault.
+//! 9. **By steps.** What `open` does: [`Catalogue::read`] and [`Config::read`], each up to its first fault, a
+//!    [`CatalogueFault`] or a [`ViewFault`] with its place; [`make`] gives a [`Certificate`], or a [`MakeFault`];
+//!    `Certificate::write` and `Certificate::read` take it from one machine to another; [`check`] trusts nobody and gives the
+//!    certified [`Plan`], or a [`CheckFault`]; [`start`] makes the [`Provider`] of a plan. [`certified_plan`] and
+//!    [`vouched_plan`] give the plan of texts. Wherever a value has a [`Text`] or an [`Items`], it is a `String` or a `Vec` that
+//!    contracts see as a text or a list: read it by `as_str` and `as_slice`.
+//! 10. **Other books.** A provider is generic over the book that keeps the recordings of an instrument, and over a [`Gate`], by
+//!    which a test holds threads inside a lock. Services take [`Marked`] and [`NoGate`], of whose tables
+//!    [`tables_are_bounded`] speaks. A service that has to prove its numbers to somebody, for billing or after an incident,
+//!    starts with [`Audited`]: beside the tables it keeps each recording, 32 bytes in the list of its instrument and 24 in the
+//!    seat of its recorder, so it takes memory as long as a run lasts, and some 70 ns more for each of them. Its totals have the
+//!    journal of each instrument, its recordings as [`Entry`], and the [`Slip`]s of each recorder; [`audit`] tells whether these
+//!    and the batches agree, or an [`AuditFault`].
+//! 11. **Devices.** A [`Sink`] takes bytes, a [`Source`] gives them: [`StdSink`] and [`StdSource`] are those of std,
+//!     [`CutSink`] and [`CutSource`] are of memory, for tests. [`read_all`] and [`write_all`] move a whole text.
 #![tactic(auto)]
 
+mod ended;
+mod ending;
 mod fault;
+mod opening;
 mod provider;
+mod runs;
+mod service_fault;
 mod setup;
 mod tables;
+mod vouching;
 
+pub use ended::EndFault;
+pub use ended::ReaderEnd;
+pub use ended::Uncollected;
+pub use ended::Unexported;
+pub use ended::Unfinished;
+pub use ending::shutdown_all;
 pub use fault::SetupFault;
-pub use metric_advice::{
-    Explanation, Headroom, KeyList, Limit, Mistake, Position, Remark, explain_refusal, headrooms,
-    lint, locate_in_catalogue, locate_in_config,
-};
+pub use metric_advice::Explanation;
+pub use metric_advice::Headroom;
+pub use metric_advice::KeyList;
+pub use metric_advice::Limit;
+pub use metric_advice::Mistake;
+pub use metric_advice::Position;
+pub use metric_advice::Remark;
+pub use metric_advice::explain_refusal;
+pub use metric_advice::headrooms;
+pub use metric_advice::lint;
+pub use metric_advice::locate_in_catalogue;
+pub use metric_advice::locate_in_config;
 pub use metric_aggregate::PointValue;
-pub use metric_audit::{AuditFault, Audited, audit};
-pub use metric_base::{Items, Text};
-pub use metric_catalogue::{
-    Attr, Catalogue, CatalogueDefect, CatalogueFault, CataloguePlace, Instrument, Key, Kind, Meter,
-    Refusal, SetKey,
-};
-pub use metric_cert::{CertFault, Certificate, MakeFault, make};
+pub use metric_audit::AuditFault;
+pub use metric_audit::Audited;
+pub use metric_audit::audit;
+pub use metric_base::Items;
+pub use metric_base::Text;
+pub use metric_catalogue::Attr;
+pub use metric_catalogue::Catalogue;
+pub use metric_catalogue::CatalogueDefect;
+pub use metric_catalogue::CatalogueFault;
+pub use metric_catalogue::CataloguePlace;
+pub use metric_catalogue::Instrument;
+pub use metric_catalogue::Key;
+pub use metric_catalogue::Kind;
+pub use metric_catalogue::Meter;
+pub use metric_catalogue::Refusal;
+pub use metric_catalogue::SetKey;
+pub use metric_cert::CertFault;
+pub use metric_cert::Certificate;
+pub use metric_cert::MakeFault;
+pub use metric_cert::make;
 pub use metric_check::check;
 pub use metric_combinations::Combinations;
-pub use metric_export::{
-    ClockTicker, ExportFault, ExporterState, ListTicker, MetricExporter, StopFlag, TextExporter,
-    Tick, Ticker, write_batch,
-};
-pub use metric_history::{Batch, Entry, Point, StreamPoints};
-pub use metric_io::{
-    Broken, CutSink, CutSource, ReadFault, Sink, Source, SourceFault, StdSink, StdSource, read_all,
-    write_all,
-};
+pub use metric_export::ClockTicker;
+pub use metric_export::ExportFault;
+pub use metric_export::ExporterState;
+pub use metric_export::ListTicker;
+pub use metric_export::MetricExporter;
+pub use metric_export::StopFlag;
+pub use metric_export::TextExporter;
+pub use metric_export::Tick;
+pub use metric_export::Ticker;
+pub use metric_export::write_batch;
+pub use metric_handles::Adds;
+pub use metric_handles::Bound;
+pub use metric_handles::BoundCounter;
+pub use metric_handles::BoundGauge;
+pub use metric_handles::BoundHistogram;
+pub use metric_handles::BoundList;
+pub use metric_handles::BoundUpDownCounter;
+pub use metric_handles::Counter;
+pub use metric_handles::Gauge;
+pub use metric_handles::Handle;
+pub use metric_handles::HandleFault;
+pub use metric_handles::Histogram;
+pub use metric_handles::IsCounter;
+pub use metric_handles::IsGauge;
+pub use metric_handles::IsHistogram;
+pub use metric_handles::IsUpDownCounter;
+pub use metric_handles::ListFault;
+pub use metric_handles::Records;
+pub use metric_handles::UpDownCounter;
+pub use metric_handles::counter;
+pub use metric_handles::gauge;
+pub use metric_handles::histogram;
+pub use metric_handles::take_reader;
+pub use metric_handles::take_recorder;
+pub use metric_handles::up_down_counter;
+pub use metric_history::Batch;
+pub use metric_history::Entry;
+pub use metric_history::Point;
+pub use metric_history::StreamPoints;
+pub use metric_io::Broken;
+pub use metric_io::CutSink;
+pub use metric_io::CutSource;
+pub use metric_io::ReadFault;
+pub use metric_io::Sink;
+pub use metric_io::Source;
+pub use metric_io::SourceFault;
+pub use metric_io::StdSink;
+pub use metric_io::StdSource;
+pub use metric_io::read_all;
+pub use metric_io::write_all;
 pub use metric_marked::Marked;
-pub use metric_names::{AttrValue, ValueRef};
-pub use metric_periodic::{Periodic, PeriodicEnd};
-pub use metric_plan::{CheckFault, Plan};
-pub use metric_provider::{
-    AllFault, Collector, FinishFault, Gate, Measurement, NoGate, Provider, Recorder, SetsFault,
-    Slip, Told, Total, Totals, start,
-};
-pub use metric_views::{Config, ConfigPlace, Stream, ViewDefect, ViewFault};
+pub use metric_names::AttrValue;
+pub use metric_names::ValueRef;
+pub use metric_periodic::Periodic;
+pub use metric_periodic::PeriodicEnd;
+pub use metric_plan::CheckFault;
+pub use metric_plan::Plan;
+pub use metric_provider::AllFault;
+pub use metric_provider::Collector;
+pub use metric_provider::FinishFault;
+pub use metric_provider::Finished;
+pub use metric_provider::Gate;
+pub use metric_provider::Measurement;
+pub use metric_provider::NoGate;
+pub use metric_provider::Provider;
+pub use metric_provider::Recorder;
+pub use metric_provider::RollFault;
+pub use metric_provider::Rolled;
+pub use metric_provider::SetsFault;
+pub use metric_provider::Slip;
+pub use metric_provider::Told;
+pub use metric_provider::Total;
+pub use metric_provider::Totals;
+pub use metric_provider::start;
+pub use metric_views::Config;
+pub use metric_views::ConfigPlace;
+pub use metric_views::Stream;
+pub use metric_views::ViewDefect;
+pub use metric_views::ViewFault;
+pub use opening::open;
+pub use opening::open_certified;
 pub use provider::MeterProvider;
+pub use runs::Runs;
+pub use runs::now;
+pub use service_fault::ServiceFault;
 pub use setup::certified_plan;
 pub use tables::tables_are_bounded;
+pub use vouching::vouched_plan;

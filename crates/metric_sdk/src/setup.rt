@@ -37,8 +37,8 @@ pub fn certified_plan(
     checked_plan(alloc, catalogue, config, &certificate)
 }
 
-// The catalogue that a text is, or its first fault.
-fn catalogue_of(alloc: Global, text: &str) -> Result<Catalogue, SetupFault>
+/// The catalogue that a text is, or its first fault.
+pub(crate) fn catalogue_of(alloc: Global, text: &str) -> Result<Catalogue, SetupFault>
     ensures { ReadsCatalogue result (catalogue_of text.now) }
 {
     match Catalogue::read(alloc, text) {
@@ -48,8 +48,8 @@ fn catalogue_of(alloc: Global, text: &str) -> Result<Catalogue, SetupFault>
     }
 }
 
-// The config that a text is, or its first fault.
-fn config_of(alloc: Global, text: &str) -> Result<Config, SetupFault>
+/// The config that a text is, or its first fault.
+pub(crate) fn config_of(alloc: Global, text: &str) -> Result<Config, SetupFault>
     ensures { ReadsConfig result (config_of text.now) }
 {
     match Config::read(alloc, text) {

@@ -1,7 +1,9 @@
 //! Headrooms, remarks, explanations and positions.
 use crate::declared::{Declared, read_both};
 use crate::equal::assert_equal;
-use metric_advice::{explain_refusal, headrooms, lint, locate_in_catalogue, locate_in_config};
+use metric_advice::{
+    explain_refusal, explain_unsafe, headrooms, lint, locate_in_catalogue, locate_in_config,
+};
 use metric_catalogue::{Attr, Catalogue, CatalogueFault, CataloguePlace};
 use metric_names::ValueRef;
 use metric_views::ConfigPlace;
@@ -174,6 +176,65 @@ fn each_remark_comes_up_and_a_clean_pair_has_none(rt: HostRuntime) -> Result<(),
     }
     let idle = told_remarks(rt.alloc(), IDLE, "format = 1")?;
     assert_equal(&rt, idle.as_str(), IDLE_REMARKS);
+    Ok(())
+}
+
+const BUSY: &str = "format = 1
+[[meter]]
+name = 'm'
+instrument = [{ name = 'c', kind = 'counter', range = [1, 1] }]
+[[recorder]]
+name = 'one'
+budget = [{ instrument = 0, amount = 9223372036854775807 }]
+[[recorder]]
+name = 'two'
+budget = [{ instrument = 0, amount = 9223372036854775807 }]
+[[recorder]]
+name = 'three'
+budget = [{ instrument = 0, amount = 2 }]
+";
+
+const ONE_READER: &str = "format = 1\n[[reader]]\nname = 'r'\n";
+
+// A catalogue and a config, and the first part of safety that fails.
+const UNSAFE: &[(&str, &str, &str)] = &[
+    (JOBS, ONE_READER, "None"),
+    (
+        JOBS,
+        "format = 1\n[[reader]]\nname = 'r'\nlimit = { counter = 3 }",
+        "Some(TooOften { instrument: 0, limit: Series { stream: 0 } })",
+    ),
+    (
+        JOBS,
+        "format = 1\n[[reader]]\nname = 'r'\n[[view]]\ninstrument_name = 'level'\nstream_name = 'QUEUE'",
+        "Some(Collision { first: 1, later: 2 })",
+    ),
+    (
+        BUSY,
+        ONE_READER,
+        "Some(TooOften { instrument: 0, limit: Count })",
+    ),
+];
+
+fn unsafe_part(alloc: Global, declared: &Declared) -> Result<String, AllocError> {
+    let part = explain_unsafe(alloc, &declared.catalogue, &declared.config)?;
+    format!(in alloc; "{part:?}")
+}
+
+fn told_unsafe(alloc: Global, catalogue: &str, config: &str) -> Result<String, Fail> {
+    let declared = read_both(alloc, catalogue, config)?;
+    Ok(unsafe_part(alloc, &declared)?)
+}
+
+#[test]
+fn what_is_not_safe_is_explained(rt: HostRuntime) -> Result<(), Fail> {
+    for (catalogue, config, wanted) in UNSAFE {
+        assert_equal(
+            &rt,
+            told_unsafe(rt.alloc(), catalogue, config)?.as_str(),
+            *wanted,
+        );
+    }
     Ok(())
 }
 

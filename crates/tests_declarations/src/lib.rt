@@ -18,6 +18,8 @@ mod config;
 #[cfg(test)]
 mod declared;
 #[cfg(test)]
+mod diagnoses;
+#[cfg(test)]
 mod encoding;
 #[cfg(test)]
 mod equal;

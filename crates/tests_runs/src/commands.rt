@@ -2,6 +2,7 @@
 mod combinations;
 mod devices;
 mod grants;
+mod hostile;
 
 use crate::equal::assert_equal;
 use crate::inputs::{

@@ -41,7 +41,7 @@ fn opened() -> Opened {
 fn faults_are_told() {
     let fault = |catalogue, config| open(catalogue, config, 0).err();
     assert!(
-        matches!(fault("format = 2\n", CONFIG), Some(OpenFault::Fault(text)) if text.starts_with("catalogue "))
+        matches!(fault("format = 3\n", CONFIG), Some(OpenFault::Fault(text)) if text.starts_with("catalogue "))
     );
     assert!(
         matches!(fault(CATALOGUE, "format = 2\n"), Some(OpenFault::Fault(text)) if text.starts_with("config "))

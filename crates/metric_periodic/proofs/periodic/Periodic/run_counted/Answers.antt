@@ -1,5 +1,5 @@
 use Rattle.metric_periodic.proofs.Handing.{run_hands_on, run_keeps_refused}
-use Rattle.metric_periodic.proofs.periodic.Periodic.run.Goals as goal
+use Rattle.metric_periodic.proofs.periodic.Periodic.run_counted.Goals as goal
 
 pub returns-clause-run : goal.returns-clause-run
 returns-clause-run g c =

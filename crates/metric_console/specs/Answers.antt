@@ -1,0 +1,67 @@
+-- What each command answers, and with which fault it stops before it writes.
+use Rattle.std.specs.Prelude.{◌≡◌, map}
+use Rattle.std.specs.List.{AllZip}
+use Rattle.metric_parts.specs.declared.parts.Parts.{Parts}
+use Rattle.metric_catalogue.specs.declared.contents.Contents.{Contents}
+use Rattle.metric_views.specs.declared.config.Setup.{Setup}
+use Rattle.metric_plan.specs.Plans.{PlanValue}
+use Rattle.metric_resolve.specs.Applying.{all_instruments}
+use Rattle.metric_resolve.specs.Resolved.{streams_of}
+use Rattle.metric_bounds.specs.Amounts.{total_of}
+use Rattle.metric_advice.specs.Headrooms.{IsHeadroom}
+use Rattle.metric_advice.specs.Remarks.{AreRemarks}
+use Rattle.metric_request.specs.declared.request.Task.{Task}
+use Rattle.metric_request.specs.declared.request.Task.TheVariants.{Lint, Show, Make, Check, Headroom, Replay, Draw}
+use Rattle.metric_commands.specs.declared.fault.KitFault.{KitFault}
+use Rattle.metric_commands.specs.Certifying.{IsCertified, IsMakeFault}
+use Rattle.metric_commands.specs.Claims.{IsCertifiedPlan, IsClaimFault}
+use Rattle.metric_commands.specs.Declarations.{IsDeclared, IsDeclaredFault}
+use Rattle.metric_console.specs.declared.listing.Listing.{Listing}
+use Rattle.metric_console.specs.declared.rooms.Rooms.{Rooms}
+use Rattle.metric_console.specs.declared.notes.Notes.{Notes}
+use Rattle.metric_console.specs.declared.answer.Answer.{Answer}
+use Rattle.metric_console.specs.declared.answer.Answer.TheVariants as answers
+
+-- The streams that the parts give, with how often each instrument may be recorded.
+pub record IsListing (parts : Parts) (listing : Listing) : Type 0 where
+  pub declared : IsDeclared parts listing.declared.catalogue listing.declared.config
+  pub streams : listing.streams ≡ streams_of listing.declared.catalogue listing.declared.config
+  pub totals : listing.totals ≡ map (total_of listing.declared.catalogue) (all_instruments listing.declared.catalogue)
+
+-- The headroom of each instrument that the parts declare.
+pub record AreRooms (parts : Parts) (rooms : Rooms) : Type 0 where
+  pub declared : IsDeclared parts rooms.declared.catalogue rooms.declared.config
+  pub rooms_of : AllZip (IsHeadroom rooms.declared.catalogue (streams_of rooms.declared.catalogue rooms.declared.config))
+      (all_instruments rooms.declared.catalogue) rooms.rooms
+
+-- The remarks on what the parts declare.
+pub record AreNotes (parts : Parts) (notes : Notes) : Type 0 where
+  pub declared : IsDeclared parts notes.declared.catalogue notes.declared.config
+  pub remarks : AreRemarks notes.declared.catalogue notes.declared.config notes.remarks
+
+-- The parts are right.
+pub record AreRight (parts : Parts) : Type 0 where
+  pub contents : Contents
+  pub config : Setup
+  pub declared : IsDeclared parts contents config
+
+-- The certificate of the parts is accepted.
+pub record IsAccepted (parts : Parts) : Type 0 where
+  pub plan : PlanValue
+  pub certified : IsCertifiedPlan parts plan
+
+-- Each command answers of the parts what it is asked for.
+abbrev pub IsAnswer : Task → Parts → Answer → Type 0
+IsAnswer Make parts (answers.Certificate text) = IsCertified parts text
+IsAnswer Check parts answers.Accepted = IsAccepted parts
+IsAnswer Show parts (answers.Streams listing) = IsListing parts listing
+IsAnswer Headroom parts (answers.Rooms rooms) = AreRooms parts rooms
+IsAnswer Lint parts (answers.Notes notes) = AreNotes parts notes
+IsAnswer Draw parts (answers.Picture text) = AreRight parts
+IsAnswer task parts answer = ⊥
+
+-- The fault is the first that the parts have, to a command.
+abbrev pub IsAnswerFault : Task → KitFault → Parts → Type 0
+IsAnswerFault Make = IsMakeFault
+IsAnswerFault Check = IsClaimFault
+IsAnswerFault _ = IsDeclaredFault

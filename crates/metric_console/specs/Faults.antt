@@ -1,0 +1,43 @@
+-- Which faults stop a command before it writes, and the exit status of each.
+use Rattle.std.specs.Prelude.{ℕ}
+use Rattle.metric_commands.specs.Faults.{status_of as kit_status}
+use Rattle.metric_commands.specs.declared.fault.KitFault.{KitFault}
+use Rattle.metric_commands.specs.declared.fault.KitFault.TheVariants as kit
+use Rattle.metric_console.specs.declared.folder.Unread.{Unread}
+use Rattle.metric_console.specs.declared.folder.Unread.TheVariants as unread
+use Rattle.metric_console.specs.declared.fault.ConsoleFault.{ConsoleFault}
+use Rattle.metric_console.specs.declared.fault.ConsoleFault.TheVariants.{Kit, Header}
+use Rattle.metric_console.specs.declared.fault.ConsoleFault.TheVariants as faults
+
+-- 4 without memory, else 3
+abbrev pub unread_status : Unread → ℕ
+unread_status unread.Memory = 4
+unread_status _ = 3
+
+-- The status of a fault of `metric_kit` is that of `metric_kit`.
+abbrev pub status_of : ConsoleFault → ℕ
+status_of (faults.Unread role cause) = unread_status cause
+status_of (Header role) = 3
+status_of (Kit fault) = kit_status fault
+
+abbrev pub IsUnread : ConsoleFault → Type 0
+IsUnread (faults.Unread role cause) = Unit {0}
+IsUnread (Header role) = ⊥
+IsUnread (Kit fault) = ⊥
+
+-- The sink failed, or memory was refused.
+abbrev pub IsDeviceFault : KitFault → Type 0
+IsDeviceFault kit.Write = Unit {0}
+IsDeviceFault kit.Memory = Unit {0}
+IsDeviceFault _ = ⊥
+
+-- The fault is not of a device: what was asked for is refused.
+abbrev pub IsRefused : KitFault → Type 0
+IsRefused kit.Write = ⊥
+IsRefused kit.Memory = ⊥
+IsRefused _ = Unit {0}
+
+abbrev pub IsRefusal : ConsoleFault → Type 0
+IsRefusal (faults.Unread role cause) = Unit {0}
+IsRefusal (Header role) = Unit {0}
+IsRefusal (Kit fault) = IsRefused fault

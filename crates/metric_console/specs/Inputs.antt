@@ -1,0 +1,28 @@
+-- The input of parts that the files of a replay make up, as `metric_kit` reads it.
+use Rattle.std.specs.Prelude.{◌++◌, ℕ, Bool, List, [], Option, Some, None, Result, codes}
+use Rattle.metric_io.specs.Counts.{no_reads}
+use Rattle.metric_io.specs.declared.counts.ReadCounts.{ReadCounts}
+use Rattle.metric_commands.specs.Commands.{RunsCommand, SinkRun}
+use Rattle.metric_commands.specs.Programs.{replay_options}
+use Rattle.metric_commands.specs.Replaying.{IsFirstFault, IsOutput}
+use Rattle.metric_commands.specs.declared.fault.KitFault.{KitFault}
+
+abbrev pub part_text : List ℕ → List ℕ → List ℕ
+part_text header text = header ++ text ++ codes "\n"
+
+-- a part that may be missing
+abbrev pub optional_text : List ℕ → Option (List ℕ) → List ℕ
+optional_text header None = []
+optional_text header (Some text) = part_text header text
+
+-- each file under its header, and then the script
+unfoldable pub input_of : List ℕ → List ℕ → Option (List ℕ) → List ℕ → List ℕ
+input_of catalogue config certificate script =
+    part_text (codes "%% catalogue\n") catalogue ++ part_text (codes "%% config\n") config
+    ++ optional_text (codes "%% certificate\n") certificate ++ part_text (codes "%% script\n") script
+
+-- The replay of an input that stands in memory, as `metric_kit` promises it.
+pub record IsReplay (trial audit : Bool) (input : List ℕ) (sink : SinkRun) (result : Result (Unit {0}) KitFault) : Type 0 where
+  pub counts_after : ReadCounts
+  pub runs : RunsCommand (IsOutput (replay_options trial audit)) (IsFirstFault (replay_options trial audit))
+      (record { input = Some input; counts = no_reads; counts_after = counts_after }) sink result

@@ -1,0 +1,10 @@
+pub mod Folders
+pub mod Readings
+pub mod Faults
+pub mod Answers
+pub mod Delivered
+pub mod Fleets
+pub mod Inputs
+pub mod Tables
+pub mod Runs
+pub mod Told

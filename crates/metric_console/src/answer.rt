@@ -1,0 +1,99 @@
+//! What a command answers of the texts of its files, before anything is written.
+ghost use Rattle.std.specs.Prelude.{◌≡◌, ◌≢◌, IfErr, IfOk, IsSome};
+ghost use Rattle.metric_commands.specs.Claims.{IsClaimFault};
+ghost use Rattle.metric_commands.specs.Certifying.{IsMakeFault};
+ghost use Rattle.metric_commands.specs.Declarations.{IsDeclaredFault};
+ghost use Rattle.metric_console.specs.Answers.{IsAnswer, IsAnswerFault};
+
+use crate::declared::{certified_plan, declared_of};
+use crate::listing::{Listing, listing_of};
+use crate::making::certified;
+use crate::notes::{Notes, notes_of};
+use crate::rooms::{Rooms, rooms_of};
+use metric_base::Text;
+use metric_commands::KitFault;
+use metric_parts::Parts;
+use metric_picture::draw;
+use metric_request::Task;
+use std::alloc::Global;
+
+/// What a command answers.
+#[derive(Drop)]
+pub(crate) enum Answer {
+    /// The text of a certificate.
+    Certificate(Text),
+    /// That a certificate is accepted.
+    Accepted,
+    /// The streams of a config.
+    Streams(Listing),
+    /// How often each instrument may be recorded.
+    Rooms(Rooms),
+    /// What looks like a mistake.
+    Notes(Notes),
+    /// The text of a picture.
+    Picture(Text),
+}
+
+/// The answer of a command to the parts that its files are, or the first fault of them.
+pub(crate) fn answer_of(alloc: Global, task: Task, parts: &Parts<'_>) -> Result<Answer, KitFault>
+    requires other { task ≢ Task.Replay }
+    requires certificate { task ≡ Task.Check → IsSome parts.now.certificate }
+    ensures ok { IfOk result (IsAnswer task parts.now) }
+    ensures first { IfErr result (λ fault. IsAnswerFault task fault parts.now) }
+{
+    match task {
+        Task::Make => made(alloc, parts),
+        Task::Check => checked(alloc, parts),
+        Task::Show => listed(alloc, parts),
+        Task::Headroom => roomed(alloc, parts),
+        Task::Lint => noted(alloc, parts),
+        Task::Draw => drawn(alloc, parts),
+        Task::Replay => unreachable!(),
+    }
+}
+
+fn made(alloc: Global, parts: &Parts<'_>) -> Result<Answer, KitFault>
+    ensures ok { IfOk result (IsAnswer Task.Make parts.now) }
+    ensures first { IfErr result (λ fault. IsMakeFault fault parts.now) }
+{
+    Ok(Answer::Certificate(certified(alloc, parts)?))
+}
+
+fn checked(alloc: Global, parts: &Parts<'_>) -> Result<Answer, KitFault>
+    requires { IsSome parts.now.certificate }
+    ensures ok { IfOk result (IsAnswer Task.Check parts.now) }
+    ensures first { IfErr result (λ fault. IsClaimFault fault parts.now) }
+{
+    let _plan = certified_plan(alloc, parts)?;
+    Ok(Answer::Accepted)
+}
+
+fn listed(alloc: Global, parts: &Parts<'_>) -> Result<Answer, KitFault>
+    ensures ok { IfOk result (IsAnswer Task.Show parts.now) }
+    ensures first { IfErr result (λ fault. IsDeclaredFault fault parts.now) }
+{
+    Ok(Answer::Streams(listing_of(alloc, parts)?))
+}
+
+fn roomed(alloc: Global, parts: &Parts<'_>) -> Result<Answer, KitFault>
+    ensures ok { IfOk result (IsAnswer Task.Headroom parts.now) }
+    ensures first { IfErr result (λ fault. IsDeclaredFault fault parts.now) }
+{
+    Ok(Answer::Rooms(rooms_of(alloc, parts)?))
+}
+
+fn noted(alloc: Global, parts: &Parts<'_>) -> Result<Answer, KitFault>
+    ensures ok { IfOk result (IsAnswer Task.Lint parts.now) }
+    ensures first { IfErr result (λ fault. IsDeclaredFault fault parts.now) }
+{
+    Ok(Answer::Notes(notes_of(alloc, parts)?))
+}
+
+fn drawn(alloc: Global, parts: &Parts<'_>) -> Result<Answer, KitFault>
+    ensures ok { IfOk result (IsAnswer Task.Draw parts.now) }
+    ensures first { IfErr result (λ fault. IsDeclaredFault fault parts.now) }
+{
+    let declared = declared_of(alloc, parts)?;
+    let picture = draw(alloc, &declared.catalogue, &declared.config)?;
+    Ok(Answer::Picture(Text::from_string(picture)))
+}

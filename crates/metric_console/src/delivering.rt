@@ -1,0 +1,189 @@
+//! Answers written.
+ghost use Rattle.std.specs.Prelude.{◌≡◌, IfErr, IfOk, OnOk};
+ghost use Rattle.std.specs.Io.KnownBytes.{Appends};
+ghost use Rattle.metric_console.specs.Delivered.{IsDelivered, IsDeliveredAnswer, answer_status};
+ghost use Rattle.metric_console.specs.Faults.{IsDeviceFault};
+
+use crate::answer::Answer;
+use crate::fault::{of_device, of_sheet};
+use crate::folder::Folder;
+use crate::notes::Notes;
+use crate::parts::Texts;
+use crate::rooms::{RoomSheet, Rooms};
+use crate::telling::push_note;
+use metric_base::Text;
+use metric_commands::KitFault;
+use metric_io::{Broken, Sink, write_all};
+use metric_request::{Options, Request};
+use metric_sheet::{Sheet, write_json, write_table};
+use std::alloc::Global;
+
+// The exit status of a command that is done, and of one whose remarks are errors.
+const DONE: u8 = 0;
+
+const REMARKED: u8 = 1;
+
+/// Writes an answer where the request wants it, and gives the exit status: 1 where there are remarks and they are errors, else 0.
+///
+/// # Errors
+///
+/// [`KitFault::Write`] where the sink or the folder failed, and [`KitFault::Memory`].
+pub(crate) fn deliver<F: Folder, W: Sink>(
+    alloc: Global,
+    request: &Request,
+    texts: &Texts,
+    answer: &Answer,
+    columns: u32,
+    folder: &mut F,
+    sink: &mut W,
+) -> Result<u8, KitFault>
+    ensures delivered { OnOk result (IsDeliveredAnswer request.now.files.output answer.now
+        (F.made folder.old) (F.made folder.new) (W.contents sink.old) (W.contents sink.new)) }
+    ensures status { IfOk result (λ status.
+        status ≡ answer_status request.now.options.strict answer.now) }
+    ensures device { IfErr result IsDeviceFault }
+{
+    write_answer(alloc, request, texts, answer, columns, folder, sink)?;
+    Ok(status_of(request.options.strict, answer))
+}
+
+// Writes an answer where the request wants it.
+fn write_answer<F: Folder, W: Sink>(
+    alloc: Global,
+    request: &Request,
+    texts: &Texts,
+    answer: &Answer,
+    columns: u32,
+    folder: &mut F,
+    sink: &mut W,
+) -> Result<(), KitFault>
+    ensures delivered { OnOk result (IsDeliveredAnswer request.now.files.output answer.now
+        (F.made folder.old) (F.made folder.new) (W.contents sink.old) (W.contents sink.new)) }
+    ensures device { IfErr result IsDeviceFault }
+{
+    match answer {
+        Answer::Certificate(text) => put(&request.files.output, text, folder, sink),
+        Answer::Picture(text) => put(&request.files.output, text, folder, sink),
+        Answer::Accepted => print(sink, "accepted\n"),
+        Answer::Streams(listing) => { print_sheet(alloc, sink, listing, request.options, columns) }
+        Answer::Rooms(rooms) => print_rooms(alloc, sink, rooms, request.options, columns),
+        Answer::Notes(notes) => print_notes(alloc, sink, request, texts, notes),
+    }
+}
+
+// The exit status of an answer that is written.
+fn status_of(strict: bool, answer: &Answer) -> u8
+    ensures { result ≡ answer_status strict answer.now }
+{
+    match answer {
+        Answer::Notes(notes) if strict && !notes.remarks.is_empty() => REMARKED,
+        _ => DONE,
+    }
+}
+
+// Writes a text to the file at a path, or else to the sink.
+fn put<F: Folder, W: Sink>(
+    path: &Option<Text>,
+    text: &Text,
+    folder: &mut F,
+    sink: &mut W,
+) -> Result<(), KitFault>
+    ensures put { OnOk result (IsDelivered path.now text.now
+        (F.made folder.old) (F.made folder.new) (W.contents sink.old) (W.contents sink.new)) }
+    ensures device { IfErr result IsDeviceFault }
+{
+    match path {
+        Some(path) => match folder.write(path.as_str(), text.as_str().as_bytes()) {
+            Ok(()) => Ok(()),
+            Err(broken) => Err(of_device(broken)),
+        },
+        None => print(sink, text.as_str()),
+    }
+}
+
+/// Writes a text to a sink, and passes on what that holds back.
+pub(crate) fn print<W: Sink>(sink: &mut W, text: &str) -> Result<(), KitFault>
+    ensures put { OnOk result (Appends (W.contents sink.old) (W.contents sink.new) text.now) }
+    ensures device { IfErr result IsDeviceFault }
+{
+    match print_text(sink, text) {
+        Ok(()) => Ok(()),
+        Err(broken) => Err(of_device(broken)),
+    }
+}
+
+fn print_text<W: Sink>(sink: &mut W, text: &str) -> Result<(), Broken>
+    ensures { OnOk result (Appends (W.contents sink.old) (W.contents sink.new) text.now) }
+{
+    write_all(sink, text.as_bytes())?;
+    sink.flush()?;
+    Ok(())
+}
+
+// Writes a table, or lines of JSON. A table is as wide as the request says, or else as the terminal is.
+fn print_sheet<S: Sheet, W: Sink>(
+    alloc: Global,
+    sink: &mut W,
+    sheet: &S,
+    options: Options,
+    columns: u32,
+) -> Result<(), KitFault>
+    ensures { IfErr result IsDeviceFault }
+{
+    let width = if options.width > 0 {
+        options.width
+    } else {
+        columns
+    };
+    let written = if options.json {
+        write_json(alloc, sink, sheet)
+    } else {
+        write_table(alloc, sink, sheet, width as usize)
+    };
+    match written {
+        Ok(()) => flush(sink),
+        Err(fault) => Err(of_sheet(fault)),
+    }
+}
+
+fn flush<W: Sink>(sink: &mut W) -> Result<(), KitFault>
+    ensures { IfErr result IsDeviceFault }
+{
+    match sink.flush() {
+        Ok(()) => Ok(()),
+        Err(broken) => Err(of_device(broken)),
+    }
+}
+
+fn print_rooms<W: Sink>(
+    alloc: Global,
+    sink: &mut W,
+    rooms: &Rooms,
+    options: Options,
+    columns: u32,
+) -> Result<(), KitFault>
+    ensures { IfErr result IsDeviceFault }
+{
+    let sheet = RoomSheet { rooms, options };
+    print_sheet(alloc, sink, &sheet, options, columns)
+}
+
+// Writes a line or more for each remark.
+fn print_notes<W: Sink>(
+    alloc: Global,
+    sink: &mut W,
+    request: &Request,
+    texts: &Texts,
+    notes: &Notes,
+) -> Result<(), KitFault>
+    ensures { IfErr result IsDeviceFault }
+{
+    for remark in notes.remarks.as_slice() {
+        let mut note = String::new(alloc);
+        match push_note(alloc, &mut note, &request.files, texts, notes, *remark) {
+            Ok(()) => print(sink, note.as_str())?,
+            Err(_) => return Err(KitFault::Memory),
+        }
+    }
+    Ok(())
+}

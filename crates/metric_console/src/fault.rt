@@ -1,0 +1,103 @@
+//! Why a command stops.
+ghost use Rattle.std.specs.Prelude.{◌≡◌};
+ghost use Rattle.metric_console.specs.Faults.{IsDeviceFault, status_of, unread_status};
+
+use crate::folder::Unread;
+use metric_commands::KitFault;
+use metric_io::Broken;
+use metric_sheet::SheetFault;
+use std::alloc::AllocError;
+
+/// Which of its files a fault of a command is in.
+#[derive(Clone, Copy, Debug, PartialEq, Eq, Drop)]
+pub enum Role {
+    /// The catalogue.
+    Catalogue,
+    /// The config.
+    Config,
+    /// The certificate.
+    Certificate,
+    /// The script.
+    Script,
+}
+
+/// Why a command stops.
+#[derive(Clone, Copy, Drop)]
+pub enum ConsoleFault {
+    /// A file is not read.
+    Unread {
+        /// Which.
+        role: Role,
+        /// Why.
+        cause: Unread,
+    },
+    /// A line of a file begins with `%% `, so that it cannot be a part of an input to replay.
+    Header {
+        /// Which file.
+        role: Role,
+    },
+    /// The fault that `metric_kit` has of the same parts.
+    Kit(KitFault),
+}
+
+impl ConsoleFault {
+    /// The exit status of a program that stops with the fault.
+    pub fn status(&self) -> u8
+        ensures { result ≡ status_of self.now }
+    {
+        match self {
+            ConsoleFault::Unread { cause, .. } => unread_status(*cause),
+            ConsoleFault::Header { .. } => 3,
+            ConsoleFault::Kit(fault) => fault.status(),
+        }
+    }
+}
+
+fn unread_status(cause: Unread) -> u8
+    ensures { result ≡ unread_status cause }
+{
+    match cause {
+        Unread::Memory => 4,
+        Unread::Missing | Unread::Unreadable | Unread::NotText => 3,
+    }
+}
+
+impl From<KitFault> for ConsoleFault {
+    ghost use Rattle.std.specs.Prelude.{◌≡◌};
+    ghost use Rattle.metric_console.specs.declared.fault.ConsoleFault.TheVariants.{Kit};
+
+    ghost from_gives = { λ fault console. console ≡ Kit fault };
+
+    fn from(fault: KitFault) -> ConsoleFault {
+        ConsoleFault::Kit(fault)
+    }
+}
+
+impl From<AllocError> for ConsoleFault {
+    ghost use Rattle.std.specs.Prelude.{◌≡◌};
+    ghost use Rattle.metric_commands.specs.declared.fault.KitFault.TheVariants.{Memory};
+    ghost use Rattle.metric_console.specs.declared.fault.ConsoleFault.TheVariants.{Kit};
+
+    ghost from_gives = { λ _ console. console ≡ Kit Memory };
+
+    fn from(_refused: AllocError) -> ConsoleFault {
+        ConsoleFault::Kit(KitFault::Memory)
+    }
+}
+
+/// The fault of a table that was not written whole.
+pub(crate) fn of_sheet(fault: SheetFault) -> KitFault
+    ensures { IsDeviceFault result }
+{
+    match fault {
+        SheetFault::Write => KitFault::Write,
+        SheetFault::Memory => KitFault::Memory,
+    }
+}
+
+/// The fault of a text that was not written whole.
+pub(crate) fn of_device(_broken: Broken) -> KitFault
+    ensures { IsDeviceFault result }
+{
+    KitFault::Write
+}

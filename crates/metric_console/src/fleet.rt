@@ -1,0 +1,25 @@
+//! What a backend adds up of many processes.
+ghost use Rattle.std.specs.Prelude.{◌≡◌, IfSome, IsTrue, None};
+ghost use Rattle.metric_console.specs.Fleets.{Fits};
+
+use metric_advice::Limit;
+use metric_bounds::{high, low};
+use metric_catalogue::Instrument;
+
+/// What does not fit 64 bits where a backend adds up an instrument of so many recordings, those of all processes together:
+/// their count or, where a stream keeps sums, the least or the greatest sum.
+pub(crate) fn fleet_limit(count: u128, instrument: &Instrument, is_summed: bool) -> Option<Limit>
+    ensures fits { result ≡ None → Fits count (IsTrue is_summed) instrument.now }
+    ensures not { IfSome result (λ _. Fits count (IsTrue is_summed) instrument.now → ⊥) }
+{
+    let Ok(count) = u64::try_from(count) else {
+        return Some(Limit::Count);
+    };
+    if is_summed && low(count, instrument.lo) < i128::from(i64::MIN) {
+        return Some(Limit::SumLow);
+    }
+    if is_summed && high(count, instrument.hi) > i128::from(i64::MAX) {
+        return Some(Limit::SumHigh);
+    }
+    None
+}

@@ -1,0 +1,80 @@
+//! The texts of a request's files.
+ghost use Rattle.std.specs.Prelude.{◌≡◌, IfOk, IfErr};
+ghost use Rattle.metric_console.specs.Readings.{AreTexts, IsHeld, MayBeHeld};
+ghost use Rattle.metric_console.specs.Faults.{IsUnread};
+
+use crate::fault::{ConsoleFault, Role};
+use crate::folder::Folder;
+use metric_base::Text;
+use metric_parts::Parts;
+use metric_request::Files;
+use std::alloc::Global;
+
+/// The texts of a request's files: the parts that a command reads, and the script.
+pub(crate) struct Texts {
+    pub parts: Parts<'static>,
+    pub script: Option<Text>,
+}
+
+impl Drop for Texts {
+    fn drop(self) {
+        let Texts {
+            parts: _parts,
+            script: _script,
+        } = self;
+    }
+}
+
+/// Reads the files of a request, in the order of the words, up to the first that cannot be read.
+pub(crate) fn texts_of<F: Folder>(
+    alloc: Global,
+    folder: &F,
+    files: &Files,
+) -> Result<Texts, ConsoleFault>
+    ensures texts { IfOk result (AreTexts (F.text folder.now) files.now) }
+    ensures unread { IfErr result IsUnread }
+{
+    let catalogue = text_at(alloc, folder, &files.catalogue, Role::Catalogue)?;
+    let config = text_at(alloc, folder, &files.config, Role::Config)?;
+    let certificate = optional_text(alloc, folder, &files.certificate, Role::Certificate)?;
+    let script = optional_text(alloc, folder, &files.script, Role::Script)?;
+    let parts = Parts {
+        catalogue,
+        config,
+        certificate,
+        script: None,
+    };
+    Ok(Texts { parts, script })
+}
+
+// The text of a file that the request may lack.
+fn optional_text<F: Folder>(
+    alloc: Global,
+    folder: &F,
+    path: &Option<Text>,
+    role: Role,
+) -> Result<Option<Text>, ConsoleFault>
+    ensures held { IfOk result (MayBeHeld (F.text folder.now) path.now) }
+    ensures unread { IfErr result IsUnread }
+{
+    match path {
+        Some(path) => Ok(Some(text_at(alloc, folder, path, role)?)),
+        None => Ok(None),
+    }
+}
+
+// The text of a file.
+fn text_at<F: Folder>(
+    alloc: Global,
+    folder: &F,
+    path: &Text,
+    role: Role,
+) -> Result<Text, ConsoleFault>
+    ensures held { IfOk result (λ text. IsHeld (F.text folder.now) path.now text) }
+    ensures unread { IfErr result IsUnread }
+{
+    match folder.read(alloc, path.as_str()) {
+        Ok(text) => Ok(text),
+        Err(cause) => Err(ConsoleFault::Unread { role, cause }),
+    }
+}

@@ -1,0 +1,160 @@
+//! A request, run.
+ghost use Rattle.std.specs.Prelude.{◌≡◌, ◌≢◌, IfErr, IfOk, OnErr};
+ghost use Rattle.metric_console.specs.Faults.{IsRefusal};
+ghost use Rattle.metric_commands.specs.Commands.{sink_run};
+ghost use Rattle.metric_console.specs.Runs.{Answers, RefusesFor, Replays, RunsRequest, RunsTexts, writing};
+ghost use Rattle.metric_console.specs.Told.{IsLineEnd};
+
+use crate::answer::answer_of;
+use crate::delivering::deliver;
+use crate::fault::{ConsoleFault, Role};
+use crate::folder::{Folder, Unread};
+use crate::parts::{Texts, texts_of};
+use crate::replaying::{has_header, input_of, replay_input};
+use crate::telling::{stop, tell_line};
+use metric_commands::ReplayOptions;
+use metric_io::Sink;
+use metric_parts::Parts;
+use metric_request::{LineFault, Request, Task};
+use std::alloc::Global;
+
+/// Runs what a command line asks for, in a folder and into a sink, tells on `errors` why it stops, and gives the program's exit
+/// status: 0 where it is done, 1 where the files are refused or remarks are errors, 2 where the words name no command, 3 where a
+/// file is unreadable, 4 without memory, 5 where a write failed. A table is `columns` wide at most where the request does not say
+/// how wide; 0 means that it may be as wide as it likes.
+pub fn run_request<F: Folder, W: Sink, E: Sink>(
+    alloc: Global,
+    request: Result<Request, LineFault>,
+    columns: u32,
+    folder: &mut F,
+    sink: &mut W,
+    errors: &mut E,
+) -> u8
+    ensures asked { IfOk request (λ asked. RunsRequest (F.text folder.old) asked
+        (writing F.made W.contents folder.old folder.new sink.old sink.new)
+        (sink_run W.contents W.failures sink.old sink.new) result) }
+    ensures unasked { IfErr request (λ fault.
+        IsLineEnd fault (W.contents sink.old) (W.contents sink.new) result) }
+    ensures unmade { OnErr request (folder.new ≡ folder.old) }
+{
+    match request {
+        Ok(request) => run_files(alloc, &request, columns, folder, sink, errors),
+        Err(fault) => tell_line(fault, sink, errors),
+    }
+}
+
+// Runs a command on its files, and tells how it ends.
+fn run_files<F: Folder, W: Sink, E: Sink>(
+    alloc: Global,
+    request: &Request,
+    columns: u32,
+    folder: &mut F,
+    sink: &mut W,
+    errors: &mut E,
+) -> u8
+    ensures { RunsRequest (F.text folder.old) request.now
+        (writing F.made W.contents folder.old folder.new sink.old sink.new)
+        (sink_run W.contents W.failures sink.old sink.new) result }
+{
+    let texts = match texts_of(alloc, folder, &request.files) {
+        Ok(texts) => texts,
+        Err(fault) => return stop(alloc, request, None, fault, errors),
+    };
+    match run_texts(alloc, request, &texts, columns, folder, sink) {
+        Ok(status) => status,
+        Err(fault) => stop(alloc, request, Some(&texts), fault, errors),
+    }
+}
+
+// Runs a command on the texts of its files. The exit status.
+fn run_texts<F: Folder, W: Sink>(
+    alloc: Global,
+    request: &Request,
+    texts: &Texts,
+    columns: u32,
+    folder: &mut F,
+    sink: &mut W,
+) -> Result<u8, ConsoleFault>
+    ensures { RunsTexts request.now texts.now
+        (writing F.made W.contents folder.old folder.new sink.old sink.new)
+        (sink_run W.contents W.failures sink.old sink.new) result }
+{
+    if request.task == Task::Replay {
+        run_replay(alloc, texts, request.options.audit, sink)
+    } else {
+        run_answer(alloc, request, texts, columns, folder, sink)
+    }
+}
+
+// Answers of the texts what a request asks for, and writes the answer. The exit status.
+#[tactic(auto, using(crate::proofs::Devices::device_is_not_refused))]
+fn run_answer<F: Folder, W: Sink>(
+    alloc: Global,
+    request: &Request,
+    texts: &Texts,
+    columns: u32,
+    folder: &mut F,
+    sink: &mut W,
+) -> Result<u8, ConsoleFault>
+    requires { request.now.task ≢ Task.Replay }
+    ensures ok { IfOk result (Answers request.now texts.now.parts
+        (writing F.made W.contents folder.old folder.new sink.old sink.new)) }
+    ensures first { IfErr result (RefusesFor request.now.task texts.now.parts) }
+    ensures unmade { IfErr result (λ fault. IsRefusal fault → folder.new ≡ folder.old) }
+    ensures unwritten { IfErr result (λ fault. IsRefusal fault → sink.new ≡ sink.old) }
+{
+    let task = request.task;
+    if task == Task::Check && texts.parts.certificate.is_none() {
+        return Err(missing(Role::Certificate));
+    }
+    let answer = answer_of(alloc, task, &texts.parts)?;
+    let status = deliver(alloc, request, texts, &answer, columns, folder, sink)?;
+    Ok(status)
+}
+
+// The fault that a request has no such file.
+fn missing(role: Role) -> ConsoleFault
+    ensures { result ≡ ConsoleFault.Unread role Unread.Missing }
+{
+    ConsoleFault::Unread {
+        role,
+        cause: Unread::Missing,
+    }
+}
+
+// Replays a script. The exit status.
+fn run_replay<W: Sink>(
+    alloc: Global,
+    texts: &Texts,
+    audit: bool,
+    sink: &mut W,
+) -> Result<u8, ConsoleFault>
+    ensures { Replays audit texts.now (sink_run W.contents W.failures sink.old sink.new) result }
+{
+    let Some(script) = &texts.script else {
+        return Err(missing(Role::Script));
+    };
+    if let Some(role) = headed(&texts.parts) {
+        return Err(ConsoleFault::Header { role });
+    }
+    let input = input_of(alloc, &texts.parts, script)?;
+    let options = ReplayOptions {
+        trial: texts.parts.certificate.is_none(),
+        audit,
+    };
+    replay_input(alloc, options, &input, sink)?;
+    Ok(0)
+}
+
+// The first file of which a line looks like the header of a part.
+fn headed(parts: &Parts<'_>) -> Option<Role> {
+    if has_header(&parts.catalogue) {
+        Some(Role::Catalogue)
+    } else if has_header(&parts.config) {
+        Some(Role::Config)
+    } else if parts.certificate.as_ref().is_some_and(|text| has_header(text)) {
+        Some(Role::Certificate)
+    } else {
+        None
+    }
+}

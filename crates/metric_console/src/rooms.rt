@@ -1,0 +1,169 @@
+//! How often each instrument may be recorded, as rows.
+ghost use Rattle.std.specs.Prelude.{IfErr, IfOk};
+ghost use Rattle.metric_commands.specs.Declarations.{IsDeclaredFault};
+ghost use Rattle.metric_console.specs.Answers.{AreRooms};
+
+use crate::declared::{Declared, declared_of};
+use crate::fleet::fleet_limit;
+use crate::rows::instrument_word;
+use crate::time::lasting;
+use metric_advice::{Headroom, Limit, headrooms};
+use metric_base::Items;
+use metric_bounds::summed;
+use metric_catalogue::Instrument;
+use metric_commands::KitFault;
+use metric_parts::Parts;
+use metric_request::Options;
+use metric_resolve::resolve_streams;
+use metric_sheet::{Cell, Sheet};
+use std::alloc::{AllocError, Global};
+
+static TITLES: [&str; 9] = [
+    "number",
+    "instrument",
+    "kind",
+    "total",
+    "lasts",
+    "most",
+    "most lasts",
+    "then",
+    "fleet",
+];
+
+static FIELDS: [&str; 9] = [
+    "number",
+    "instrument",
+    "kind",
+    "total",
+    "total_seconds",
+    "most",
+    "most_seconds",
+    "then",
+    "fleet",
+];
+
+/// The headroom of each instrument, and of each whether some stream keeps its sum.
+pub(crate) struct Rooms {
+    pub declared: Declared,
+    pub rooms: Items<Headroom>,
+    pub summed: Items<bool>,
+}
+
+impl Drop for Rooms {
+    fn drop(self) {
+        let Rooms {
+            declared: _declared,
+            rooms: _rooms,
+            summed: _summed,
+        } = self;
+    }
+}
+
+/// The headroom of each instrument that the parts declare.
+pub(crate) fn rooms_of(alloc: Global, parts: &Parts<'_>) -> Result<Rooms, KitFault>
+    ensures ok { IfOk result (AreRooms parts.now) }
+    ensures first { IfErr result (λ fault. IsDeclaredFault fault parts.now) }
+{
+    let declared = declared_of(alloc, parts)?;
+    let rooms = headrooms(alloc, &declared.catalogue, &declared.config)?;
+    let streams = resolve_streams(alloc, &declared.catalogue, &declared.config)?;
+    let count = declared.catalogue.instruments().len();
+    let summed = summed(alloc, streams.as_slice(), count)?;
+    Ok(Rooms {
+        declared,
+        rooms,
+        summed,
+    })
+}
+
+/// The headrooms as they are asked for.
+#[derive(Clone, Copy)]
+pub(crate) struct RoomSheet<'a> {
+    pub rooms: &'a Rooms,
+    pub options: Options,
+}
+
+impl Sheet for RoomSheet<'_> {
+    fn titles(&self) -> &'static [&'static str] {
+        if self.options.json {
+            FIELDS.as_slice()
+        } else {
+            TITLES.as_slice()
+        }
+    }
+
+    fn rows(&self) -> usize {
+        self.rooms.rooms.len()
+    }
+
+    fn row(&self, alloc: Global, number: usize) -> Result<Vec<Cell>, AllocError> {
+        let instruments = self.rooms.declared.catalogue.instruments();
+        let room = self.rooms.rooms.as_slice().get(number);
+        match (room, instruments.get(number)) {
+            (Some(room), Some(instrument)) => { self.room_row(alloc, number, room, instrument) }
+            _ => Ok(Vec::new(alloc)),
+        }
+    }
+}
+
+impl RoomSheet<'_> {
+    // The cells of an instrument's row.
+    fn room_row(
+        &self,
+        alloc: Global,
+        number: usize,
+        room: &Headroom,
+        instrument: &Instrument,
+    ) -> Result<Vec<Cell>, AllocError> {
+        let mut row = Vec::new(alloc);
+        row.push(Cell::Number(number as u128))?;
+        row.push(Cell::text(alloc, instrument.name.get().as_str())?)?;
+        row.push(Cell::text(alloc, instrument_word(instrument.kind))?)?;
+        self.push_lasting(alloc, &mut row, room.total)?;
+        self.push_lasting(alloc, &mut row, u128::from(room.most))?;
+        row.push(Cell::text(alloc, limit_word(room.limit))?)?;
+        let is_summed = self.rooms.summed.as_slice().get(number) == Some(&true);
+        let fleet = room
+            .total
+            .saturating_mul(u128::from(self.options.instances));
+        let word = fleet_word(fleet_limit(fleet, instrument, is_summed));
+        row.push(Cell::text(alloc, word)?)?;
+        Ok(row)
+    }
+
+    // A number of recordings, and how long they last.
+    fn push_lasting(
+        &self,
+        alloc: Global,
+        row: &mut Vec<Cell>,
+        recordings: u128,
+    ) -> Result<(), AllocError> {
+        row.push(Cell::Number(recordings))?;
+        let seconds = recordings / u128::from(self.options.rate.max(1));
+        row.push(if self.options.json {
+            Cell::Number(seconds)
+        } else {
+            Cell::Text(lasting(alloc, seconds)?)
+        })?;
+        Ok(())
+    }
+}
+
+// What fails first with one recording more, by the name that a fault of `make` has.
+fn limit_word(limit: Limit) -> &'static str {
+    match limit {
+        Limit::Count => "CountRange",
+        Limit::Amount => "AmountRange",
+        Limit::SumLow => "SumLow",
+        Limit::SumHigh => "SumHigh",
+        Limit::Series { .. } => "LimitExceeded",
+    }
+}
+
+// Whether the sums of a fleet fit, or what does not.
+fn fleet_word(limit: Option<Limit>) -> &'static str {
+    match limit {
+        None => "fits",
+        Some(limit) => limit_word(limit),
+    }
+}

@@ -1,0 +1,219 @@
+//! The cells of a stream's row.
+ghost use Rattle.std.specs.Prelude.{◌≡◌, IfOk};
+ghost use Rattle.metric_bounds.specs.Sets.{sets_of};
+ghost use Rattle.metric_console.specs.Tables.{IsWithin};
+
+use crate::declared::Declared;
+use metric_bounds::{listed, product};
+use metric_catalogue::{Catalogue, Instrument, Key, Kind};
+use metric_sheet::Cell;
+use metric_views::{Stream, StreamAggregation, Temporality};
+use std::alloc::{AllocError, Global};
+
+// What a series takes in a table of the slower kind, as it was measured: with a sum or a last value; with a histogram,
+// beside its counts.
+const SUM_BYTES: u128 = 52;
+
+const HISTOGRAM_BYTES: u128 = 121;
+
+/// How a stream stays within its limit.
+#[derive(Clone, Copy, Debug, PartialEq, Eq, Drop)]
+pub(crate) enum Within {
+    /// By the product of the values of its keys.
+    Product,
+    /// By the combinations that its instrument lists.
+    List,
+    /// By how often its instrument may be recorded.
+    Budget,
+    /// It does not.
+    Not,
+}
+
+impl Within {
+    fn word(self) -> &'static str {
+        match self {
+            Within::Product => "product",
+            Within::List => "list",
+            Within::Budget => "budget",
+            Within::Not => "no",
+        }
+    }
+}
+
+/// The cells of a stream's row, in the order of the titles.
+pub(crate) fn stream_row(
+    alloc: Global,
+    declared: &Declared,
+    totals: &[u128],
+    number: usize,
+    stream: &Stream,
+) -> Result<Vec<Cell>, AllocError> {
+    let mut row = Vec::new(alloc);
+    row.push(Cell::Number(number as u128))?;
+    push_names(alloc, &mut row, declared, stream)?;
+    push_kinds(alloc, &mut row, declared, stream)?;
+    push_bounds(alloc, &mut row, &declared.catalogue, totals, stream)?;
+    Ok(row)
+}
+
+// The names of the reader, the instrument and the stream, and the unit.
+fn push_names(
+    alloc: Global,
+    row: &mut Vec<Cell>,
+    declared: &Declared,
+    stream: &Stream,
+) -> Result<(), AllocError> {
+    let reader = reader_name(declared, stream);
+    let instrument = instrument_name(&declared.catalogue, stream.instrument);
+    row.push(Cell::text(alloc, reader)?)?;
+    row.push(Cell::text(alloc, instrument)?)?;
+    row.push(Cell::text(alloc, stream.name.get().as_str())?)?;
+    row.push(Cell::text(alloc, stream.unit.get().as_str())?)?;
+    Ok(())
+}
+
+// The kind, the temporality and the keys that are kept.
+fn push_kinds(
+    alloc: Global,
+    row: &mut Vec<Cell>,
+    declared: &Declared,
+    stream: &Stream,
+) -> Result<(), AllocError> {
+    row.push(Cell::text(alloc, kind_word(stream))?)?;
+    row.push(Cell::text(alloc, temporality_word(stream.temporality))?)?;
+    let instruments = declared.catalogue.instruments();
+    row.push(match instruments.get(stream.instrument as usize) {
+        Some(instrument) => kept_cell(alloc, instrument, stream)?,
+        None => Cell::Nothing,
+    })?;
+    Ok(())
+}
+
+// How many sets the stream may have, its limit, how it stays within that, and what its table takes at most.
+fn push_bounds(
+    alloc: Global,
+    row: &mut Vec<Cell>,
+    catalogue: &Catalogue,
+    totals: &[u128],
+    stream: &Stream,
+) -> Result<(), AllocError> {
+    let (sets, is_listed) = sets_of(alloc, catalogue, stream)?;
+    let total = total_at(totals, stream.instrument);
+    let within = within_of(sets, is_listed, total, stream.limit);
+    let series = sets.min(total).min(u128::from(stream.limit));
+    row.push(Cell::Number(sets))?;
+    row.push(Cell::Number(u128::from(stream.limit)))?;
+    row.push(Cell::text(alloc, within.word())?)?;
+    row.push(Cell::Number(table_bytes(series, stream)))?;
+    Ok(())
+}
+
+fn reader_name<'a>(declared: &'a Declared, stream: &Stream) -> &'a str {
+    match declared.config.readers().get(stream.reader as usize) {
+        Some(reader) => reader.name.as_str(),
+        None => "",
+    }
+}
+
+/// The name of the instrument of a number, which is empty where there is none.
+pub(crate) fn instrument_name(catalogue: &Catalogue, instrument: u32) -> &str {
+    match catalogue.instruments().get(instrument as usize) {
+        Some(instrument) => instrument.name.get().as_str(),
+        None => "",
+    }
+}
+
+/// What the points of a stream are, in a word.
+pub(crate) fn kind_word(stream: &Stream) -> &'static str {
+    match stream.aggregation {
+        StreamAggregation::Sum if stream.kind.is_monotonic() => "sum",
+        StreamAggregation::Sum => "up-down sum",
+        StreamAggregation::LastValue => "last value",
+        StreamAggregation::Histogram(_) => "histogram",
+    }
+}
+
+/// The kind of an instrument, as a catalogue names it.
+pub(crate) fn instrument_word(kind: Kind) -> &'static str {
+    match kind {
+        Kind::Counter => "counter",
+        Kind::UpDownCounter => "up_down_counter",
+        Kind::Histogram => "histogram",
+        Kind::Gauge => "gauge",
+    }
+}
+
+/// What a collection reports, in a word.
+pub(crate) fn temporality_word(temporality: Temporality) -> &'static str {
+    match temporality {
+        Temporality::Delta => "delta",
+        Temporality::Cumulative => "cumulative",
+    }
+}
+
+// The names of the keys that a stream keeps.
+fn kept_cell(alloc: Global, instrument: &Instrument, stream: &Stream) -> Result<Cell, AllocError> {
+    kept_names(
+        alloc,
+        instrument.keys.as_slice(),
+        stream.kept.get().as_slice(),
+    )
+}
+
+fn kept_names(alloc: Global, keys: &[Key], kept: &[bool]) -> Result<Cell, AllocError> {
+    let mut names = Vec::new(alloc);
+    for (key, kept) in keys.iter().zip(kept) {
+        if *kept {
+            names.push(String::from_str(alloc, key.name.as_str())?)?;
+        }
+    }
+    Ok(Cell::Texts(names))
+}
+
+// How many distinct sets of the kept keys recordings of a stream may have, and whether its instrument lists them.
+#[tactic(auto, unfolding(metric_bounds::specs::Sets::sets_of))]
+fn sets_of(
+    alloc: Global,
+    catalogue: &Catalogue,
+    stream: &Stream,
+) -> Result<(u128, bool), AllocError>
+    ensures { IfOk result (λ found. found.0 ≡ sets_of catalogue.now stream.now) }
+{
+    match listed(alloc, catalogue, stream)? {
+        Some(list) => Ok((list.len() as u128, true)),
+        None => Ok((product(catalogue, stream), false)),
+    }
+}
+
+// How often an instrument may be recorded.
+fn total_at(totals: &[u128], instrument: u32) -> u128 {
+    totals.get(instrument as usize).copied().unwrap_or(0)
+}
+
+// How a stream of so many sets and so many recordings stays within its limit.
+fn within_of(sets: u128, is_listed: bool, total: u128, limit: u32) -> Within
+    ensures { IsWithin sets total limit result }
+{
+    if sets <= u128::from(limit) {
+        if is_listed {
+            Within::List
+        } else {
+            Within::Product
+        }
+    } else if total <= u128::from(limit) {
+        Within::Budget
+    } else {
+        Within::Not
+    }
+}
+
+// What a table of so many series takes at most, in bytes, as far as it was measured.
+fn table_bytes(series: u128, stream: &Stream) -> u128 {
+    match &stream.aggregation {
+        StreamAggregation::Sum | StreamAggregation::LastValue => series.saturating_mul(SUM_BYTES),
+        StreamAggregation::Histogram(boundaries) => {
+            let buckets = boundaries.get().as_slice().len() as u128 + 1;
+            series.saturating_mul(HISTOGRAM_BYTES + buckets * 8)
+        }
+    }
+}

@@ -1,0 +1,157 @@
+//! What a person is told.
+ghost use Rattle.std.specs.Prelude.{◌≡◌};
+ghost use Rattle.metric_console.specs.Faults.{status_of};
+ghost use Rattle.metric_console.specs.Told.{IsLineEnd};
+
+use crate::delivering::print;
+use crate::fault::{ConsoleFault, Role};
+use crate::folder::Unread;
+use crate::notes::Notes;
+use crate::parts::Texts;
+use crate::replaying::lines_before;
+use metric_advice::Remark;
+use metric_commands::KitFault;
+use metric_io::Sink;
+use metric_request::{Files, LineFault, Request};
+use std::alloc::{AllocError, Global};
+
+// The exit status where the words name no command, and where help cannot be written.
+const USAGE: u8 = 2;
+
+const UNWRITTEN: u8 = 5;
+
+/// Tells why a command line asks for nothing, and gives the exit status. Help and the version go to `sink`, and are done.
+pub(crate) fn tell_line<W: Sink, E: Sink>(fault: LineFault, sink: &mut W, errors: &mut E) -> u8
+    ensures { IsLineEnd fault (W.contents sink.old) (W.contents sink.new) result }
+{
+    match fault {
+        LineFault::Told(text) => match print(sink, text.as_str()) {
+            Ok(()) => 0,
+            Err(_) => UNWRITTEN,
+        },
+        LineFault::Usage(text) => misused(text.as_str(), errors),
+        LineFault::Nothing => misused("no command is named; try 'wormweekly --help'\n", errors),
+        LineFault::Deny => misused("error: '--deny' knows 'remarks' alone\n", errors),
+        LineFault::Memory => {
+            let _told = print(errors, "memory was refused\n");
+            4
+        }
+    }
+}
+
+// Tells a misuse.
+fn misused<E: Sink>(text: &str, errors: &mut E) -> u8
+    ensures { result ≡ 2 }
+{
+    let _told = print(errors, text);
+    USAGE
+}
+
+/// Tells why a command stops, and gives the exit status, which stands whatever becomes of the telling.
+pub(crate) fn stop<E: Sink>(
+    alloc: Global,
+    request: &Request,
+    texts: Option<&Texts>,
+    fault: ConsoleFault,
+    errors: &mut E,
+) -> u8
+    ensures { result ≡ status_of fault }
+{
+    let _told = match told(alloc, request, texts, fault) {
+        Ok(text) => print(errors, text.as_str()),
+        Err(_) => print(errors, "memory was refused\n"),
+    };
+    fault.status()
+}
+
+// A fault for people, with its file and its place.
+fn told(
+    alloc: Global,
+    request: &Request,
+    texts: Option<&Texts>,
+    fault: ConsoleFault,
+) -> Result<String, AllocError> {
+    match fault {
+        ConsoleFault::Unread { role, cause } => told_unread(alloc, &request.files, role, cause),
+        ConsoleFault::Header { role } => told_header(alloc, &request.files, role),
+        ConsoleFault::Kit(fault) => match texts {
+            Some(texts) => told_kit(alloc, &request.files, texts, fault),
+            None => told_plain(alloc, fault),
+        },
+    }
+}
+
+fn told_unread(
+    alloc: Global,
+    files: &Files,
+    role: Role,
+    cause: Unread,
+) -> Result<String, AllocError> {
+    let path = path_of(files, role);
+    let words = cause.words();
+    format!(in alloc; "{path}: {words}\n")
+}
+
+fn told_header(alloc: Global, files: &Files, role: Role) -> Result<String, AllocError> {
+    let path = path_of(files, role);
+    format!(in alloc; "{path}: a line begins with '%% ', which no part of a replay can have\n")
+}
+
+// The path of a file, or what it is where the words have none.
+fn path_of(files: &Files, role: Role) -> &str {
+    match role {
+        Role::Catalogue => files.catalogue.as_str(),
+        Role::Config => files.config.as_str(),
+        Role::Certificate => match &files.certificate {
+            Some(path) => path.as_str(),
+            None => "certificate",
+        },
+        Role::Script => match &files.script {
+            Some(path) => path.as_str(),
+            None => "script",
+        },
+    }
+}
+
+// A fault that `metric_kit` has too.
+fn told_kit(
+    alloc: Global,
+    files: &Files,
+    texts: &Texts,
+    fault: KitFault,
+) -> Result<String, AllocError> {
+    match fault {
+        KitFault::Input { line } => told_script(alloc, files, texts, line),
+        _ => told_plain(alloc, fault),
+    }
+}
+
+// The line of the script at which it is none.
+fn told_script(
+    alloc: Global,
+    files: &Files,
+    texts: &Texts,
+    line: u64,
+) -> Result<String, AllocError> {
+    let path = path_of(files, Role::Script);
+    let line = line.saturating_sub(lines_before(&texts.parts));
+    format!(in alloc; "{path}:{line}:1: this line is no event, or none that may stand here\n")
+}
+
+// A fault as `metric_kit` tells it.
+fn told_plain(alloc: Global, fault: KitFault) -> Result<String, AllocError> {
+    format!(in alloc; "{fault}\n")
+}
+
+/// Puts what a remark says last, in one line or more.
+pub(crate) fn push_note(
+    _alloc: Global,
+    note: &mut String,
+    files: &Files,
+    _texts: &Texts,
+    _notes: &Notes,
+    remark: Remark,
+) -> Result<(), AllocError> {
+    let path = files.config.as_str();
+    write!(note, "{path}: {remark}\n")
+}

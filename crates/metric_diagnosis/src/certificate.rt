@@ -1,0 +1,89 @@
+//! The faults of a certificate.
+ghost use Rattle.std.specs.Prelude.{◌≡◌, IfOk, None};
+
+use crate::diagnosis::Diagnosis;
+use crate::sources::Source;
+use crate::toml_fault::{told_of_toml, want_of_memory};
+use metric_advice::Position;
+use metric_cert::CertFault;
+use metric_plan::CheckFault;
+use std::alloc::{AllocError, Global};
+
+/// What a person is told of a fault of a certificate's text. Fails only where memory is refused.
+pub fn diagnose_certificate<'t>(
+    alloc: Global,
+    source: Source<'t>,
+    fault: CertFault,
+) -> Result<Diagnosis<'t, CertFault>, AllocError>
+    ensures fault { IfOk result (λ told. told.fault ≡ fault) }
+    ensures file { IfOk result (λ told. told.file.now ≡ source.entry.name.now) }
+{
+    let (position, words) = told_of(alloc, source.text, fault)?;
+    Ok(Diagnosis::new(source, fault, position, words))
+}
+
+fn told_of(
+    alloc: Global,
+    text: &str,
+    fault: CertFault,
+) -> Result<(Option<Position>, String), AllocError> {
+    match fault {
+        CertFault::NotToml => told_of_toml(alloc, text),
+        CertFault::Shape => Ok((None, String::from_str(alloc, SHAPE)?)),
+        CertFault::Memory => Ok((None, want_of_memory(alloc)?)),
+    }
+}
+
+const SHAPE: &str =
+    "the tables are not those of a certificate: it was altered, or is of another format; make it anew";
+
+/// What a person is told of a certificate that was read and is not accepted: that it is of other files or was altered, and what the
+/// check compared. It has no position. Fails only where memory is refused.
+pub fn diagnose_check<'t>(
+    alloc: Global,
+    source: Source<'t>,
+    fault: CheckFault,
+) -> Result<Diagnosis<'t, CheckFault>, AllocError>
+    ensures fault { IfOk result (λ told. told.fault ≡ fault) }
+    ensures file { IfOk result (λ told. told.file.now ≡ source.entry.name.now) }
+    ensures place { IfOk result (λ told. told.position ≡ None) }
+{
+    let words = words_of(alloc, fault)?;
+    Ok(Diagnosis::new(source, fault, None, words))
+}
+
+fn words_of(alloc: Global, fault: CheckFault) -> Result<String, AllocError> {
+    if matches!(fault, CheckFault::Memory) {
+        return want_of_memory(alloc);
+    }
+    let compared = compared_by(fault);
+    format!(in alloc; "the certificate is of other files, or was altered: {compared}; make it anew")
+}
+
+// What the step that finds a fault compares.
+fn compared_by(fault: CheckFault) -> &'static str {
+    match fault {
+        CheckFault::PairMissing => "its reasons are not one for each view and instrument, in order",
+        CheckFault::BadTakes =>
+            "a reason does not spell the name of an instrument that a view selects",
+        CheckFault::BadRows =>
+            "a reason does not show that a view leaves the name of an instrument out",
+        CheckFault::BadMiss =>
+            "a reason names a criterion of a view that holds, or hides one that fails",
+        CheckFault::StreamMissing => "a stream of these files is not in its place",
+        CheckFault::StreamStrange => "it has a stream that these files do not give",
+        CheckFault::BadOrder => "the streams of a reader are not in the order of their identities",
+        CheckFault::BadSets => "a stream may have another number of series than it says",
+        CheckFault::LimitExceeded => "a stream may have more series than its limit",
+        CheckFault::SumLow => "the least sum of an instrument is another than it says, or too low",
+        CheckFault::SumHigh =>
+            "the greatest sum of an instrument is another than it says, or too high",
+        CheckFault::CountRange => {
+            "the budgets and the spare of an instrument are another number than it says, or too many"
+        }
+        CheckFault::AmountRange => {
+            "the sums of an instrument are further apart than it says, or too far"
+        }
+        CheckFault::Memory => "",
+    }
+}

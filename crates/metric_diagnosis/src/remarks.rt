@@ -1,0 +1,157 @@
+//! What a person is told of a remark.
+ghost use Rattle.std.specs.Prelude.{◌≡◌, IfOk};
+ghost use Rattle.metric_diagnosis.specs.Places.{IsAbout, RemarkStands};
+
+use crate::diagnosis::Diagnosis;
+use crate::places::{Place, position_of, source_of};
+use crate::room::told_room;
+use crate::sources::Pair;
+use crate::told::{instrument_of, recorder_of};
+use crate::unsafe_parts::told_collision;
+use metric_advice::{KeyList, Remark};
+use metric_catalogue::CataloguePlace;
+use metric_views::{ConfigPlace, View};
+use std::alloc::{AllocError, Global};
+
+/// What a person is told of a remark of `lint`: the place of the view, the recorder or the instrument that it is about, and what
+/// looks like a mistake. Of a remark that `lint` does not give on this pair the words may be less exact. Fails only where memory is
+/// refused.
+pub fn diagnose_remark<'t>(
+    alloc: Global,
+    pair: Pair<'t>,
+    remark: Remark,
+) -> Result<Diagnosis<'t, Remark>, AllocError>
+    ensures fault { IfOk result (λ told. told.fault ≡ remark) }
+    ensures place { IfOk result (λ told. RemarkStands pair.entry.catalogue_source.text.now
+        pair.entry.config_source.text.now remark told.position) }
+{
+    let (place, words) = told_of(alloc, pair, remark)?;
+    let position = position_of(alloc, pair, place)?;
+    Ok(Diagnosis::new(source_of(pair, place), remark, position, words))
+}
+
+fn told_of(alloc: Global, pair: Pair<'_>, remark: Remark) -> Result<(Place, String), AllocError>
+    ensures { IfOk result (λ told. IsAbout remark told.0) }
+{
+    match remark {
+        Remark::Unfit { view, instrument } => {
+            Ok((
+                place_of_view(view),
+                words_of_unfit(alloc, pair, view, instrument)?,
+            ))
+        }
+        Remark::Collision { first, later } => told_collision(alloc, pair, first, later),
+        Remark::SelectsNothing { view } => {
+            Ok((
+                place_of_view(view),
+                words_of_view(alloc, view, "selects no instrument")?,
+            ))
+        }
+        Remark::UnknownKey { view, list, place } => {
+            Ok((
+                place_of_view(view),
+                words_of_key(alloc, pair, view, list, place)?,
+            ))
+        }
+        Remark::UnusedBoundaries { view } => {
+            Ok((place_of_view(view), words_of_view(alloc, view, UNUSED)?))
+        }
+        Remark::NoBudget {
+            instrument,
+            recorder,
+        } => {
+            let words = words_of_budget(alloc, pair, instrument, recorder)?;
+            Ok((Place::Catalogue(CataloguePlace::Recorder(recorder)), words))
+        }
+        Remark::OverBudget { instrument } => {
+            let words = told_room(alloc, pair, instrument, None)?;
+            Ok((
+                Place::Catalogue(CataloguePlace::Instrument(instrument)),
+                words,
+            ))
+        }
+        Remark::NoReader => Ok((
+            Place::Config(ConfigPlace::Top),
+            String::from_str(alloc, NONE)?,
+        )),
+    }
+}
+
+const UNUSED: &str = "gives boundaries, and no stream of it is a histogram";
+
+const NONE: &str = "there is no reader, so nothing is collected";
+
+fn words_of_view(alloc: Global, view: u32, what: &str) -> Result<String, AllocError> {
+    format!(in alloc; "view {view} {what}")
+}
+
+fn place_of_view(view: u32) -> Place
+    ensures { result ≡ Place.Config (ConfigPlace.View view) }
+{
+    Place::Config(ConfigPlace::View(view))
+}
+
+fn words_of_unfit(
+    alloc: Global,
+    pair: Pair<'_>,
+    view: u32,
+    instrument: u32,
+) -> Result<String, AllocError> {
+    let instrument = instrument_of(pair.catalogue, instrument);
+    format!(in alloc;
+        "view {view} selects {instrument} and names an aggregation that does not fit it: a gauge has no sum"
+    )
+}
+
+// A key that no selected instrument declares.
+fn words_of_key(
+    alloc: Global,
+    pair: Pair<'_>,
+    view: u32,
+    list: KeyList,
+    place: u32,
+) -> Result<String, AllocError> {
+    let field = field_of(list);
+    let key = match pair.config.views().get(view as usize) {
+        Some(view) => key_at(view, list, place),
+        None => "",
+    };
+    format!(in alloc;
+        "view {view}: field {field:?}: no selected instrument declares the key {key:?}"
+    )
+}
+
+fn field_of(list: KeyList) -> &'static str {
+    match list {
+        KeyList::Keep => "keep",
+        KeyList::Exclude => "exclude",
+    }
+}
+
+// The key at a place of a list of a view.
+fn key_at(view: &View, list: KeyList, place: u32) -> &str {
+    let keys = match list {
+        KeyList::Keep => &view.settings.keep,
+        KeyList::Exclude => &view.settings.exclude,
+    };
+    match keys {
+        Some(keys) => match keys.as_slice().get(place as usize) {
+            Some(key) => key.as_str(),
+            None => "",
+        },
+        None => "",
+    }
+}
+
+fn words_of_budget(
+    alloc: Global,
+    pair: Pair<'_>,
+    instrument: u32,
+    recorder: u32,
+) -> Result<String, AllocError> {
+    let instrument = instrument_of(pair.catalogue, instrument);
+    let recorder = recorder_of(pair.catalogue, recorder);
+    format!(in alloc;
+        "{recorder} has no budget for {instrument}, and records there only with a grant"
+    )
+}

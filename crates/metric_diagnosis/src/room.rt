@@ -1,0 +1,136 @@
+//! How often an instrument may be recorded, and why not more often.
+use crate::cause::Named;
+use crate::places::Place;
+use crate::sources::Pair;
+use crate::told::{ToldStream, instrument_of, told_stream};
+use metric_advice::{Headroom, Limit, headrooms, sets_of};
+use metric_bounds::{amount, high, low};
+use metric_catalogue::Instrument;
+use metric_resolve::resolve_streams;
+use metric_views::{ConfigPlace, Stream};
+use std::alloc::{AllocError, Global};
+use std::fmt;
+
+// What is told of an instrument whose budgets are together more than is safe for this reason, or by its headroom.
+pub(crate) fn told_room(
+    alloc: Global,
+    pair: Pair<'_>,
+    number: u32,
+    reason: Option<Limit>,
+) -> Result<String, AllocError> {
+    let named = instrument_of(pair.catalogue, number);
+    let rooms = headrooms(alloc, pair.catalogue, pair.config)?;
+    let place = number as usize;
+    match (
+        rooms.as_slice().get(place),
+        pair.catalogue.instruments().get(place),
+    ) {
+        (Some(room), Some(instrument)) => words_of_room(alloc, named, *room, reason, instrument),
+        _ => format!(in alloc; "{named} may be recorded more often than is safe"),
+    }
+}
+
+fn words_of_room(
+    alloc: Global,
+    named: Named<'_>,
+    room: Headroom,
+    reason: Option<Limit>,
+    instrument: &Instrument,
+) -> Result<String, AllocError> {
+    let Headroom { total, most, limit } = room;
+    let why = why_of(total, reason.unwrap_or(limit), instrument);
+    format!(in alloc;
+        "{named}: its budgets and its spare are {total} recordings together, and at most {most} are safe: {why}"
+    )
+}
+
+// Why an instrument may not be recorded so often.
+#[derive(Clone, Copy)]
+enum Why {
+    // What is counted is this, and may be that at most.
+    Above(&'static str, u128, u128),
+    // The least sum is this.
+    Low(i128),
+    // The greatest sum is this.
+    High(i128),
+    // A stream of this number has more series than its limit.
+    Series(u32),
+}
+
+fn why_of(total: u128, limit: Limit, instrument: &Instrument) -> Why {
+    let count = u64::try_from(total).unwrap_or(u64::MAX);
+    match limit {
+        Limit::Count => Why::Above("how many recordings", total, u128::from(u64::MAX)),
+        Limit::Amount => amount_of(count, instrument),
+        Limit::SumLow => Why::Low(low(count, instrument.lo)),
+        Limit::SumHigh => Why::High(high(count, instrument.hi)),
+        Limit::Series { stream } => Why::Series(stream),
+    }
+}
+
+fn amount_of(count: u64, instrument: &Instrument) -> Why {
+    let (lo, hi) = (instrument.lo, instrument.hi);
+    let apart = if lo <= hi { amount(count, lo, hi) } else { 0 };
+    Why::Above("how far two sums are apart", apart, u128::from(u64::MAX))
+}
+
+impl fmt::Display for Why {
+    fn fmt<W: fmt::Write>(&self, f: &mut fmt::Formatter<W>) -> fmt::Result {
+        match *self {
+            Why::Above(what, bound, most) => write!(f, "{what} may be {bound}, above {most}"),
+            Why::Low(bound) => write!(f, "a sum may fall to {bound}, below {}", i64::MIN),
+            Why::High(bound) => write!(f, "a sum may rise to {bound}, above {}", i64::MAX),
+            Why::Series(stream) => {
+                write!(f, "stream {stream} may have more series than its limit")
+            }
+        }
+    }
+}
+
+// A stream that may have more series than its limit.
+pub(crate) fn told_series(
+    alloc: Global,
+    pair: Pair<'_>,
+    instrument: u32,
+    number: u32,
+) -> Result<(Place, String), AllocError> {
+    let streams = resolve_streams(alloc, pair.catalogue, pair.config)?;
+    match streams.as_slice().get(number as usize) {
+        Some(stream) => {
+            let words = words_of_series(alloc, pair, instrument, number, stream)?;
+            Ok((place_of(stream), words))
+        }
+        None => {
+            let words = format!(in alloc; "stream {number} may have more series than its limit")?;
+            Ok((place_of_reader(0), words))
+        }
+    }
+}
+
+fn words_of_series(
+    alloc: Global,
+    pair: Pair<'_>,
+    instrument: u32,
+    number: u32,
+    stream: &Stream,
+) -> Result<String, AllocError> {
+    let told = told_stream(alloc, pair, number, stream)?;
+    let sets = sets_of(alloc, pair.catalogue, stream)?;
+    let limit = stream.limit;
+    let named = instrument_of(pair.catalogue, instrument);
+    format!(in alloc;
+        "{told} may have {sets} sets of attributes, and its limit is {limit}: raise it, keep fewer keys, or lower the budgets and the spare of {named} to {limit} recordings together"
+    )
+}
+
+// The view of a stream, else its reader.
+fn place_of(stream: &Stream) -> Place {
+    match stream.view {
+        Some(view) => Place::Config(ConfigPlace::View(view)),
+        None => place_of_reader(stream.reader),
+    }
+}
+
+fn place_of_reader(reader: u32) -> Place {
+    Place::Config(ConfigPlace::Reader(reader))
+}

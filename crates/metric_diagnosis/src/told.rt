@@ -1,0 +1,112 @@
+//! Instruments, recorders, views and streams, as a person knows them.
+use crate::cause::Named;
+use crate::places::{Place, position_of};
+use crate::sources::{Pair, Source};
+use metric_advice::Position;
+use metric_catalogue::Catalogue;
+use metric_views::{Config, ConfigPlace, Stream};
+use std::alloc::{AllocError, Global};
+use std::fmt;
+
+// The instrument of a number, with its name.
+pub(crate) fn instrument_of(catalogue: &Catalogue, number: u32) -> Named<'_> {
+    let name = match catalogue.instruments().get(number as usize) {
+        Some(instrument) => Some(instrument.name.get().as_str()),
+        None => None,
+    };
+    Named::new("instrument", number as usize, name)
+}
+
+// The recorder of a number, with its name.
+pub(crate) fn recorder_of(catalogue: &Catalogue, number: u32) -> Named<'_> {
+    let name = match catalogue.recorders().get(number as usize) {
+        Some(recorder) => Some(recorder.name.as_str()),
+        None => None,
+    };
+    Named::new("recorder", number as usize, name)
+}
+
+// The reader of a number, with its name.
+fn reader_of(config: &Config, number: u32) -> Named<'_> {
+    let name = match config.readers().get(number as usize) {
+        Some(reader) => Some(reader.name.as_str()),
+        None => None,
+    };
+    Named::new("reader", number as usize, name)
+}
+
+// A stream with what it comes from.
+#[derive(Clone, Copy)]
+pub(crate) struct ToldStream<'t> {
+    stream: Named<'t>,
+    reader: Named<'t>,
+    instrument: Named<'t>,
+    view: Option<ToldView<'t>>,
+}
+
+// A view with its place.
+#[derive(Clone, Copy)]
+struct ToldView<'t> {
+    number: u32,
+    source: Source<'t>,
+    position: Option<Position>,
+}
+
+// The stream of a number, with what it comes from.
+pub(crate) fn told_stream<'t>(
+    alloc: Global,
+    pair: Pair<'t>,
+    number: u32,
+    stream: &'t Stream,
+) -> Result<ToldStream<'t>, AllocError> {
+    let view = told_view(alloc, pair, stream.view)?;
+    let name = stream.name.get().as_str();
+    Ok(ToldStream {
+        stream: Named::new("stream", number as usize, Some(name)),
+        reader: reader_of(pair.config, stream.reader),
+        instrument: instrument_of(pair.catalogue, stream.instrument),
+        view,
+    })
+}
+
+fn told_view<'t>(
+    alloc: Global,
+    pair: Pair<'t>,
+    view: Option<u32>,
+) -> Result<Option<ToldView<'t>>, AllocError> {
+    let Some(number) = view else {
+        return Ok(None);
+    };
+    let position = position_of(alloc, pair, Place::Config(ConfigPlace::View(number)))?;
+    let source = pair.config_source;
+    Ok(Some(ToldView {
+        number,
+        source,
+        position,
+    }))
+}
+
+impl fmt::Display for ToldStream<'_> {
+    fn fmt<W: fmt::Write>(&self, f: &mut fmt::Formatter<W>) -> fmt::Result {
+        let stream = self.stream;
+        let reader = self.reader;
+        let instrument = self.instrument;
+        match self.view {
+            Some(view) => write!(f, "{stream} of {reader} ({instrument}, {view})"),
+            None => write!(f, "{stream} of {reader} ({instrument}, no view)"),
+        }
+    }
+}
+
+impl fmt::Display for ToldView<'_> {
+    fn fmt<W: fmt::Write>(&self, f: &mut fmt::Formatter<W>) -> fmt::Result {
+        let number = self.number;
+        let file = self.source.name;
+        match self.position {
+            Some(Position { line, column }) => {
+                write!(f, "view {number} at {file}:{line}:{column}")
+            }
+            None => write!(f, "view {number}"),
+        }
+    }
+}

@@ -1,0 +1,6 @@
+-- the copies so far are the first ones
+use Rattle.std.proofs.Common.{◌≡◌, take}
+use Rattle.metric_export.proofs.copies.copy_points.Given as goal
+
+abbrev pub invariant-loop-point : goal.invariant-loop-point
+invariant-loop-point l = l.copies ≡ take l.point-index l.points

@@ -1,0 +1,19 @@
+-- The attributes of a point, as keys with their values.
+use Rattle.std.specs.Prelude.{ℕ, Bool, true, List, [], ◌∷◌, Option, Some, None, codes, slice_get}
+use Rattle.std.specs.Option.{option_map_or}
+use Rattle.metric_names.specs.declared.value.AttrValue.TheVariants.{Flag}
+use Rattle.metric_catalogue.specs.declared.contents.Instrument.{Instrument}
+use Rattle.metric_catalogue.specs.declared.contents.Key.{Key}
+use Rattle.metric_views.specs.declared.stream.Stream.{Stream}
+use Rattle.metric_plan.specs.Plans.{PlanValue}
+use Rattle.metric_lines.specs.Keys.{Attribute, attributes_of}
+
+-- the attributes of a series, of the declared keys in order those that are kept and present, or the mark of the overflow series
+abbrev pub series_attributes : List Key → List Bool → Option (List ℕ) → List Attribute
+series_attributes keys kept (Some set) = attributes_of keys kept set
+series_attributes keys kept None = (codes "otel.metric.overflow", Flag true) ∷ []
+
+-- the declared keys of a stream's instrument, none where the plan has no such instrument
+abbrev pub declared_keys : PlanValue → Stream → List Key
+declared_keys plan stream =
+    option_map_or (λ (instrument : Instrument). instrument.keys) (slice_get plan.facts.contents.instruments stream.instrument) []

@@ -1,0 +1,92 @@
+//! An exporter that keeps its batches in memory.
+ghost use Rattle.std.specs.Prelude.{◌≡◌, [], Some};
+ghost use Rattle.std.specs.Io.KnownBytes.{Keeps};
+ghost use Rattle.metric_export.specs.Keepings.{KeepsBatch, OnlyShutDown};
+ghost use Rattle.metric_export.specs.States.{Answers, GoesOn};
+
+use crate::copies::push_copy;
+use crate::exporter::MetricExporter;
+use crate::fault::ExportFault;
+use crate::state::ExporterState;
+use metric_history::Batch;
+use metric_plan::Plan;
+use std::alloc::Global;
+use std::marker::Model;
+
+/// An exporter that keeps a copy of each batch in memory, for tests of a service (Metrics SDK, in-memory exporter). It writes
+/// nothing, and only want of memory and a shutdown refuse a batch. Contracts see the batches, in order, and its state.
+///
+/// A [`ListTicker`](crate::ListTicker) is the ticker by hand that goes with it.
+#[derive(Drop)]
+pub struct KeepingExporter {
+    batches: Vec<Batch>,
+    state: ExporterState,
+}
+
+impl Model for KeepingExporter {
+    ghost use Rattle.metric_export.specs.Keepings.{KeepingValue};
+
+    ghost Value = { KeepingValue };
+
+    ghost view = { λ e. record { batches = e.batches.items; state = e.state } };
+}
+
+impl KeepingExporter {
+    /// An exporter that keeps no batch yet.
+    pub fn new(alloc: Global) -> KeepingExporter
+        ensures { result ≡ record { batches = []; state = ExporterState.Open } }
+    {
+        KeepingExporter {
+            batches: Vec::new(alloc),
+            state: ExporterState::Open,
+        }
+    }
+
+    /// The batches, in order.
+    pub fn batches(&self) -> &[Batch]
+        ensures { result.now ≡ self.now.batches }
+    {
+        &self.batches
+    }
+
+    /// The batches, in order.
+    pub fn into_batches(self) -> Vec<Batch>
+        ensures { result.items ≡ self.batches }
+    {
+        let KeepingExporter { batches, state: _ } = self;
+        batches
+    }
+}
+
+impl MetricExporter for KeepingExporter {
+    ghost text = { λ _ _. [] };
+
+    ghost contents = { λ _. Some [] };
+
+    ghost failures = { λ _. 0 };
+
+    ghost state = { λ e. e.state };
+
+    ghost export_gives = { λ old new _ batch answer. KeepsBatch old new batch answer };
+
+    ghost shutdown_gives = { λ old new _. OnlyShutDown old new };
+
+    fn export(&mut self, alloc: Global, _plan: &Plan, batch: &Batch) -> Result<(), ExportFault> {
+        self.state.admit()?;
+        if push_copy(alloc, &mut self.batches, batch) {
+            Ok(())
+        } else {
+            Err(ExportFault::Memory)
+        }
+    }
+
+    fn force_flush(&mut self) -> Result<(), ExportFault> {
+        self.state.admit()
+    }
+
+    fn shutdown(&mut self) -> Result<(), ExportFault> {
+        let answer = self.state.admit();
+        self.state = ExporterState::ShutDown;
+        answer
+    }
+}

@@ -1,0 +1,47 @@
+//! The counts of a running reader.
+use std::sync::atomic::{AtomicU64, Ordering};
+
+/// What a periodic reader has done so far, for other threads to read while it runs. Threads share it by reference; each count
+/// stops at 2^64 - 1.
+///
+/// The reader sets the counts after each collection, when the batches of that were handed on. A thread may read one count
+/// before and another after that.
+#[derive(Drop)]
+pub struct RunningCounts {
+    exported: AtomicU64,
+    failed: AtomicU64,
+    refused: AtomicU64,
+}
+
+impl RunningCounts {
+    /// Counts of nothing.
+    pub fn new() -> RunningCounts {
+        RunningCounts {
+            exported: AtomicU64::new(0),
+            failed: AtomicU64::new(0),
+            refused: AtomicU64::new(0),
+        }
+    }
+
+    /// The batches that the exporter took.
+    pub fn exported(&self) -> u64 {
+        self.exported.load(Ordering::SeqCst)
+    }
+
+    /// The batches that the exporter did not take, and 1 where its shutdown failed.
+    pub fn failed(&self) -> u64 {
+        self.failed.load(Ordering::SeqCst)
+    }
+
+    /// The collections that were refused.
+    pub fn refused(&self) -> u64 {
+        self.refused.load(Ordering::SeqCst)
+    }
+
+    /// Sets the three counts.
+    pub(crate) fn set(&self, exported: u64, failed: u64, refused: u64) {
+        self.exported.store(exported, Ordering::SeqCst);
+        self.failed.store(failed, Ordering::SeqCst);
+        self.refused.store(refused, Ordering::SeqCst);
+    }
+}

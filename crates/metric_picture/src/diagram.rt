@@ -1,0 +1,69 @@
+// What a picture shows.
+use std::alloc::{AllocError, Global};
+
+/// How a box or a link looks.
+#[derive(Clone, Copy, Debug, PartialEq, Eq, Drop)]
+pub(crate) enum Tone {
+    /// As it comes.
+    Plain,
+    /// Something is renamed or left out.
+    Changed,
+    /// It ends here.
+    Dropped,
+    /// It collides with another.
+    Red,
+    /// A title without a box.
+    Title,
+}
+
+/// A box: a title, and lines below it.
+#[derive(Drop)]
+pub(crate) struct Node {
+    /// The title.
+    pub title: String,
+    /// The lines below it.
+    pub lines: Vec<String>,
+    /// How it looks.
+    pub tone: Tone,
+}
+
+impl Node {
+    /// A box with a title and no line.
+    pub(crate) fn new(alloc: Global, title: String, tone: Tone) -> Node {
+        Node {
+            title,
+            lines: Vec::new(alloc),
+            tone,
+        }
+    }
+
+    /// Adds a line. Fails only where memory is refused.
+    pub(crate) fn add_line(&mut self, line: String) -> Result<(), AllocError> {
+        self.lines.push(line)?;
+        Ok(())
+    }
+}
+
+/// A link from a box of a column to one of a later column, by their numbers.
+#[derive(Clone, Copy, Debug, PartialEq, Eq, Drop)]
+pub(crate) struct Link {
+    /// The number of the first column.
+    pub from_column: usize,
+    /// The number of the box there.
+    pub from: usize,
+    /// The number of the later column.
+    pub to_column: usize,
+    /// The number of the box there.
+    pub to: usize,
+    /// How it looks.
+    pub tone: Tone,
+}
+
+/// Columns of boxes, and links between them. A link to a box that is not there is not drawn.
+#[derive(Drop)]
+pub(crate) struct Diagram {
+    /// The columns, from the left.
+    pub columns: Vec<Vec<Node>>,
+    /// The links.
+    pub links: Vec<Link>,
+}

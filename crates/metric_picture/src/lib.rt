@@ -1,0 +1,18 @@
+//! The picture of a catalogue and a config: its instruments, views and streams, and which gives which, as an SVG.
+//!
+//! A few instruments have a box each; of many, those of a meter and a kind share one, and so do the streams of a reader and a
+//! view, with their number. Streams that collide are red.
+#![tactic(auto)]
+
+mod diagram;
+mod drawing;
+mod exported;
+mod instruments;
+mod layout;
+mod letters;
+mod links;
+mod slots;
+mod svg;
+mod views;
+
+pub use drawing::draw;

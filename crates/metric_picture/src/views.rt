@@ -1,0 +1,133 @@
+// The boxes of views.
+use crate::diagram::{Node, Tone};
+use crate::instruments::kind_word;
+use metric_base::Text;
+use metric_views::{Aggregation, Config, Criteria, Settings, View};
+use std::alloc::{AllocError, Global};
+
+/// A box for each view, with what it selects and what it changes.
+pub(crate) fn view_nodes(alloc: Global, config: &Config) -> Result<Vec<Node>, AllocError> {
+    let mut nodes = Vec::new(alloc);
+    for (number, view) in config.views().iter().enumerate() {
+        nodes.push(view_node(alloc, number, view)?)?;
+    }
+    Ok(nodes)
+}
+
+fn view_node(alloc: Global, number: usize, view: &View) -> Result<Node, AllocError> {
+    let title = view_title(alloc, number, &view.criteria)?;
+    let mut node = Node::new(alloc, title, tone_of(&view.settings));
+    add_criteria(alloc, &mut node, &view.criteria)?;
+    add_settings(alloc, &mut node, &view.settings)?;
+    add_keys(
+        alloc,
+        &mut node,
+        "keeps",
+        view.settings.keep.as_ref().map(|keys| keys.as_slice()),
+    )?;
+    add_keys(
+        alloc,
+        &mut node,
+        "leaves out",
+        view.settings.exclude.as_ref().map(|keys| keys.as_slice()),
+    )?;
+    Ok(node)
+}
+
+fn view_title(alloc: Global, number: usize, criteria: &Criteria) -> Result<String, AllocError> {
+    match &criteria.instrument_name {
+        Some(pattern) => {
+            let pattern = pattern.as_str();
+            format!(in alloc; "view {number}: {pattern}")
+        }
+        None => format!(in alloc; "view {number}"),
+    }
+}
+
+/// How what a view makes looks.
+pub(crate) fn tone_of(settings: &Settings) -> Tone {
+    if settings.aggregation == Some(Aggregation::Drop) {
+        Tone::Dropped
+    } else if settings.stream_name.is_some()
+        || settings.keep.is_some()
+        || settings.exclude.is_some()
+    {
+        Tone::Changed
+    } else {
+        Tone::Plain
+    }
+}
+
+// What the view asks of an instrument beside its name.
+fn add_criteria(alloc: Global, node: &mut Node, criteria: &Criteria) -> Result<(), AllocError> {
+    if let Some(kind) = criteria.instrument_type {
+        let kind = kind_word(kind);
+        node.add_line(format!(in alloc; "of kind {kind}")?)?;
+    }
+    add_text(alloc, node, "of unit", &criteria.instrument_unit)?;
+    add_text(alloc, node, "of meter", &criteria.meter_name)?;
+    add_text(alloc, node, "of version", &criteria.meter_version)?;
+    add_text(alloc, node, "of schema", &criteria.meter_schema_url)
+}
+
+fn add_text(
+    alloc: Global,
+    node: &mut Node,
+    label: &str,
+    text: &Option<Text>,
+) -> Result<(), AllocError> {
+    if let Some(text) = text {
+        let text = text.as_str();
+        node.add_line(format!(in alloc; "{label} {text}")?)?;
+    }
+    Ok(())
+}
+
+// What the view changes, but for keys.
+fn add_settings(alloc: Global, node: &mut Node, settings: &Settings) -> Result<(), AllocError> {
+    if let Some(aggregation) = settings.aggregation {
+        node.add_line(String::from_str(alloc, aggregation_line(aggregation))?)?;
+    }
+    if let Some(name) = &settings.stream_name {
+        let name = name.get().as_str();
+        node.add_line(format!(in alloc; "renames to {name}")?)?;
+    }
+    if let Some(boundaries) = &settings.boundaries {
+        let count = boundaries.get().as_slice().len();
+        node.add_line(format!(in alloc; "{count} boundaries")?)?;
+    }
+    if let Some(limit) = settings.limit {
+        node.add_line(format!(in alloc; "limit {limit}")?)?;
+    }
+    Ok(())
+}
+
+fn aggregation_line(aggregation: Aggregation) -> &'static str {
+    match aggregation {
+        Aggregation::Default => "default aggregation",
+        Aggregation::Drop => "drops",
+        Aggregation::Sum => "sums",
+        Aggregation::LastValue => "keeps the last value",
+        Aggregation::ExplicitBucketHistogram => "makes a histogram",
+    }
+}
+
+fn add_keys(
+    alloc: Global,
+    node: &mut Node,
+    label: &str,
+    keys: Option<&[Text]>,
+) -> Result<(), AllocError> {
+    match keys {
+        Some([]) => node.add_line(format!(in alloc; "{label} no key")?),
+        Some(keys) => {
+            let mut line = format!(in alloc; "{label}:")?;
+            for key in keys {
+                line.push(' ')?;
+                line.push_str(key.as_str())?;
+            }
+            node.add_line(line)
+        }
+        None => Ok(()),
+    }
+}

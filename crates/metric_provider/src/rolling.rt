@@ -1,0 +1,204 @@
+//! A provider that goes over into the next run of its plan.
+ghost use Rattle.std.specs.Prelude.{◌≡◌, ◌==◌, IsTrue, false, IfErr, IfOk, OnErr, OnOk, Ok, length, map, vec_len};
+ghost use Rattle.std.specs.List.{range_with_len};
+ghost use Rattle.metric_provider.specs.Rolling.{RefusesRoll, new_collectors, new_recorders};
+ghost use Rattle.metric_provider.specs.Seats.{provider_of};
+ghost use Rattle.metric_provider.specs.Totals.{AreAllSeats, Finishes, RefusesFinish, seated};
+
+use crate::collector::Collector;
+use crate::fault::{FinishFault, RollFault};
+use crate::finish::{seated, settle_locked};
+use crate::gate::Gate;
+use crate::provider::{Locked, Provider};
+use crate::recorder::Recorder;
+use crate::starting::new_parts;
+use crate::totals::{Rolled, Totals};
+use metric_book::Book;
+use metric_plan::Plan;
+use std::alloc::Global;
+use std::sync::Wait;
+
+impl<B: Book, G: Gate> Provider<B, G> {
+    /// Ends the provider by the seats of all its recorders, as [`Provider::finish`] does, and starts the next one of the same
+    /// plan, since a time in nanoseconds: with full budgets, new seats, and the number of another run. So a service lives for
+    /// ever on bounded budgets, and its readers see a new start time, as after a restart.
+    ///
+    /// All memory for the next run is taken before the one that is there ends: where it does not end, it goes on, and provider
+    /// and seats are handed back. Its readers' seats serve it alone: let each collect a last time before, since what was
+    /// recorded after a reader's last batch is in the totals only.
+    ///
+    /// # Errors
+    ///
+    /// - [`RollFault::SameRun`] where the next run has the number of this one.
+    /// - [`RollFault::Finish`] with a fault of [`Provider::finish`]; its `Memory` also where there is none for the next run.
+    pub fn roll_over<R: Wait>(
+        self,
+        _rt: &R,
+        alloc: Global,
+        recorders: Vec<Recorder>,
+        start: u64,
+        run: u64,
+    ) -> Result<Rolled<B, G>, (Provider<B, G>, Vec<Recorder>, RollFault)>
+        ensures totals { IfOk result (λ rolled. let end = rolled.totals in
+            Finishes B.KEEPS_ENTRIES self.plan recorders.items
+            end.instruments.items end.journals.items end.slips.items) }
+        ensures next { IfOk result (λ rolled. rolled.provider ≡ provider_of self.plan run) }
+        ensures next_recorders { IfOk result (λ rolled.
+            rolled.recorders.items ≡ new_recorders B.KEEPS_ENTRIES run self.plan) }
+        ensures next_collectors { IfOk result (λ rolled.
+            rolled.collectors.items ≡ new_collectors run self.plan) }
+        ensures seated { OnOk result (seated self recorders.items ≡ Ok tt) }
+        ensures other_run { OnOk result ((run == self.run) ≡ false) }
+        ensures refused { IfErr result (λ refused.
+            RefusesRoll (run == self.run) (seated self recorders.items) refused.2) }
+        ensures provider { IfErr result (λ refused. refused.0 ≡ self) }
+        ensures recorders { IfErr result (λ refused. refused.1.items ≡ recorders.items) }
+    {
+        let (plan, ended, gate, mut slots) = self.into_slots();
+        let next = NextRun { start, run };
+        match rolled(alloc, &plan, ended, &mut slots, recorders.as_slice(), next) {
+            Ok(parts) => {
+                let Parts {
+                    totals,
+                    slots,
+                    recorders,
+                    collectors,
+                } = parts;
+                let provider = Provider::from_slots(plan, run, gate, slots);
+                Ok(Rolled {
+                    provider,
+                    recorders,
+                    collectors,
+                    totals,
+                })
+            }
+            Err(fault) => {
+                let provider = Provider::from_slots(plan, ended, gate, slots);
+                Err((provider, recorders, fault))
+            }
+        }
+    }
+}
+
+// When the next run starts, in nanoseconds, and its number.
+#[derive(Clone, Copy)]
+struct NextRun {
+    start: u64,
+    run: u64,
+}
+
+// What a provider comes to, and what the next one is made of.
+struct Parts<B: Book> {
+    totals: Totals,
+    slots: Vec<Locked<B>>,
+    recorders: Vec<Recorder>,
+    collectors: Vec<Collector>,
+}
+
+// What the provider comes to and the parts of the next one, where that is of another run and the seats are those of all
+// recorders of this run of the plan.
+fn rolled<B: Book>(
+    alloc: Global,
+    plan: &Plan,
+    run: u64,
+    locked: &mut Vec<Locked<B>>,
+    recorders: &[Recorder],
+    next: NextRun,
+) -> Result<Parts<B>, RollFault>
+    requires slots { vec_len locked.old ≡ length plan.now.facts.instruments }
+    requires certified { IsTrue plan.now.is_certified }
+    ensures totals { IfOk result (λ parts. let end = parts.totals in
+        Finishes B.KEEPS_ENTRIES plan.now recorders.now
+        end.instruments.items end.journals.items end.slips.items) }
+    ensures slots { IfOk result (λ parts.
+        vec_len parts.slots ≡ length plan.now.facts.instruments) }
+    ensures next_recorders { IfOk result (λ parts.
+        parts.recorders.items ≡ new_recorders B.KEEPS_ENTRIES next.run plan.now) }
+    ensures next_collectors { IfOk result (λ parts.
+        parts.collectors.items ≡ new_collectors next.run plan.now) }
+    ensures seated { OnOk result (seated (provider_of plan.now run) recorders.now ≡ Ok tt) }
+    ensures other_run { OnOk result ((next.run == run) ≡ false) }
+    ensures refused { IfErr result (λ fault.
+        RefusesRoll (next.run == run) (seated (provider_of plan.now run) recorders.now) fault) }
+    ensures back { OnErr result (vec_len locked.new ≡ vec_len locked.old) }
+{
+    if is_same_run(next, run) {
+        return Err(RollFault::SameRun);
+    }
+    match seated_parts(alloc, plan, run, locked, recorders, next) {
+        Ok(parts) => Ok(parts),
+        Err(fault) => Err(RollFault::Finish(fault)),
+    }
+}
+
+// Whether the next run has the number of this one.
+fn is_same_run(next: NextRun, run: u64) -> bool
+    ensures { result ≡ (next.run == run) }
+{
+    next.run == run
+}
+
+// The same, where the seats are those of all recorders of this run of the plan.
+fn seated_parts<B: Book>(
+    alloc: Global,
+    plan: &Plan,
+    run: u64,
+    locked: &mut Vec<Locked<B>>,
+    recorders: &[Recorder],
+    next: NextRun,
+) -> Result<Parts<B>, FinishFault>
+    requires slots { vec_len locked.old ≡ length plan.now.facts.instruments }
+    requires certified { IsTrue plan.now.is_certified }
+    ensures totals { IfOk result (λ parts. let end = parts.totals in
+        Finishes B.KEEPS_ENTRIES plan.now recorders.now
+        end.instruments.items end.journals.items end.slips.items) }
+    ensures slots { IfOk result (λ parts.
+        vec_len parts.slots ≡ length plan.now.facts.instruments) }
+    ensures next_recorders { IfOk result (λ parts.
+        parts.recorders.items ≡ new_recorders B.KEEPS_ENTRIES next.run plan.now) }
+    ensures next_collectors { IfOk result (λ parts.
+        parts.collectors.items ≡ new_collectors next.run plan.now) }
+    ensures seated { OnOk result (seated (provider_of plan.now run) recorders.now ≡ Ok tt) }
+    ensures refused { IfErr result (λ fault.
+        RefusesFinish (seated (provider_of plan.now run) recorders.now) fault) }
+    ensures back { OnErr result (vec_len locked.new ≡ vec_len locked.old) }
+{
+    match seated(plan, run, recorders) {
+        Ok(()) => parts_of(alloc, plan, locked, recorders, next),
+        Err(fault) => Err(fault),
+    }
+}
+
+// What the instruments come to and the parts of the next provider. The instruments leave their locks last, when the memory
+// for all else was taken.
+fn parts_of<B: Book>(
+    alloc: Global,
+    plan: &Plan,
+    locked: &mut Vec<Locked<B>>,
+    recorders: &[Recorder],
+    next: NextRun,
+) -> Result<Parts<B>, FinishFault>
+    requires slots { vec_len locked.old ≡ length plan.now.facts.instruments }
+    requires recorders { AreAllSeats plan.now recorders.now }
+    requires certified { IsTrue plan.now.is_certified }
+    ensures totals { IfOk result (λ parts. let end = parts.totals in
+        Finishes B.KEEPS_ENTRIES plan.now recorders.now
+        end.instruments.items end.journals.items end.slips.items) }
+    ensures slots { IfOk result (λ parts.
+        vec_len parts.slots ≡ length plan.now.facts.instruments) }
+    ensures next_recorders { IfOk result (λ parts.
+        parts.recorders.items ≡ new_recorders B.KEEPS_ENTRIES next.run plan.now) }
+    ensures next_collectors { IfOk result (λ parts.
+        parts.collectors.items ≡ new_collectors next.run plan.now) }
+    ensures refused { IfErr result (λ fault. RefusesFinish (Ok tt) fault) }
+    ensures back { OnErr result (vec_len locked.new ≡ vec_len locked.old) }
+{
+    let (slots, seats, collectors) = new_parts(alloc, plan, next.start, next.run)?;
+    let totals = settle_locked(alloc, plan, locked, recorders)?;
+    Ok(Parts {
+        totals,
+        slots,
+        recorders: seats,
+        collectors,
+    })
+}

@@ -1,0 +1,88 @@
+-- The commands and options of `wormweekly`, as clap is told of them.
+use Rattle.std.specs.Prelude.{ℕ, List, [], ◌∷◌, Bool, true, false, Some, codes}
+use Rattle.clap.specs.Words.{App, Rule, Text, new_app, new_rule, with_rule, with_subcommand}
+use Rattle.clap.specs.declared.builder.ArgAction.TheVariants.{Set, SetTrue}
+use Rattle.clap.specs.declared.builder.ValueParser.TheVariants.{Unsigned}
+
+-- the path of a file, by its place
+abbrev pub file_rule : Text → Bool → Rule
+file_rule id required = record (new_rule id) { action = Some Set; required = required; value_names = 1 }
+
+-- an option with a text
+abbrev pub text_rule : Text → Rule
+text_rule id = record (new_rule id) { long = Some id; action = Some Set; value_names = 1 }
+
+-- a flag, which takes no value and is given once at most
+abbrev pub flag_rule : Text → Rule
+flag_rule id = record (new_rule id) { long = Some id; action = Some SetTrue }
+
+-- an option with a number in a range
+abbrev pub number_rule : Text → ℕ → ℕ → Text → Rule
+number_rule id least most default = record (new_rule id) {
+  long = Some id;
+  action = Some Set;
+  value_names = 1;
+  parser = Some (Unsigned least most);
+  defaults = default ∷ [];
+}
+
+-- the widest table, the highest rate and the most processes
+abbrev pub most_width : ℕ
+most_width = 1000
+
+abbrev pub most_rate : ℕ
+most_rate = 1000000000
+
+abbrev pub most_instances : ℕ
+most_instances = 1000000
+
+-- a command over a catalogue and a config
+abbrev pub pair_app : Text → App
+pair_app name = with_rule (with_rule (new_app name) (file_rule (codes "catalogue") true)) (file_rule (codes "config") true)
+
+-- with the option of its output
+abbrev pub output_rule : Rule
+output_rule = record (text_rule (codes "output")) { short = Some 111 }
+
+-- with those of a table
+abbrev pub table_app : Text → App
+table_app name = with_rule (with_rule (pair_app name) (flag_rule (codes "json"))) (number_rule (codes "width") 0 most_width (codes "0"))
+
+abbrev pub lint_app : App
+lint_app = with_rule (pair_app (codes "lint")) (text_rule (codes "deny"))
+
+abbrev pub show_app : App
+show_app = table_app (codes "show")
+
+abbrev pub make_app : App
+make_app = with_rule (pair_app (codes "make")) output_rule
+
+abbrev pub check_app : App
+check_app = with_rule (pair_app (codes "check")) (file_rule (codes "certificate") true)
+
+abbrev pub headroom_app : App
+headroom_app = with_rule
+    (with_rule (table_app (codes "headroom")) (number_rule (codes "rate") 1 most_rate (codes "10000")))
+    (number_rule (codes "instances") 1 most_instances (codes "1"))
+
+abbrev pub replay_app : App
+replay_app = with_rule
+    (with_rule (with_rule (pair_app (codes "replay")) (file_rule (codes "third") true)) (file_rule (codes "fourth") false))
+    (flag_rule (codes "audit"))
+
+abbrev pub draw_app : App
+draw_app = with_rule (pair_app (codes "draw")) output_rule
+
+-- the program, with its version and without a command
+abbrev pub bare_app : App
+bare_app = let app = new_app (codes "wormweekly") in record app { top = record app.top { has_version = true } }
+
+-- the program with its first commands, and with all
+abbrev pub first_app : App
+first_app = with_subcommand (with_subcommand (with_subcommand bare_app lint_app.top) show_app.top) headroom_app.top
+
+abbrev pub second_app : App
+second_app = with_subcommand (with_subcommand first_app make_app.top) check_app.top
+
+abbrev pub program_app : App
+program_app = with_subcommand (with_subcommand second_app replay_app.top) draw_app.top

@@ -1,0 +1,4 @@
+pub mod Apps
+pub mod Faults
+pub mod Numbers
+pub mod Requests

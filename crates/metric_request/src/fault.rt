@@ -1,0 +1,65 @@
+// Why a command line asks for nothing.
+
+ghost use Rattle.clap.specs.Words.{kind_of};
+ghost use Rattle.metric_request.specs.Faults.{IsToldOrMemory, IsUsageOrMemory, TellsKind};
+
+use clap::Error;
+use clap::error::ErrorKind;
+use std::alloc::{AllocError, Global};
+
+/// Why a command line asks for no command.
+#[derive(Debug, Drop)]
+pub enum LineFault {
+    /// The words ask for help or for the version, which is this text for standard output.
+    Told(String),
+    /// The words are no command line of this program. The text says why, for standard error.
+    Usage(String),
+    /// The words name no command.
+    Nothing,
+    /// `--deny` was given something else than `remarks`.
+    Deny,
+    /// Memory was refused.
+    Memory,
+}
+
+impl From<AllocError> for LineFault {
+    ghost use Rattle.std.specs.Prelude.{◌≡◌};
+    ghost use Rattle.metric_request.specs.declared.fault.LineFault.TheVariants.{Memory};
+
+    ghost from_gives = { λ _ fault. fault ≡ Memory };
+
+    fn from(_refused: AllocError) -> LineFault {
+        LineFault::Memory
+    }
+}
+
+/// What clap's refusal of a command line comes to, with its text.
+pub(crate) fn fault_of(alloc: Global, error: &Error) -> LineFault
+    ensures { TellsKind (kind_of error.now) result }
+{
+    match error.kind() {
+        ErrorKind::OutOfMemory => LineFault::Memory,
+        ErrorKind::DisplayHelp | ErrorKind::DisplayVersion => told(alloc, error),
+        _ => misused(alloc, error),
+    }
+}
+
+// A call for help or for the version.
+fn told(alloc: Global, error: &Error) -> LineFault
+    ensures { IsToldOrMemory result }
+{
+    match error.to_string(alloc) {
+        Ok(text) => LineFault::Told(text),
+        Err(_) => LineFault::Memory,
+    }
+}
+
+// A misuse.
+fn misused(alloc: Global, error: &Error) -> LineFault
+    ensures { IsUsageOrMemory result }
+{
+    match error.to_string(alloc) {
+        Ok(text) => LineFault::Usage(text),
+        Err(_) => LineFault::Memory,
+    }
+}

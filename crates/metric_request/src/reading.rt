@@ -1,0 +1,171 @@
+// The reading of a command line.
+ghost use Rattle.std.specs.Prelude.{◌≡◌, IfOk, IsSomeAnd, map};
+ghost use Rattle.clap.specs.Words.{first_of, found_of, rows_of, subcommand_of, subcommand_rows_of};
+ghost use Rattle.metric_request.specs.Apps.{program_app};
+ghost use Rattle.metric_request.specs.Numbers.{number_in, number_of};
+ghost use Rattle.metric_request.specs.Requests.{certificate_in, files_in, has_word, options_in, request_in, script_in, task_of, text_in};
+
+use crate::commands::program;
+use crate::fault::{LineFault, fault_of};
+use crate::request::{Files, Options, Request, Task};
+use clap::ArgMatches;
+use metric_base::Text;
+use std::alloc::{AllocError, Global};
+
+/// What the words of a command line ask for. The first word is the program's name, whatever it is.
+///
+/// # Errors
+///
+/// [`LineFault::Told`] for a call for help or for the version, with the text; [`LineFault::Usage`] where clap refuses
+/// the words for another cause, with its text; [`LineFault::Nothing`] where they name no command;
+/// [`LineFault::Deny`] where `--deny` is given another word than `remarks`; and [`LineFault::Memory`].
+pub fn request_of<'a>(alloc: Global, words: &'a [&'a str]) -> Result<Request, LineFault>
+    ensures answers { IfOk result (λ request. IsSomeAnd
+        (subcommand_of program_app (map (λ w. w.now) words.entry.now))
+        (λ named. request ≡ request_in named)) }
+{
+    let command = program(alloc)?;
+    match command.try_get_matches_from(words) {
+        Ok(matches) => request_from(alloc, &matches),
+        Err(error) => Err(fault_of(alloc, &error)),
+    }
+}
+
+// What the matches ask for.
+fn request_from(alloc: Global, matches: &ArgMatches<'_>) -> Result<Request, LineFault>
+    ensures { IfOk result (λ request. IsSomeAnd (subcommand_rows_of matches.now)
+        (λ named. request ≡ request_in named)) }
+{
+    match matches.subcommand() {
+        Some((command, arguments)) => named_request(alloc, command, arguments),
+        None => Err(LineFault::Nothing),
+    }
+}
+
+// What a command asks for by its arguments.
+fn named_request(
+    alloc: Global,
+    command: &str,
+    arguments: &ArgMatches<'_>,
+) -> Result<Request, LineFault>
+    ensures { IfOk result (λ request.
+        request ≡ request_in (command.now, rows_of (found_of arguments.now))) }
+{
+    if arguments.contains_id("deny") && !has_word(arguments, "deny", "remarks") {
+        return Err(LineFault::Deny);
+    }
+    let files = files_of(alloc, arguments)?;
+    Ok(Request {
+        task: task_of(command),
+        files,
+        options: options_of(arguments),
+    })
+}
+
+// The command by its name.
+fn task_of(command: &str) -> Task
+    ensures { result ≡ task_of command.now }
+{
+    match command {
+        "lint" => Task::Lint,
+        "show" => Task::Show,
+        "make" => Task::Make,
+        "check" => Task::Check,
+        "headroom" => Task::Headroom,
+        "replay" => Task::Replay,
+        _ => Task::Draw,
+    }
+}
+
+fn files_of(alloc: Global, arguments: &ArgMatches<'_>) -> Result<Files, AllocError>
+    ensures { IfOk result (λ files. files ≡ files_in (rows_of (found_of arguments.now))) }
+{
+    let catalogue = text_of(alloc, arguments, "catalogue")?;
+    let config = text_of(alloc, arguments, "config")?;
+    let certificate = certificate_of(alloc, arguments)?;
+    let script = script_of(alloc, arguments)?;
+    let output = optional(alloc, arguments, "output")?;
+    Ok(Files {
+        catalogue,
+        config,
+        certificate,
+        script,
+        output,
+    })
+}
+
+// Of the two last files of a replay the certificate is the first, where there are two.
+fn certificate_of(alloc: Global, arguments: &ArgMatches<'_>) -> Result<Option<Text>, AllocError>
+    ensures { IfOk result (λ path. path ≡ certificate_in (rows_of (found_of arguments.now))) }
+{
+    match arguments.get_str("fourth") {
+        Some(_) => optional(alloc, arguments, "third"),
+        None => optional(alloc, arguments, "certificate"),
+    }
+}
+
+fn script_of(alloc: Global, arguments: &ArgMatches<'_>) -> Result<Option<Text>, AllocError>
+    ensures { IfOk result (λ path. path ≡ script_in (rows_of (found_of arguments.now))) }
+{
+    match arguments.get_str("fourth") {
+        Some(_) => optional(alloc, arguments, "fourth"),
+        None => optional(alloc, arguments, "third"),
+    }
+}
+
+fn options_of(arguments: &ArgMatches<'_>) -> Options
+    ensures { result ≡ options_in (rows_of (found_of arguments.now)) }
+{
+    Options {
+        strict: has_word(arguments, "deny", "remarks"),
+        json: has_word(arguments, "json", "true"),
+        audit: has_word(arguments, "audit", "true"),
+        width: number_of(arguments, "width"),
+        rate: number_of(arguments, "rate"),
+        instances: number_of(arguments, "instances"),
+    }
+}
+
+// The text of an argument that has to be given.
+fn text_of(alloc: Global, arguments: &ArgMatches<'_>, id: &str) -> Result<Text, AllocError>
+    ensures { IfOk result (λ text. text ≡ text_in id.now (rows_of (found_of arguments.now))) }
+{
+    match arguments.get_str(id) {
+        Some(text) => Text::new(alloc, text),
+        None => Text::new(alloc, ""),
+    }
+}
+
+// The text of an argument, where it was given.
+fn optional(alloc: Global, arguments: &ArgMatches<'_>, id: &str) -> Result<Option<Text>, AllocError>
+    ensures { IfOk result (λ text. text ≡ first_of id.now (rows_of (found_of arguments.now))) }
+{
+    match arguments.get_str(id) {
+        Some(text) => Ok(Some(Text::new(alloc, text)?)),
+        None => Ok(None),
+    }
+}
+
+// Whether an argument was given this word.
+fn has_word(arguments: &ArgMatches<'_>, id: &str, word: &str) -> bool
+    ensures { result ≡ has_word id.now word.now (rows_of (found_of arguments.now)) }
+{
+    arguments.get_str(id) == Some(word)
+}
+
+// The number that an option has, and 0 without one.
+fn number_of(arguments: &ArgMatches<'_>, option: &str) -> u32
+    ensures { result ≡ number_in (first_of option.now (rows_of (found_of arguments.now))) }
+{
+    match arguments.get_str(option) {
+        Some(text) => number_from(text),
+        None => 0,
+    }
+}
+
+// The number that a text is, and 0 where it is none.
+fn number_from(text: &str) -> u32
+    ensures { result ≡ number_of text.now }
+{
+    text.parse().unwrap_or(0)
+}

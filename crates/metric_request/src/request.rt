@@ -1,0 +1,64 @@
+// What a command line asks for.
+use metric_base::Text;
+
+/// A command of the program.
+#[derive(Clone, Copy, Debug, PartialEq, Eq)]
+pub enum Task {
+    /// Print what looks like a mistake in a catalogue and a config.
+    Lint,
+    /// Print the streams of a config.
+    Show,
+    /// Make a certificate that a catalogue and a config are safe.
+    Make,
+    /// Check a certificate that a catalogue and a config are safe.
+    Check,
+    /// Print how often each instrument may be recorded.
+    Headroom,
+    /// Replay a script and print its replies.
+    Replay,
+    /// Draw the streams of a config.
+    Draw,
+}
+
+/// The paths of the files that a command reads and writes.
+#[derive(Debug, Drop)]
+pub struct Files {
+    /// Where the catalogue is.
+    pub catalogue: Text,
+    /// Where the config is.
+    pub config: Text,
+    /// Where the certificate is, where the command has one.
+    pub certificate: Option<Text>,
+    /// Where the script is, where the command has one.
+    pub script: Option<Text>,
+    /// The file to write to, in place of standard output.
+    pub output: Option<Text>,
+}
+
+/// How a command is done. What does not belong to the command is off, or zero.
+#[derive(Clone, Copy, Debug, PartialEq, Eq)]
+pub struct Options {
+    /// Whether remarks are errors.
+    pub strict: bool,
+    /// Whether the answer is lines of JSON.
+    pub json: bool,
+    /// Whether the replies are audited before they are printed.
+    pub audit: bool,
+    /// How wide a table may be, in columns: 0 where it is not said.
+    pub width: u32,
+    /// How many recordings a second a process makes on an instrument.
+    pub rate: u32,
+    /// How many processes a backend adds up.
+    pub instances: u32,
+}
+
+/// What a command line asks for.
+#[derive(Debug, Drop)]
+pub struct Request {
+    /// The command.
+    pub task: Task,
+    /// The paths of its files.
+    pub files: Files,
+    /// How it is done.
+    pub options: Options,
+}

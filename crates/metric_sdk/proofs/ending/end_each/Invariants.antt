@@ -1,0 +1,14 @@
+-- Each reader so far ended, and there is room for the others.
+use Rattle.std.proofs.Common.{◌≤◌, ◌+◌, length, vec_capacity, vec_len}
+use Rattle.std.specs.Vec.Iter.{into_iter_len}
+use Rattle.metric_export.specs.ExporterCalls.{IsExport}
+use Rattle.metric_sdk.specs.Endings.{EndsEach}
+use Rattle.metric_sdk.proofs.ending.end_each.Given as goal
+
+abbrev pub invariant-loop-seat : goal.invariant-loop-seat
+invariant-loop-seat g l =
+    let e = g.E.MetricExporter in
+    record {
+      ended : EndsEach l.provider l.now (IsExport e.export_gives e.text e.contents e.failures e.state l.provider.plan) l.fn.exporter l.exporter l.yielded l.ends.items;
+      room : vec_len l.ends + into_iter_len l.seat-iterator ≤ vec_capacity l.ends;
+    }

@@ -1,0 +1,10 @@
+-- The exporter took each batch so far.
+use Rattle.std.proofs.Common.{take}
+use Rattle.metric_export.specs.ExporterCalls.{IsExport}
+use Rattle.metric_sdk.specs.Endings.{TakesEach}
+use Rattle.metric_sdk.proofs.ending.hand_on_some.Given as goal
+
+abbrev pub invariant-loop-taken : goal.invariant-loop-taken
+invariant-loop-taken g l =
+    let e = g.E.MetricExporter in
+    TakesEach (IsExport e.export_gives e.text e.contents e.failures e.state l.plan) l.fn.exporter l.exporter (take l.taken l.batches)

@@ -1,0 +1,68 @@
+//! The plan of a catalogue and a config that somebody else's certificate shows to be safe.
+ghost use Rattle.std.specs.Prelude.{IfErr, IfOk, IsTrue};
+ghost use Rattle.metric_cert.specs.Certificates.{certificate_from};
+ghost use Rattle.metric_sdk.specs.Setups.{IsFirstClaimFault, IsVouchedPlan, ReadsCertificate, Vouches};
+
+use crate::fault::SetupFault;
+use crate::setup::{catalogue_of, config_of};
+use metric_catalogue::Catalogue;
+use metric_cert::{CertFault, Certificate};
+use metric_check::check;
+use metric_plan::{CheckFault, Plan};
+use metric_views::Config;
+use std::alloc::Global;
+
+/// The plan of a catalogue and a config that are given as TOML, with a certificate that somebody else made, whom nobody trusts:
+/// all three are read, and the certificate is checked. Where the plan comes, no limit and no number can overflow, whatever is
+/// recorded within the budgets.
+///
+/// # Errors
+///
+/// The first fault, in this order: [`SetupFault::Catalogue`]; [`SetupFault::Config`]; [`SetupFault::Certificate`];
+/// [`SetupFault::Check`] where the certificate does not show that the two are safe. [`SetupFault::Memory`] may stand in the place
+/// of any.
+pub fn vouched_plan(
+    alloc: Global,
+    catalogue_text: &str,
+    config_text: &str,
+    certificate_text: &str,
+) -> Result<Plan, SetupFault>
+    ensures certified { IfOk result (λ plan. IsTrue plan.is_certified) }
+    ensures plan { IfOk result (
+        IsVouchedPlan catalogue_text.now config_text.now certificate_text.now) }
+    ensures first { IfErr result (λ fault.
+        IsFirstClaimFault fault catalogue_text.now config_text.now certificate_text.now) }
+{
+    let catalogue = catalogue_of(alloc, catalogue_text)?;
+    let config = config_of(alloc, config_text)?;
+    let certificate = certificate_of(alloc, certificate_text)?;
+    plan_by(alloc, catalogue, config, &certificate)
+}
+
+// The certificate that a text is, or its first fault.
+fn certificate_of(alloc: Global, text: &str) -> Result<Certificate, SetupFault>
+    ensures { ReadsCertificate result (certificate_from text.now) }
+{
+    match Certificate::read(alloc, text) {
+        Ok(certificate) => Ok(certificate),
+        Err(CertFault::Memory) => Err(SetupFault::Memory),
+        Err(fault) => Err(SetupFault::Certificate(fault)),
+    }
+}
+
+// The plan that a certificate shows to be safe, or the first fault that its check finds.
+fn plan_by(
+    alloc: Global,
+    catalogue: Catalogue,
+    config: Config,
+    certificate: &Certificate,
+) -> Result<Plan, SetupFault>
+    ensures certified { IfOk result (λ plan. IsTrue plan.is_certified) }
+    ensures plan { Vouches result catalogue config certificate.now }
+{
+    match check(alloc, catalogue, config, certificate) {
+        Ok(plan) => Ok(plan),
+        Err((_, _, CheckFault::Memory)) => Err(SetupFault::Memory),
+        Err((_, _, fault)) => Err(SetupFault::Check(fault)),
+    }
+}

@@ -1,0 +1,5 @@
+use Rattle.std.proofs.Common.{◌≡◌}
+use Rattle.metric_sheet.proofs.json.write_json.Given as goal
+
+abbrev pub invariant-loop-number : goal.invariant-loop-number
+invariant-loop-number g l = g.W.Sink.failures l.sink ≡ g.W.Sink.failures l.initial.sink

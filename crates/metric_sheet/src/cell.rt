@@ -1,0 +1,70 @@
+// What stands at a place of a table.
+use std::alloc::{AllocError, Global};
+
+/// What stands at a place of a table.
+#[derive(Debug, Drop)]
+pub enum Cell {
+    /// A text.
+    Text(String),
+    /// A number.
+    Number(u128),
+    /// A list of texts.
+    Texts(Vec<String>),
+    /// Nothing.
+    Nothing,
+}
+
+impl Cell {
+    /// A cell of a text. Fails only where memory is refused.
+    pub fn text(alloc: Global, text: &str) -> Result<Cell, AllocError> {
+        Ok(Cell::Text(String::from_str(alloc, text)?))
+    }
+
+    /// Whether the cell stands at the right of its column.
+    pub fn is_number(&self) -> bool {
+        matches!(self, Cell::Number(_))
+    }
+
+    /// The cell as people see it, in one line. Fails only where memory is refused.
+    pub fn shown(&self, alloc: Global) -> Result<String, AllocError> {
+        match self {
+            Cell::Text(text) => visible(alloc, text.as_str()),
+            Cell::Number(number) => format!(in alloc; "{number}"),
+            Cell::Texts(texts) => listed(alloc, texts),
+            Cell::Nothing => String::from_str(alloc, "-"),
+        }
+    }
+}
+
+// Texts one after the other.
+fn listed(alloc: Global, texts: &[String]) -> Result<String, AllocError> {
+    let mut all = String::new(alloc);
+    for text in texts {
+        if !all.is_empty() {
+            all.push_str(", ")?;
+        }
+        let text = visible(alloc, text.as_str())?;
+        all.push_str(text.as_str())?;
+    }
+    if all.is_empty() {
+        all.push('-')?;
+    }
+    Ok(all)
+}
+
+// A text without what moves a terminal's cursor.
+fn visible(alloc: Global, text: &str) -> Result<String, AllocError> {
+    let mut shown = String::new(alloc);
+    for letter in text.chars() {
+        shown.push(visible_letter(letter))?;
+    }
+    Ok(shown)
+}
+
+fn visible_letter(letter: char) -> char {
+    if letter < ' ' || letter == '\u{7f}' {
+        '?'
+    } else {
+        letter
+    }
+}

@@ -1,0 +1,91 @@
+// Lines of JSON for machines.
+ghost use Rattle.std.specs.Prelude.{◌≡◌, IfErr, OnOk};
+ghost use Rattle.metric_sheet.specs.Written.{IsSheetFault};
+
+use crate::cell::Cell;
+use crate::fault::SheetFault;
+use crate::sheet::Sheet;
+use metric_io::{Sink, write_all};
+use std::alloc::{AllocError, Global};
+
+/// Writes a line for each row: an object of JSON, whose fields have the names of the titles. A cell with nothing is `null`.
+///
+/// # Errors
+///
+/// [`SheetFault::Write`] where the sink failed, and [`SheetFault::Memory`].
+pub fn write_json<S: Sheet, W: Sink>(
+    alloc: Global,
+    sink: &mut W,
+    sheet: &S,
+) -> Result<(), SheetFault>
+    ensures broken { IfErr result (IsSheetFault (W.failures sink.old) (W.failures sink.new)) }
+    ensures counted { OnOk result (W.failures sink.new ≡ W.failures sink.old) }
+{
+    for number in 0..sheet.rows() {
+        let line = json_line(alloc, sheet, number)?;
+        write_all(sink, line.as_bytes())?;
+    }
+    Ok(())
+}
+
+fn json_line<S: Sheet>(alloc: Global, sheet: &S, number: usize) -> Result<String, AllocError> {
+    let row = sheet.row(alloc, number)?;
+    json_object(alloc, sheet.titles(), &row)
+}
+
+fn json_object(alloc: Global, titles: &[&str], row: &[Cell]) -> Result<String, AllocError> {
+    let mut line = String::new(alloc);
+    for (title, cell) in titles.iter().zip(row) {
+        line.push(if line.is_empty() { '{' } else { ',' })?;
+        push_json_text(&mut line, title)?;
+        line.push(':')?;
+        push_json_cell(&mut line, cell)?;
+    }
+    line.push_str("}\n")?;
+    Ok(line)
+}
+
+fn push_json_cell(line: &mut String, cell: &Cell) -> Result<(), AllocError> {
+    match cell {
+        Cell::Text(text) => push_json_text(line, text.as_str()),
+        Cell::Number(number) => write!(line, "{number}"),
+        Cell::Texts(texts) => push_json_texts(line, texts),
+        Cell::Nothing => line.push_str("null"),
+    }
+}
+
+fn push_json_texts(line: &mut String, texts: &[String]) -> Result<(), AllocError> {
+    line.push('[')?;
+    for (place, text) in texts.iter().enumerate() {
+        if place > 0 {
+            line.push(',')?;
+        }
+        push_json_text(line, text.as_str())?;
+    }
+    line.push(']')
+}
+
+/// Puts a text last, as JSON spells it. Fails only where memory is refused.
+pub fn push_json_text(line: &mut String, text: &str) -> Result<(), AllocError> {
+    line.push('"')?;
+    for letter in text.chars() {
+        push_json_letter(line, letter)?;
+    }
+    line.push('"')
+}
+
+fn push_json_letter(line: &mut String, letter: char) -> Result<(), AllocError> {
+    match letter {
+        '"' => line.push_str("\\\""),
+        '\\' => line.push_str("\\\\"),
+        '\n' => line.push_str("\\n"),
+        '\r' => line.push_str("\\r"),
+        '\t' => line.push_str("\\t"),
+        '\0'..='\u{1f}' => push_json_code(line, letter as u32),
+        _ => line.push(letter),
+    }
+}
+
+fn push_json_code(line: &mut String, code: u32) -> Result<(), AllocError> {
+    write!(line, "\\u{code:04x}")
+}

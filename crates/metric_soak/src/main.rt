@@ -1,0 +1,133 @@
+//! A soak of running threads: recorders and readers that never rest, and at the end every number compared.
+//!
+//! `metric_soak --seconds N` makes rounds over [`Marked`] and over [`Audited`] in turn until N seconds have passed, and prints
+//! what they did in numbers; without words it makes one short round over each. In a round each recorder, of which there are two
+//! more than processors, records in a thread of its own on instruments whose streams are bounded by product, by list and by budget.
+//! It asks for more where a budget is spent, and one of them closes an instrument midway. Two readers, one delta and one
+//! cumulative, collect all instruments again and again. Then it is compared: the totals with what each recorder was told, each
+//! batch of a reader with the one before it, the last ones with the totals; over [`Audited`] all batches are audited.
+//! Where anything is off, it says what, and ends with a status other than 0.
+#![tactic(auto)]
+
+mod ends;
+mod figures;
+mod inputs;
+mod reading;
+mod recording;
+mod rounds;
+mod seen;
+mod words;
+
+use crate::figures::Figures;
+use crate::inputs::catalogue;
+use crate::rounds::{Length, Setup, round};
+use anyhow::bail;
+use metric_book::Book;
+use metric_sdk::{Audited, Marked};
+use std::alloc::Global;
+use std::env;
+use std::sync::Wait;
+use std::thread::{Threads, available_parallelism};
+use std::time::{Clock, Instant};
+
+// How many recorders there are beside one for each processor, and how many at most.
+const MORE: usize = 2;
+
+const MOST_RECORDERS: usize = 64;
+
+// How many rounds there are at most over each book.
+const MOST_ROUNDS: u64 = 1_000_000;
+
+// How often each recorder records in a round over each book, and in a short one. What an audit reads is held in memory.
+const MARKED: Length = Length { events: 200_000 };
+
+const AUDITED: Length = Length { events: 12_000 };
+
+const SHORT: Length = Length { events: 600 };
+
+fn main(rt: HostRuntime) -> anyhow::Result<()> {
+    let owned: Vec<String> = env::args(&rt)?.collect(rt.alloc())?;
+    let seconds = words::seconds_of(owned.as_slice())?;
+    let recorders = recorders_of(&rt)?;
+    let setup = Setup {
+        catalogue: catalogue(rt.alloc(), recorders)?,
+        recorders,
+    };
+    match seconds {
+        Some(seconds) => soak(&rt, rt.alloc(), &setup, seconds),
+        None => try_once(&rt, rt.alloc(), &setup),
+    }
+}
+
+// How many recorders there are.
+fn recorders_of<R: Threads>(rt: &R) -> anyhow::Result<u32> {
+    let processors = available_parallelism(rt)?.get();
+    let recorders = processors.saturating_add(MORE).min(MOST_RECORDERS);
+    Ok(u32::try_from(recorders).unwrap_or(1))
+}
+
+// Makes a short round over each book.
+fn try_once<R: Threads + Wait + Clock + Print + Sync>(
+    rt: &R,
+    alloc: Global,
+    setup: &Setup,
+) -> anyhow::Result<()> {
+    let mut figures = Figures::new();
+    add_round::<R, Marked>(rt, alloc, setup, SHORT, &mut figures)?;
+    println!(rt; "marked: nothing is off")?;
+    add_round::<R, Audited>(rt, alloc, setup, SHORT, &mut figures)?;
+    println!(rt; "audited: nothing is off")?;
+    Ok(())
+}
+
+// Makes rounds over each book in turn until so many seconds have passed, and prints what they did.
+fn soak<R: Threads + Wait + Clock + Print + Sync>(
+    rt: &R,
+    alloc: Global,
+    setup: &Setup,
+    seconds: u64,
+) -> anyhow::Result<()> {
+    let start = Instant::now(rt)?;
+    let mut marked = Figures::new();
+    let mut audited = Figures::new();
+    for _ in 0..MOST_ROUNDS {
+        add_round::<R, Marked>(rt, alloc, setup, MARKED, &mut marked)?;
+        add_round::<R, Audited>(rt, alloc, setup, AUDITED, &mut audited)?;
+        if start.elapsed(rt)?.as_secs() >= seconds {
+            break;
+        }
+    }
+    println!(rt; "{} recorders and 2 readers", setup.recorders)?;
+    print_figures(rt, "marked", &marked)?;
+    print_figures(rt, "audited", &audited)
+}
+
+// Makes a round, whose number of a run no other has, and adds its figures.
+fn add_round<R: Threads + Wait + Clock + Sync, B: Book + Send + Sync>(
+    rt: &R,
+    alloc: Global,
+    setup: &Setup,
+    length: Length,
+    figures: &mut Figures,
+) -> anyhow::Result<()> {
+    match round::<R, B>(rt, alloc, setup, length, figures) {
+        Ok(()) => Ok(()),
+        Err(error) => bail!("round {}: {error}", figures.rounds),
+    }
+}
+
+fn print_figures<R: Print>(rt: &R, book: &str, figures: &Figures) -> anyhow::Result<()> {
+    println!(rt;
+        "{book}: {} rounds, {} recordings accepted, {} refused as closed, {} beyond a budget",
+        figures.rounds, figures.accepted, figures.closed, figures.beyond
+    )?;
+    println!(rt;
+        "{book}: {} grants, {} delta and {} cumulative collections, {} points",
+        figures.grants, figures.deltas, figures.cumulatives, figures.points
+    )?;
+    println!(rt;
+        "{book}: {} totals settled, {} batches of {} recordings audited, nothing is off",
+        figures.settled, figures.batches, figures.entries
+    )?;
+    Ok(())
+}

@@ -1,0 +1,79 @@
+//! Tells before a deploy what a catalogue and a config of metrics will give.
+#![tactic(auto)]
+
+mod disk;
+
+use disk::Disk;
+use metric_console::run_request;
+use metric_io::StdSink;
+use metric_request::{LineFault, Request, request_of};
+use std::alloc::{AllocError, Global};
+use std::env;
+use std::io::{BufWriter, ErrorKind, Write};
+use std::process::ExitCode;
+
+fn main(rt: HostRuntime) -> ExitCode {
+    ExitCode::from(run(&rt, asked(&rt)))
+}
+
+// What the words of the command line ask for.
+fn asked(rt: &HostRuntime) -> Result<Request, LineFault> {
+    let owned = words(rt)?;
+    let words = borrowed(rt.alloc(), &owned)?;
+    request_of(rt.alloc(), &words)
+}
+
+// The words of the command line. One that is not UTF-8 is a word of no command.
+fn words(rt: &HostRuntime) -> Result<Vec<String>, LineFault> {
+    match env::args(rt) {
+        Ok(words) => Ok(words.collect(rt.alloc())?),
+        Err(error) => match error.kind() {
+            ErrorKind::InvalidData => Err(LineFault::Nothing),
+            _ => Err(LineFault::Memory),
+        },
+    }
+}
+
+fn borrowed<'a>(alloc: Global, owned: &'a [String]) -> Result<Vec<&'a str>, AllocError> {
+    let mut words = Vec::new(alloc);
+    for word in owned {
+        words.push(word.as_str())?;
+    }
+    Ok(words)
+}
+
+// Runs a request, and gives the exit status.
+fn run(rt: &HostRuntime, request: Result<Request, LineFault>) -> u8 {
+    match BufWriter::new(rt.alloc(), rt.stdout()) {
+        Ok(output) => run_into(rt, request, output),
+        Err(_) => run_into(rt, Err(LineFault::Memory), rt.stdout()),
+    }
+}
+
+// Runs a request into a writer, and tells on standard error why it stops.
+fn run_into<W: Write + Drop>(
+    rt: &HostRuntime,
+    request: Result<Request, LineFault>,
+    output: W,
+) -> u8 {
+    let mut folder = Disk { rt };
+    let mut sink = StdSink::new(output);
+    let mut errors = StdSink::new(rt.stderr());
+    let columns = columns(rt);
+    run_request(
+        rt.alloc(),
+        request,
+        columns,
+        &mut folder,
+        &mut sink,
+        &mut errors,
+    )
+}
+
+// How wide the terminal is, as the environment says; 0 where it does not.
+fn columns(rt: &HostRuntime) -> u32 {
+    match env::var(rt, "COLUMNS") {
+        Ok(text) => text.as_str().parse().unwrap_or(0),
+        Err(_) => 0,
+    }
+}
