@@ -1,5 +1,6 @@
 //! What a backend adds up of many processes.
-ghost use Rattle.std.specs.Prelude.{◌≡◌, IfSome, IsTrue, None};
+ghost use Rattle.std.specs.Prelude.{◌≡◌, ◌↔◌, FitsSigned, IfSome, IsTrue, None};
+ghost use Rattle.std.specs.Int.{w64};
 ghost use Rattle.metric_console.specs.Fleets.{Fits};
 
 use metric_advice::Limit;
@@ -10,16 +11,23 @@ use metric_catalogue::Instrument;
 /// their count or, where a stream keeps sums, the least or the greatest sum.
 pub(crate) fn fleet_limit(count: u128, instrument: &Instrument, is_summed: bool) -> Option<Limit>
     ensures fits { result ≡ None → Fits count (IsTrue is_summed) instrument.now }
-    ensures not { IfSome result (λ _. Fits count (IsTrue is_summed) instrument.now → ⊥) }
+    ensures unfit { IfSome result (λ _. Fits count (IsTrue is_summed) instrument.now → ⊥) }
 {
     let Ok(count) = u64::try_from(count) else {
         return Some(Limit::Count);
     };
-    if is_summed && low(count, instrument.lo) < i128::from(i64::MIN) {
+    if is_summed && !fits(low(count, instrument.lo)) {
         return Some(Limit::SumLow);
     }
-    if is_summed && high(count, instrument.hi) > i128::from(i64::MAX) {
+    if is_summed && !fits(high(count, instrument.hi)) {
         return Some(Limit::SumHigh);
     }
     None
+}
+
+// Whether a sum is an i64.
+fn fits(sum: i128) -> bool
+    ensures { IsTrue result ↔ FitsSigned w64 sum }
+{
+    i64::try_from(sum).is_ok()
 }

@@ -53,7 +53,8 @@ pub trait Folder {
 
     /// The text of the file at a path.
     fn read(&self, alloc: Global, path: &str) -> Result<Text, Unread>
-        ensures { IfOk result (λ read. IfSome (held self.now path.now) (λ known. read ≡ known)) };
+        ensures { IfOk result (λ read.
+            IfSome (held self.now path.now) (λ known. read ≡ known)) };
 
     /// Makes a file of this text at a path, in place of one that is there. After [`Broken`] some of it may be there.
     fn write(&mut self, path: &str, text: &[u8]) -> Result<(), Broken>

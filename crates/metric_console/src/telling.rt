@@ -3,6 +3,7 @@ ghost use Rattle.std.specs.Prelude.{◌≡◌};
 ghost use Rattle.metric_console.specs.Faults.{status_of};
 ghost use Rattle.metric_console.specs.Told.{IsLineEnd};
 
+use crate::declared::{Declared, declared_of};
 use crate::delivering::print;
 use crate::fault::{ConsoleFault, Role};
 use crate::folder::Unread;
@@ -10,7 +11,13 @@ use crate::notes::Notes;
 use crate::parts::Texts;
 use crate::replaying::lines_before;
 use metric_advice::Remark;
+use metric_base::Text;
+use metric_cert::MakeFault;
 use metric_commands::KitFault;
+use metric_diagnosis::{
+    Diagnosis, Pair, Source, diagnose_catalogue, diagnose_certificate, diagnose_check,
+    diagnose_config, diagnose_make, diagnose_remark,
+};
 use metric_io::Sink;
 use metric_request::{Files, LineFault, Request};
 use std::alloc::{AllocError, Global};
@@ -113,7 +120,7 @@ fn path_of(files: &Files, role: Role) -> &str {
     }
 }
 
-// A fault that `metric_kit` has too.
+// A fault that `metric_kit` has too, with its place and its cause where it has these.
 fn told_kit(
     alloc: Global,
     files: &Files,
@@ -121,9 +128,84 @@ fn told_kit(
     fault: KitFault,
 ) -> Result<String, AllocError> {
     match fault {
+        KitFault::Catalogue(fault) => {
+            let source = source_of(&files.catalogue, &texts.parts.catalogue);
+            let told = diagnose_catalogue(alloc, source, fault)?;
+            spelled(alloc, &told)
+        }
+        KitFault::Config(fault) => {
+            let source = source_of(&files.config, &texts.parts.config);
+            let told = diagnose_config(alloc, source, fault)?;
+            spelled(alloc, &told)
+        }
+        KitFault::Make(fault) => told_make(alloc, files, texts, fault),
         KitFault::Input { line } => told_script(alloc, files, texts, line),
+        KitFault::Certificate(_) | KitFault::Check(_) => {
+            told_certificate(alloc, files, texts, fault)
+        }
         _ => told_plain(alloc, fault),
     }
+}
+
+// A fault of a certificate, or of its check.
+fn told_certificate(
+    alloc: Global,
+    files: &Files,
+    texts: &Texts,
+    fault: KitFault,
+) -> Result<String, AllocError> {
+    let (Some(path), Some(text)) = (&files.certificate, &texts.parts.certificate) else {
+        return told_plain(alloc, fault);
+    };
+    match fault {
+        KitFault::Certificate(fault) => {
+            let told = diagnose_certificate(alloc, source_of(path, text), fault)?;
+            spelled(alloc, &told)
+        }
+        KitFault::Check(fault) => {
+            let told = diagnose_check(alloc, source_of(path, text), fault)?;
+            spelled(alloc, &told)
+        }
+        _ => told_plain(alloc, fault),
+    }
+}
+
+// Which part of safety fails.
+fn told_make(
+    alloc: Global,
+    files: &Files,
+    texts: &Texts,
+    fault: MakeFault,
+) -> Result<String, AllocError> {
+    match declared_of(alloc, &texts.parts) {
+        Ok(declared) => {
+            let told = diagnose_make(alloc, pair_of(files, texts, &declared), fault)?;
+            spelled(alloc, &told)
+        }
+        Err(fault) => told_plain(alloc, fault),
+    }
+}
+
+fn source_of<'t>(path: &'t Text, text: &'t Text) -> Source<'t> {
+    Source {
+        name: path.as_str(),
+        text: text.as_str(),
+    }
+}
+
+fn pair_of<'t>(files: &'t Files, texts: &'t Texts, declared: &'t Declared) -> Pair<'t> {
+    Pair {
+        catalogue: &declared.catalogue,
+        catalogue_source: source_of(&files.catalogue, &texts.parts.catalogue),
+        config: &declared.config,
+        config_source: source_of(&files.config, &texts.parts.config),
+    }
+}
+
+// What is told of a fault, with the line that it is in.
+fn spelled<F>(alloc: Global, told: &Diagnosis<'_, F>) -> Result<String, AllocError> {
+    let excerpt = told.excerpt();
+    format!(in alloc; "{told}\n{excerpt}")
 }
 
 // The line of the script at which it is none.
@@ -143,15 +225,16 @@ fn told_plain(alloc: Global, fault: KitFault) -> Result<String, AllocError> {
     format!(in alloc; "{fault}\n")
 }
 
-/// Puts what a remark says last, in one line or more.
+/// Puts what a remark says last, with the line that it is in.
 pub(crate) fn push_note(
-    _alloc: Global,
+    alloc: Global,
     note: &mut String,
     files: &Files,
-    _texts: &Texts,
-    _notes: &Notes,
+    texts: &Texts,
+    notes: &Notes,
     remark: Remark,
 ) -> Result<(), AllocError> {
-    let path = files.config.as_str();
-    write!(note, "{path}: {remark}\n")
+    let told = diagnose_remark(alloc, pair_of(files, texts, &notes.declared), remark)?;
+    let text = spelled(alloc, &told)?;
+    note.push_str(text.as_str())
 }
