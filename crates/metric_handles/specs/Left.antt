@@ -10,5 +10,6 @@ use Rattle.metric_slot.specs.declared.told.Told.{Told}
 -- 0 also where it was told of more
 abbrev pub left_of : PlanValue → RecorderValue → ℕ → Option ℕ
 left_of plan seat instrument =
-    option_map (λ (told : Told). budget_at plan.facts.contents.recorders seat.number instrument
-    - told.count) (slice_get seat.told instrument)
+    option_map
+    (λ (told : Told). budget_at plan.facts.contents.recorders seat.number instrument - told.count)
+    (slice_get seat.told instrument)
