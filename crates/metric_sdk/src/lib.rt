@@ -14,7 +14,9 @@
 //!    [`ValueRef`], and the value; 85 to 107 ns with three attributes, less than a lock and a map of three texts. What is not
 //!    counted is answered by a [`Refusal`], also attributes of which each is declared, but not together
 //!    ([`Refusal::Combination`] of the allowed [`Combinations`]); [`explain_refusal`] gives its [`Explanation`]. Nothing is
-//!    counted in another series, and no new series appears. `Recorder::accepted` tells what the seat was [`Told`] of.
+//!    counted in another series, and no new series appears. `Recorder::accepted` tells what the seat was [`Told`] of, [`left`] what
+//!    is left of its budget. A [`Counted`] seat counts its refusals; a [`Replaced`] puts a declared value in the place of one that
+//!    is not, and counts that.
 //! 4. **Bound attributes.** `Handle::bind` looks attributes up once, 40 of these ns for three of them; the [`Bound`] that it gives
 //!    records without them, in 46, and a [`BoundList`] hands on many under one lock, in 34 each. Below both are set keys:
 //!    `Recorder::admits` gives the [`SetKey`] of attributes, `Recorder::record_set` records by it, and `Recorder::record_sets` a
@@ -23,7 +25,8 @@
 //!    [`ListTicker`]; it hands each batch on to a [`MetricExporter`], as a [`TextExporter`] is, and at its end collects a last
 //!    time. What it did is a [`PeriodicEnd`], and what it has done so far other threads read of its [`RunningCounts`];
 //!    `StopFlag::wake` lets it export now. An exporter's fault is an [`ExportFault`]: a [`Queued`] keeps what was refused and
-//!    tries it again before the next, so that the window of a delta reader is not lost. An exporter of one's own takes a batch
+//!    tries it again before the next, so that the window of a delta reader is not lost, and a
+//!    [`ReopeningExporter`] of texts opens its sink anew. An exporter of one's own takes a batch
 //!    apart: it has the [`StreamPoints`] of each [`Stream`], a [`Point`] the [`PointValue`] of one series, whose [`attributes`]
 //!    the plan knows. By hand: a [`Collector`] collects the [`Batch`] of one instrument or of all, up to an [`AllFault`], and
 //!    [`write_batch`] writes its text. (A collection takes 23 to 54 ns a point.)
@@ -54,7 +57,8 @@
 //!    journal of each instrument, its recordings as [`Entry`], and the [`Slip`]s of each recorder; [`audit`] tells whether these
 //!    and the batches agree, or an [`AuditFault`].
 //! 11. **Devices.** A [`Sink`] takes bytes, a [`Source`] gives them: [`StdSink`] and [`StdSource`] are those of std,
-//!     [`CutSink`] and [`CutSource`] are of memory, and a [`KeepingExporter`] keeps its batches, for tests. [`read_all`] and [`write_all`] move a whole
+//!     [`CutSink`] and [`CutSource`] are of memory, and a [`KeepingExporter`] keeps its batches, in which
+//!     [`value_of`] finds a point, for tests. [`read_all`] and [`write_all`] move a whole
 //!     text.
 #![tactic(auto)]
 
@@ -139,6 +143,7 @@ pub use metric_handles::BoundGauge;
 pub use metric_handles::BoundHistogram;
 pub use metric_handles::BoundList;
 pub use metric_handles::BoundUpDownCounter;
+pub use metric_handles::Counted;
 pub use metric_handles::Counter;
 pub use metric_handles::Gauge;
 pub use metric_handles::Handle;
@@ -150,13 +155,16 @@ pub use metric_handles::IsHistogram;
 pub use metric_handles::IsUpDownCounter;
 pub use metric_handles::ListFault;
 pub use metric_handles::Records;
+pub use metric_handles::Replaced;
 pub use metric_handles::UpDownCounter;
 pub use metric_handles::counter;
 pub use metric_handles::gauge;
 pub use metric_handles::histogram;
+pub use metric_handles::left;
 pub use metric_handles::take_reader;
 pub use metric_handles::take_recorder;
 pub use metric_handles::up_down_counter;
+pub use metric_handles::value_of;
 pub use metric_history::Batch;
 pub use metric_history::Entry;
 pub use metric_history::Point;
