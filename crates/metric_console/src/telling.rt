@@ -15,7 +15,7 @@ use metric_base::Text;
 use metric_cert::MakeFault;
 use metric_commands::KitFault;
 use metric_diagnosis::{
-    Diagnosis, Pair, Source, diagnose_catalogue, diagnose_certificate, diagnose_check,
+    Diagnosis, NamedText, Pair, diagnose_catalogue, diagnose_certificate, diagnose_check,
     diagnose_config, diagnose_make, diagnose_remark,
 };
 use metric_io::Sink;
@@ -186,8 +186,8 @@ fn told_make(
     }
 }
 
-fn source_of<'t>(path: &'t Text, text: &'t Text) -> Source<'t> {
-    Source {
+fn source_of<'t>(path: &'t Text, text: &'t Text) -> NamedText<'t> {
+    NamedText {
         name: path.as_str(),
         text: text.as_str(),
     }

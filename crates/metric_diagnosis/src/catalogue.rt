@@ -4,7 +4,7 @@ ghost use Rattle.metric_diagnosis.specs.Places.{StandsInCatalogue};
 
 use crate::catalogue_cause::catalogue_cause;
 use crate::diagnosis::Diagnosis;
-use crate::sources::Source;
+use crate::sources::NamedText;
 use crate::toml_fault::{told_of_error, told_of_toml, want_of_memory};
 use metric_advice::{Position, locate_in_catalogue};
 use metric_catalogue::{CatalogueDefect, CatalogueFault, CataloguePlace};
@@ -15,7 +15,7 @@ use toml::Table;
 /// text or another fault than `Catalogue::read` answers of it the words may be less exact. Fails only where memory is refused.
 pub fn diagnose_catalogue<'t>(
     alloc: Global,
-    source: Source<'t>,
+    source: NamedText<'t>,
     fault: CatalogueFault,
 ) -> Result<Diagnosis<'t, CatalogueFault>, AllocError>
     ensures fault { IfOk result (λ told. told.fault ≡ fault) }

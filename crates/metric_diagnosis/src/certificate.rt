@@ -2,7 +2,7 @@
 ghost use Rattle.std.specs.Prelude.{◌≡◌, IfOk, None};
 
 use crate::diagnosis::Diagnosis;
-use crate::sources::Source;
+use crate::sources::NamedText;
 use crate::toml_fault::{told_of_toml, want_of_memory};
 use metric_advice::Position;
 use metric_cert::CertFault;
@@ -12,7 +12,7 @@ use std::alloc::{AllocError, Global};
 /// What a person is told of a fault of a certificate's text. Fails only where memory is refused.
 pub fn diagnose_certificate<'t>(
     alloc: Global,
-    source: Source<'t>,
+    source: NamedText<'t>,
     fault: CertFault,
 ) -> Result<Diagnosis<'t, CertFault>, AllocError>
     ensures fault { IfOk result (λ told. told.fault ≡ fault) }
@@ -41,7 +41,7 @@ const SHAPE: &str =
 /// check compared. It has no position. Fails only where memory is refused.
 pub fn diagnose_check<'t>(
     alloc: Global,
-    source: Source<'t>,
+    source: NamedText<'t>,
     fault: CheckFault,
 ) -> Result<Diagnosis<'t, CheckFault>, AllocError>
     ensures fault { IfOk result (λ told. told.fault ≡ fault) }

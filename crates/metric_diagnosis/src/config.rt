@@ -4,7 +4,7 @@ ghost use Rattle.metric_diagnosis.specs.Places.{StandsInConfig};
 
 use crate::config_cause::config_cause;
 use crate::diagnosis::Diagnosis;
-use crate::sources::Source;
+use crate::sources::NamedText;
 use crate::toml_fault::{told_of_error, told_of_toml, want_of_memory};
 use metric_advice::{Position, locate_in_config};
 use metric_views::{ConfigPlace, ViewDefect, ViewFault};
@@ -15,7 +15,7 @@ use toml::Table;
 /// text or another fault than `Config::read` answers of it the words may be less exact. Fails only where memory is refused.
 pub fn diagnose_config<'t>(
     alloc: Global,
-    source: Source<'t>,
+    source: NamedText<'t>,
     fault: ViewFault,
 ) -> Result<Diagnosis<'t, ViewFault>, AllocError>
     ensures fault { IfOk result (λ told. told.fault ≡ fault) }

@@ -2,7 +2,7 @@
 ghost use Rattle.std.specs.Prelude.{◌≡◌};
 
 use crate::excerpt::Excerpt;
-use crate::sources::Source;
+use crate::sources::NamedText;
 use metric_advice::Position;
 use std::fmt;
 
@@ -24,7 +24,7 @@ pub struct Diagnosis<'t, F> {
 impl<'t, F> Diagnosis<'t, F> {
     // What is told of a fault at a position of a text.
     pub(crate) fn new(
-        source: Source<'t>,
+        source: NamedText<'t>,
         fault: F,
         position: Option<Position>,
         words: String,

@@ -33,5 +33,5 @@ pub use config::diagnose_config;
 pub use diagnosis::Diagnosis;
 pub use excerpt::Excerpt;
 pub use remarks::diagnose_remark;
-pub use sources::{Pair, Source};
+pub use sources::{NamedText, Pair};
 pub use unsafe_parts::diagnose_make;

@@ -2,7 +2,7 @@
 ghost use Rattle.std.specs.Prelude.{◌≡◌, IfOk};
 ghost use Rattle.metric_diagnosis.specs.Places.{standing};
 
-use crate::sources::{Pair, Source};
+use crate::sources::{NamedText, Pair};
 use metric_advice::{Position, locate_in_catalogue, locate_in_config};
 use metric_catalogue::CataloguePlace;
 use metric_views::ConfigPlace;
@@ -16,7 +16,7 @@ pub(crate) enum Place {
 }
 
 // The text that a place is in.
-pub(crate) fn source_of(pair: Pair<'_>, place: Place) -> Source<'_> {
+pub(crate) fn source_of(pair: Pair<'_>, place: Place) -> NamedText<'_> {
     match place {
         Place::Catalogue(_) => pair.catalogue_source,
         Place::Config(_) => pair.config_source,

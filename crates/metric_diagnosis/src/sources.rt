@@ -4,7 +4,7 @@ use metric_views::Config;
 
 /// A text with the name of its file, as a person knows it.
 #[derive(Clone, Copy)]
-pub struct Source<'t> {
+pub struct NamedText<'t> {
     /// The name of the file, as `catalogue.toml`.
     pub name: &'t str,
     /// The text of the file.
@@ -17,9 +17,9 @@ pub struct Pair<'t> {
     /// The catalogue that was read.
     pub catalogue: &'t Catalogue,
     /// The text of the catalogue.
-    pub catalogue_source: Source<'t>,
+    pub catalogue_source: NamedText<'t>,
     /// The config that was read.
     pub config: &'t Config,
     /// The text of the config.
-    pub config_source: Source<'t>,
+    pub config_source: NamedText<'t>,
 }

@@ -1,7 +1,7 @@
 //! Instruments, recorders, views and streams, as a person knows them.
 use crate::cause::Named;
 use crate::places::{Place, position_of};
-use crate::sources::{Pair, Source};
+use crate::sources::{NamedText, Pair};
 use metric_advice::Position;
 use metric_catalogue::Catalogue;
 use metric_views::{Config, ConfigPlace, Stream};
@@ -48,7 +48,7 @@ pub(crate) struct ToldStream<'t> {
 #[derive(Clone, Copy)]
 struct ToldView<'t> {
     number: u32,
-    source: Source<'t>,
+    source: NamedText<'t>,
     position: Option<Position>,
 }
 

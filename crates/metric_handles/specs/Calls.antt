@@ -8,15 +8,22 @@ use Rattle.metric_provider.specs.KeyRecordings.{AreAccepted, IsRefusedAfter, not
 use Rattle.metric_provider.specs.Recordings.{AnswersSeat, IsToldOf, SeatSpares}
 use Rattle.metric_provider.specs.Seats.{ProviderValue, RecorderValue}
 
--- A recording with this admission is answered, and the seat is told of it exactly where it is accepted.
-pub record MakesRecording (keeps : Bool) (spares_memory : Facts → Type 0) (p : ProviderValue) (old new : RecorderValue) (instrument : ℕ) (value : ℤ) (admission : Result (List ℕ) Refusal) (result : Result (Unit {0}) Refusal) : Type 0 where
+-- A recording with this admission is answered, and the seat is told of
+-- it exactly where it is accepted.
+pub record MakesRecording (keeps : Bool) (spares_memory : Facts → Type 0) (p : ProviderValue)
+    (old new : RecorderValue) (instrument : ℕ) (value : ℤ) (admission : Result (List ℕ) Refusal)
+    (result : Result (Unit {0}) Refusal) : Type 0 where
   pub answer : AnswersSeat (SeatSpares keeps spares_memory) admission p.plan old instrument result
   pub told : OnOk result (IsToldOf keeps admission p.plan old new instrument value)
   pub err : OnErr result (new ≡ old)
 
--- Recordings of set keys are made in order up to the first that is refused, and the seat is told of exactly those before it.
-pub record MakesRecordings (keeps : Bool) (spares_memory : Facts → Type 0) (p : ProviderValue) (old new : RecorderValue) (instrument : ℕ) (all : List Measurement) (result : Result (Unit {0}) SetsFault) : Type 0 where
+-- Recordings of set keys are made in order up to the first that is refused, and the seat is
+-- told of exactly those before it.
+pub record MakesRecordings (keeps : Bool) (spares_memory : Facts → Type 0) (p : ProviderValue)
+    (old new : RecorderValue) (instrument : ℕ) (all : List Measurement)
+    (result : Result (Unit {0}) SetsFault) : Type 0 where
   pub accepted : OnOk result (AreAccepted (SeatSpares keeps spares_memory) p old instrument all)
   pub told : OnOk result (new ≡ noted_of_all keeps p.plan old instrument all)
   pub refused : IfErr result (IsRefusedAfter (SeatSpares keeps spares_memory) p old instrument all)
-  pub told_before : IfErr result (λ fault. new ≡ noted_of_all keeps p.plan old instrument (take fault.place all))
+  pub told_before : IfErr result
+      (λ fault. new ≡ noted_of_all keeps p.plan old instrument (take fault.place all))

@@ -1,5 +1,6 @@
 -- The value of the point that a name and attributes are of, in a list of batches.
-use Rattle.std.specs.Prelude.{ℕ, Bool, true, false, not, ◌&&◌, ◌==◌, List, [], ◌∷◌, Option, None, Some, find, slice_get, option_and_then}
+use Rattle.std.specs.Prelude.{ℕ, Bool, true, false, not, ◌&&◌, ◌==◌, List, [], ◌∷◌, Option, None}
+use Rattle.std.specs.Prelude.{Some, find, slice_get, option_and_then}
 use Rattle.std.specs.List.{list_all}
 use Rattle.std.specs.Option.{option_map, option_map_or, option_or}
 use Rattle.std.specs.Str.{bytes_eq}
@@ -28,7 +29,8 @@ have_entries attrs (key ∷ keys) (entry ∷ set) =
 -- the set key is of exactly these attributes: those that the stream drops are not among them
 abbrev pub is_exactly : List Key → List Given → List ℕ → Bool
 is_exactly keys attrs set =
-    not (has_repeated_key attrs) && (list_all (is_declared keys) attrs && have_entries attrs keys set)
+    not (has_repeated_key attrs)
+    && (list_all (is_declared keys) attrs && have_entries attrs keys set)
 
 -- the point is of a series with exactly these attributes
 abbrev pub is_point : List Key → List Given → Point → Bool
@@ -37,7 +39,8 @@ is_point keys attrs point = option_map_or (is_exactly keys attrs) point.set fals
 -- the stream of a number has this name without ASCII case
 abbrev pub has_name : List Stream → List ℕ → ℕ → Bool
 has_name streams name number =
-    option_map_or (λ (s : Stream). bytes_eq (folded s.name) (folded name)) (slice_get streams number) false
+    option_map_or (λ (s : Stream). bytes_eq (folded s.name) (folded name))
+    (slice_get streams number) false
 
 -- the points are of such a stream of the plan
 abbrev pub is_stream_named : PlanValue → List ℕ → StreamPoints → Bool
@@ -48,9 +51,11 @@ abbrev pub value_at : List Key → List Given → List Point → Option PointVal
 value_at keys attrs points = option_map (λ (p : Point). p.value) (find (is_point keys attrs) points)
 
 -- the same in the first stream of this name
-abbrev pub value_in_streams : PlanValue → List ℕ → List Key → List Given → List StreamPoints → Option PointValue
+abbrev pub value_in_streams : PlanValue → List ℕ → List Key → List Given → List StreamPoints
+    → Option PointValue
 value_in_streams plan name keys attrs streams =
-    option_and_then (λ (s : StreamPoints). value_at keys attrs s.points) (find (is_stream_named plan name) streams)
+    option_and_then (λ (s : StreamPoints). value_at keys attrs s.points)
+    (find (is_stream_named plan name) streams)
 
 -- the same in a batch, by the keys of its instrument
 abbrev pub value_in : PlanValue → List ℕ → List Given → Batch → Option PointValue

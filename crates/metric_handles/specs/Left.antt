@@ -6,7 +6,10 @@ use Rattle.metric_plan.specs.Plans.{PlanValue}
 use Rattle.metric_provider.specs.Seats.{RecorderValue}
 use Rattle.metric_slot.specs.declared.told.Told.{Told}
 
--- how many recordings of its declared budget a seat was not told of, where it has the instrument: 0 also where it was told of more
+-- how many recordings of its declared budget a seat was not told of, where it has the instrument:
+-- 0 also where it was told of more
 abbrev pub left_of : PlanValue → RecorderValue → ℕ → Option ℕ
 left_of plan seat instrument =
-    option_map (λ (told : Told). budget_at plan.facts.contents.recorders seat.number instrument - told.count) (slice_get seat.told instrument)
+    option_map
+    (λ (told : Told). budget_at plan.facts.contents.recorders seat.number instrument - told.count)
+    (slice_get seat.told instrument)

@@ -1,5 +1,6 @@
 -- The instrument that a meter's name, a name, a kind and a list of keys are of, or the first fault.
-use Rattle.std.specs.Prelude.{ℕ, ◌+◌, Bool, false, not, ◌&&◌, List, [], ◌∷◌, Option, None, Some, Result, Ok, drop, slice_get, if◌then◌else◌}
+use Rattle.std.specs.Prelude.{ℕ, ◌+◌, Bool, false, not, ◌&&◌, List, [], ◌∷◌, Option, None, Some}
+use Rattle.std.specs.Prelude.{Result, Ok, drop, slice_get, if◌then◌else◌}
 use Rattle.std.specs.List.{list_any, position_from}
 use Rattle.std.specs.Option.{option_map_or}
 use Rattle.std.specs.Str.{bytes_eq}
@@ -13,7 +14,15 @@ use Rattle.metric_catalogue.specs.declared.contents.Meter.{Meter}
 use Rattle.metric_catalogue.specs.Keys.{is_key}
 use Rattle.metric_views.specs.Selection.{is_kind}
 use Rattle.metric_handles.specs.declared.fault.HandleFault.{HandleFault}
-use Rattle.metric_handles.specs.declared.fault.HandleFault.TheVariants.{UnknownMeter, UnknownInstrument, Ambiguous, OtherKind, RepeatedKey, UnknownKey, MissingKey}
+use Rattle.metric_handles.specs.declared.fault.HandleFault.TheVariants.{
+  UnknownMeter,
+  UnknownInstrument,
+  Ambiguous,
+  OtherKind,
+  RepeatedKey,
+  UnknownKey,
+  MissingKey,
+}
 
 -- the meter has this name
 abbrev pub is_meter_named : List ℕ → Meter → Bool
@@ -30,13 +39,15 @@ is_named meters meter name instrument =
 
 -- what is unknown where no instrument has the name: the meter, or the instrument alone
 abbrev pub unknown_of : List Meter → List ℕ → HandleFault
-unknown_of meters meter = if list_any (is_meter_named meter) meters then UnknownInstrument else UnknownMeter
+unknown_of meters meter =
+    if list_any (is_meter_named meter) meters then UnknownInstrument else UnknownMeter
 
 -- the number of the only instrument of this name in the meters of that name
 unfoldable pub number_named : Contents → List ℕ → List ℕ → Result ℕ HandleFault
 number_named contents meter name = do
   let named = is_named contents.meters meter name
-  first ← require_some (position_from named 0 contents.instruments) (unknown_of contents.meters meter)
+  first ← require_some (position_from named 0 contents.instruments)
+      (unknown_of contents.meters meter)
   _ ← require (not (list_any named (drop (first + 1) contents.instruments))) (Ambiguous first)
   Ok first
 

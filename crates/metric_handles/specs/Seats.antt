@@ -11,16 +11,19 @@ use Rattle.metric_provider.specs.Seats.{CollectorValue, RecorderValue}
 -- the recorder of a number has this name
 abbrev pub is_recorder_named : PlanValue → List ℕ → ℕ → Bool
 is_recorder_named plan name number =
-    option_map_or (λ (r : Recorder). bytes_eq r.name name) (slice_get plan.facts.contents.recorders number) false
+    option_map_or (λ (r : Recorder). bytes_eq r.name name)
+    (slice_get plan.facts.contents.recorders number) false
 
 -- the reader of a number has this name
 abbrev pub is_reader_named : PlanValue → List ℕ → ℕ → Bool
 is_reader_named plan name number =
-    option_map_or (λ (r : Reader). bytes_eq r.name name) (slice_get plan.config.readers number) false
+    option_map_or (λ (r : Reader). bytes_eq r.name name)
+    (slice_get plan.config.readers number) false
 
 -- the place of the first seat of the recorder of this name
 abbrev pub recorder_place : PlanValue → List ℕ → List RecorderValue → Option ℕ
-recorder_place plan name seats = position_from (λ seat. is_recorder_named plan name seat.number) 0 seats
+recorder_place plan name seats =
+    position_from (λ seat. is_recorder_named plan name seat.number) 0 seats
 
 -- the place of the first seat of the reader of this name
 abbrev pub reader_place : PlanValue → List ℕ → List CollectorValue → Option ℕ

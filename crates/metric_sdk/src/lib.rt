@@ -42,7 +42,9 @@
 //!    budgets and the spare together.
 //! 8. **Files that are wrong.** [`lint`] gives a [`Remark`] on each thing in the files that looks like a mistake;
 //!    [`locate_in_catalogue`] and [`locate_in_config`] give the [`Position`] of a fault, and [`explain_unsafe`] the
-//!    [`UnsafePart`] for which there is no certificate.
+//!    [`UnsafePart`] for which there is no certificate. For people a [`Diagnosis`] says in one line where a fault is and why, with
+//!    an [`Excerpt`] of the text: [`diagnose_catalogue`] and [`diagnose_config`] of a [`NamedText`], [`diagnose_make`] and
+//!    [`diagnose_remark`] of a [`Pair`] of them, [`diagnose_certificate`] and [`diagnose_check`] of a certificate.
 //! 9. **By steps.** What `open` does: [`Catalogue::read`] and [`Config::read`], each up to its first fault, a
 //!    [`CatalogueFault`] or a [`ViewFault`] with its place; [`make`] gives a [`Certificate`], or a [`MakeFault`];
 //!    `Certificate::write` and `Certificate::read` take it from one machine to another; [`check`] trusts nobody and gives the
@@ -121,6 +123,16 @@ pub use metric_cert::MakeFault;
 pub use metric_cert::make;
 pub use metric_check::check;
 pub use metric_combinations::Combinations;
+pub use metric_diagnosis::Diagnosis;
+pub use metric_diagnosis::Excerpt;
+pub use metric_diagnosis::NamedText;
+pub use metric_diagnosis::Pair;
+pub use metric_diagnosis::diagnose_catalogue;
+pub use metric_diagnosis::diagnose_certificate;
+pub use metric_diagnosis::diagnose_check;
+pub use metric_diagnosis::diagnose_config;
+pub use metric_diagnosis::diagnose_make;
+pub use metric_diagnosis::diagnose_remark;
 pub use metric_export::ClockTicker;
 pub use metric_export::ExportFault;
 pub use metric_export::ExporterState;

@@ -5,7 +5,7 @@ use metric_advice::lint;
 use metric_catalogue::Catalogue;
 use metric_cert::{CertFault, MakeFault, make};
 use metric_diagnosis::{
-    Pair, Source, diagnose_catalogue, diagnose_certificate, diagnose_check, diagnose_config,
+    NamedText, Pair, diagnose_catalogue, diagnose_certificate, diagnose_check, diagnose_config,
     diagnose_make, diagnose_remark,
 };
 use metric_plan::CheckFault;
@@ -19,7 +19,7 @@ fn of_catalogue(alloc: Global, text: &str) -> Result<String, AllocError> {
     match Catalogue::read(alloc, text) {
         Ok(_) => String::from_str(alloc, "right"),
         Err(fault) => {
-            let told = diagnose_catalogue(alloc, Source { name, text }, fault)?;
+            let told = diagnose_catalogue(alloc, NamedText { name, text }, fault)?;
             format!(in alloc; "{told}")
         }
     }
@@ -31,7 +31,7 @@ fn of_config(alloc: Global, text: &str) -> Result<String, AllocError> {
     match Config::read(alloc, text) {
         Ok(_) => String::from_str(alloc, "right"),
         Err(fault) => {
-            let told = diagnose_config(alloc, Source { name, text }, fault)?;
+            let told = diagnose_config(alloc, NamedText { name, text }, fault)?;
             format!(in alloc; "{told}")
         }
     }
@@ -326,7 +326,7 @@ const BROKEN: &[(&str, &str, &str)] = &[
 ];
 
 fn of_broken(alloc: Global, text: &str) -> Result<(String, String), AllocError> {
-    let source = Source {
+    let source = NamedText {
         name: "catalogue.toml",
         text,
     };
@@ -354,7 +354,7 @@ fn the_line_of_a_table_is_marked(rt: HostRuntime) -> Result<(), Fail> {
     let text = "format = 1\n\t [[recorder]] # one\n";
     let (name, alloc) = ("c.toml", rt.alloc());
     let fault = Catalogue::read(alloc, text).err().ok_or("read")?;
-    let told = diagnose_catalogue(alloc, Source { name, text }, fault)?;
+    let told = diagnose_catalogue(alloc, NamedText { name, text }, fault)?;
     let excerpt = told.excerpt();
     let shown = format!(in alloc; "{told}\n{excerpt}")?;
     let wanted = "c.toml:2:3: recorder 0: field \"name\" is missing
@@ -418,12 +418,12 @@ const PAIRS: &[(&str, &str, &str)] = &[
 fn pair_of<'t>(declared: &'t Declared, catalogue: &'t str, config: &'t str) -> Pair<'t> {
     Pair {
         catalogue: &declared.catalogue,
-        catalogue_source: Source {
+        catalogue_source: NamedText {
             name: "catalogue.toml",
             text: catalogue,
         },
         config: &declared.config,
-        config_source: Source {
+        config_source: NamedText {
             name: "config.toml",
             text: config,
         },
@@ -517,10 +517,10 @@ const CHECKS: &[(CheckFault, &str)] = &[
 fn faults_of_certificates_are_told(rt: HostRuntime) -> Result<(), Fail> {
     let (name, text, alloc) = ("w.toml", "format = 1", rt.alloc());
     for (fault, wanted) in CHECKS {
-        let told = diagnose_check(alloc, Source { name, text }, *fault)?;
+        let told = diagnose_check(alloc, NamedText { name, text }, *fault)?;
         assert_equal(&rt, format!(in alloc; "{told}")?.as_str(), *wanted);
     }
-    let told = diagnose_certificate(alloc, Source { name, text }, CertFault::Shape)?;
+    let told = diagnose_certificate(alloc, NamedText { name, text }, CertFault::Shape)?;
     let wanted =
         "w.toml: the tables are not those of a certificate: it was altered, or is of another format; make it anew";
     assert_equal(&rt, format!(in alloc; "{told}")?.as_str(), wanted);
