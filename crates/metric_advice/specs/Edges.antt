@@ -1,7 +1,8 @@
 -- The greatest number at which nothing is found.
 use Rattle.std.specs.Prelude.{ℕ, ◌≤◌, ◌+◌, Option, Some, None}
 
--- Up to this number nothing is found, at no greater number is nothing found, and at the next one this is.
+-- Up to this number nothing is found, at no greater number is nothing
+-- found, and at the next one this is.
 pub record IsEdge {F : Type 0} (Finds : ℕ → Option F → Type 0) (most : ℕ) (fault : F) : Type 0 where
   pub safe : (total : ℕ) → total ≤ most → Finds total None
   pub greatest : (total : ℕ) → Finds total None → total ≤ most

@@ -1,4 +1,5 @@
--- What is found of an instrument that is recorded so often. The questions stand in the order in which they are asked.
+-- What is found of an instrument that is recorded so often. The questions stand in
+-- the order in which they are asked.
 use Rattle.std.specs.Prelude.{◌≡◌, ℕ, ◌≤◌, min, IsTrue, List, Option, slice_get}
 use Rattle.std.specs.List.{enumerate_from}
 use Rattle.metric_catalogue.specs.declared.contents.Contents.{Contents}
@@ -10,22 +11,28 @@ use Rattle.metric_bounds.specs.Safe.{AmountsFit, CountsFit, HighFits, LowFits}
 use Rattle.metric_bounds.specs.Sets.{sets_of}
 use Rattle.metric_bounds.specs.Sums.{is_summed}
 use Rattle.metric_advice.specs.declared.limit.Limit.{Limit}
-use Rattle.metric_advice.specs.declared.limit.Limit.TheVariants.{Count, Amount, SumLow, SumHigh, Series}
+use Rattle.metric_advice.specs.declared.limit.Limit.TheVariants.{Count, Amount, SumLow, SumHigh}
+use Rattle.metric_advice.specs.declared.limit.Limit.TheVariants.{Series}
 
--- what is found of the instrument's own numbers, of which a stream keeps a sum or none does; a fault of it is told by a function
+-- what is found of the instrument's own numbers, of which a stream keeps a sum or none does; a
+-- fault of it is told by a function
 abbrev pub OwnFinds : {F : Type 0} → (Limit → F) → ℕ → Type 0 → Instrument → Option F → Type 0
 OwnFinds told total summed instrument =
     Then (Asks (CountsFit total) (told Count))
     (Then (Asks (AmountsFit total instrument) (told Amount))
-    (Then (Asks (summed → LowFits total instrument) (told SumLow)) (Asks (summed → HighFits total instrument) (told SumHigh))))
+    (Then (Asks (summed → LowFits total instrument) (told SumLow))
+    (Asks (summed → HighFits total instrument) (told SumHigh))))
 
--- Where the stream is of the instrument of this number, which is recorded so often, its series are within its limit.
+-- Where the stream is of the instrument of this number, which is recorded so often,
+-- its series are within its limit.
 abbrev pub SeriesFit : Contents → ℕ → ℕ → Stream → Type 0
-SeriesFit contents instrument total stream = stream.instrument ≡ instrument → min (sets_of contents stream) total ≤ stream.limit
+SeriesFit contents instrument total stream =
+    stream.instrument ≡ instrument → min (sets_of contents stream) total ≤ stream.limit
 
 -- what is found of a stream with its number
 abbrev pub StreamFinds : Contents → ℕ → ℕ → ℕ × Stream → Option Limit → Type 0
-StreamFinds contents instrument total stream = Asks (SeriesFit contents instrument total stream.1) (Series stream.0)
+StreamFinds contents instrument total stream =
+    Asks (SeriesFit contents instrument total stream.1) (Series stream.0)
 
 -- the limit itself
 abbrev pub plain : Limit → Limit
@@ -33,9 +40,12 @@ plain limit = limit
 
 abbrev pub OwnFindsAt : Contents → List Stream → ℕ → ℕ → Option Limit → Type 0
 OwnFindsAt contents streams instrument total =
-    WhereThere (OwnFinds plain total (IsTrue (is_summed streams instrument))) (slice_get contents.instruments instrument)
+    WhereThere (OwnFinds plain total (IsTrue (is_summed streams instrument)))
+    (slice_get contents.instruments instrument)
 
--- what is found of the instrument of a number that is recorded so often: of its own numbers, and then of its streams
+-- what is found of the instrument of a number that is recorded so often: of its own
+-- numbers, and then of its streams
 abbrev pub TotalFinds : Contents → List Stream → ℕ → ℕ → Option Limit → Type 0
 TotalFinds contents streams instrument total =
-    Then (OwnFindsAt contents streams instrument total) (Each (StreamFinds contents instrument total) (enumerate_from 0 streams))
+    Then (OwnFindsAt contents streams instrument total)
+    (Each (StreamFinds contents instrument total) (enumerate_from 0 streams))

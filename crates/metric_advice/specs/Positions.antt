@@ -1,5 +1,7 @@
 -- Where a table stands in a text: by the lines that begin with its header.
-use Rattle.std.specs.Prelude.{ℕ, ◌+◌, ◌==◌, Bool, true, false, not, ◌&&◌, ◌||◌, if◌then◌else◌, List, [], ◌∷◌, codes, filter, length, Option, Some, None, slice_get, unwrap_or}
+use Rattle.std.specs.Prelude.{ℕ, ◌+◌, ◌==◌, Bool, true, false, not, ◌&&◌, ◌||◌, if◌then◌else◌, List}
+use Rattle.std.specs.Prelude.{[], ◌∷◌, codes, filter, length, Option, Some, None, slice_get}
+use Rattle.std.specs.Prelude.{unwrap_or}
 use Rattle.std.specs.List.{enumerate_from, list_any, position_from}
 use Rattle.std.specs.Option.{option_map}
 use Rattle.metric_text.specs.Lines.{lines_of}
@@ -9,7 +11,8 @@ use Rattle.metric_views.specs.declared.fault.ConfigPlace.{ConfigPlace}
 use Rattle.metric_views.specs.declared.fault.ConfigPlace.TheVariants as config
 use Rattle.metric_advice.specs.declared.position.Position.{Position}
 
--- the top table, or a table by its header, by how a list of such tables in one line begins, and by its number
+-- the top table, or a table by its header, by how a list of such tables in
+-- one line begins, and by its number
 pub data Place : Type 0 where
   Top : Place
   Nth : List ℕ → List ℕ → ℕ → Place
@@ -17,7 +20,8 @@ pub data Place : Type 0 where
 abbrev pub catalogue_place : CataloguePlace → Place
 catalogue_place catalogue.Top = Top
 catalogue_place (catalogue.Meter number) = Nth (codes "[[meter]]") (codes "meter=[") number
-catalogue_place (catalogue.Instrument number) = Nth (codes "[[meter.instrument]]") (codes "instrument=[") number
+catalogue_place (catalogue.Instrument number) =
+    Nth (codes "[[meter.instrument]]") (codes "instrument=[") number
 catalogue_place (catalogue.Recorder number) = Nth (codes "[[recorder]]") (codes "recorder=[") number
 
 abbrev pub config_place : ConfigPlace → Place
@@ -52,11 +56,14 @@ indent_of line = unwrap_or (position_from (λ byte. not (is_blank byte)) 0 line)
 
 -- where a line with its number begins, but for its blanks
 abbrev pub position_of : Option (ℕ × List ℕ) → Option Position
-position_of line = option_map (λ numbered. record { line = numbered.0; column = indent_of numbered.1 + 1 }) line
+position_of line =
+    option_map (λ numbered. record { line = numbered.0; column = indent_of numbered.1 + 1 }) line
 
 -- the header of a number, unless a line begins a list of such tables
 abbrev pub located_in : List ℕ → List ℕ → ℕ → List (List ℕ) → Option Position
-located_in header list number lines = if list_any (begins list) lines then None else position_of (slice_get (headed header lines) number)
+located_in header list number lines =
+    if list_any (begins list) lines then None
+    else position_of (slice_get (headed header lines) number)
 
 -- where the table of a place stands
 abbrev pub located : List ℕ → Place → Option Position

@@ -1,5 +1,7 @@
 -- What looks like a mistake in a catalogue and a config. The remarks stand in a fixed order.
-use Rattle.std.specs.Prelude.{◌≡◌, ◌==◌, ℕ, Bool, true, false, not, ◌&&◌, is_some, nat_lt, if◌then◌else◌, List, [], ◌∷◌, ◌++◌, length, map, Option, Some, None, slice_get, slice_index_or}
+use Rattle.std.specs.Prelude.{◌≡◌, ◌==◌, ℕ, Bool, true, false, not, ◌&&◌, is_some, nat_lt}
+use Rattle.std.specs.Prelude.{if◌then◌else◌, List, [], ◌∷◌, ◌++◌, length, map, Option, Some, None}
+use Rattle.std.specs.Prelude.{slice_get, slice_index_or}
 use Rattle.std.specs.List.{AllZip, enumerate_from, flat_map, list_any}
 use Rattle.metric_catalogue.specs.declared.contents.Contents.{Contents}
 use Rattle.metric_catalogue.specs.declared.contents.Instrument.{Instrument}
@@ -35,11 +37,13 @@ remark_of (warnings.Collision a b) = remarks.Collision a b
 
 -- of each instrument whether the view of a number selects it
 unfoldable pub selection_of : Contents → Config → ℕ → List Bool
-selection_of contents config view = map (λ instrument. is_selected contents config instrument view) (all_instruments contents)
+selection_of contents config view =
+    map (λ instrument. is_selected contents config instrument view) (all_instruments contents)
 
 -- no instrument is selected
 abbrev pub selection_remarks : List Bool → ℕ → List Remark
-selection_remarks selection view = when (not (list_any (λ selected. selected) selection)) (remarks.SelectsNothing view)
+selection_remarks selection view =
+    when (not (list_any (λ selected. selected) selection)) (remarks.SelectsNothing view)
 
 abbrev pub declares_with : Option Instrument → List ℕ → Bool
 declares_with None name = false
@@ -47,28 +51,35 @@ declares_with (Some instrument) name = list_any (is_key name) instrument.keys
 
 -- the instrument of a number declares the key
 abbrev pub declares_at : Contents → ℕ → List ℕ → Bool
-declares_at contents instrument name = declares_with (slice_get contents.instruments instrument) name
+declares_at contents instrument name =
+    declares_with (slice_get contents.instruments instrument) name
 
 -- some selected instrument declares the key
 abbrev pub is_declared_by : Contents → List Bool → List ℕ → Bool
-is_declared_by contents selection name = list_any (λ selected. selected.1 && declares_at contents selected.0 name) (enumerate_from 0 selection)
+is_declared_by contents selection name =
+    list_any (λ selected. selected.1 && declares_at contents selected.0 name)
+    (enumerate_from 0 selection)
 
 -- no selected instrument declares the key with its place in a list
 abbrev pub key_remark : Contents → List Bool → ℕ → KeyList → ℕ × List ℕ → List Remark
-key_remark contents selection view list key = when (not (is_declared_by contents selection key.1)) (remarks.UnknownKey view list key.0)
+key_remark contents selection view list key =
+    when (not (is_declared_by contents selection key.1)) (remarks.UnknownKey view list key.0)
 
 -- the keys of a list
 abbrev pub key_remarks : Contents → List Bool → ℕ → KeyList → List (List ℕ) → List Remark
-key_remarks contents selection view list keys = flat_map (key_remark contents selection view list) (enumerate_from 0 keys)
+key_remarks contents selection view list keys =
+    flat_map (key_remark contents selection view list) (enumerate_from 0 keys)
 
 abbrev pub list_remarks : Contents → List Bool → ℕ → KeyList → Option (List (List ℕ)) → List Remark
 list_remarks contents selection view list None = []
-list_remarks contents selection view list (Some keys) = key_remarks contents selection view list keys
+list_remarks contents selection view list (Some keys) =
+    key_remarks contents selection view list keys
 
 -- what a view selects, keeps and excludes
 unfoldable pub settings_remarks : Contents → List Bool → Settings → ℕ → List Remark
 settings_remarks contents selection settings view =
-    selection_remarks selection view ++ (list_remarks contents selection view Keep settings.keep ++ list_remarks contents selection view Exclude settings.exclude)
+    selection_remarks selection view ++ (list_remarks contents selection view Keep settings.keep
+    ++ list_remarks contents selection view Exclude settings.exclude)
 
 abbrev pub is_histogram : StreamAggregation → Bool
 is_histogram (aggregations.Histogram boundaries) = true
@@ -89,23 +100,29 @@ makes_histogram streams view = list_any (is_histogram_of view) streams
 
 -- the view gives boundaries, and makes no histogram
 abbrev pub boundaries_remarks : Settings → Bool → ℕ → List Remark
-boundaries_remarks settings histogram view = when (is_some settings.boundaries && not histogram) (remarks.UnusedBoundaries view)
+boundaries_remarks settings histogram view =
+    when (is_some settings.boundaries && not histogram) (remarks.UnusedBoundaries view)
 
 abbrev pub view_remarks_with : Contents → Config → Bool → Option View → ℕ → List Remark
 view_remarks_with contents config histogram None view = []
 view_remarks_with contents config histogram (Some own) view =
-    settings_remarks contents (selection_of contents config view) own.settings view ++ boundaries_remarks own.settings histogram view
+    settings_remarks contents (selection_of contents config view) own.settings view
+    ++ boundaries_remarks own.settings histogram view
 
 -- the view of a number, where it is known of each view whether it makes a histogram
 unfoldable pub view_remarks : Contents → Config → List Bool → ℕ → List Remark
-view_remarks contents config histograms view = view_remarks_with contents config (slice_index_or histograms view false) (slice_get config.views view) view
+view_remarks contents config histograms view =
+    view_remarks_with contents config (slice_index_or histograms view false)
+    (slice_get config.views view) view
 
 -- the recorder with its number has no budget for the instrument
 abbrev pub recorder_remark : ℕ → ℕ × Recorder → List Remark
-recorder_remark instrument recorder = when (amount_of recorder.1 instrument == 0) (remarks.NoBudget instrument recorder.0)
+recorder_remark instrument recorder =
+    when (amount_of recorder.1 instrument == 0) (remarks.NoBudget instrument recorder.0)
 
 abbrev pub recorder_remarks : ℕ → List Recorder → List Remark
-recorder_remarks instrument recorders = flat_map (recorder_remark instrument) (enumerate_from 0 recorders)
+recorder_remarks instrument recorders =
+    flat_map (recorder_remark instrument) (enumerate_from 0 recorders)
 
 -- the budgets and the spare are above the headroom
 abbrev pub is_over : Option Headroom → Bool
@@ -114,17 +131,22 @@ is_over (Some room) = nat_lt room.most room.total
 
 -- the instrument of a number
 unfoldable pub instrument_remarks : Contents → List Headroom → ℕ → List Remark
-instrument_remarks contents rooms instrument = recorder_remarks instrument contents.recorders ++ when (is_over (slice_get rooms instrument)) (remarks.OverBudget instrument)
+instrument_remarks contents rooms instrument =
+    recorder_remarks instrument contents.recorders
+    ++ when (is_over (slice_get rooms instrument)) (remarks.OverBudget instrument)
 
 -- all remarks, where these are the headrooms of the instruments
 abbrev pub remarks_of : Contents → Config → List Headroom → List Remark
 remarks_of contents config rooms =
     map remark_of (warnings_of contents config)
-    ++ flat_map (view_remarks contents config (map (makes_histogram (streams_of contents config)) (all_views config))) (all_views config)
-    ++ flat_map (instrument_remarks contents rooms) (all_instruments contents) ++ when (length config.readers == 0) remarks.NoReader
+    ++ flat_map (view_remarks contents config
+    (map (makes_histogram (streams_of contents config)) (all_views config))) (all_views config)
+    ++ flat_map (instrument_remarks contents rooms) (all_instruments contents)
+    ++ when (length config.readers == 0) remarks.NoReader
 
 -- They are exactly the remarks that hold, in order.
 pub record AreRemarks (contents : Contents) (config : Config) (all : List Remark) : Type 0 where
   pub rooms : List Headroom
-  pub are_rooms : AllZip (IsHeadroom contents (streams_of contents config)) (all_instruments contents) rooms
+  pub are_rooms : AllZip (IsHeadroom contents (streams_of contents config))
+      (all_instruments contents) rooms
   pub are : all ≡ remarks_of contents config rooms

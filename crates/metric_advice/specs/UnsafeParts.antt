@@ -1,5 +1,6 @@
 -- Which part of safety fails first, with what it is about.
-use Rattle.std.specs.Prelude.{◌≡◌, ℕ, Bool, false, nat_lt, IsTrue, if◌then◌else◌, List, Option, Some, None, slice_get}
+use Rattle.std.specs.Prelude.{◌≡◌, ℕ, Bool, false, nat_lt, IsTrue, if◌then◌else◌, List, Option}
+use Rattle.std.specs.Prelude.{Some, None, slice_get}
 use Rattle.std.specs.List.{enumerate_from, filter_map}
 use Rattle.metric_catalogue.specs.declared.contents.Contents.{Contents}
 use Rattle.metric_views.specs.declared.config.Config.{Config}
@@ -32,11 +33,14 @@ first_collision warned = slice_get (filter_map collision_in warned) 0
 -- what is found at the instrument of a number, of its own numbers
 abbrev pub NumberFinds : Contents → List Stream → ℕ → Option UnsafePart → Type 0
 NumberFinds contents streams number =
-    WhereThere (OwnFinds (TooOften number) (total_of contents number) (IsTrue (is_summed streams number))) (slice_get contents.instruments number)
+    WhereThere
+    (OwnFinds (TooOften number) (total_of contents number) (IsTrue (is_summed streams number)))
+    (slice_get contents.instruments number)
 
 -- what is found at a stream with its number
 abbrev pub StreamFindsAt : Contents → ℕ × Stream → Option UnsafePart → Type 0
-StreamFindsAt contents stream = Asks (SetsFit contents stream.1) (TooOften stream.1.instrument (Series stream.0))
+StreamFindsAt contents stream =
+    Asks (SetsFit contents stream.1) (TooOften stream.1.instrument (Series stream.0))
 
 -- what is found in all: first a collision, then at the instruments, then at the streams
 abbrev pub UnsafeFinds : Contents → Config → Option UnsafePart → Type 0

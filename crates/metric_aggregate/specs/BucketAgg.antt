@@ -1,5 +1,7 @@
 -- What a `BucketAgg` keeps, and for which lists of values it stands.
-use Rattle.std.proofs.Common.{◌≡◌, ℕ, ◌+◌, ◌-◌, ◌^◌, ℤ, pos, negsuc, ◌+ℤ◌, Bool, true, ◌&&◌, ◌||◌, not, List, [], ◌∷◌, ◌++◌, length, sum, Option, Some, None, refl, ap, sym, ◌∙◌}
+use Rattle.std.proofs.Common.{◌≡◌, ℕ, ◌+◌, ◌-◌, ◌^◌, ℤ, pos, negsuc, ◌+ℤ◌, Bool, true, ◌&&◌, ◌||◌}
+use Rattle.std.proofs.Common.{not, List, [], ◌∷◌, ◌++◌, length, sum, Option, Some, None, refl, ap}
+use Rattle.std.proofs.Common.{sym, ◌∙◌}
 use Rattle.std.specs.Prelude.{◌==◌, nat_lt, is_some}
 use Rattle.metric_aggregate.specs.Aggregation.{Aggregation, HistogramAggregation}
 use Rattle.metric_aggregate.specs.Range.{fits_i64, in_range}
@@ -39,18 +41,24 @@ pub record StandsBuckets (h : Histogram) (added : List ℤ) : Type 0 where
   pub least : h.least ≡ least_or (pos (2 ^ 63 - 1)) added
   pub greatest : h.greatest ≡ greatest_or (negsuc (2 ^ 63 - 1)) added
 
-fits_total_of : (total : Option ℤ) (added : List ℤ) (value : ℤ) → total ≡ kept_sum (is_some total) added
+fits_total_of : (total : Option ℤ) (added : List ℤ) (value : ℤ)
+    → total ≡ kept_sum (is_some total) added
     → fits_total total value ≡ (not (is_some total) || fits_i64 (sum_of (added ++ value ∷ [])))
 fits_total_of None added value e = refl
 fits_total_of (Some z) added value e =
     let same : z ≡ sum_of added = cc in
-    ap (λ (x : ℤ). fits_i64 (x +ℤ value)) same ∙ ap fits_i64 (sym (fold_push ◌+ℤ◌ (pos 0) added value))
+    ap (λ (x : ℤ). fits_i64 (x +ℤ value)) same
+    ∙ ap fits_i64 (sym (fold_push ◌+ℤ◌ (pos 0) added value))
 
-pub buckets_fit_in_range : (h : Histogram) (added : List ℤ) (value : ℤ) → StandsBuckets h added → histogram_fits h value ≡ in_range (histogram_aggregation h) (added ++ value ∷ [])
+pub buckets_fit_in_range : (h : Histogram) (added : List ℤ) (value : ℤ) → StandsBuckets h added
+    → histogram_fits h value ≡ in_range (histogram_aggregation h) (added ++ value ∷ [])
 buckets_fit_in_range h added value s =
-    let longer : h.count + 1 ≡ length (added ++ value ∷ []) = ap (λ (n : ℕ). n + 1) s.count ∙ sym (length_push added value) in
+    let longer : h.count + 1 ≡ length (added ++ value ∷ []) = ap (λ (n : ℕ). n + 1) s.count
+    ∙ sym (length_push added value) in
     ap (λ (n : ℕ). nat_lt n (2 ^ 64) && fits_total h.total value) longer
-    ∙ ap (λ (b : Bool). nat_lt (length (added ++ value ∷ [])) (2 ^ 64) && b) (fits_total_of h.total added value s.total)
+    ∙ ap (λ (b : Bool). nat_lt (length (added ++ value ∷ [])) (2 ^ 64) && b)
+    (fits_total_of h.total added value s.total)
 
-pub buckets_are_empty_of_none : (h : Histogram) (added : List ℤ) → StandsBuckets h added → (h.count == 0) ≡ (length added == 0)
+pub buckets_are_empty_of_none : (h : Histogram) (added : List ℤ) → StandsBuckets h added
+    → (h.count == 0) ≡ (length added == 0)
 buckets_are_empty_of_none h added s = ap (λ (n : ℕ). n == 0) s.count

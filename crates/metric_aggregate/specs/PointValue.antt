@@ -21,7 +21,8 @@ point_value_eq (Last a) (Last b) = int_eq a b
 point_value_eq (Last a) (Buckets n ns s l g) = false
 point_value_eq (Buckets m ms r k f) (Sum b) = false
 point_value_eq (Buckets m ms r k f) (Last b) = false
-point_value_eq (Buckets m ms r k f) (Buckets n ns s l g) = (m == n) && (pointwise ◌==◌ ms ns && (option_eq int_eq r s && (int_eq k l && int_eq f g)))
+point_value_eq (Buckets m ms r k f) (Buckets n ns s l g) =
+    (m == n) && (pointwise ◌==◌ ms ns && (option_eq int_eq r s && (int_eq k l && int_eq f g)))
 
 never : {P : Type 0} → (P → ⊥) → Decides false P
 never different = (λ e. absurd (false≢true e), λ p. absurd (different p))
@@ -30,14 +31,17 @@ option_int_eq-Decides : (a b : Option ℤ) → Decides (option_eq int_eq a b) (a
 option_int_eq-Decides None None = (λ _. refl, λ _. refl)
 option_int_eq-Decides None (Some y) = never (λ e. cc)
 option_int_eq-Decides (Some x) None = never (λ e. cc)
-option_int_eq-Decides (Some x) (Some y) = Decides-like (int_eq x y) (ap Some) (λ e. cc) (Decides-int_eq x y)
+option_int_eq-Decides (Some x) (Some y) =
+    Decides-like (int_eq x y) (ap Some) (λ e. cc) (Decides-int_eq x y)
 
 pub point_value_eq-Decides : (a b : PointValue) → Decides (point_value_eq a b) (a ≡ b)
-point_value_eq-Decides (Sum a) (Sum b) = Decides-like (int_eq a b) (ap Sum) (λ e. cc) (Decides-int_eq a b)
+point_value_eq-Decides (Sum a) (Sum b) =
+    Decides-like (int_eq a b) (ap Sum) (λ e. cc) (Decides-int_eq a b)
 point_value_eq-Decides (Sum a) (Last b) = never (λ e. cc)
 point_value_eq-Decides (Sum a) (Buckets n ns s l g) = never (λ e. cc)
 point_value_eq-Decides (Last a) (Sum b) = never (λ e. cc)
-point_value_eq-Decides (Last a) (Last b) = Decides-like (int_eq a b) (ap Last) (λ e. cc) (Decides-int_eq a b)
+point_value_eq-Decides (Last a) (Last b) =
+    Decides-like (int_eq a b) (ap Last) (λ e. cc) (Decides-int_eq a b)
 point_value_eq-Decides (Last a) (Buckets n ns s l g) = never (λ e. cc)
 point_value_eq-Decides (Buckets m ms r k f) (Sum b) = never (λ e. cc)
 point_value_eq-Decides (Buckets m ms r k f) (Last b) = never (λ e. cc)
@@ -45,8 +49,10 @@ point_value_eq-Decides (Buckets m ms r k f) (Buckets n ns s l g) =
     Decides-like (point_value_eq (Buckets m ms r k f) (Buckets n ns s l g))
     (λ p i. Buckets (p.0 i) (p.1.0 i) (p.1.1.0 i) (p.1.1.1.0 i) (p.1.1.1.1 i))
     (λ e. (cc, (cc, (cc, (cc, cc)))))
-    (Decides-and (m == n) (pointwise ◌==◌ ms ns && (option_eq int_eq r s && (int_eq k l && int_eq f g))) (Decides-eqb m n)
-    (Decides-and (pointwise ◌==◌ ms ns) (option_eq int_eq r s && (int_eq k l && int_eq f g)) (slice_eq-Decides Decides-eqb ms ns (pointwise ◌==◌ ms ns) refl)
+    (Decides-and (m == n)
+    (pointwise ◌==◌ ms ns && (option_eq int_eq r s && (int_eq k l && int_eq f g))) (Decides-eqb m n)
+    (Decides-and (pointwise ◌==◌ ms ns) (option_eq int_eq r s && (int_eq k l && int_eq f g))
+    (slice_eq-Decides Decides-eqb ms ns (pointwise ◌==◌ ms ns) refl)
     (Decides-and (option_eq int_eq r s) (int_eq k l && int_eq f g) (option_int_eq-Decides r s)
     (Decides-and (int_eq k l) (int_eq f g) (Decides-int_eq k l) (Decides-int_eq f g)))))
 

@@ -11,9 +11,12 @@ pub record StandsSum (a : SumAgg) (added : List ℤ) : Type 0 where
   pub sum : a.sum ≡ sum_of added
   pub is_empty : a.is_empty ≡ (length added == 0)
 
-pub sum_fits_in_range : (a : SumAgg) (added : List ℤ) (value : ℤ) → StandsSum a added → fits_i64 (a.sum +ℤ value) ≡ in_range SumAggregation (added ++ value ∷ [])
+pub sum_fits_in_range : (a : SumAgg) (added : List ℤ) (value : ℤ) → StandsSum a added
+    → fits_i64 (a.sum +ℤ value) ≡ in_range SumAggregation (added ++ value ∷ [])
 sum_fits_in_range a added value s =
-    ap (λ (z : ℤ). fits_i64 (z +ℤ value)) s.sum ∙ ap fits_i64 (sym (fold_push ◌+ℤ◌ (pos 0) added value))
+    ap (λ (z : ℤ). fits_i64 (z +ℤ value)) s.sum
+    ∙ ap fits_i64 (sym (fold_push ◌+ℤ◌ (pos 0) added value))
 
-pub sum_is_empty_of_none : (a : SumAgg) (added : List ℤ) → StandsSum a added → a.is_empty ≡ (length added == 0)
+pub sum_is_empty_of_none : (a : SumAgg) (added : List ℤ) → StandsSum a added
+    → a.is_empty ≡ (length added == 0)
 sum_is_empty_of_none a added s = s.is_empty

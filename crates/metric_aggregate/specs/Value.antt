@@ -1,8 +1,11 @@
 -- The value of a list of recorded values: what a point reports of them.
-use Rattle.std.specs.Prelude.{ℕ, ℤ, pos, ◌+◌, ◌-◌, ◌+ℤ◌, ◌==◌, Bool, true, false, List, [], ◌∷◌, length, map, fold, count_by, int_lt, slice_index_or, Option, Some, None}
+use Rattle.std.specs.Prelude.{ℕ, ℤ, pos, ◌+◌, ◌-◌, ◌+ℤ◌, ◌==◌, Bool, true, false, List, [], ◌∷◌}
+use Rattle.std.specs.Prelude.{length, map, fold, count_by, int_lt, slice_index_or, Option, Some}
+use Rattle.std.specs.Prelude.{None}
 use Rattle.std.specs.Int.{int_min, int_max}
 use Rattle.std.specs.List.{range_with_len}
-use Rattle.metric_aggregate.specs.Aggregation.{Aggregation, SumAggregation, LastValueAggregation, HistogramAggregation}
+use Rattle.metric_aggregate.specs.Aggregation.{Aggregation, SumAggregation, LastValueAggregation}
+use Rattle.metric_aggregate.specs.Aggregation.{HistogramAggregation}
 use Rattle.metric_aggregate.specs.declared.point_value.PointValue.{PointValue}
 use Rattle.metric_aggregate.specs.declared.point_value.PointValue.TheVariants.{Sum, Last, Buckets}
 
@@ -29,11 +32,13 @@ bucket_of boundaries value = count_by (λ boundary. int_lt boundary value) bound
 
 -- how many of the values fall into a bucket
 abbrev pub bucket_count : List ℤ → List ℤ → ℕ → ℕ
-bucket_count boundaries values bucket = count_by (λ value. bucket_of boundaries value == bucket) values
+bucket_count boundaries values bucket =
+    count_by (λ value. bucket_of boundaries value == bucket) values
 
 -- that of each bucket, of which there is one more than there are boundaries
 abbrev pub bucket_counts : List ℤ → List ℤ → List ℕ
-bucket_counts boundaries values = map (bucket_count boundaries values) (range_with_len 0 (length boundaries + 1))
+bucket_counts boundaries values =
+    map (bucket_count boundaries values) (range_with_len 0 (length boundaries + 1))
 
 -- the sum where it is reported
 abbrev pub kept_sum : Bool → List ℤ → Option ℤ
@@ -45,4 +50,5 @@ abbrev pub value_of : Aggregation → List ℤ → PointValue
 value_of SumAggregation values = Sum (sum_of values)
 value_of LastValueAggregation values = Last (last_of values)
 value_of (HistogramAggregation boundaries keeps_sum) values =
-    Buckets (length values) (bucket_counts boundaries values) (kept_sum keeps_sum values) (least_or (pos 0) values) (greatest_or (pos 0) values)
+    Buckets (length values) (bucket_counts boundaries values) (kept_sum keeps_sum values)
+    (least_or (pos 0) values) (greatest_or (pos 0) values)

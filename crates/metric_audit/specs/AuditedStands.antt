@@ -10,6 +10,7 @@ pub record AuditedValue : Type 0 where
   pub entries : List Entry
 
 -- the list is the journal, and the tables stand for it
-pub record StandsAudited (b : AuditedValue) (facts : Facts) (journal : List Entry) (marks : List ℕ) : Type 0 where
+pub record StandsAudited (b : AuditedValue) (facts : Facts) (journal : List Entry) (marks : List ℕ)
+    : Type 0 where
   pub tables : StandsMarked b.tables facts journal marks
   pub entries : b.entries ≡ journal

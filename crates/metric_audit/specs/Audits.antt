@@ -14,16 +14,21 @@ use Rattle.metric_history.specs.declared.entry.Entry.{Entry}
 abbrev pub AgreesWithSlips : List Entry → List (List Slip) → Type 0
 AgreesWithSlips entries slips = (recorder : ℕ) → AreEntriesOf entries slips recorder
 
--- Done where slips and batches are those of the journal; else the least recorder whose slips are not; else the first batch that is not.
-abbrev pub Audits : Facts → ℕ → ℕ → List Entry → List (List Slip) → List batches.Batch → Result (Unit {0}) AuditFault → Type 0
+-- Done where slips and batches are those of the journal; else the least recorder whose slips are
+-- not; else the first batch that is not.
+abbrev pub Audits : Facts → ℕ → ℕ → List Entry → List (List Slip) → List batches.Batch
+    → Result (Unit {0}) AuditFault → Type 0
 Audits facts instrument start entries slips told (Ok done) =
     AgreesWithSlips entries slips × AreAllRight facts instrument start entries told
-Audits facts instrument start entries slips told (Err (Slips recorder)) = IsFirstUnlike entries slips recorder
+Audits facts instrument start entries slips told (Err (Slips recorder)) =
+    IsFirstUnlike entries slips recorder
 Audits facts instrument start entries slips told (Err (Batch at)) =
     AgreesWithSlips entries slips × IsFirstWrong facts instrument start entries told at
 Audits facts instrument start entries slips told (Err Memory) = Unit {0}
 
 -- the same of the instrument of this number
-abbrev pub AuditsInstrument : RunFacts → ℕ → ℕ → List Entry → List (List Slip) → List batches.Batch → Result (Unit {0}) AuditFault → Type 0
+abbrev pub AuditsInstrument : RunFacts → ℕ → ℕ → List Entry → List (List Slip) → List batches.Batch
+    → Result (Unit {0}) AuditFault → Type 0
 AuditsInstrument run instrument start entries slips told result =
-    (facts : Facts) → slice_get run.instruments instrument ≡ Some facts → Audits facts instrument start entries slips told result
+    (facts : Facts) → slice_get run.instruments instrument ≡ Some facts
+    → Audits facts instrument start entries slips told result

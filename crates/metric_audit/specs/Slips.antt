@@ -1,5 +1,6 @@
 -- Whether slips are the entries of their recorders.
-use Rattle.std.specs.Prelude.{◌≡◌, ◌<◌, ◌≤◌, ◌↔◌, ◌==◌, ℕ, List, [], ◌∷◌, Option, Some, None, drop, length, min, nat_lt, slice_index_or, if◌then◌else◌}
+use Rattle.std.specs.Prelude.{◌≡◌, ◌<◌, ◌≤◌, ◌↔◌, ◌==◌, ℕ, List, [], ◌∷◌, Option, Some, None, drop}
+use Rattle.std.specs.Prelude.{length, min, nat_lt, slice_index_or, if◌then◌else◌}
 use Rattle.metric_book.specs.Slips.{slip_of, slips_of}
 use Rattle.metric_book.specs.declared.slip.Slip.{Slip}
 use Rattle.metric_history.specs.declared.entry.Entry.{Entry}
@@ -13,7 +14,8 @@ abbrev pub AreEntriesOf : List Entry → List (List Slip) → ℕ → Type 0
 AreEntriesOf entries slips recorder = slips_of recorder entries ≡ handed_in slips recorder
 
 -- the least recorder whose entries are not its slips
-pub record IsFirstUnlike (entries : List Entry) (slips : List (List Slip)) (recorder : ℕ) : Type 0 where
+pub record IsFirstUnlike (entries : List Entry) (slips : List (List Slip)) (recorder : ℕ)
+    : Type 0 where
   pub unlike : ¬ AreEntriesOf entries slips recorder
   pub earlier : (other : ℕ) → other < recorder → AreEntriesOf entries slips other
 
@@ -36,7 +38,8 @@ abbrev pub with_slip : ℕ → Entry → List Slip → List Slip
 with_slip recorder entry due = if entry.recorder == recorder then slip_of entry ∷ due else due
 
 -- The new places await what the old ones do after the entry.
-pub record Advances (old new : List (Option ℕ)) (slips : List (List Slip)) (entry : Entry) : Type 0 where
+pub record Advances (old new : List (Option ℕ)) (slips : List (List Slip)) (entry : Entry)
+    : Type 0 where
   pub long : length new ≡ length slips
   pub awaits : (recorder : ℕ) (due : List Slip) → recorder < length slips
       → Awaits (next_place old recorder) (handed_in slips recorder) (with_slip recorder entry due)
@@ -46,14 +49,17 @@ pub record Advances (old new : List (Option ℕ)) (slips : List (List Slip)) (en
 abbrev pub AreAwaited : List (Option ℕ) → List (List Slip) → List Entry → List Entry → Type 0
 AreAwaited places slips entries rest =
     (recorder : ℕ) → recorder < length slips
-    → AreEntriesOf entries slips recorder ↔ Awaits (next_place places recorder) (handed_in slips recorder) (slips_of recorder rest)
+    → AreEntriesOf entries slips recorder
+    ↔ Awaits (next_place places recorder) (handed_in slips recorder) (slips_of recorder rest)
 
 -- the least recorder whose place awaits more, or none
 abbrev pub FindsOpen : List (Option ℕ) → List (List Slip) → Option ℕ → Type 0
 FindsOpen places slips (Some recorder) =
-    (recorder < length slips) × (¬ Awaits (next_place places recorder) (handed_in slips recorder) [])
+    (recorder < length slips)
+    × (¬ Awaits (next_place places recorder) (handed_in slips recorder) [])
     × ((other : ℕ) → other < recorder → Awaits (next_place places other) (handed_in slips other) [])
-FindsOpen places slips None = (other : ℕ) → other < length slips → Awaits (next_place places other) (handed_in slips other) []
+FindsOpen places slips None =
+    (other : ℕ) → other < length slips → Awaits (next_place places other) (handed_in slips other) []
 
 -- the lesser of a recorder that was found and another, where that is none of so many
 abbrev pub lesser_with : Option ℕ → ℕ → Option ℕ
@@ -61,7 +67,8 @@ lesser_with None recorder = Some recorder
 lesser_with (Some other) recorder = Some (min other recorder)
 
 abbrev pub lesser_stranger : ℕ → Option ℕ → ℕ → Option ℕ
-lesser_stranger count found recorder = if nat_lt recorder count then found else lesser_with found recorder
+lesser_stranger count found recorder =
+    if nat_lt recorder count then found else lesser_with found recorder
 
 -- the least recorder of an entry that is none of so many, or none
 abbrev pub StrangersAre : ℕ → List Entry → Option ℕ → Type 0

@@ -1,5 +1,6 @@
 -- Steps of which each may fail: the first fault in order is the answer.
-use Rattle.std.specs.Prelude.{◌≡◌, ◌≢◌, Bool, true, false, List, [], ◌∷◌, ◌++◌, Option, Some, None, Result, Ok, Err}
+use Rattle.std.specs.Prelude.{◌≡◌, ◌≢◌, Bool, true, false, List, [], ◌∷◌, ◌++◌, Option, Some, None}
+use Rattle.std.specs.Prelude.{Result, Ok, Err}
 
 -- the second step from what the first gave, or the fault of the first
 infixl 10 ◌>>=◌
@@ -50,7 +51,8 @@ abbrev pub GivesBy : {X Y E : Type 0} → (X → Y) → E → Result X E → Res
 GivesBy view memory (Ok x) read = read ≡ Ok (view x)
 GivesBy view memory (Err e) read = e ≢ memory → read ≡ Err e
 
--- A call that changes its argument: the new value is what reading gives, or the fault is, unless memory was refused.
+-- A call that changes its argument: the new value is what reading gives, or the
+-- fault is, unless memory was refused.
 abbrev pub Advances : {X E : Type 0} → E → Result (Unit {0}) E → X → Result X E → Type 0
 Advances memory (Ok done) new read = read ≡ Ok new
 Advances memory (Err e) new read = e ≢ memory → read ≡ Err e

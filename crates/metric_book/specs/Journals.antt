@@ -1,5 +1,7 @@
 -- What the calls of a book do, for every journal for which it stands.
-use Rattle.std.specs.Prelude.{◌≡◌, ◌≢◌, ◌<◌, ◌+◌, ◌^◌, ℕ, Bool, true, false, List, [], ◌∷◌, ◌++◌, Some, Result, Ok, Err, length, replicate, slice_get, slice_index, slice_set, if◌then◌else◌}
+use Rattle.std.specs.Prelude.{◌≡◌, ◌≢◌, ◌<◌, ◌+◌, ◌^◌, ℕ, Bool, true, false, List, [], ◌∷◌, ◌++◌}
+use Rattle.std.specs.Prelude.{Some, Result, Ok, Err, length, replicate, slice_get, slice_index}
+use Rattle.std.specs.Prelude.{slice_set, if◌then◌else◌}
 use Rattle.metric_combinations.specs.Combinations.{permits}
 use Rattle.metric_book.specs.declared.book.Window.{Window}
 use Rattle.metric_catalogue.specs.declared.refusal.Refusal.{Refusal}
@@ -10,7 +12,8 @@ use Rattle.metric_facts.specs.Facts.{RunFacts, in_bounds, is_delta, is_full_set}
 use Rattle.metric_history.specs.Points.{reported}
 use Rattle.metric_history.specs.Windows.{fits_all, window}
 
--- for which facts of an instrument, accepted recordings (oldest first) and marks of its readers a book stands
+-- for which facts of an instrument, accepted recordings (oldest first) and
+-- marks of its readers a book stands
 abbrev pub Standing : Type 1
 Standing = Facts → List Entry → List ℕ → Type 0
 
@@ -20,9 +23,12 @@ no_marks facts = replicate (length facts.delta) 0
 
 -- a new book stands for no recordings
 abbrev pub BeginsJournal : Standing → RunFacts → ℕ → Type 0
-BeginsJournal stands run instrument = (facts : Facts) → slice_get run.instruments instrument ≡ Some facts → stands facts [] (no_marks facts)
+BeginsJournal stands run instrument =
+    (facts : Facts) → slice_get run.instruments instrument ≡ Some facts
+    → stands facts [] (no_marks facts)
 
--- a recording may be the next: of a full set that is allowed, with a value in range, and counted by a u64
+-- a recording may be the next: of a full set that is allowed, with a
+-- value in range, and counted by a u64
 pub record MayFollow (facts : Facts) (journal : List Entry) (entry : Entry) : Type 0 where
   pub full : is_full_set facts.keys entry.set ≡ true
   pub allowed : permits facts.allowed entry.set ≡ true
@@ -31,16 +37,21 @@ pub record MayFollow (facts : Facts) (journal : List Entry) (entry : Entry) : Ty
 
 -- the book stands for a journal which the recording may follow
 abbrev pub MayTake : Standing → Entry → Type 0
-MayTake stands entry = (facts : Facts) × (journal : List Entry) × (marks : List ℕ) × (stands facts journal marks × MayFollow facts journal entry)
+MayTake stands entry =
+    (facts : Facts) × (journal : List Entry) × (marks : List ℕ)
+    × (stands facts journal marks × MayFollow facts journal entry)
 
 -- want of memory is answered only on an instrument whose recordings take some
 abbrev pub AsksForMemory : Standing → (Facts → Type 0) → Result (Unit {0}) Refusal → Type 0
 AsksForMemory stands spares_memory result =
-    (facts : Facts) (journal : List Entry) (marks : List ℕ) → stands facts journal marks → spares_memory facts → result ≢ Err Memory
+    (facts : Facts) (journal : List Entry) (marks : List ℕ) → stands facts journal marks
+    → spares_memory facts → result ≢ Err Memory
 
 -- the instrument has a reader of this number
 abbrev pub HasReader : Standing → ℕ → Type 0
-HasReader stands reader = (facts : Facts) × (journal : List Entry) × (marks : List ℕ) × (stands facts journal marks × (reader < length facts.delta))
+HasReader stands reader =
+    (facts : Facts) × (journal : List Entry) × (marks : List ℕ)
+    × (stands facts journal marks × (reader < length facts.delta))
 
 -- what a recording may be answered, by whether it keeps each series in range
 abbrev pub MayAnswer : Bool → Result (Unit {0}) Refusal → Type 0
@@ -49,7 +60,8 @@ MayAnswer true (Err refusal) = refusal ≡ Memory
 MayAnswer false (Ok done) = ⊥
 MayAnswer false (Err refusal) = refusal ≡ SumRange
 
--- the answer is `SumRange` exactly where a series would leave its range, and else only memory is refused
+-- the answer is `SumRange` exactly where a series would leave its range,
+-- and else only memory is refused
 abbrev pub JudgesRecording : Standing → Entry → Result (Unit {0}) Refusal → Type 0
 JudgesRecording stands entry result =
     (facts : Facts) (journal : List Entry) (marks : List ℕ) → stands facts journal marks
@@ -58,24 +70,28 @@ JudgesRecording stands entry result =
 -- whether it keeps each series in range
 abbrev pub JudgesEntry : Standing → Entry → Bool → Type 0
 JudgesEntry stands entry fits =
-    (facts : Facts) (journal : List Entry) (marks : List ℕ) → stands facts journal marks → fits_all facts (slice_index marks) journal entry ≡ fits
+    (facts : Facts) (journal : List Entry) (marks : List ℕ) → stands facts journal marks
+    → fits_all facts (slice_index marks) journal entry ≡ fits
 
 -- the new book stands for one recording more
 abbrev pub TakesRecording : Standing → Standing → Entry → Type 0
 TakesRecording old new entry =
-    (facts : Facts) (journal : List Entry) (marks : List ℕ) → old facts journal marks → new facts (journal ++ entry ∷ []) marks
+    (facts : Facts) (journal : List Entry) (marks : List ℕ) → old facts journal marks
+    → new facts (journal ++ entry ∷ []) marks
 
 -- what a reader is told of a journal in which each reader has its mark
 abbrev pub window_of : Facts → List Entry → List ℕ → ℕ → Window
 window_of facts journal marks reader = record {
   from = if is_delta facts reader then slice_index marks reader else 0;
   mark = length journal;
-  streams = reported facts reader (window (is_delta facts reader) (slice_index marks reader) journal);
+  streams =
+      reported facts reader (window (is_delta facts reader) (slice_index marks reader) journal);
 }
 
 abbrev pub ReportsWindow : Standing → ℕ → Window → Type 0
 ReportsWindow stands reader told =
-    (facts : Facts) (journal : List Entry) (marks : List ℕ) → stands facts journal marks → told ≡ window_of facts journal marks reader
+    (facts : Facts) (journal : List Entry) (marks : List ℕ) → stands facts journal marks
+    → told ≡ window_of facts journal marks reader
 
 -- the reader's mark, and no other, is moved to the number of recordings
 abbrev pub MovesMark : Standing → Standing → ℕ → Type 0
@@ -90,4 +106,5 @@ kept_of keeps journal = if keeps then journal else []
 -- that is what a book has, for every journal for which it stands
 abbrev pub KeepsAllOrNothing : Standing → Bool → List Entry → Type 0
 KeepsAllOrNothing stands keeps entries =
-    (facts : Facts) (journal : List Entry) (marks : List ℕ) → stands facts journal marks → entries ≡ kept_of keeps journal
+    (facts : Facts) (journal : List Entry) (marks : List ℕ) → stands facts journal marks
+    → entries ≡ kept_of keeps journal

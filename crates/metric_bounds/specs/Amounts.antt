@@ -1,5 +1,5 @@
--- How often an instrument may be recorded, and between which numbers each sum of its values stays. These are whole
--- numbers without a limit.
+-- How often an instrument may be recorded, and between which numbers each sum of its values stays.
+-- These are whole numbers without a limit.
 use Rattle.std.specs.Prelude.{ℕ, ℤ, pos, ◌+◌, ◌*ℤ◌, ◌-ℤ◌, sum_by}
 use Rattle.std.specs.Int.{int_min, int_max}
 use Rattle.metric_catalogue.specs.declared.contents.Contents.{Contents}
@@ -7,7 +7,9 @@ use Rattle.metric_catalogue.specs.Budgets.{amount_of, spare_at}
 
 -- the budgets of all recorders for the instrument of a number, and its spare budget
 unfoldable pub total_of : Contents → ℕ → ℕ
-total_of contents instrument = sum_by (λ recorder. amount_of recorder instrument) contents.recorders + spare_at contents.instruments instrument
+total_of contents instrument =
+    sum_by (λ recorder. amount_of recorder instrument) contents.recorders
+    + spare_at contents.instruments instrument
 
 -- how far apart two sums of so many values may be
 abbrev pub amount_with : ℕ → ℤ → ℤ → ℤ

@@ -1,6 +1,6 @@
--- Which part of safety fails first, where one does. The parts are asked in this order: no two streams have one identity; then of
--- each instrument its counts, the amount of its values, its least and its greatest sum; then of each stream how many series it
--- can have.
+-- Which part of safety fails first, where one does. The parts are asked in this order: no two
+-- streams have one identity; then of each instrument its counts, the amount of its values, its
+-- least and its greatest sum; then of each stream how many series it can have.
 use Rattle.std.specs.Prelude.{◌≡◌, ℕ, IsTrue, List, Option, Some, None, slice_get}
 use Rattle.metric_catalogue.specs.declared.contents.Contents.{Contents}
 use Rattle.metric_catalogue.specs.declared.contents.Instrument.{Instrument}
@@ -21,30 +21,40 @@ pub record SafetyFaults (F : Type 0) : Type 0 where
   pub amount_range : F
 
 -- what is found at an instrument of so many recordings, of which a stream keeps a sum or none does
-abbrev pub InstrumentFinds : {F : Type 0} → SafetyFaults F → ℕ → Type 0 → Instrument → Option F → Type 0
+abbrev pub InstrumentFinds : {F : Type 0} → SafetyFaults F → ℕ → Type 0 → Instrument
+    → Option F → Type 0
 InstrumentFinds faults total summed instrument =
     Then (Asks (CountsFit total) faults.count_range)
     (Then (Asks (AmountsFit total instrument) faults.amount_range)
-    (Then (Asks (summed → LowFits total instrument) faults.sum_low) (Asks (summed → HighFits total instrument) faults.sum_high)))
+    (Then (Asks (summed → LowFits total instrument) faults.sum_low)
+    (Asks (summed → HighFits total instrument) faults.sum_high)))
 
-abbrev pub WhereThere : {F : Type 0} → (Instrument → Option F → Type 0) → Option Instrument → Option F → Type 0
+abbrev pub WhereThere : {F : Type 0} → (Instrument → Option F → Type 0) → Option Instrument
+    → Option F → Type 0
 WhereThere Finds None found = found ≡ None
 WhereThere Finds (Some instrument) found = Finds instrument found
 
 -- the same at the instrument of a number
-abbrev pub NumberFinds : {F : Type 0} → SafetyFaults F → Contents → List Stream → ℕ → Option F → Type 0
+abbrev pub NumberFinds : {F : Type 0} → SafetyFaults F → Contents → List Stream → ℕ
+    → Option F → Type 0
 NumberFinds faults contents streams number =
-    WhereThere (InstrumentFinds faults (total_of contents number) (IsTrue (is_summed streams number))) (slice_get contents.instruments number)
+    WhereThere
+    (InstrumentFinds faults (total_of contents number) (IsTrue (is_summed streams number)))
+    (slice_get contents.instruments number)
 
 -- what is found at all instruments
-abbrev pub InstrumentsFind : {F : Type 0} → SafetyFaults F → Contents → List Stream → Option F → Type 0
-InstrumentsFind faults contents streams = Each (NumberFinds faults contents streams) (all_instruments contents)
+abbrev pub InstrumentsFind : {F : Type 0} → SafetyFaults F → Contents → List Stream
+    → Option F → Type 0
+InstrumentsFind faults contents streams =
+    Each (NumberFinds faults contents streams) (all_instruments contents)
 
 -- what is found at all streams
 abbrev pub LimitsFind : {F : Type 0} → SafetyFaults F → Contents → List Stream → Option F → Type 0
-LimitsFind faults contents streams = Each (λ stream. Asks (SetsFit contents stream) faults.limit_exceeded) streams
+LimitsFind faults contents streams =
+    Each (λ stream. Asks (SetsFit contents stream) faults.limit_exceeded) streams
 
 -- what is found in all
 abbrev pub SafetyFinds : {F : Type 0} → SafetyFaults F → Contents → List Stream → Option F → Type 0
 SafetyFinds faults contents streams =
-    Then (Asks (AreDistinct contents streams) faults.collision) (Then (InstrumentsFind faults contents streams) (LimitsFind faults contents streams))
+    Then (Asks (AreDistinct contents streams) faults.collision)
+    (Then (InstrumentsFind faults contents streams) (LimitsFind faults contents streams))

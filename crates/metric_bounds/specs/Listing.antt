@@ -10,5 +10,6 @@ use Rattle.metric_bounds.specs.Sets.{product_of, sets_of}
 -- A stream sees no more sets where its instrument lists combinations than where it does not.
 abbrev pub ListsTakeAway : Type 0
 ListsTakeAway =
-    (contents : Contents) (config : Config) (stream : Stream) → IsSound contents → Contains (streams_of contents config) stream
+    (contents : Contents) (config : Config) (stream : Stream) → IsSound contents
+    → Contains (streams_of contents config) stream
     → sets_of contents stream ≤ product_of contents stream

@@ -1,6 +1,7 @@
--- When the streams of a config can overflow neither a limit nor a number, whatever is recorded within the budgets and spare
--- budgets. The parts stand in the order in which they are tried.
-use Rattle.std.specs.Prelude.{◌≡◌, ◌≢◌, ℕ, ◌<◌, ◌≤◌, ◌^◌, pos, ◌<ℤ◌, IsTrue, All, AllPairs, min, List, Some, slice_get, FitsSigned}
+-- When the streams of a config can overflow neither a limit nor a number, whatever is recorded
+-- within the budgets and spare budgets. The parts stand in the order in which they are tried.
+use Rattle.std.specs.Prelude.{◌≡◌, ◌≢◌, ℕ, ◌<◌, ◌≤◌, ◌^◌, pos, ◌<ℤ◌, IsTrue, All, AllPairs, min}
+use Rattle.std.specs.Prelude.{List, Some, slice_get, FitsSigned}
 use Rattle.std.specs.Int.{w64}
 use Rattle.metric_catalogue.specs.declared.contents.Contents.{Contents}
 use Rattle.metric_catalogue.specs.declared.contents.Instrument.{Instrument}
@@ -14,7 +15,8 @@ use Rattle.metric_bounds.specs.Sums.{is_summed}
 
 -- No two streams have one identity.
 abbrev pub AreDistinct : Contents → List Stream → Type 0
-AreDistinct contents streams = AllPairs (λ stream other. identity_of contents stream ≢ identity_of contents other) streams
+AreDistinct contents streams =
+    AllPairs (λ stream other. identity_of contents stream ≢ identity_of contents other) streams
 
 -- The instrument may be recorded less than 2^64 times.
 abbrev pub CountsFit : ℕ → Type 0
@@ -46,7 +48,8 @@ AreSafeInstruments contents streams =
 
 -- As many series as a stream can have are within its limit.
 abbrev pub SetsFit : Contents → Stream → Type 0
-SetsFit contents stream = min (sets_of contents stream) (total_of contents stream.instrument) ≤ stream.limit
+SetsFit contents stream =
+    min (sets_of contents stream) (total_of contents stream.instrument) ≤ stream.limit
 
 -- what holds of a catalogue and the streams of a config that are safe
 pub record AreSafe (contents : Contents) (streams : List Stream) : Type 0 where

@@ -1,5 +1,6 @@
 -- How many distinct sets of attributes a stream may see.
-use Rattle.std.specs.Prelude.{◌≡◌, ℕ, ◌+◌, ◌*◌, Bool, if◌then◌else◌, List, [], ◌∷◌, length, Option, Some, None, slice_get}
+use Rattle.std.specs.Prelude.{◌≡◌, ℕ, ◌+◌, ◌*◌, Bool, if◌then◌else◌, List, [], ◌∷◌, length, Option}
+use Rattle.std.specs.Prelude.{Some, None, slice_get}
 use Rattle.std.specs.Option.{option_map}
 use Rattle.metric_combinations.specs.Restrictions.{restrictions}
 use Rattle.metric_catalogue.specs.declared.contents.Contents.{Contents}
@@ -27,13 +28,15 @@ product_within stream (Some instrument) = product_over stream.kept instrument.ke
 
 -- how many distinct sets of the kept keys there are, whichever combinations are allowed
 unfoldable pub product_of : Contents → Stream → ℕ
-product_of contents stream = product_within stream (slice_get contents.instruments stream.instrument)
+product_of contents stream =
+    product_within stream (slice_get contents.instruments stream.instrument)
 
 abbrev pub list_within : Stream → Option Instrument → Option (List (List ℕ))
 list_within stream None = None
 list_within stream (Some instrument) = option_map (restrictions stream.kept) instrument.allowed
 
--- the distinct sets of the kept keys that the allowed combinations leave, rising, where the instrument lists its combinations
+-- the distinct sets of the kept keys that the allowed combinations leave, rising, where the
+-- instrument lists its combinations
 unfoldable pub listed_of : Contents → Stream → Option (List (List ℕ))
 listed_of contents stream = list_within stream (slice_get contents.instruments stream.instrument)
 
@@ -41,7 +44,8 @@ abbrev pub count_or : ℕ → Option (List (List ℕ)) → ℕ
 count_or other None = other
 count_or other (Some list) = length list
 
--- how many distinct sets of the kept keys recordings of a stream may have: as many as are listed, or else the product
+-- how many distinct sets of the kept keys recordings of a stream may have: as many as
+-- are listed, or else the product
 unfoldable pub sets_of : Contents → Stream → ℕ
 sets_of contents stream = count_or (product_of contents stream) (listed_of contents stream)
 

@@ -5,7 +5,8 @@ use Rattle.metric_catalogue.specs.Kinds.{is_monotonic}
 use Rattle.metric_catalogue.specs.declared.contents.Kind.{Kind}
 use Rattle.metric_views.specs.declared.stream.Stream.{Stream}
 use Rattle.metric_views.specs.declared.stream.StreamAggregation.{StreamAggregation}
-use Rattle.metric_views.specs.declared.stream.StreamAggregation.TheVariants.{Sum, LastValue, Histogram}
+use Rattle.metric_views.specs.declared.stream.StreamAggregation.TheVariants.{Sum, LastValue}
+use Rattle.metric_views.specs.declared.stream.StreamAggregation.TheVariants.{Histogram}
 
 -- a sum does, and a histogram of values that are never negative
 abbrev pub keeps_sum_by : StreamAggregation → Kind → Bool

@@ -1,17 +1,22 @@
--- Attributes as a host gives them: their texts one after the other, and of each one how long its texts are.
-use Rattle.std.specs.Prelude.{ℕ, ◌==◌, nat_le, ◌&&◌, List, [], ◌∷◌, Option, Some, None, drop, length, option_and_then, option_map, take, true, false, if◌then◌else◌}
+-- Attributes as a host gives them: their texts one after the other, and of
+-- each one how long its texts are.
+use Rattle.std.specs.Prelude.{ℕ, ◌==◌, nat_le, ◌&&◌, List, [], ◌∷◌, Option, Some, None, drop}
+use Rattle.std.specs.Prelude.{length, option_and_then, option_map, take, true, false, if◌then◌else◌}
 use Rattle.std.specs.Str.{is_utf8}
 use Rattle.metric_catalogue.specs.Encoding.{Given}
 use Rattle.metric_names.specs.declared.value.AttrValue.{AttrValue}
 use Rattle.metric_names.specs.declared.value.AttrValue.TheVariants.{Text, Whole, Flag}
 use Rattle.metric_c.specs.declared.attributes.Attribute.{Attribute}
 
--- the text of so many bytes that stands first, and what is left; none where they are not there, or are no UTF-8
+-- the text of so many bytes that stands first, and what is left; none where
+-- they are not there, or are no UTF-8
 abbrev pub text_first : ℕ → List ℕ → Option (List ℕ × List ℕ)
 text_first count texts =
-    if nat_le count (length texts) && is_utf8 (take count texts) then Some (take count texts, drop count texts) else None
+    if nat_le count (length texts) && is_utf8 (take count texts)
+    then Some (take count texts, drop count texts) else None
 
--- the value of an attribute that is no text: a whole number, no, or yes; none where there is no such kind
+-- the value of an attribute that is no text: a whole number, no, or yes;
+-- none where there is no such kind
 abbrev pub plain_value : Attribute → Option AttrValue
 plain_value own =
     if own.kind == 1 then Some (Whole own.whole)
@@ -21,17 +26,20 @@ plain_value own =
 -- the value of an attribute whose text stands first, and what is left
 abbrev pub value_first : Attribute → List ℕ → Option (AttrValue × List ℕ)
 value_first own texts =
-    if own.kind == 0 then option_map (λ (text : List ℕ × List ℕ). (Text text.0, text.1)) (text_first own.text texts)
+    if own.kind == 0
+    then option_map (λ (text : List ℕ × List ℕ). (Text text.0, text.1)) (text_first own.text texts)
     else option_map (λ (value : AttrValue). (value, texts)) (plain_value own)
 
 -- the attribute whose texts stand first, and what is left
 abbrev pub given_first : Attribute → List ℕ → Option (Given × List ℕ)
 given_first own texts =
-    option_and_then (λ (key : List ℕ × List ℕ). option_map (λ (value : AttrValue × List ℕ). ((key.0, value.0), value.1)) (value_first own key.1))
+    option_and_then (λ (key : List ℕ × List ℕ). option_map
+    (λ (value : AttrValue × List ℕ). ((key.0, value.0), value.1)) (value_first own key.1))
     (text_first own.key texts)
 
 -- all attributes, or none where one of them is none
 abbrev pub attributes_from : List Attribute → List ℕ → Option (List Given)
 attributes_from [] texts = Some []
 attributes_from (own ∷ others) texts =
-    option_and_then (λ (first : Given × List ℕ). option_map (λ (rest : List Given). first.0 ∷ rest) (attributes_from others first.1)) (given_first own texts)
+    option_and_then (λ (first : Given × List ℕ). option_map (λ (rest : List Given). first.0 ∷ rest)
+    (attributes_from others first.1)) (given_first own texts)

@@ -19,10 +19,13 @@ pub record IsCodeOf (Answers : Result (Unit {0}) Refusal → Type 0) (code : ℕ
 abbrev pub IsWantOfMemory : ℕ → ℕ → Type 0
 IsWantOfMemory count code = (8 < count) × (code ≡ 11)
 
--- a call with so many attributes is answered the code of an answer to them, or 101 exactly where they are none
-abbrev pub IsCodeOfRead : ℕ → Option (List Given) → (List Given → Result (Unit {0}) Refusal → Type 0) → ℕ → Type 0
+-- a call with so many attributes is answered the code of an answer to them, or
+-- 101 exactly where they are none
+abbrev pub IsCodeOfRead : ℕ → Option (List Given)
+    → (List Given → Result (Unit {0}) Refusal → Type 0) → ℕ → Type 0
 IsCodeOfRead count None Answers code = (code ≡ 101) ⊎ IsWantOfMemory count code
-IsCodeOfRead count (Some attrs) Answers code = IsCodeOf (Answers attrs) code ⊎ IsWantOfMemory count code
+IsCodeOfRead count (Some attrs) Answers code =
+    IsCodeOf (Answers attrs) code ⊎ IsWantOfMemory count code
 
 -- what is said where both handles hold something, and where one of them holds nothing
 abbrev pub WhereBoth : {A B : Type 0} → Option A → Option B → Type 0 → (A → B → Type 0) → Type 0
@@ -36,6 +39,7 @@ WhereHeld None nothing P = nothing
 WhereHeld (Some x) nothing P = P x
 
 -- two handles hold something before and after a call
-abbrev pub Changes : {A B : Type 0} → Option A → Option A → Option B → Option B → (A → A → B → B → Type 0) → Type 0
+abbrev pub Changes : {A B : Type 0} → Option A → Option A → Option B → Option B
+    → (A → A → B → B → Type 0) → Type 0
 Changes (Some old) (Some new) (Some before) (Some after) P = P old new before after
 Changes old new before after P = ⊥

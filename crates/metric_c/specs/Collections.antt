@@ -20,8 +20,8 @@ abbrev pub Refuses : HostedValue → HostedReader → ℕ → Result (Unit {0}) 
 Refuses h own now (Ok done) = Unit {0}
 Refuses h own now (Err refusal) = AnswersReading (allowance h own) h own.seat now (Err refusal)
 
--- The instrument and the reader after a collection at a time: the batch that the reader keeps is the one that goes on where its last one
--- ended, of the recordings for which the instrument stands.
+-- The instrument and the reader after a collection at a time: the batch that the reader keeps is
+-- the one that goes on where its last one ended, of the recordings for which the instrument stands.
 pub record Collects (now : ℕ) (old new : HostedValue) (before after : HostedReader) : Type 0 where
   pub batch : Batch
   pub kept : after.last ≡ Some batch
@@ -38,4 +38,5 @@ text_of own = batch_or_none own.last
   where
     batch_or_none : Option Batch → List ℕ
     batch_or_none None = []
-    batch_or_none (Some batch) = batch_text own.plan.facts.contents own.plan.config own.plan.streams batch
+    batch_or_none (Some batch) =
+        batch_text own.plan.facts.contents own.plan.config own.plan.streams batch

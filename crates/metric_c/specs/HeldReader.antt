@@ -14,7 +14,8 @@ abbrev pub held : Global → Ptr → Option the_row.Denot → Fml
 held alloc null_ptr None = ftrue
 held alloc null_ptr (Some x) = fex ⊥ (λ _. ftrue)
 held alloc (block_ptr b o) None = fex ⊥ (λ _. ftrue)
-held alloc (block_ptr b o) (Some x) = box_owns (ghosts.dealloc_token alloc) the_row (block_ptr b o) x
+held alloc (block_ptr b o) (Some x) =
+    box_owns (ghosts.dealloc_token alloc) the_row (block_ptr b o) x
 
 abbrev pub held_coded : Coded (Option the_row.Denot)
 held_coded = coded_option the_row.coded

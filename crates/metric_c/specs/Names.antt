@@ -1,5 +1,6 @@
 -- The names that a plan declares, and the warnings that its config gets.
-use Rattle.std.specs.Prelude.{ℕ, ◌==◌, List, Option, None, option_map, option_and_then, slice_get, if◌then◌else◌}
+use Rattle.std.specs.Prelude.{ℕ, ◌==◌, List, Option, None, option_map, option_and_then, slice_get}
+use Rattle.std.specs.Prelude.{if◌then◌else◌}
 use Rattle.std.specs.List.{flat_map}
 use Rattle.metric_catalogue.specs.declared.contents.Contents.{Contents}
 use Rattle.metric_catalogue.specs.declared.contents.Instrument.{Instrument}
@@ -13,16 +14,20 @@ use Rattle.metric_plan.specs.Plans.{PlanValue}
 
 -- the name of the instrument of a number
 abbrev pub instrument_name : Contents → ℕ → Option (List ℕ)
-instrument_name contents number = option_map (λ (i : Instrument). i.name) (slice_get contents.instruments number)
+instrument_name contents number =
+    option_map (λ (i : Instrument). i.name) (slice_get contents.instruments number)
 
 -- that of its meter
 abbrev pub meter_name : Contents → ℕ → Option (List ℕ)
 meter_name contents number =
-    option_and_then (λ (i : Instrument). option_map (λ (m : Meter). m.name) (slice_get contents.meters i.meter)) (slice_get contents.instruments number)
+    option_and_then
+    (λ (i : Instrument). option_map (λ (m : Meter). m.name) (slice_get contents.meters i.meter))
+    (slice_get contents.instruments number)
 
 -- that of the recorder of a number
 abbrev pub recorder_name : Contents → ℕ → Option (List ℕ)
-recorder_name contents number = option_map (λ (r : Recorder). r.name) (slice_get contents.recorders number)
+recorder_name contents number =
+    option_map (λ (r : Recorder). r.name) (slice_get contents.recorders number)
 
 -- that of the reader of a number
 abbrev pub reader_name : Setup → ℕ → Option (List ℕ)

@@ -1,5 +1,6 @@
 -- What opening leaves in the handles of a host.
-use Rattle.std.specs.Prelude.{◌≡◌, ◌≢◌, ◌⊎◌, ℕ, Bool, false, ◌||◌, List, [], Option, Some, None, length, map, nat_lt, slice_get}
+use Rattle.std.specs.Prelude.{◌≡◌, ◌≢◌, ◌⊎◌, ℕ, Bool, false, ◌||◌, List, [], Option, Some, None}
+use Rattle.std.specs.Prelude.{length, map, nat_lt, slice_get}
 use Rattle.std.specs.List.{range_with_len}
 use Rattle.metric_core.specs.Cells.{CellStands, new_cell}
 use Rattle.metric_marked.specs.Marks.{StandsMarked}
@@ -38,14 +39,16 @@ counts_of plan = record {
 -- whether there are fewer handles of some kind than there are to be
 abbrev pub lacks_handles : Counts → ℕ → ℕ → ℕ → Bool
 lacks_handles counts instruments recorders readers =
-    (nat_lt instruments counts.instruments || nat_lt recorders counts.recorders) || nat_lt readers counts.readers
+    (nat_lt instruments counts.instruments || nat_lt recorders counts.recorders)
+    || nat_lt readers counts.readers
 
 -- a plan is opened, or there are too few handles, or memory was refused
 abbrev pub IsOpenCode : ℕ → Type 0
 IsOpenCode code = (code ≡ 0) ⊎ ((code ≡ 102) ⊎ (code ≡ 11))
 
 -- The instrument of this number, without recordings since a start, in a run.
-pub record IsNewInstrument (plan : PlanValue) (start run number : ℕ) (h : HostedValue) : Type 0 where
+pub record IsNewInstrument (plan : PlanValue) (start run number : ℕ) (h : HostedValue)
+    : Type 0 where
   pub own_run : h.run ≡ run
   pub facts : slice_get plan.facts.instruments number ≡ Some h.cell.facts
   pub new : h.cell ≡ new_cell h.cell.facts start h.cell.book
@@ -56,22 +59,31 @@ HoldsNew plan start run number None = ⊥
 HoldsNew plan start run number (Some h) = IsNewInstrument plan start run number h
 
 -- One of each that the plan declares, in order.
-pub record AreNewInstruments (plan : PlanValue) (start run : ℕ) (all : List (Option HostedValue)) : Type 0 where
+pub record AreNewInstruments (plan : PlanValue) (start run : ℕ) (all : List (Option HostedValue))
+    : Type 0 where
   pub count : length all ≡ length plan.facts.contents.instruments
-  pub each : (number : ℕ) (one : Option HostedValue) → slice_get all number ≡ Some one → HoldsNew plan start run number one
+  pub each : (number : ℕ) (one : Option HostedValue) → slice_get all number ≡ Some one
+      → HoldsNew plan start run number one
 
 -- the seat of a recorder that was told of nothing
 abbrev pub new_recorder_of : PlanValue → ℕ → ℕ → Option HostedRecorder
-new_recorder_of plan run number = Some (record { plan = plan; seat = new_recorder false run (length plan.facts.instruments) number })
+new_recorder_of plan run number =
+    Some
+    (record { plan = plan; seat = new_recorder false run (length plan.facts.instruments) number })
 
 -- one of each that the plan declares, in order
 abbrev pub new_recorders : PlanValue → ℕ → List (Option HostedRecorder)
-new_recorders plan run = map (new_recorder_of plan run) (range_with_len 0 (length plan.facts.contents.recorders))
+new_recorders plan run =
+    map (new_recorder_of plan run) (range_with_len 0 (length plan.facts.contents.recorders))
 
 -- the seat of a reader that has seen nothing
 abbrev pub new_reader_of : PlanValue → ℕ → ℕ → Option HostedReader
 new_reader_of plan run number =
-    Some (record { plan = plan; seat = new_collector run (length plan.facts.instruments) number; last = None })
+    Some (record {
+      plan = plan;
+      seat = new_collector run (length plan.facts.instruments) number;
+      last = None;
+    })
 
 abbrev pub new_readers : PlanValue → ℕ → List (Option HostedReader)
 new_readers plan run = map (new_reader_of plan run) (range_with_len 0 (length plan.config.readers))
@@ -98,7 +110,8 @@ pub record Begins (plan : PlanValue) (start run : ℕ) (before after : AllHeld) 
   pub readers : AreFirst (new_readers plan run) before.readers after.readers
 
 -- A run of such a plan begins, and this is how many of each it has.
-pub record Opens (IsPlan : PlanValue → Type 0) (start run : ℕ) (counts : Counts) (before after : AllHeld) : Type 0 where
+pub record Opens (IsPlan : PlanValue → Type 0) (start run : ℕ) (counts : Counts)
+    (before after : AllHeld) : Type 0 where
   pub plan : PlanValue
   pub is : IsPlan plan
   pub counts_are : counts ≡ counts_of plan

@@ -20,15 +20,18 @@ IsEncoded (Err refusal) code set = code ≡ number_of refusal
 abbrev pub IsPrepared : PlanValue → ℕ → ℕ → Option (List Given) → ℕ → List ℕ → Type 0
 IsPrepared plan instrument count None code set = (code ≡ 101) ⊎ IsWantOfMemory count code
 IsPrepared plan instrument count (Some attrs) code set =
-    IsEncoded (encode_of plan.facts.contents.instruments instrument attrs) code set ⊎ IsWantOfMemory count code
+    IsEncoded (encode_of plan.facts.contents.instruments instrument attrs) code set
+    ⊎ IsWantOfMemory count code
 
--- the code and the number of those made: 0 and all, else the number of the refusal of the one after them
+-- the code and the number of those made: 0 and all, else the number of
+-- the refusal of the one after them
 abbrev pub IsListCode : Result (Unit {0}) ListRefusal → List Prepared → ℕ → ℕ → Type 0
 IsListCode (Ok done) list made code = (code ≡ 0) × (made ≡ length list)
 IsListCode (Err stop) list made code = (code ≡ number_of stop.refusal) × (made ≡ stop.done)
 
 -- The recordings of a list are made as they are answered.
-pub record RecordsList (list : List Prepared) (made code : ℕ) (old new : HostedValue) (before after : HostedRecorder) : Type 0 where
+pub record RecordsList (list : List Prepared) (made code : ℕ) (old new : HostedValue)
+    (before after : HostedRecorder) : Type 0 where
   pub plan : after.plan ≡ before.plan
   pub result : Result (Unit {0}) ListRefusal
   pub recorded : AnswersList before.plan old new before.seat after.seat list result

@@ -15,7 +15,8 @@ is_fault NoText = ⊥
 is_fault Memory = ⊥
 is_fault (Fault text) = Unit {0}
 
--- Texts that are UTF-8 or not, and may have a fault, come to no plan for this. Only texts have a fault.
+-- Texts that are UTF-8 or not, and may have a fault, come to no plan
+-- for this. Only texts have a fault.
 abbrev pub IsWhy : Bool → Type 0 → NoPlan → Type 0
 IsWhy are_texts HasFault NoText = are_texts ≡ false
 IsWhy are_texts HasFault Memory = Unit {0}

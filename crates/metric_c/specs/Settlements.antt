@@ -1,11 +1,13 @@
 -- What settling through handles is answered.
-use Rattle.std.specs.Prelude.{◌≡◌, ◌+◌, ◌*◌, ◌^◌, ◌⊎◌, ℕ, ℤ, pos, neg_ℤ, ◌==◌, List, [], ◌∷◌, Option, Some, None, Ok, Err, if◌then◌else◌, length, slice_get, take}
+use Rattle.std.specs.Prelude.{◌≡◌, ◌+◌, ◌*◌, ◌^◌, ◌⊎◌, ℕ, ℤ, pos, neg_ℤ, ◌==◌, List, [], ◌∷◌}
+use Rattle.std.specs.Prelude.{Option, Some, None, Ok, Err, if◌then◌else◌, length, slice_get, take}
 use Rattle.metric_hosted.specs.declared.planned.HostedRecorder.{HostedRecorder}
 use Rattle.metric_hosted.specs.declared.settling.SeatTold.{SeatTold}
 use Rattle.metric_hosted.specs.Hosts.{HostedValue}
 use Rattle.metric_hosted.specs.Settlements.{IsSeatOf, Settles, TellsOf, seated}
 use Rattle.metric_provider.specs.declared.fault.FinishFault.{FinishFault}
-use Rattle.metric_provider.specs.declared.fault.FinishFault.TheVariants.{RecorderMissing, Stranger, AuditMismatch, Memory}
+use Rattle.metric_provider.specs.declared.fault.FinishFault.TheVariants.{RecorderMissing, Stranger}
+use Rattle.metric_provider.specs.declared.fault.FinishFault.TheVariants.{AuditMismatch, Memory}
 use Rattle.metric_provider.specs.declared.totals.Total.{Total}
 use Rattle.metric_c.specs.declared.settlements.TotalOut.{TotalOut}
 
@@ -22,15 +24,18 @@ AllTold h [] [] = Unit {0}
 AllTold h [] (told ∷ others) = ⊥
 AllTold h (None ∷ seats) told = ⊥
 AllTold h (Some own ∷ seats) [] = ⊥
-AllTold h (Some own ∷ seats) (told ∷ others) = TellsOf own.plan h own.seat (Ok told) × AllTold h seats others
+AllTold h (Some own ∷ seats) (told ∷ others) =
+    TellsOf own.plan h own.seat (Ok told) × AllTold h seats others
 
--- a handle tells nothing of the instrument for this reason: it is null, or its seat is a stranger to it
+-- a handle tells nothing of the instrument for this reason: it is null,
+-- or its seat is a stranger to it
 abbrev pub TellsNot : HostedValue → Option HostedRecorder → ℕ → Type 0
 TellsNot h None code = code ≡ 100
 TellsNot h (Some own) code = (code ≡ 12) × (IsSeatOf own.plan h own.seat → ⊥)
 
 -- The first handle that tells nothing of the instrument does so for this reason.
-pub record IsFirstUntold (h : HostedValue) (seats : List (Option HostedRecorder)) (code : ℕ) : Type 0 where
+pub record IsFirstUntold (h : HostedValue) (seats : List (Option HostedRecorder)) (code : ℕ)
+    : Type 0 where
   pub at : ℕ
   pub seat : Option HostedRecorder
   pub is : slice_get seats at ≡ Some seat
@@ -40,7 +45,9 @@ pub record IsFirstUntold (h : HostedValue) (seats : List (Option HostedRecorder)
 
 -- the sum that was written
 abbrev pub sum_from : TotalOut → ℤ
-sum_from out = if out.negative == 0 then pos (out.high * 2 ^ 64 + out.low) else neg_ℤ (pos (out.high * 2 ^ 64 + out.low))
+sum_from out =
+    if out.negative == 0 then pos (out.high * 2 ^ 64 + out.low)
+    else neg_ℤ (pos (out.high * 2 ^ 64 + out.low))
 
 -- The total of what the recorders were told is written.
 pub record IsSettled (h : HostedValue) (told : List SeatTold) (out : TotalOut) : Type 0 where
@@ -60,11 +67,14 @@ abbrev pub AnswersTold : HostedValue → List SeatTold → TotalOut → ℕ → 
 AnswersTold h told out code = ((code ≡ 0) × IsSettled h told out) ⊎ IsUnsettled h told code
 
 -- Each handle has told, and this is what settling with it is answered.
-pub record AnswersAllTold (h : HostedValue) (seats : List (Option HostedRecorder)) (out : TotalOut) (code : ℕ) : Type 0 where
+pub record AnswersAllTold (h : HostedValue) (seats : List (Option HostedRecorder)) (out : TotalOut)
+    (code : ℕ) : Type 0 where
   pub told : List SeatTold
   pub all : AllTold h seats told
   pub answer : AnswersTold h told out code
 
--- what settling is answered: for the first handle that tells nothing, else for what all of them tell, unless memory was refused
+-- what settling is answered: for the first handle that tells nothing, else for what all of them
+-- tell, unless memory was refused
 abbrev pub AnswersSettle : HostedValue → List (Option HostedRecorder) → TotalOut → ℕ → Type 0
-AnswersSettle h seats out code = AnswersAllTold h seats out code ⊎ (IsFirstUntold h seats code ⊎ (code ≡ 11))
+AnswersSettle h seats out code =
+    AnswersAllTold h seats out code ⊎ (IsFirstUntold h seats code ⊎ (code ≡ 11))

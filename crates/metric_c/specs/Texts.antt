@@ -5,9 +5,11 @@ use Rattle.std.specs.Prelude.{◌≡◌, ◌⊎◌, ◌<◌, ◌++◌, ℕ, List
 abbrev pub AreFirst : {T : Type 0} → List T → List T → List T → Type 0
 AreFirst made before after = after ≡ made ++ drop (length made) before
 
--- what writing a list into a buffer is answered: 0 where its first places have it, 102 where there is no room for all of it
+-- what writing a list into a buffer is answered: 0 where its first places have it, 102
+-- where there is no room for all of it
 abbrev pub AnswersAll : {T : Type 0} → List T → List T → List T → ℕ → Type 0
-AnswersAll all before after code = ((code ≡ 0) × AreFirst all before after) ⊎ ((code ≡ 102) × (length before < length all))
+AnswersAll all before after code =
+    ((code ≡ 0) × AreFirst all before after) ⊎ ((code ≡ 102) × (length before < length all))
 
 -- the same of a text, whose length is written in either case
 abbrev pub AnswersText : List ℕ → List ℕ → List ℕ → ℕ → ℕ → Type 0
@@ -15,7 +17,8 @@ AnswersText text before after count code = (count ≡ length text) × AnswersAll
 
 -- a text stands in a buffer as far as there is room, with its whole length beside it
 abbrev pub IsFront : List ℕ → List ℕ → List ℕ → ℕ → Type 0
-IsFront text before after count = (count ≡ length text) × AreFirst (take (length before) text) before after
+IsFront text before after count =
+    (count ≡ length text) × AreFirst (take (length before) text) before after
 
 -- Some text does.
 pub record HasFront (before after : List ℕ) (count : ℕ) : Type 0 where

@@ -15,9 +15,12 @@ use Rattle.metric_plan.specs.declared.fault.CheckFault.{CheckFault}
 use Rattle.metric_plan.specs.Plans.{PlanValue, plan_of}
 use Rattle.metric_sdk.specs.Setups.{IsDeclared, IsFaultyConfig}
 use Rattle.metric_c.specs.declared.vouching.VouchFault.{VouchFault}
-use Rattle.metric_c.specs.declared.vouching.VouchFault.TheVariants.{Catalogue, Config, Certificate as BadCertificate, Check, Memory}
+use Rattle.metric_c.specs.declared.vouching.VouchFault.TheVariants.{Catalogue, Config}
+use Rattle.metric_c.specs.declared.vouching.VouchFault.TheVariants.{Certificate as BadCertificate}
+use Rattle.metric_c.specs.declared.vouching.VouchFault.TheVariants.{Check, Memory}
 
--- The certificate shows that the catalogue and the config are safe, and this is the plan that they come to.
+-- The certificate shows that the catalogue and the config are safe, and
+-- this is the plan that they come to.
 pub record IsVouchedPlan (catalogue config certificate : List ℕ) (plan : PlanValue) : Type 0 where
   pub contents : Contents
   pub setup : Setup
@@ -28,7 +31,8 @@ pub record IsVouchedPlan (catalogue config certificate : List ℕ) (plan : PlanV
   pub planned : plan ≡ plan_of true (by_product_of made) contents setup
 
 -- The catalogue and the config are right, and the certificate has this first fault.
-pub record IsFaultyCertificate (catalogue config certificate : List ℕ) (fault : CertFault) : Type 0 where
+pub record IsFaultyCertificate (catalogue config certificate : List ℕ) (fault : CertFault)
+    : Type 0 where
   pub contents : Contents
   pub setup : Setup
   pub declared : IsDeclared catalogue config contents setup
@@ -45,10 +49,14 @@ pub record IsRefuted (catalogue config certificate : List ℕ) (fault : CheckFau
 
 -- The fault is the first that the texts have, unless memory was refused.
 abbrev pub IsFirstVouchFault : VouchFault → List ℕ → List ℕ → List ℕ → Type 0
-IsFirstVouchFault (Catalogue fault) catalogue config certificate = catalogue_of catalogue ≡ Err fault
-IsFirstVouchFault (Config fault) catalogue config certificate = IsFaultyConfig catalogue config fault
-IsFirstVouchFault (BadCertificate fault) catalogue config certificate = IsFaultyCertificate catalogue config certificate fault
-IsFirstVouchFault (Check fault) catalogue config certificate = IsRefuted catalogue config certificate fault
+IsFirstVouchFault (Catalogue fault) catalogue config certificate =
+    catalogue_of catalogue ≡ Err fault
+IsFirstVouchFault (Config fault) catalogue config certificate =
+    IsFaultyConfig catalogue config fault
+IsFirstVouchFault (BadCertificate fault) catalogue config certificate =
+    IsFaultyCertificate catalogue config certificate fault
+IsFirstVouchFault (Check fault) catalogue config certificate =
+    IsRefuted catalogue config certificate fault
 IsFirstVouchFault Memory catalogue config certificate = Unit {0}
 
 -- Three texts have this first fault.
@@ -78,7 +86,10 @@ ReadsCertificate (Err _) read = ⊥
 
 -- the certified plan, or the first fault of the certificate's check, unless memory was refused
 abbrev pub Vouches : Result PlanValue VouchFault → Contents → Setup → Certificate → Type 0
-Vouches (Ok plan) contents config certificate = IsValid contents config certificate × (plan ≡ plan_of true (by_product_of certificate) contents config)
-Vouches (Err (Check fault)) contents config certificate = CheckFinds contents config certificate (Some fault)
+Vouches (Ok plan) contents config certificate =
+    IsValid contents config certificate
+    × (plan ≡ plan_of true (by_product_of certificate) contents config)
+Vouches (Err (Check fault)) contents config certificate =
+    CheckFinds contents config certificate (Some fault)
 Vouches (Err Memory) contents config certificate = Unit {0}
 Vouches (Err _) contents config certificate = ⊥

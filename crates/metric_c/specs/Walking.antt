@@ -1,11 +1,15 @@
 -- The batch that a reader keeps, point by point.
-use Rattle.std.specs.Prelude.{◌≡◌, ℕ, ℤ, pos, ◌==◌, nat_lt, List, [], Option, Some, None, length, option_and_then, option_map, replicate, slice_get, unwrap_or, if◌then◌else◌}
+use Rattle.std.specs.Prelude.{◌≡◌, ℕ, ℤ, pos, ◌==◌, nat_lt, List, [], Option, Some, None, length}
+use Rattle.std.specs.Prelude.{option_and_then, option_map, replicate, slice_get, unwrap_or}
+use Rattle.std.specs.Prelude.{if◌then◌else◌}
 use Rattle.metric_aggregate.specs.declared.point_value.PointValue.{PointValue}
 use Rattle.metric_aggregate.specs.declared.point_value.PointValue.TheVariants.{Sum, Last, Buckets}
 use Rattle.metric_catalogue.specs.declared.contents.Instrument.{Instrument}
 use Rattle.metric_catalogue.specs.declared.contents.Key.{Key}
 use Rattle.metric_catalogue.specs.declared.contents.Kind.{Kind}
-use Rattle.metric_catalogue.specs.declared.contents.Kind.TheVariants.{Counter, UpDownCounter, Histogram as HistogramKind, Gauge}
+use Rattle.metric_catalogue.specs.declared.contents.Kind.TheVariants.{Counter, UpDownCounter}
+use Rattle.metric_catalogue.specs.declared.contents.Kind.TheVariants.{Histogram as HistogramKind}
+use Rattle.metric_catalogue.specs.declared.contents.Kind.TheVariants.{Gauge}
 use Rattle.metric_catalogue.specs.declared.contents.Meter.{Meter}
 use Rattle.metric_history.specs.declared.batch.Batch.{Batch}
 use Rattle.metric_history.specs.declared.batch.Point.{Point}
@@ -17,7 +21,8 @@ use Rattle.metric_views.specs.declared.choices.Temporality.{Temporality}
 use Rattle.metric_views.specs.declared.choices.Temporality.TheVariants.{Delta, Cumulative}
 use Rattle.metric_views.specs.declared.stream.Stream.{Stream}
 use Rattle.metric_views.specs.declared.stream.StreamAggregation.{StreamAggregation}
-use Rattle.metric_views.specs.declared.stream.StreamAggregation.TheVariants.{Sum as SumOf, LastValue, Histogram}
+use Rattle.metric_views.specs.declared.stream.StreamAggregation.TheVariants.{Sum as SumOf}
+use Rattle.metric_views.specs.declared.stream.StreamAggregation.TheVariants.{LastValue, Histogram}
 use Rattle.metric_hosted.specs.declared.planned.HostedReader.{HostedReader}
 use Rattle.metric_c.specs.declared.attributes.Attribute.{Attribute}
 use Rattle.metric_c.specs.declared.batches.BatchOut.{BatchOut}
@@ -44,7 +49,9 @@ points_at own at = option_and_then (λ (batch : Batch). slice_get batch.streams 
 
 -- the stream that they are of
 abbrev pub stream_at : HostedReader → ℕ → Option Stream
-stream_at own at = option_and_then (λ (points : StreamPoints). slice_get own.plan.streams points.stream) (points_at own at)
+stream_at own at =
+    option_and_then (λ (points : StreamPoints). slice_get own.plan.streams points.stream)
+    (points_at own at)
 
 abbrev pub kind_number : Kind → ℕ
 kind_number Counter = 0
@@ -79,11 +86,13 @@ written_stream points stream = record {
 
 abbrev pub stream_out : HostedReader → ℕ → Option StreamOut
 stream_out own at =
-    option_and_then (λ (points : StreamPoints). option_map (written_stream points) (slice_get own.plan.streams points.stream)) (points_at own at)
+    option_and_then (λ (points : StreamPoints). option_map (written_stream points)
+    (slice_get own.plan.streams points.stream)) (points_at own at)
 
 -- a point of a stream
 abbrev pub point_at : HostedReader → ℕ → ℕ → Option Point
-point_at own at number = option_and_then (λ (points : StreamPoints). slice_get points.points number) (points_at own at)
+point_at own at number =
+    option_and_then (λ (points : StreamPoints). slice_get points.points number) (points_at own at)
 
 -- the counts of a histogram's buckets, else none
 abbrev pub buckets_of : PointValue → List ℕ
@@ -138,36 +147,48 @@ written_value set (Buckets count counts sum min max) = record {
 }
 
 abbrev pub point_out : HostedReader → ℕ → ℕ → Option PointOut
-point_out own at number = option_map (λ (point : Point). written_value point.set point.value) (point_at own at number)
+point_out own at number =
+    option_map (λ (point : Point). written_value point.set point.value) (point_at own at number)
 
--- the texts of a stream, by their numbers: its name, unit and description, and its meter's name, version and schema
+-- the texts of a stream, by their numbers: its name, unit and description, and its
+-- meter's name, version and schema
 abbrev pub instrument_at : HostedReader → ℕ → Option Instrument
-instrument_at own at = option_and_then (λ (stream : Stream). slice_get own.plan.facts.contents.instruments stream.instrument) (stream_at own at)
+instrument_at own at =
+    option_and_then (λ (stream : Stream).
+    slice_get own.plan.facts.contents.instruments stream.instrument) (stream_at own at)
 
 abbrev pub meter_at : HostedReader → ℕ → Option Meter
-meter_at own at = option_and_then (λ (i : Instrument). slice_get own.plan.facts.contents.meters i.meter) (instrument_at own at)
+meter_at own at =
+    option_and_then (λ (i : Instrument). slice_get own.plan.facts.contents.meters i.meter)
+    (instrument_at own at)
 
 abbrev pub stream_text : Stream → ℕ → List ℕ
-stream_text stream kind = if kind == 0 then stream.name else (if kind == 1 then stream.unit else stream.description)
+stream_text stream kind =
+    if kind == 0 then stream.name else (if kind == 1 then stream.unit else stream.description)
 
 abbrev pub meter_text : Meter → ℕ → List ℕ
-meter_text meter kind = if kind == 3 then meter.name else (if kind == 4 then meter.version else meter.schema_url)
+meter_text meter kind =
+    if kind == 3 then meter.name else (if kind == 4 then meter.version else meter.schema_url)
 
 abbrev pub text_at : HostedReader → ℕ → ℕ → Option (List ℕ)
 text_at own at kind =
-    if nat_lt kind 3 then option_map (λ (stream : Stream). stream_text stream kind) (stream_at own at)
-    else (if nat_lt kind 6 then option_map (λ (meter : Meter). meter_text meter kind) (meter_at own at) else None)
+    if nat_lt kind 3
+    then option_map (λ (stream : Stream). stream_text stream kind) (stream_at own at)
+    else (if nat_lt kind 6
+    then option_map (λ (meter : Meter). meter_text meter kind) (meter_at own at) else None)
 
 -- a key that the stream's instrument declares
 abbrev pub key_at : HostedReader → ℕ → ℕ → Option Key
-key_at own at number = option_and_then (λ (i : Instrument). slice_get i.keys number) (instrument_at own at)
+key_at own at number =
+    option_and_then (λ (i : Instrument). slice_get i.keys number) (instrument_at own at)
 
 abbrev pub key_name : HostedReader → ℕ → ℕ → Option (List ℕ)
 key_name own at number = option_map (λ (key : Key). key.name) (key_at own at number)
 
 -- the value that an entry of a set key names for a key
 abbrev pub entry_value : HostedReader → ℕ → ℕ → ℕ → Option AttrValue
-entry_value own at number entry = option_and_then (λ (key : Key). value_at key.values entry) (key_at own at number)
+entry_value own at number entry =
+    option_and_then (λ (key : Key). value_at key.values entry) (key_at own at number)
 
 -- the text of a value, else none
 abbrev pub text_of_value : AttrValue → List ℕ
@@ -183,8 +204,10 @@ attribute_of (Flag flag) = record { key = 0; kind = if flag then 3 else 2; text 
 
 -- the boundaries of the stream at a place
 abbrev pub boundaries_at : HostedReader → ℕ → Option (List ℤ)
-boundaries_at own at = option_map (λ (stream : Stream). boundaries_of stream.aggregation) (stream_at own at)
+boundaries_at own at =
+    option_map (λ (stream : Stream). boundaries_of stream.aggregation) (stream_at own at)
 
 -- the counts of a point's buckets
 abbrev pub buckets_at : HostedReader → ℕ → ℕ → Option (List ℕ)
-buckets_at own at number = option_map (λ (point : Point). buckets_of point.value) (point_at own at number)
+buckets_at own at number =
+    option_map (λ (point : Point). buckets_of point.value) (point_at own at number)

@@ -1,12 +1,15 @@
 -- The allowed combinations of an instrument.
-use Rattle.std.specs.Prelude.{ℕ, ℤ, pos, negsuc, ◌-◌, Bool, true, false, not, ◌&&◌, List, [], ◌∷◌, ◌++◌, length, map, replicate, Option, Some, None, Result, Ok, codes, unsigned_abs}
+use Rattle.std.specs.Prelude.{ℕ, ℤ, pos, negsuc, ◌-◌, Bool, true, false, not, ◌&&◌, List, [], ◌∷◌}
+use Rattle.std.specs.Prelude.{◌++◌, length, map, replicate, Option, Some, None, Result, Ok, codes}
+use Rattle.std.specs.Prelude.{unsigned_abs}
 use Rattle.toml.specs.Data.{Data, Members, get_member}
 use Rattle.metric_base.specs.Steps.{◌>>=◌, require, each}
 use Rattle.metric_combinations.specs.Combinations.{allows}
 use Rattle.metric_table.specs.Fields.{all_integers_of, list_of}
 use Rattle.metric_catalogue.specs.declared.contents.Key.{Key}
 use Rattle.metric_catalogue.specs.declared.fault.CatalogueFault.{CatalogueFault}
-use Rattle.metric_catalogue.specs.declared.fault.CatalogueDefect.TheVariants.{BadCombination, DuplicateCombination}
+use Rattle.metric_catalogue.specs.declared.fault.CatalogueDefect.TheVariants.{BadCombination}
+use Rattle.metric_catalogue.specs.declared.fault.CatalogueDefect.TheVariants.{DuplicateCombination}
 use Rattle.metric_catalogue.specs.declared.fault.CatalogueFault.TheVariants.{At}
 use Rattle.metric_catalogue.specs.declared.fault.CataloguePlace.{CataloguePlace}
 use Rattle.metric_catalogue.specs.Faults.{faults_at}
@@ -46,14 +49,16 @@ set_of_row at keys d = do
   Ok (row_set entries)
 
 -- one more row, after those before it
-unfoldable pub row_of : CataloguePlace → List Key → List (List ℕ) → Data → Result (List ℕ) CatalogueFault
+unfoldable pub row_of : CataloguePlace → List Key → List (List ℕ) → Data
+    → Result (List ℕ) CatalogueFault
 row_of at keys before d = do
   set ← set_of_row at keys d
   _ ← require (not (allows before set)) (At DuplicateCombination at)
   Ok set
 
 -- the allowed combinations, where there are rows of them
-abbrev pub allowed_of : CataloguePlace → List Key → Option (List Data) → Result (Option (List (List ℕ))) CatalogueFault
+abbrev pub allowed_of : CataloguePlace → List Key → Option (List Data)
+    → Result (Option (List (List ℕ))) CatalogueFault
 allowed_of at keys None = Ok None
 allowed_of at keys (Some rows) = do
   sets ← each (row_of at keys) [] rows

@@ -31,7 +31,12 @@ unfoldable pub contents_declared : ℕ → List Members → List Members → Res
 contents_declared format meters recorders = do
   metered ← in_turn (with_meter format) nothing_metered meters
   declared ← each (recorder_of (length metered.instruments)) [] recorders
-  Ok (record { format = format; meters = metered.meters; instruments = metered.instruments; recorders = declared })
+  Ok (record {
+    format = format;
+    meters = metered.meters;
+    instruments = metered.instruments;
+    recorders = declared;
+  })
 
 -- the contents of a catalogue's table
 unfoldable pub contents_of : Members → Result Contents CatalogueFault

@@ -1,7 +1,26 @@
 -- How the defect of a fault is printed.
 use Rattle.std.specs.Prelude.{ℕ, codes, List}
 use Rattle.metric_catalogue.specs.declared.fault.CatalogueDefect.{CatalogueDefect}
-use Rattle.metric_catalogue.specs.declared.fault.CatalogueDefect.TheVariants.{MissingField, WrongKind, UnknownField, BadName, BadUnit, DuplicateMeter, DuplicateInstrument, DuplicateKey, DuplicateValue, ReservedKey, BadRange, BadBoundaries, UnknownInstrument, DuplicateRecorder, DuplicateBudget, TooMany, BadCombination, DuplicateCombination}
+use Rattle.metric_catalogue.specs.declared.fault.CatalogueDefect.TheVariants.{
+  MissingField,
+  WrongKind,
+  UnknownField,
+  BadName,
+  BadUnit,
+  DuplicateMeter,
+  DuplicateInstrument,
+  DuplicateKey,
+  DuplicateValue,
+  ReservedKey,
+  BadRange,
+  BadBoundaries,
+  UnknownInstrument,
+  DuplicateRecorder,
+  DuplicateBudget,
+  TooMany,
+  BadCombination,
+  DuplicateCombination,
+}
 
 -- its number among the faults, and its name
 abbrev pub defect_text : CatalogueDefect → List ℕ

@@ -1,5 +1,7 @@
 -- The set key that attributes name, or the first refusal.
-use Rattle.std.specs.Prelude.{◌≡◌, ℕ, ◌+◌, ◌-◌, Bool, false, not, ◌||◌, List, [], ◌∷◌, ◌++◌, length, map, replicate, Option, Some, None, is_some, unwrap_or, Result, Ok, slice_get, find}
+use Rattle.std.specs.Prelude.{◌≡◌, ℕ, ◌+◌, ◌-◌, Bool, false, not, ◌||◌, List, [], ◌∷◌, ◌++◌, length}
+use Rattle.std.specs.Prelude.{map, replicate, Option, Some, None, is_some, unwrap_or, Result, Ok}
+use Rattle.std.specs.Prelude.{slice_get, find}
 use Rattle.std.specs.List.{list_any, list_all}
 use Rattle.std.specs.Option.{option_map}
 use Rattle.std.specs.List.Sorted.{IsPermutation}
@@ -10,7 +12,14 @@ use Rattle.metric_names.specs.declared.value.AttrValue.{AttrValue}
 use Rattle.metric_catalogue.specs.declared.contents.Instrument.{Instrument}
 use Rattle.metric_catalogue.specs.declared.contents.Key.{Key}
 use Rattle.metric_catalogue.specs.declared.refusal.Refusal.{Refusal}
-use Rattle.metric_catalogue.specs.declared.refusal.Refusal.TheVariants.{UnknownInstrument, DuplicateKey, UnknownKey, UnknownValue, MissingKey, Combination}
+use Rattle.metric_catalogue.specs.declared.refusal.Refusal.TheVariants.{
+  UnknownInstrument,
+  DuplicateKey,
+  UnknownKey,
+  UnknownValue,
+  MissingKey,
+  Combination,
+}
 use Rattle.metric_catalogue.specs.Keys.{is_key}
 use Rattle.metric_catalogue.specs.Places.{place}
 
@@ -58,7 +67,8 @@ entry_at attrs key = entry_of key (find (is_of key.name) attrs)
 
 -- an entry for each declared key, and 0 in the places that are left
 abbrev pub set_key : List Key → List Given → List ℕ
-set_key keys attrs = map (λ key. unwrap_or (entry_at attrs key) 0) keys ++ replicate (8 - length keys) 0
+set_key keys attrs =
+    map (λ key. unwrap_or (entry_at attrs key) 0) keys ++ replicate (8 - length keys) 0
 
 -- the set key that the attributes name, each refusal tried over all of them before the next
 unfoldable pub set_of : List Key → List Given → Result (List ℕ) Refusal
@@ -89,4 +99,7 @@ encode_of instruments number attrs = do
 
 -- Attributes in another order name the same set key, or get the same refusal.
 abbrev pub IgnoresOrder : Type 0
-IgnoresOrder = (instruments : List Instrument) (number : ℕ) (attrs others : List Given) → IsPermutation attrs others → encode_of instruments number attrs ≡ encode_of instruments number others
+IgnoresOrder =
+    (instruments : List Instrument) (number : ℕ) (attrs others : List Given)
+    → IsPermutation attrs others
+    → encode_of instruments number attrs ≡ encode_of instruments number others

@@ -2,7 +2,8 @@
 use Rattle.std.specs.Prelude.{ℕ, codes, List, ◌++◌}
 use Rattle.std.specs.Fmt.{decimal}
 use Rattle.metric_catalogue.specs.declared.fault.CataloguePlace.{CataloguePlace}
-use Rattle.metric_catalogue.specs.declared.fault.CataloguePlace.TheVariants.{Top, Meter, Instrument, Recorder}
+use Rattle.metric_catalogue.specs.declared.fault.CataloguePlace.TheVariants.{Top, Meter, Instrument}
+use Rattle.metric_catalogue.specs.declared.fault.CataloguePlace.TheVariants.{Recorder}
 
 -- a meter, an instrument and a recorder with their number
 abbrev pub place_text : CataloguePlace → List ℕ

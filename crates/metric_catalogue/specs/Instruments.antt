@@ -1,19 +1,28 @@
 -- The instruments of a meter.
-use Rattle.std.specs.Prelude.{ℕ, ℤ, pos, Bool, not, ◌&&◌, ◌||◌, ◌==◌, if◌then◌else◌, List, [], ◌∷◌, length, Option, Some, None, Result, Ok, Err, int_le, unwrap_or, codes}
+use Rattle.std.specs.Prelude.{ℕ, ℤ, pos, Bool, not, ◌&&◌, ◌||◌, ◌==◌, if◌then◌else◌, List, [], ◌∷◌}
+use Rattle.std.specs.Prelude.{length, Option, Some, None, Result, Ok, Err, int_le, unwrap_or, codes}
 use Rattle.std.specs.List.{list_any}
 use Rattle.std.specs.Str.{bytes_eq}
 use Rattle.toml.specs.Data.{Data, Members, get_member}
 use Rattle.metric_base.specs.Steps.{◌>>=◌, require, require_some, with_fault, each}
 use Rattle.metric_names.specs.Names.{folded, name_of}
 use Rattle.metric_names.specs.Units.{unit_of}
-use Rattle.metric_table.specs.Fields.{only, field, text_field, optional_text, list_of, integer_of, integers_of, tables_field}
+use Rattle.metric_table.specs.Fields.{only, field, text_field, optional_text, list_of, integer_of}
+use Rattle.metric_table.specs.Fields.{integers_of, tables_field}
 use Rattle.metric_catalogue.specs.declared.contents.Instrument.{Instrument}
 use Rattle.metric_catalogue.specs.declared.contents.Key.{Key}
 use Rattle.metric_catalogue.specs.declared.contents.Kind.{Kind}
 use Rattle.metric_catalogue.specs.declared.instruments.Head.{Head}
 use Rattle.metric_catalogue.specs.declared.instruments.Limits.{Limits}
 use Rattle.metric_catalogue.specs.declared.fault.CatalogueFault.{CatalogueFault}
-use Rattle.metric_catalogue.specs.declared.fault.CatalogueDefect.TheVariants.{WrongKind, BadName, BadUnit, BadRange, BadBoundaries, DuplicateInstrument}
+use Rattle.metric_catalogue.specs.declared.fault.CatalogueDefect.TheVariants.{
+  WrongKind,
+  BadName,
+  BadUnit,
+  BadRange,
+  BadBoundaries,
+  DuplicateInstrument,
+}
 use Rattle.metric_catalogue.specs.declared.fault.CatalogueFault.TheVariants.{At}
 use Rattle.metric_catalogue.specs.declared.fault.CataloguePlace.{CataloguePlace}
 use Rattle.metric_catalogue.specs.declared.fault.CataloguePlace.TheVariants as place
@@ -29,10 +38,12 @@ use Rattle.metric_catalogue.specs.Keys.{key_of}
 unfoldable pub instrument_fields : ℕ → List (List ℕ)
 instrument_fields format =
     codes "name" ∷ codes "kind" ∷ codes "unit" ∷ codes "description" ∷
-    codes "range" ∷ codes "boundaries" ∷ codes "key" ∷ (if format == 1 then [] else codes "allowed" ∷ codes "spare" ∷ [])
+    codes "range" ∷ codes "boundaries" ∷ codes "key"
+    ∷ (if format == 1 then [] else codes "allowed" ∷ codes "spare" ∷ [])
 
 -- an instrument has no other fields
-unfoldable pub only_instrument_fields : ℕ → CataloguePlace → Members → Result (Unit {0}) CatalogueFault
+unfoldable pub only_instrument_fields : ℕ → CataloguePlace → Members
+    → Result (Unit {0}) CatalogueFault
 only_instrument_fields format at table = only (faults_at at) (instrument_fields format) table
 
 -- the name of an instrument, of a table with no other fields
@@ -97,7 +108,8 @@ boundaries_of at d = do
   Ok boundaries
 
 -- boundaries, where there are any
-abbrev pub boundaries_within : CataloguePlace → Option Data → Result (Option (List ℤ)) CatalogueFault
+abbrev pub boundaries_within : CataloguePlace → Option Data
+    → Result (Option (List ℤ)) CatalogueFault
 boundaries_within at None = Ok None
 boundaries_within at (Some d) = do
   boundaries ← boundaries_of at d
@@ -109,7 +121,8 @@ advice_field at table = boundaries_within at (get_member (codes "boundaries") ta
 
 -- the instrument is of this meter and has this name without ASCII case
 abbrev pub is_instrument : ℕ → List ℕ → Instrument → Bool
-is_instrument meter name instrument = (instrument.meter == meter) && bytes_eq (folded instrument.name) (folded name)
+is_instrument meter name instrument =
+    (instrument.meter == meter) && bytes_eq (folded instrument.name) (folded name)
 
 -- a spare budget, 0 where there is none
 abbrev pub spare_within : CataloguePlace → Option Data → Result ℕ CatalogueFault
@@ -122,8 +135,8 @@ spare_within at (Some d) = do
 unfoldable pub spare_field : CataloguePlace → Members → Result ℕ CatalogueFault
 spare_field at table = spare_within at (get_member (codes "spare") table)
 
--- what limits the recordings of an instrument: its keys, the combinations of their values that it allows where it lists them, and
--- its spare budget, unless its name is taken
+-- what limits the recordings of an instrument: its keys, the combinations of their values that it
+-- allows where it lists them, and its spare budget, unless its name is taken
 unfoldable pub limits_field : CataloguePlace → Bool → Members → Result Limits CatalogueFault
 limits_field at is_taken table = do
   tables ← tables_field (faults_at at) 8 (codes "key") table
@@ -142,4 +155,16 @@ instrument_of format meter before table = do
   range ← range_field at head.kind table
   advice ← advice_field at table
   limits ← limits_field at (list_any (is_instrument meter head.name) before) table
-  Ok (record { meter = meter; name = head.name; kind = head.kind; unit = head.unit; description = head.description; lo = range.0; hi = range.1; advice = advice; keys = limits.keys; allowed = limits.allowed; spare = limits.spare })
+  Ok (record {
+    meter = meter;
+    name = head.name;
+    kind = head.kind;
+    unit = head.unit;
+    description = head.description;
+    lo = range.0;
+    hi = range.1;
+    advice = advice;
+    keys = limits.keys;
+    allowed = limits.allowed;
+    spare = limits.spare;
+  })

@@ -1,9 +1,11 @@
 -- Full sets of declared keys.
-use Rattle.std.specs.Prelude.{ℕ, Bool, false, ◌&&◌, ◌==◌, if◌then◌else◌, List, [], ◌∷◌, length, nat_le}
+use Rattle.std.specs.Prelude.{ℕ, Bool, false, ◌&&◌, ◌==◌, if◌then◌else◌, List, [], ◌∷◌, length}
+use Rattle.std.specs.Prelude.{nat_le}
 use Rattle.std.specs.List.{list_all}
 use Rattle.metric_catalogue.specs.declared.contents.Key.{Key}
 
--- whether a number is an entry of a key: one plus the place of a value, or 0 where the key may be left out
+-- whether a number is an entry of a key: one plus the place of a value, or
+-- 0 where the key may be left out
 abbrev pub is_key_entry : Key → ℕ → Bool
 is_key_entry key entry = if entry == 0 then key.optional else nat_le entry (length key.values)
 

@@ -1,5 +1,6 @@
 -- The keys of an instrument.
-use Rattle.std.specs.Prelude.{ℕ, Bool, false, not, List, [], ◌∷◌, length, Result, Ok, Err, ◌==◌, codes}
+use Rattle.std.specs.Prelude.{ℕ, Bool, false, not, List, [], ◌∷◌, length, Result, Ok, Err, ◌==◌}
+use Rattle.std.specs.Prelude.{codes}
 use Rattle.std.specs.List.{list_any}
 use Rattle.std.specs.Str.{bytes_eq}
 use Rattle.toml.specs.Data.{Data, string, integer, boolean, Members}
@@ -9,7 +10,13 @@ use Rattle.metric_names.specs.declared.value.AttrValue.TheVariants.{Text, Whole,
 use Rattle.metric_table.specs.Fields.{only, field, list_of, short_text, flag_or, each_alone}
 use Rattle.metric_catalogue.specs.declared.contents.Key.{Key}
 use Rattle.metric_catalogue.specs.declared.fault.CatalogueFault.{CatalogueFault}
-use Rattle.metric_catalogue.specs.declared.fault.CatalogueDefect.TheVariants.{MissingField, WrongKind, ReservedKey, DuplicateValue, DuplicateKey}
+use Rattle.metric_catalogue.specs.declared.fault.CatalogueDefect.TheVariants.{
+  MissingField,
+  WrongKind,
+  ReservedKey,
+  DuplicateValue,
+  DuplicateKey,
+}
 use Rattle.metric_catalogue.specs.declared.fault.CatalogueFault.TheVariants.{At}
 use Rattle.metric_catalogue.specs.declared.fault.CataloguePlace.{CataloguePlace}
 use Rattle.metric_catalogue.specs.Faults.{faults_at}

@@ -1,5 +1,6 @@
 -- The meters of a catalogue, with the instruments of each.
-use Rattle.std.specs.Prelude.{ℕ, ◌-◌, Bool, not, ◌&&◌, List, [], ◌∷◌, ◌++◌, length, Result, Ok, codes}
+use Rattle.std.specs.Prelude.{ℕ, ◌-◌, Bool, not, ◌&&◌, List, [], ◌∷◌, ◌++◌, length, Result, Ok}
+use Rattle.std.specs.Prelude.{codes}
 use Rattle.std.specs.List.{list_any}
 use Rattle.std.specs.Str.{bytes_eq}
 use Rattle.toml.specs.Data.{Members}
@@ -35,7 +36,9 @@ meter_of at table = do
 
 -- the two meters have the same name, version and schema URL
 abbrev pub is_meter : Meter → Meter → Bool
-is_meter meter other = bytes_eq other.name meter.name && (bytes_eq other.version meter.version && bytes_eq other.schema_url meter.schema_url)
+is_meter meter other =
+    bytes_eq other.name meter.name
+    && (bytes_eq other.version meter.version && bytes_eq other.schema_url meter.schema_url)
 
 -- one more meter with its instruments in a file of this format, which has at most 512
 unfoldable pub with_meter : ℕ → Metered → Members → Result Metered CatalogueFault

@@ -16,7 +16,9 @@ number_in numbering (Flag false) = numbering.no
 
 -- The new numbering gives the value this number, and each other value the number that it had.
 abbrev pub PutsNumber : Numbering → Numbering → AttrValue → ℕ → Type 0
-PutsNumber old new value number = (other : AttrValue) → number_in new other ≡ (if same_value value other then Some number else number_in old other)
+PutsNumber old new value number =
+    (other : AttrValue)
+    → number_in new other ≡ (if same_value value other then Some number else number_in old other)
 
 -- The number of each value is its place in the list, and a value that is not there has none.
 abbrev pub Numbers : Numbering → List AttrValue → Type 0

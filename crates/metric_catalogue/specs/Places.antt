@@ -1,5 +1,6 @@
 -- The place of a value in the list that a key declares.
-use Rattle.std.specs.Prelude.{ℕ, Bool, false, not, ◌||◌, if◌then◌else◌, List, [], ◌∷◌, ◌++◌, Option, is_some}
+use Rattle.std.specs.Prelude.{ℕ, Bool, false, not, ◌||◌, if◌then◌else◌, List, [], ◌∷◌, ◌++◌, Option}
+use Rattle.std.specs.Prelude.{is_some}
 use Rattle.std.specs.Ordering.{int_eq}
 use Rattle.std.specs.Str.{bytes_eq}
 use Rattle.std.specs.List.{position_from}
@@ -20,7 +21,8 @@ place values value = position_from (same_value value) 0 values
 -- some value of those that are left stands before its own place
 abbrev pub repeats_after : List AttrValue → List AttrValue → Bool
 repeats_after before [] = false
-repeats_after before (value ∷ left) = is_some (place before value) || repeats_after (before ++ value ∷ []) left
+repeats_after before (value ∷ left) =
+    is_some (place before value) || repeats_after (before ++ value ∷ []) left
 
 -- some value stands twice
 abbrev pub has_repeat : List AttrValue → Bool

@@ -1,5 +1,6 @@
 -- The recorders of a catalogue, with their budgets.
-use Rattle.std.specs.Prelude.{ℕ, ℤ, pos, negsuc, Bool, not, ◌==◌, ◌^◌, nat_lt, if◌then◌else◌, List, [], ◌∷◌, length, Option, Some, None, Result, Ok, codes}
+use Rattle.std.specs.Prelude.{ℕ, ℤ, pos, negsuc, Bool, not, ◌==◌, ◌^◌, nat_lt, if◌then◌else◌, List}
+use Rattle.std.specs.Prelude.{[], ◌∷◌, length, Option, Some, None, Result, Ok, codes}
 use Rattle.std.specs.List.{list_any}
 use Rattle.std.specs.Str.{bytes_eq}
 use Rattle.toml.specs.Data.{Members}
@@ -8,7 +9,12 @@ use Rattle.metric_table.specs.Fields.{only, field, integer_of, tables_field}
 use Rattle.metric_catalogue.specs.declared.contents.Budget.{Budget}
 use Rattle.metric_catalogue.specs.declared.contents.Recorder.{Recorder}
 use Rattle.metric_catalogue.specs.declared.fault.CatalogueFault.{CatalogueFault}
-use Rattle.metric_catalogue.specs.declared.fault.CatalogueDefect.TheVariants.{BadRange, UnknownInstrument, DuplicateRecorder, DuplicateBudget}
+use Rattle.metric_catalogue.specs.declared.fault.CatalogueDefect.TheVariants.{
+  BadRange,
+  UnknownInstrument,
+  DuplicateRecorder,
+  DuplicateBudget,
+}
 use Rattle.metric_catalogue.specs.declared.fault.CatalogueFault.TheVariants.{At}
 use Rattle.metric_catalogue.specs.declared.fault.CataloguePlace.{CataloguePlace}
 use Rattle.metric_catalogue.specs.declared.fault.CataloguePlace.TheVariants as place
@@ -75,7 +81,8 @@ recorder_name at table = do
   label_field at table
 
 -- the budgets of a recorder, unless its name is taken
-unfoldable pub budgets_field : CataloguePlace → ℕ → Bool → Members → Result (List Budget) CatalogueFault
+unfoldable pub budgets_field : CataloguePlace → ℕ → Bool → Members
+    → Result (List Budget) CatalogueFault
 budgets_field at count is_taken table = do
   tables ← tables_field (faults_at at) 512 (codes "budget") table
   _ ← require (not is_taken) (At DuplicateRecorder at)

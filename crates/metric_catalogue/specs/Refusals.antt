@@ -2,7 +2,23 @@
 use Rattle.std.specs.Prelude.{ℕ, List, codes, ◌++◌}
 use Rattle.std.specs.Fmt.{decimal}
 use Rattle.metric_catalogue.specs.declared.refusal.Refusal.{Refusal}
-use Rattle.metric_catalogue.specs.declared.refusal.Refusal.TheVariants.{Stranger, UnknownInstrument, UnknownRecorder, UnknownReader, DuplicateKey, UnknownKey, UnknownValue, MissingKey, Combination, ValueRange, Closed, Budget, NoSpare, SumRange, Memory}
+use Rattle.metric_catalogue.specs.declared.refusal.Refusal.TheVariants.{
+  Stranger,
+  UnknownInstrument,
+  UnknownRecorder,
+  UnknownReader,
+  DuplicateKey,
+  UnknownKey,
+  UnknownValue,
+  MissingKey,
+  Combination,
+  ValueRange,
+  Closed,
+  Budget,
+  NoSpare,
+  SumRange,
+  Memory,
+}
 
 abbrev pub number_of : Refusal → ℕ
 number_of UnknownInstrument = 1

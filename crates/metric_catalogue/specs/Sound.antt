@@ -1,5 +1,6 @@
 -- What holds of every catalogue.
-use Rattle.std.specs.Prelude.{◌≡◌, ◌≢◌, ℕ, ℤ, pos, ◌⊎◌, ◌<◌, ◌^◌, ◌≤◌, ◌≤ℤ◌, All, AllPairs, IfSome, IsTrue, List, None, codes, length, true}
+use Rattle.std.specs.Prelude.{◌≡◌, ◌≢◌, ℕ, ℤ, pos, ◌⊎◌, ◌<◌, ◌^◌, ◌≤◌, ◌≤ℤ◌, All, AllPairs, IfSome}
+use Rattle.std.specs.Prelude.{IsTrue, List, None, codes, length, true}
 use Rattle.std.specs.Str.{chars}
 use Rattle.metric_base.specs.Boundaries.{is_rising}
 use Rattle.metric_names.specs.Names.{IsName, IsSameName}
@@ -16,7 +17,8 @@ use Rattle.metric_catalogue.specs.KeySets.{is_key_set}
 use Rattle.metric_catalogue.specs.Kinds.{is_monotonic}
 
 -- A list has at most so many elements, a fact holds of each, and any two are apart.
-pub record IsSoundList {X : Type 0} (most : ℕ) (P : X → Type 0) (AreApart : X → X → Type 0) (xs : List X) : Type 0 where
+pub record IsSoundList {X : Type 0} (most : ℕ) (P : X → Type 0) (AreApart : X → X → Type 0)
+    (xs : List X) : Type 0 where
   pub few : length xs ≤ most
   pub each : All P xs
   pub apart : AllPairs AreApart xs
@@ -63,8 +65,9 @@ pub record IsSoundRow (keys : List Key) (row : List ℕ) : Type 0 where
 abbrev pub AreSoundRows : List Key → List (List ℕ) → Type 0
 AreSoundRows keys rows = IsSoundList 4096 (IsSoundRow keys) (λ row other. row ≢ other) rows
 
--- An instrument is of one of so many meters. Its range is not empty, and has no negative value where sums only rise. It has at
--- most 8 keys of distinct names. Its spare budget is at most 2^63 - 1.
+-- An instrument is of one of so many meters. Its range is not empty, and has no
+-- negative value where sums only rise. It has at most 8 keys of distinct names. Its
+-- spare budget is at most 2^63 - 1.
 pub record IsSoundInstrument (meters : ℕ) (instrument : Instrument) : Type 0 where
   pub known : instrument.meter < meters
   pub name : IsName instrument.name
@@ -79,7 +82,8 @@ pub record IsSoundInstrument (meters : ℕ) (instrument : Instrument) : Type 0 w
 
 -- Two instruments of one meter have names that differ without case.
 abbrev pub AreInstrumentsApart : Instrument → Instrument → Type 0
-AreInstrumentsApart instrument other = instrument.meter ≡ other.meter → ¬ IsSameName instrument.name other.name
+AreInstrumentsApart instrument other =
+    instrument.meter ≡ other.meter → ¬ IsSameName instrument.name other.name
 
 -- A budget is for one of so many instruments, and is at most 2^63 - 1.
 pub record IsSoundBudget (instruments : ℕ) (budget : Budget) : Type 0 where
@@ -89,12 +93,18 @@ pub record IsSoundBudget (instruments : ℕ) (budget : Budget) : Type 0 where
 -- A recorder has a label, and at most 512 budgets for distinct instruments.
 pub record IsSoundRecorder (instruments : ℕ) (recorder : Recorder) : Type 0 where
   pub name : IsLabel recorder.name
-  pub budgets : IsSoundList 512 (IsSoundBudget instruments) (λ budget other. budget.instrument ≢ other.instrument) recorder.budgets
+  pub budgets : IsSoundList 512 (IsSoundBudget instruments)
+      (λ budget other. budget.instrument ≢ other.instrument) recorder.budgets
 
--- The format is 1, in which no instrument lists combinations or has a spare budget, or 2. There are at most 64 meters, 512 instruments and 64 recorders. Meters differ in name, version or schema URL, recorders in name.
+-- The format is 1, in which no instrument lists combinations or has a spare budget, or 2.
+-- There are at most 64 meters, 512 instruments and 64 recorders. Meters differ in name,
+-- version or schema URL, recorders in name.
 pub record IsSound (c : Contents) : Type 0 where
   pub format : (c.format ≡ 1) ⊎ (c.format ≡ 2)
-  pub plain : c.format ≡ 1 → All (λ instrument. (instrument.allowed ≡ None) × (instrument.spare ≡ 0)) c.instruments
+  pub plain : c.format ≡ 1
+      → All (λ instrument. (instrument.allowed ≡ None) × (instrument.spare ≡ 0)) c.instruments
   pub meters : IsSoundList 64 IsSoundMeter (λ meter other. meter ≢ other) c.meters
-  pub instruments : IsSoundList 512 (IsSoundInstrument (length c.meters)) AreInstrumentsApart c.instruments
-  pub recorders : IsSoundList 64 (IsSoundRecorder (length c.instruments)) (λ recorder other. recorder.name ≢ other.name) c.recorders
+  pub instruments : IsSoundList 512
+      (IsSoundInstrument (length c.meters)) AreInstrumentsApart c.instruments
+  pub recorders : IsSoundList 64 (IsSoundRecorder (length c.instruments))
+      (λ recorder other. recorder.name ≢ other.name) c.recorders

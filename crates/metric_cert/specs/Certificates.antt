@@ -15,7 +15,8 @@ use Rattle.metric_cert.specs.Reasons.{reason_of}
 use Rattle.metric_cert.specs.Streams.{stream_of}
 
 abbrev pub certificate_fields : List (List ℕ)
-certificate_fields = codes "format" ∷ codes "reason" ∷ codes "stream" ∷ codes "bound" ∷ codes "order" ∷ []
+certificate_fields =
+    codes "format" ∷ codes "reason" ∷ codes "stream" ∷ codes "bound" ∷ codes "order" ∷ []
 
 -- what the fields say
 unfoldable pub claims_of : Members → Result Claims CertFault
@@ -25,7 +26,13 @@ claims_of table = do
   streams ← needed (tables_as stream_of) (codes "stream") table
   bounds ← needed (tables_as bound_of) (codes "bound") table
   orders ← needed (tables_as order_of) (codes "order") table
-  Ok (record { format = format; reasons = reasons; streams = streams; bounds = bounds; orders = orders })
+  Ok (record {
+    format = format;
+    reasons = reasons;
+    streams = streams;
+    bounds = bounds;
+    orders = orders;
+  })
 
 -- claims of a format that there is
 abbrev pub formatted : Claims → Result Claims CertFault

@@ -8,5 +8,6 @@ use Rattle.std.specs.Str.Parse.{signed_digits_value}
 -- a text that is the decimal spelling of an i128
 unfoldable pub wide_of : List ℕ → Option ℤ
 wide_of text =
-    if nat_lt (mag (signed_digits_value 10 text)) (2 ^ 127) && bytes_eq (signed_decimal (signed_digits_value 10 text)) text
+    if nat_lt (mag (signed_digits_value 10 text)) (2 ^ 127)
+    && bytes_eq (signed_decimal (signed_digits_value 10 text)) text
     then Some (signed_digits_value 10 text) else None

@@ -7,7 +7,9 @@ use Rattle.metric_table.specs.Fields.{text_of}
 use Rattle.metric_cert.specs.declared.fault.CertFault.{CertFault}
 use Rattle.metric_cert.specs.declared.fault.CertFault.TheVariants.{Shape}
 use Rattle.metric_cert.specs.declared.reason.Criterion.{Criterion}
-use Rattle.metric_cert.specs.declared.reason.Criterion.TheVariants.{InstrumentType, InstrumentUnit, MeterName, MeterVersion, MeterSchemaUrl}
+use Rattle.metric_cert.specs.declared.reason.Criterion.TheVariants.{InstrumentType, InstrumentUnit}
+use Rattle.metric_cert.specs.declared.reason.Criterion.TheVariants.{MeterName, MeterVersion}
+use Rattle.metric_cert.specs.declared.reason.Criterion.TheVariants.{MeterSchemaUrl}
 use Rattle.metric_cert.specs.declared.stream.BoundWord.{BoundWord}
 use Rattle.metric_cert.specs.declared.stream.BoundWord.TheVariants as words
 use Rattle.metric_cert.specs.declared.stream.By.{By}

@@ -1,6 +1,8 @@
 -- How the text of a certificate is made, piece by piece.
-use Rattle.std.specs.Prelude.{◌≡◌, ℕ, pos, true, false, Bool, ◌==◌, ◌+◌, List, [], ◌∷◌, ◌++◌, length, map, Result, Ok, codes}
-use Rattle.toml.specs.Data.{Data, integer, array, no_items, item, no_members, member, has_valid_dates, items_have_valid_dates}
+use Rattle.std.specs.Prelude.{◌≡◌, ℕ, pos, true, false, Bool, ◌==◌, ◌+◌, List, [], ◌∷◌, ◌++◌}
+use Rattle.std.specs.Prelude.{length, map, Result, Ok, codes}
+use Rattle.toml.specs.Data.{Data, integer, array, no_items, item, no_members, member}
+use Rattle.toml.specs.Data.{has_valid_dates, items_have_valid_dates}
 use Rattle.toml.specs.Tables.{Expression, key_value}
 use Rattle.toml.specs.Text.{IsDocumentText, IsLinesText, are_tables, elements, expressions}
 use Rattle.toml.specs.View.{items_view, view}
@@ -46,10 +48,12 @@ pair_of xs = pair_where (length xs == 0)
 abbrev pub pairs_of : Claims → List Expression
 pairs_of claims =
     pair_of claims.bounds (codes "bound") ++ (pair (codes "format") (integer (pos claims.format))
-    ++ (pair_of claims.orders (codes "order") ++ (pair_of claims.reasons (codes "reason") ++ pair_of claims.streams (codes "stream"))))
+    ++ (pair_of claims.orders (codes "order")
+    ++ (pair_of claims.reasons (codes "reason") ++ pair_of claims.streams (codes "stream"))))
 
 -- A table of a list was written under its header, which is read as this.
-pub record AppendsEntry {X : Type 0} (step : Data → Result X CertFault) (levels : ℕ) (name : List ℕ) (x : X) (before after : List ℕ) : Type 0 where
+pub record AppendsEntry {X : Type 0} (step : Data → Result X CertFault) (levels : ℕ) (name : List ℕ)
+    (x : X) (before after : List ℕ) : Type 0 where
   pub value : Value
   pub reads : step (view value) ≡ Ok x
   pub printable : IsPrintable levels (view value)
@@ -58,7 +62,8 @@ pub record AppendsEntry {X : Type 0} (step : Data → Result X CertFault) (level
   pub lines : AppendsLines (elements ([], name) (item (view value) no_items)) before after
 
 -- The tables of a list were written, each under its header.
-pub record AppendsEntries {X : Type 0} (step : Data → Result X CertFault) (levels : ℕ) (name : List ℕ) (xs : List X) (before after : List ℕ) : Type 0 where
+pub record AppendsEntries {X : Type 0} (step : Data → Result X CertFault) (levels : ℕ)
+    (name : List ℕ) (xs : List X) (before after : List ℕ) : Type 0 where
   pub values : List Value
   pub count : length values ≡ length xs
   pub reads : each_alone step (map view values) ≡ Ok xs
@@ -73,6 +78,9 @@ pub record AppendsLists (claims : Claims) (before after : List ℕ) : Type 0 whe
   pub with_orders : List ℕ
   pub with_reasons : List ℕ
   pub bounds : AppendsEntries (table_as bound_of) 1 (codes "bound") claims.bounds before with_bounds
-  pub orders : AppendsEntries (table_as order_of) 2 (codes "order") claims.orders with_bounds with_orders
-  pub reasons : AppendsEntries (table_as reason_of) 3 (codes "reason") claims.reasons with_orders with_reasons
-  pub streams : AppendsEntries (table_as stream_of) 3 (codes "stream") claims.streams with_reasons after
+  pub orders : AppendsEntries (table_as order_of) 2
+      (codes "order") claims.orders with_bounds with_orders
+  pub reasons : AppendsEntries (table_as reason_of) 3
+      (codes "reason") claims.reasons with_orders with_reasons
+  pub streams : AppendsEntries (table_as stream_of) 3
+      (codes "stream") claims.streams with_reasons after

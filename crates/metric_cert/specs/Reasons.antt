@@ -51,4 +51,5 @@ reason_of table = do
 abbrev pub PutsEvidence : Evidence → Members → Members → Type 0
 PutsEvidence (Name (Takes takes)) before after = Puts takes_of 1 (codes "takes") takes before after
 PutsEvidence (Name (Rows rows)) before after = Puts rows_of 2 (codes "rows") rows before after
-PutsEvidence (Miss criterion) before after = Puts criterion_of 0 (codes "miss") criterion before after
+PutsEvidence (Miss criterion) before after =
+    Puts criterion_of 0 (codes "miss") criterion before after

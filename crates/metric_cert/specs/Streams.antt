@@ -1,5 +1,6 @@
 -- What the table of a stream is read as.
-use Rattle.std.specs.Prelude.{◌≡◌, ℕ, ◌^◌, ◌==◌, List, [], ◌∷◌, length, Option, Some, None, Result, Ok, codes}
+use Rattle.std.specs.Prelude.{◌≡◌, ℕ, ◌^◌, ◌==◌, List, [], ◌∷◌, length, Option, Some, None, Result}
+use Rattle.std.specs.Prelude.{Ok, codes}
 use Rattle.toml.specs.Data.{Data, Members}
 use Rattle.metric_base.specs.Steps.{◌>>=◌, require, require_some}
 use Rattle.metric_table.specs.Fields.{only}
@@ -15,7 +16,9 @@ use Rattle.metric_cert.specs.Reading.{list_of, needed, optional, shape_faults, w
 use Rattle.metric_cert.specs.Writing.{Puts}
 
 abbrev pub stream_fields : List (List ℕ)
-stream_fields = codes "reader" ∷ codes "instrument" ∷ codes "view" ∷ codes "by" ∷ codes "sets" ∷ codes "list" ∷ []
+stream_fields =
+    codes "reader" ∷ codes "instrument" ∷ codes "view" ∷ codes "by" ∷ codes "sets"
+    ∷ codes "list" ∷ []
 
 -- a set key: 8 numbers of 16 bits
 unfoldable pub set_key_of : Data → Result (List ℕ) CertFault

@@ -12,15 +12,18 @@ use Rattle.metric_check.specs.Findings.{CheckFinds}
 -- No fault is found exactly where the certificate is valid.
 abbrev pub FindsNothingWhereValid : Type 0
 FindsNothingWhereValid =
-    (contents : Contents) (config : Config) (certificate : Claims) → CheckFinds contents config certificate None ↔ IsValid contents config certificate
+    (contents : Contents) (config : Config) (certificate : Claims)
+    → CheckFinds contents config certificate None ↔ IsValid contents config certificate
 
 -- Which fault is found, or that none is, has one answer only.
 abbrev pub FindsOne : Type 0
 FindsOne =
-    (contents : Contents) (config : Config) (certificate : Claims) (found other : Option CheckFault) → CheckFinds contents config certificate found
+    (contents : Contents) (config : Config) (certificate : Claims) (found other : Option CheckFault)
+    → CheckFinds contents config certificate found
     → CheckFinds contents config certificate other → found ≡ other
 
 -- What has a valid certificate can overflow neither a limit nor a number.
 abbrev pub ValidIsSafe : Type 0
 ValidIsSafe =
-    (contents : Contents) (config : Config) (certificate : Claims) → IsSound contents → IsValid contents config certificate → IsSafe contents config
+    (contents : Contents) (config : Config) (certificate : Claims) → IsSound contents
+    → IsValid contents config certificate → IsSafe contents config

@@ -1,5 +1,6 @@
 -- Where the steps of a trie end.
-use Rattle.std.specs.Prelude.{ℕ, ◌+◌, Bool, false, List, [], ◌∷◌, Option, Some, None, slice_get, take}
+use Rattle.std.specs.Prelude.{ℕ, ◌+◌, Bool, false, List, [], ◌∷◌, Option, Some, None, slice_get}
+use Rattle.std.specs.Prelude.{take}
 use Rattle.std.specs.Option.{option_and_then}
 use Rattle.std.specs.Str.{bytes_eq}
 use Rattle.metric_combinations.specs.declared.trie.Trie.{Trie}
@@ -7,7 +8,8 @@ use Rattle.metric_combinations.specs.declared.trie.Trie.{Trie}
 -- the place that is reached from a place by one step for each entry
 abbrev pub end_of : List ℕ → ℕ → List ℕ → Option ℕ
 end_of steps at [] = Some at
-end_of steps at (entry ∷ entries) = option_and_then (λ next. end_of steps next entries) (slice_get steps (at + entry))
+end_of steps at (entry ∷ entries) =
+    option_and_then (λ next. end_of steps next entries) (slice_get steps (at + entry))
 
 -- whether a row is there and is the set key
 abbrev pub is_set : List ℕ → Option (List ℕ) → Bool

@@ -10,15 +10,22 @@ most_each = 1000000
 
 -- the flag `--trial`, which takes no value and is given once at most
 abbrev pub trial_flag : Rule
-trial_flag = record (new_rule (codes "trial")) { long = Some (codes "trial"); action = Some SetTrue }
+trial_flag =
+    record (new_rule (codes "trial")) { long = Some (codes "trial"); action = Some SetTrue }
 
 -- the flag `--audit`, the same
 abbrev pub audit_flag : Rule
-audit_flag = record (new_rule (codes "audit")) { long = Some (codes "audit"); action = Some SetTrue }
+audit_flag =
+    record (new_rule (codes "audit")) { long = Some (codes "audit"); action = Some SetTrue }
 
 -- the option `--each`, which has to be given, once, with a number in its range
 abbrev pub each_option : Rule
-each_option = record (new_rule (codes "each")) { long = Some (codes "each"); action = Some Set; parser = Some (Unsigned 0 most_each); required = true }
+each_option = record (new_rule (codes "each")) {
+  long = Some (codes "each");
+  action = Some Set;
+  parser = Some (Unsigned 0 most_each);
+  required = true;
+}
 
 abbrev pub make_app : App
 make_app = new_app (codes "make")
@@ -37,7 +44,9 @@ threads_app = with_rule (new_app (codes "threads")) each_option
 
 -- the program, with a subcommand for each command that has no flags
 abbrev pub plain_app : App
-plain_app = with_subcommand (with_subcommand (with_subcommand (new_app (codes "metric_kit")) make_app.top) check_app.top) show_app.top
+plain_app =
+    with_subcommand (with_subcommand
+    (with_subcommand (new_app (codes "metric_kit")) make_app.top) check_app.top) show_app.top
 
 -- the program, with a subcommand for each command
 abbrev pub kit_app : App

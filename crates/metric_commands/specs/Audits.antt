@@ -1,5 +1,7 @@
--- What the events and replies of a run say of one instrument, and how the audit of its journal ends.
-use Rattle.std.specs.Prelude.{◌≡◌, ◌≢◌, ◌<◌, ◌==◌, ◌++◌, ℕ, ℤ, List, [], ◌∷◌, Option, Some, None, Result, Ok, Err, length, slice_get, slice_index_or, if◌then◌else◌}
+-- What the events and replies of a run say of one instrument, and how the audit of its journal
+-- ends.
+use Rattle.std.specs.Prelude.{◌≡◌, ◌≢◌, ◌<◌, ◌==◌, ◌++◌, ℕ, ℤ, List, [], ◌∷◌, Option, Some, None}
+use Rattle.std.specs.Prelude.{Result, Ok, Err, length, slice_get, slice_index_or, if◌then◌else◌}
 use Rattle.metric_audit.specs.Audits.{Audits}
 use Rattle.metric_audit.specs.declared.fault.AuditFault.{AuditFault}
 use Rattle.metric_audit.specs.declared.fault.AuditFault.TheVariants as audits
@@ -21,9 +23,11 @@ use Rattle.metric_commands.specs.declared.slips.MadeSlip.{MadeSlip}
 use Rattle.metric_commands.specs.declared.fault.KitFault.{KitFault}
 use Rattle.metric_commands.specs.declared.fault.KitFault.TheVariants.{Audit, Memory}
 
--- what a recorder's recording is as a slip of another: one where both are the same, and its attributes name a set key
+-- what a recorder's recording is as a slip of another: one where both are the same,
+-- and its attributes name a set key
 abbrev pub slip_made : ℕ → ℕ → ℤ → Result (List ℕ) Refusal → List Slip
-slip_made r recorder value (Ok set) = if recorder == r then record { set = set; value = value } ∷ [] else []
+slip_made r recorder value (Ok set) =
+    if recorder == r then record { set = set; value = value } ∷ [] else []
 slip_made r recorder value (Err refusal) = []
 
 -- the slip that a recording on an instrument makes for a recorder
@@ -40,7 +44,8 @@ slips_by contents i r event _ = []
 -- those that a history makes for a recorder on an instrument, oldest first
 abbrev pub slips_told : Contents → History → ℕ → ℕ → List Slip
 slips_told contents [] i r = []
-slips_told contents (a ∷ older) i r = slips_told contents older i r ++ slips_by contents i r a.event a.reply
+slips_told contents (a ∷ older) i r =
+    slips_told contents older i r ++ slips_by contents i r a.event a.reply
 
 -- the batch with which an event of an instrument was answered
 abbrev pub batches_by : ℕ → Event → Reply → List Batch
@@ -53,7 +58,8 @@ batches_told [] i = []
 batches_told (a ∷ older) i = batches_told older i ++ batches_by i a.event a.reply
 
 -- A list for each recorder, of the slips that the history makes for it on the instrument.
-pub record AreSlipsOf (contents : Contents) (h : History) (i : ℕ) (slips : List (List Slip)) : Type 0 where
+pub record AreSlipsOf (contents : Contents) (h : History) (i : ℕ) (slips : List (List Slip))
+    : Type 0 where
   pub one_each : length slips ≡ length contents.recorders
   pub own : (r : ℕ) → r < length slips → slice_index_or slips r [] ≡ slips_told contents h i r
 
@@ -65,33 +71,43 @@ slip_in (Some made) r = if made.recorder == r then made.slip ∷ [] else []
 -- Each recorder has its own slip more, where it has one.
 pub record AddsSlip (old new : List (List Slip)) (made : Option MadeSlip) : Type 0 where
   pub one_each : length new ≡ length old
-  pub own : (r : ℕ) → r < length new → slice_index_or new r [] ≡ slice_index_or old r [] ++ slip_in made r
+  pub own : (r : ℕ) → r < length new
+      → slice_index_or new r [] ≡ slice_index_or old r [] ++ slip_in made r
 
 -- Each recorder has its own slip of an event with its reply more, where it makes one.
-pub record AddsSlips (contents : Contents) (i : ℕ) (event : Event) (reply : Reply) (old new : List (List Slip)) : Type 0 where
+pub record AddsSlips (contents : Contents) (i : ℕ) (event : Event) (reply : Reply)
+    (old new : List (List Slip)) : Type 0 where
   pub one_each : length new ≡ length old
-  pub own : (r : ℕ) → r < length new → slice_index_or new r [] ≡ slice_index_or old r [] ++ slips_by contents i r event reply
+  pub own : (r : ℕ) → r < length new
+      → slice_index_or new r [] ≡ slice_index_or old r [] ++ slips_by contents i r event reply
 
 -- The audit of an instrument's journal, with the slips and the batches of a history, ends so.
-pub record EndsAudit (facts : RunFacts) (start : ℕ) (journal : List Entry) (h : History) (i : ℕ) (own : Facts)
+pub record EndsAudit (facts : RunFacts) (start : ℕ) (journal : List Entry) (h : History)
+    (i : ℕ) (own : Facts)
     (end : Result (Unit {0}) AuditFault) : Type 0 where
   pub slips : List (List Slip)
   pub made : AreSlipsOf facts.contents h i slips
   pub ends : Audits own i start journal slips (batches_told h i) end
 
 -- so it ends for the instrument of a number
-abbrev pub AuditEnds : RunFacts → ℕ → List Entry → History → ℕ → Result (Unit {0}) AuditFault → Type 0
-AuditEnds facts start journal h i end = (own : Facts) → slice_get facts.instruments i ≡ Some own → EndsAudit facts start journal h i own end
+abbrev pub AuditEnds : RunFacts → ℕ → List Entry → History → ℕ
+    → Result (Unit {0}) AuditFault → Type 0
+AuditEnds facts start journal h i end =
+    (own : Facts) → slice_get facts.instruments i ≡ Some own
+    → EndsAudit facts start journal h i own end
 
 -- why an audit of an instrument does not end well: a fault of it, unless memory was refused
 abbrev pub FailsAudit : RunFacts → ℕ → List Entry → History → ℕ → KitFault → Type 0
-FailsAudit facts start journal h i (Audit fault) = (fault ≢ audits.Memory) × AuditEnds facts start journal h i (Err fault)
+FailsAudit facts start journal h i (Audit fault) =
+    (fault ≢ audits.Memory) × AuditEnds facts start journal h i (Err fault)
 FailsAudit facts start journal h i Memory = Unit {0}
 FailsAudit facts start journal h i _ = ⊥
 
--- The audit of each instrument ends well: each recorder's slips are its entries in the journal that the history says, and each batch is right.
+-- The audit of each instrument ends well: each recorder's slips are its entries in the journal that
+-- the history says, and each batch is right.
 abbrev pub AreAudited : RunFacts → ℕ → History → Type 0
-AreAudited facts start h = (i : ℕ) → i < length facts.instruments → AuditEnds facts start (accepted facts h i) h i (Ok tt)
+AreAudited facts start h =
+    (i : ℕ) → i < length facts.instruments → AuditEnds facts start (accepted facts h i) h i (Ok tt)
 
 -- That of some instrument does not, for this reason.
 pub record SomeFails (facts : RunFacts) (start : ℕ) (h : History) (fault : KitFault) : Type 0 where

@@ -14,18 +14,33 @@ use Rattle.metric_cert.specs.Certificates.{certificate_from}
 use Rattle.metric_cert.specs.Making.{IsMade, make_faults}
 use Rattle.metric_cert.specs.Valid.{IsValid}
 use Rattle.metric_commands.specs.declared.fault.KitFault.{KitFault}
-use Rattle.metric_commands.specs.declared.fault.KitFault.TheVariants.{Read, Input, Catalogue, Config as BadConfig, Certificate as BadCertificate, Check, Make, Audit, Finish, Write, Memory}
+use Rattle.metric_commands.specs.declared.fault.KitFault.TheVariants.{
+  Read,
+  Input,
+  Catalogue,
+  Config as BadConfig,
+  Certificate as BadCertificate,
+  Check,
+  Make,
+  Audit,
+  Finish,
+  Write,
+  Memory,
+}
 use Rattle.metric_commands.specs.Declarations.{IsDeclared, IsDeclaredFault, IsMisdeclared}
 use Rattle.metric_commands.specs.Showing.{show_needs}
 
--- The certificate is the one that is made for a catalogue and a config, and shows that they are safe.
-pub record IsCertificateFor (contents : Contents) (config : Setup) (certificate : Certificate) : Type 0 where
+-- The certificate is the one that is made for a catalogue and a config, and shows that they are
+-- safe.
+pub record IsCertificateFor (contents : Contents) (config : Setup) (certificate : Certificate)
+    : Type 0 where
   pub made : IsMade contents config certificate
   pub valid : IsValid contents config certificate
 
 -- This is the first part of safety that fails.
 abbrev pub IsUnsafe : Contents → Setup → MakeFault → Type 0
-IsUnsafe contents config fault = SafetyFinds make_faults contents (streams_of contents config) (Some fault)
+IsUnsafe contents config fault =
+    SafetyFinds make_faults contents (streams_of contents config) (Some fault)
 
 -- The fault is the first part of safety that fails, unless memory was refused.
 abbrev pub FailsToMake : KitFault → Contents → Setup → Type 0
@@ -72,8 +87,10 @@ IsMakeFault fault read = IsDeclaredFault fault read
 -- The fault is the first that the input has.
 abbrev pub IsFirstMakeFault : List ℕ → KitFault → Type 0
 IsFirstMakeFault input (Input line) = IsFaultyLine show_needs (lines_of input) line
-IsFirstMakeFault input (Catalogue fault) = IsMisdeclared show_needs input (IsMakeFault (Catalogue fault))
-IsFirstMakeFault input (BadConfig fault) = IsMisdeclared show_needs input (IsMakeFault (BadConfig fault))
+IsFirstMakeFault input (Catalogue fault) =
+    IsMisdeclared show_needs input (IsMakeFault (Catalogue fault))
+IsFirstMakeFault input (BadConfig fault) =
+    IsMisdeclared show_needs input (IsMakeFault (BadConfig fault))
 IsFirstMakeFault input (Make fault) = IsMisdeclared show_needs input (IsMakeFault (Make fault))
 IsFirstMakeFault input Memory = Unit {0}
 IsFirstMakeFault input _ = ⊥
@@ -84,11 +101,14 @@ pub make_refused : (input : List ℕ) (read : Parts) (fault : KitFault)
     → IsFirstMakeFault input fault
 make_refused input read Read is_read found = found
 make_refused input read (Input line) is_read found = absurd found
-make_refused input read (Catalogue fault) is_read found = record { read = read; is_read = is_read; first = found }
-make_refused input read (BadConfig fault) is_read found = record { read = read; is_read = is_read; first = found }
+make_refused input read (Catalogue fault) is_read found =
+    record { read = read; is_read = is_read; first = found }
+make_refused input read (BadConfig fault) is_read found =
+    record { read = read; is_read = is_read; first = found }
 make_refused input read (BadCertificate fault) is_read found = found
 make_refused input read (Check fault) is_read found = found
-make_refused input read (Make fault) is_read found = record { read = read; is_read = is_read; first = found }
+make_refused input read (Make fault) is_read found =
+    record { read = read; is_read = is_read; first = found }
 make_refused input read (Audit fault) is_read found = found
 make_refused input read (Finish fault) is_read found = found
 make_refused input read Write is_read found = found

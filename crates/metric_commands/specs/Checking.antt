@@ -7,7 +7,19 @@ use Rattle.metric_parts.specs.declared.needs.Needs.{Needs}
 use Rattle.metric_parts.specs.declared.parts.Parts.{Parts}
 use Rattle.metric_plan.specs.Plans.{PlanValue}
 use Rattle.metric_commands.specs.declared.fault.KitFault.{KitFault}
-use Rattle.metric_commands.specs.declared.fault.KitFault.TheVariants.{Read, Input, Catalogue, Config as BadConfig, Certificate as BadCertificate, Check, Make, Audit, Finish, Write, Memory}
+use Rattle.metric_commands.specs.declared.fault.KitFault.TheVariants.{
+  Read,
+  Input,
+  Catalogue,
+  Config as BadConfig,
+  Certificate as BadCertificate,
+  Check,
+  Make,
+  Audit,
+  Finish,
+  Write,
+  Memory,
+}
 use Rattle.metric_commands.specs.Claims.{IsCertifiedPlan, IsClaimFault}
 use Rattle.metric_commands.specs.Declarations.{IsMisdeclared}
 
@@ -34,9 +46,12 @@ pub record IsAcceptance (input text : List ℕ) : Type 0 where
 -- The fault is the first that the input has.
 abbrev pub IsFirstCheckFault : List ℕ → KitFault → Type 0
 IsFirstCheckFault input (Input line) = IsFaultyLine check_needs (lines_of input) line
-IsFirstCheckFault input (Catalogue fault) = IsMisdeclared check_needs input (IsClaimFault (Catalogue fault))
-IsFirstCheckFault input (BadConfig fault) = IsMisdeclared check_needs input (IsClaimFault (BadConfig fault))
-IsFirstCheckFault input (BadCertificate fault) = IsMisdeclared check_needs input (IsClaimFault (BadCertificate fault))
+IsFirstCheckFault input (Catalogue fault) =
+    IsMisdeclared check_needs input (IsClaimFault (Catalogue fault))
+IsFirstCheckFault input (BadConfig fault) =
+    IsMisdeclared check_needs input (IsClaimFault (BadConfig fault))
+IsFirstCheckFault input (BadCertificate fault) =
+    IsMisdeclared check_needs input (IsClaimFault (BadCertificate fault))
 IsFirstCheckFault input (Check fault) = IsMisdeclared check_needs input (IsClaimFault (Check fault))
 IsFirstCheckFault input Memory = Unit {0}
 IsFirstCheckFault input _ = ⊥
@@ -47,10 +62,14 @@ pub check_refused : (input : List ℕ) (read : Parts) (fault : KitFault)
     → IsFirstCheckFault input fault
 check_refused input read Read is_read found = found
 check_refused input read (Input line) is_read found = absurd found
-check_refused input read (Catalogue fault) is_read found = record { read = read; is_read = is_read; first = found }
-check_refused input read (BadConfig fault) is_read found = record { read = read; is_read = is_read; first = found }
-check_refused input read (BadCertificate fault) is_read found = record { read = read; is_read = is_read; first = found }
-check_refused input read (Check fault) is_read found = record { read = read; is_read = is_read; first = found }
+check_refused input read (Catalogue fault) is_read found =
+    record { read = read; is_read = is_read; first = found }
+check_refused input read (BadConfig fault) is_read found =
+    record { read = read; is_read = is_read; first = found }
+check_refused input read (BadCertificate fault) is_read found =
+    record { read = read; is_read = is_read; first = found }
+check_refused input read (Check fault) is_read found =
+    record { read = read; is_read = is_read; first = found }
 check_refused input read (Make fault) is_read found = found
 check_refused input read (Audit fault) is_read found = found
 check_refused input read (Finish fault) is_read found = found

@@ -12,11 +12,13 @@ use Rattle.metric_plan.specs.declared.fault.CheckFault.{CheckFault}
 use Rattle.metric_check.specs.Findings.{CheckFinds}
 use Rattle.metric_check.specs.Products.{by_product_of}
 use Rattle.metric_commands.specs.declared.fault.KitFault.{KitFault}
-use Rattle.metric_commands.specs.declared.fault.KitFault.TheVariants.{Certificate as BadCertificate, Check}
+use Rattle.metric_commands.specs.declared.fault.KitFault.TheVariants.{Certificate as BadCertificate}
+use Rattle.metric_commands.specs.declared.fault.KitFault.TheVariants.{Check}
 use Rattle.metric_commands.specs.Declarations.{IsDeclared, IsDeclaredFault}
 
 -- The catalogue, the config and the certificate that the parts are.
-pub record IsClaimed (read : Parts) (contents : Contents) (config : Setup) (certificate : Certificate) : Type 0 where
+pub record IsClaimed (read : Parts) (contents : Contents) (config : Setup)
+    (certificate : Certificate) : Type 0 where
   pub declared : IsDeclared read contents config
   pub is_certificate : IsSomeAnd read.certificate (λ text. certificate_from text ≡ Ok certificate)
 

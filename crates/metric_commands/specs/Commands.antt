@@ -1,5 +1,6 @@
 -- What a command promises that reads one input and writes one text.
-use Rattle.std.specs.Prelude.{◌≢◌, ◌≤◌, ◌+◌, ◌⊎◌, ℕ, List, Option, Result, IfErr, IfSome, IsErrOf, OnOk, OnErr}
+use Rattle.std.specs.Prelude.{◌≢◌, ◌≤◌, ◌+◌, ◌⊎◌, ℕ, List, Option, Result, IfErr, IfSome, IsErrOf}
+use Rattle.std.specs.Prelude.{OnOk, OnErr}
 use Rattle.std.specs.Io.KnownBytes.{Appends, Keeps}
 use Rattle.metric_io.specs.Counts.{HasFailed}
 use Rattle.metric_io.specs.declared.counts.ReadCounts.{ReadCounts}
@@ -13,14 +14,16 @@ use Rattle.metric_parts.specs.declared.parts.Parts.{Parts}
 use Rattle.metric_commands.specs.declared.fault.KitFault.{KitFault}
 use Rattle.metric_commands.specs.declared.fault.KitFault.TheVariants.{Read, Write, Memory}
 
--- A source before and after a command: the bytes that it had left, and its counts of reads and failures.
+-- A source before and after a command: the bytes that it had left, and
+-- its counts of reads and failures.
 pub record SourceRun : Type 0 where
   pub input : Option (List ℕ)
   pub counts : ReadCounts
   pub counts_after : ReadCounts
 
 abbrev pub source_run : {S : Type 0} → (S → Option (List ℕ)) → (S → ReadCounts) → S → S → SourceRun
-source_run remaining counts old new = record { input = remaining old; counts = counts old; counts_after = counts new }
+source_run remaining counts old new =
+    record { input = remaining old; counts = counts old; counts_after = counts new }
 
 -- A sink before and after a command: the bytes that it held, and how often it failed.
 pub record SinkRun : Type 0 where
@@ -49,16 +52,20 @@ pub record IsAnswerTo {A : Type 0} (needs : Needs) (IsAnswer : Parts → A → T
   pub is_answer : IsAnswer read answer
 
 -- A command reads its input, and writes the text that is due of it or stops with its first fault.
-pub record RunsCommand {A : Type 0} (IsText : List ℕ → List ℕ → Type 0) (IsFirstFault : List ℕ → KitFault → Type 0)
+pub record RunsCommand {A : Type 0} (IsText : List ℕ → List ℕ → Type 0)
+    (IsFirstFault : List ℕ → KitFault → Type 0)
     (source : SourceRun) (sink : SinkRun) (result : Result A KitFault) : Type 0 where
   -- Ok: exactly the text of the bytes read was written.
-  pub done : OnOk result (IfDue IsText source.input (λ text. Appends sink.contents sink.contents_after text))
+  pub done : OnOk result
+      (IfDue IsText source.input (λ text. Appends sink.contents sink.contents_after text))
   -- Else a prefix of it, and nothing where the input has a fault or was not read.
   pub prefix : OnErr result (Keeps sink.contents sink.contents_after
       ⊎ IfDue IsText source.input (λ text. AppendsPrefix sink.contents sink.contents_after text))
-  pub nothing : IfErr result (λ fault. fault ≢ Write → fault ≢ Memory → Keeps sink.contents sink.contents_after)
+  pub nothing : IfErr result
+      (λ fault. fault ≢ Write → fault ≢ Memory → Keeps sink.contents sink.contents_after)
   -- Unless memory was refused, each other fault is the first that the input has.
-  pub first : IfErr result (λ fault. fault ≢ Read → fault ≢ Write → fault ≢ Memory → IfSome source.input (λ bytes. IsFirstFault bytes fault))
+  pub first : IfErr result (λ fault. fault ≢ Read → fault ≢ Write → fault ≢ Memory
+      → IfSome source.input (λ bytes. IsFirstFault bytes fault))
   -- The devices are blamed only where they failed, or a limit on input was passed.
   pub read : IsErrOf result Read → IsReadFault source.counts source.counts_after source.input
   pub write : IsErrOf result Write → HasFailed sink.failures sink.failures_after

@@ -10,7 +10,8 @@ use Rattle.metric_views.specs.Configs.{config_of}
 use Rattle.metric_views.specs.declared.config.Setup.{Setup}
 use Rattle.metric_views.specs.declared.fault.ViewFault.{ViewFault}
 use Rattle.metric_commands.specs.declared.fault.KitFault.{KitFault}
-use Rattle.metric_commands.specs.declared.fault.KitFault.TheVariants.{Catalogue, Config as BadConfig, Memory}
+use Rattle.metric_commands.specs.declared.fault.KitFault.TheVariants.{Catalogue}
+use Rattle.metric_commands.specs.declared.fault.KitFault.TheVariants.{Config as BadConfig, Memory}
 
 -- The catalogue and the config that the parts are.
 pub record IsDeclared (read : Parts) (contents : Contents) (config : Setup) : Type 0 where

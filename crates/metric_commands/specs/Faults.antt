@@ -7,7 +7,19 @@ use Rattle.metric_io.specs.declared.whole.ReadFault.TheVariants as read
 use Rattle.metric_parts.specs.declared.fault.InputFault.{InputFault}
 use Rattle.metric_parts.specs.declared.fault.InputFault.TheVariants as input
 use Rattle.metric_commands.specs.declared.fault.KitFault.{KitFault}
-use Rattle.metric_commands.specs.declared.fault.KitFault.TheVariants.{Read, Input, Catalogue, Config, Certificate, Check, Make, Audit, Finish, Write, Memory}
+use Rattle.metric_commands.specs.declared.fault.KitFault.TheVariants.{
+  Read,
+  Input,
+  Catalogue,
+  Config,
+  Certificate,
+  Check,
+  Make,
+  Audit,
+  Finish,
+  Write,
+  Memory,
+}
 
 abbrev pub from_read : ReadFault → KitFault
 from_read read.Read = Read

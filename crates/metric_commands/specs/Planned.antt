@@ -13,7 +13,13 @@ use Rattle.metric_plan.specs.Counting.{is_counted}
 use Rattle.metric_plan.specs.Plans.{PlanValue, plan_of}
 use Rattle.metric_plan.specs.declared.fault.CheckFault.TheVariants.{CountRange}
 use Rattle.metric_commands.specs.declared.fault.KitFault.{KitFault}
-use Rattle.metric_commands.specs.declared.fault.KitFault.TheVariants.{Catalogue, Config as BadConfig, Certificate as BadCertificate, Check, Memory}
+use Rattle.metric_commands.specs.declared.fault.KitFault.TheVariants.{
+  Catalogue,
+  Config as BadConfig,
+  Certificate as BadCertificate,
+  Check,
+  Memory,
+}
 
 -- a catalogue, or its first fault, unless memory was refused
 abbrev pub ReadsCatalogue : Result Contents KitFault → Result Contents CatalogueFault → Type 0
@@ -36,14 +42,18 @@ ReadsCertificate (Err _) read = ⊥
 
 -- the certified plan, or the first fault of the certificate's check, unless memory was refused
 abbrev pub Certifies : Result PlanValue KitFault → Contents → Setup → Certificate → Type 0
-Certifies (Ok plan) contents config certificate = IsValid contents config certificate × (plan ≡ plan_of true (by_product_of certificate) contents config)
-Certifies (Err (Check fault)) contents config certificate = CheckFinds contents config certificate (Some fault)
+Certifies (Ok plan) contents config certificate =
+    IsValid contents config certificate
+    × (plan ≡ plan_of true (by_product_of certificate) contents config)
+Certifies (Err (Check fault)) contents config certificate =
+    CheckFinds contents config certificate (Some fault)
 Certifies (Err Memory) contents config certificate = Unit {0}
 Certifies (Err _) contents config certificate = ⊥
 
 -- the plan of a trial, or that its budgets cannot be counted, unless memory was refused
 abbrev pub Tries : Result PlanValue KitFault → Contents → Setup → Type 0
-Tries (Ok plan) contents config = (is_counted contents ≡ true) × (plan ≡ plan_of false [] contents config)
+Tries (Ok plan) contents config =
+    (is_counted contents ≡ true) × (plan ≡ plan_of false [] contents config)
 Tries (Err (Check CountRange)) contents config = is_counted contents ≡ false
 Tries (Err Memory) contents config = Unit {0}
 Tries (Err _) contents config = ⊥

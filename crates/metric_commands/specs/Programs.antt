@@ -26,7 +26,8 @@ abbrev pub RunsLine : Line → SourceRun → SinkRun → Result (Unit {0}) KitFa
 RunsLine lines.Make = RunsCommand IsCertificateText IsFirstMakeFault
 RunsLine lines.Check = RunsCommand IsAcceptance IsFirstCheckFault
 RunsLine lines.Show = RunsCommand IsShown IsFirstShowFault
-RunsLine (lines.Replay trial audit) = RunsCommand (IsOutput (replay_options trial audit)) (IsFirstFault (replay_options trial audit))
+RunsLine (lines.Replay trial audit) =
+    RunsCommand (IsOutput (replay_options trial audit)) (IsFirstFault (replay_options trial audit))
 RunsLine (lines.Threads each) = RunsCommand IsCounted IsFirstThreadsFault
 
 -- the exit status where the words name no command
@@ -59,7 +60,8 @@ IsEndTold (Ok done) errors = Keeps errors.contents errors.contents_after
 IsEndTold (Err fault) errors = TellsLine errors
 
 -- A command line's command is run, and its end is told, also by the exit status.
-pub record RunsTold (line : Line) (source : SourceRun) (sink errors : SinkRun) (status : ℕ) : Type 0 where
+pub record RunsTold (line : Line) (source : SourceRun) (sink errors : SinkRun) (status : ℕ)
+    : Type 0 where
   pub end : Result (Unit {0}) KitFault
   pub runs : RunsLine line source sink end
   pub told : IsEndTold end errors

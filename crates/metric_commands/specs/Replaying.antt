@@ -1,5 +1,6 @@
 -- What a replay makes of the bytes of its input.
-use Rattle.std.specs.Prelude.{◌≡◌, ◌⊎◌, ◌++◌, ℕ, Bool, true, false, not, List, [], Some, if◌then◌else◌}
+use Rattle.std.specs.Prelude.{◌≡◌, ◌⊎◌, ◌++◌, ℕ, Bool, true, false, not, List, [], Some}
+use Rattle.std.specs.Prelude.{if◌then◌else◌}
 use Rattle.std.proofs.Common.{inr}
 use Rattle.metric_text.specs.Lines.{lines_of}
 use Rattle.metric_parts.specs.Input.{IsFirstFault as IsFaultyLine}
@@ -18,7 +19,19 @@ use Rattle.metric_history.specs.declared.event.Event.{Event}
 use Rattle.metric_history.specs.declared.event.Reply.{Reply}
 use Rattle.metric_commands.specs.declared.options.ReplayOptions.{ReplayOptions}
 use Rattle.metric_commands.specs.declared.fault.KitFault.{KitFault}
-use Rattle.metric_commands.specs.declared.fault.KitFault.TheVariants.{Read, Input, Catalogue, Config as BadConfig, Certificate as BadCertificate, Check, Make, Audit, Finish, Write, Memory}
+use Rattle.metric_commands.specs.declared.fault.KitFault.TheVariants.{
+  Read,
+  Input,
+  Catalogue,
+  Config as BadConfig,
+  Certificate as BadCertificate,
+  Check,
+  Make,
+  Audit,
+  Finish,
+  Write,
+  Memory,
+}
 use Rattle.metric_commands.specs.Claims.{IsCertifiedPlan, IsFaultyCertificate, IsRefusedCheck}
 use Rattle.metric_commands.specs.Declarations.{IsDeclared, IsDeclaredFault, IsMisdeclared}
 use Rattle.metric_commands.specs.Audits.{AreAudited}
@@ -46,16 +59,20 @@ pub record IsTrialPlan (read : Parts) (plan : PlanValue) : Type 0 where
 
 -- The plan of a trial, or else the one that the certificate shows to be safe.
 abbrev pub IsPlanned : ReplayOptions → Parts → PlanValue → Type 0
-IsPlanned options read plan = ((options.trial ≡ true) × IsTrialPlan read plan) ⊎ ((options.trial ≡ false) × IsCertifiedPlan read plan)
+IsPlanned options read plan =
+    ((options.trial ≡ true) × IsTrialPlan read plan)
+    ⊎ ((options.trial ≡ false) × IsCertifiedPlan read plan)
 
 -- What the parts declare, and the events of their script since a start.
-pub record IsPrepared (options : ReplayOptions) (read : Parts) (plan : PlanValue) (start : ℕ) (events : List Event) : Type 0 where
+pub record IsPrepared (options : ReplayOptions) (read : Parts) (plan : PlanValue) (start : ℕ)
+    (events : List Event) : Type 0 where
   pub script : ScriptLines
   pub is_planned : IsPlanned options read plan
   pub has_script : read.script ≡ Some script
   pub is_script : IsScript script.lines start events
 
--- The replies to the script of the parts: a legal one for each event, and none of them want of memory.
+-- The replies to the script of the parts: a legal one for each event,
+-- and none of them want of memory.
 pub record IsAnswered (options : ReplayOptions) (read : Parts) (plan : PlanValue)
     (replies : List Reply) : Type 0 where
   pub script : ScriptLines
@@ -66,14 +83,17 @@ pub record IsAnswered (options : ReplayOptions) (read : Parts) (plan : PlanValue
   pub is_script : IsScript script.lines start events
   pub run : IsRun plan start events replies
 
--- What an audited run comes to: the replies, with how many recordings they accept, and the audit of each instrument ends well.
-pub record IsAuditedRun (options : ReplayOptions) (read : Parts) (plan : PlanValue) (replies : List Reply) (accepted : ℕ) : Type 0 where
+-- What an audited run comes to: the replies, with how many recordings they accept, and the
+-- audit of each instrument ends well.
+pub record IsAuditedRun (options : ReplayOptions) (read : Parts) (plan : PlanValue)
+    (replies : List Reply) (accepted : ℕ) : Type 0 where
   pub answered : IsAnswered options read plan replies
   pub audited : AreAudited plan.facts answered.start (grown [] answered.events replies)
   pub counted : accepted ≡ accepted_count replies
 
 -- The replies to the script of the input.
-pub record IsReplayed (options : ReplayOptions) (input : List ℕ) (plan : PlanValue) (replies : List Reply) : Type 0 where
+pub record IsReplayed (options : ReplayOptions) (input : List ℕ) (plan : PlanValue)
+    (replies : List Reply) : Type 0 where
   pub read : Parts
   pub is_read : IsRead (needs_of options) (lines_of input) read
   pub answered : IsAnswered options read plan replies
@@ -88,10 +108,12 @@ pub record IsOutput (options : ReplayOptions) (input text : List ℕ) : Type 0 w
   pub replies : List Reply
   pub replayed : IsReplayed options input plan replies
   -- an audit of each instrument ends well, where one is asked for
-  pub audited : options.audit ≡ true → AreAudited plan.facts replayed.answered.start (grown [] replayed.answered.events replies)
+  pub audited : options.audit ≡ true
+      → AreAudited plan.facts replayed.answered.start (grown [] replayed.answered.events replies)
   pub written : text ≡ replies_text plan replies ++ audit_text options replies
 
--- What the parts declare is right, but budgets for one instrument are together above the range of u64.
+-- What the parts declare is right, but budgets for one instrument are
+-- together above the range of u64.
 pub record IsUncounted (read : Parts) : Type 0 where
   pub contents : Contents
   pub config : Setup
@@ -105,9 +127,11 @@ IsTrialFault fault read = IsDeclaredFault fault read
 
 -- The fault is the first that the parts have before the script is read.
 abbrev pub IsPlanFault : ReplayOptions → KitFault → Parts → Type 0
-IsPlanFault options (BadCertificate fault) read = (options.trial ≡ false) × IsFaultyCertificate read fault
+IsPlanFault options (BadCertificate fault) read =
+    (options.trial ≡ false) × IsFaultyCertificate read fault
 IsPlanFault options (Check fault) read =
-    ((options.trial ≡ true) × (fault ≡ CountRange) × IsUncounted read) ⊎ ((options.trial ≡ false) × IsRefusedCheck read fault)
+    ((options.trial ≡ true) × (fault ≡ CountRange) × IsUncounted read)
+    ⊎ ((options.trial ≡ false) × IsRefusedCheck read fault)
 IsPlanFault options fault read = IsDeclaredFault fault read
 
 -- Everything before the script is right, and this is the script's first faulty line.
@@ -126,11 +150,16 @@ IsReplayFault options fault read = IsPlanFault options fault read
 -- The fault is the first that the input has: of its parts, of what they declare, of its script.
 abbrev pub IsFirstFault : ReplayOptions → List ℕ → KitFault → Type 0
 IsFirstFault options input (Input line) =
-    IsFaultyLine (needs_of options) (lines_of input) line ⊎ IsMisdeclared (needs_of options) input (IsFaultyScript options line)
-IsFirstFault options input (Catalogue fault) = IsMisdeclared (needs_of options) input (IsPlanFault options (Catalogue fault))
-IsFirstFault options input (BadConfig fault) = IsMisdeclared (needs_of options) input (IsPlanFault options (BadConfig fault))
-IsFirstFault options input (BadCertificate fault) = IsMisdeclared (needs_of options) input (IsPlanFault options (BadCertificate fault))
-IsFirstFault options input (Check fault) = IsMisdeclared (needs_of options) input (IsPlanFault options (Check fault))
+    IsFaultyLine (needs_of options) (lines_of input) line
+    ⊎ IsMisdeclared (needs_of options) input (IsFaultyScript options line)
+IsFirstFault options input (Catalogue fault) =
+    IsMisdeclared (needs_of options) input (IsPlanFault options (Catalogue fault))
+IsFirstFault options input (BadConfig fault) =
+    IsMisdeclared (needs_of options) input (IsPlanFault options (BadConfig fault))
+IsFirstFault options input (BadCertificate fault) =
+    IsMisdeclared (needs_of options) input (IsPlanFault options (BadCertificate fault))
+IsFirstFault options input (Check fault) =
+    IsMisdeclared (needs_of options) input (IsPlanFault options (Check fault))
 IsFirstFault options input (Make fault) = ⊥
 -- an audit never fails
 IsFirstFault options input (Audit fault) = ⊥
@@ -144,11 +173,16 @@ pub replay_refused : (options : ReplayOptions) (input : List ℕ) (read : Parts)
     → IsRead (needs_of options) (lines_of input) read → IsReplayFault options fault read
     → IsFirstFault options input fault
 replay_refused options input read Read is_read found = found
-replay_refused options input read (Input line) is_read found = inr (record { read = read; is_read = is_read; first = found })
-replay_refused options input read (Catalogue fault) is_read found = record { read = read; is_read = is_read; first = found }
-replay_refused options input read (BadConfig fault) is_read found = record { read = read; is_read = is_read; first = found }
-replay_refused options input read (BadCertificate fault) is_read found = record { read = read; is_read = is_read; first = found }
-replay_refused options input read (Check fault) is_read found = record { read = read; is_read = is_read; first = found }
+replay_refused options input read (Input line) is_read found =
+    inr (record { read = read; is_read = is_read; first = found })
+replay_refused options input read (Catalogue fault) is_read found =
+    record { read = read; is_read = is_read; first = found }
+replay_refused options input read (BadConfig fault) is_read found =
+    record { read = read; is_read = is_read; first = found }
+replay_refused options input read (BadCertificate fault) is_read found =
+    record { read = read; is_read = is_read; first = found }
+replay_refused options input read (Check fault) is_read found =
+    record { read = read; is_read = is_read; first = found }
 replay_refused options input read (Make fault) is_read found = found
 replay_refused options input read (Audit fault) is_read found = found
 replay_refused options input read (Finish fault) is_read found = found

@@ -5,7 +5,8 @@ use Rattle.metric_catalogue.specs.Refusals.{refusal_text}
 use Rattle.metric_catalogue.specs.declared.refusal.Refusal.{Refusal}
 use Rattle.metric_catalogue.specs.declared.refusal.Refusal.TheVariants as refusals
 use Rattle.metric_history.specs.declared.event.Reply.{Reply}
-use Rattle.metric_history.specs.declared.event.Reply.TheVariants.{Accepted, Collected, Done, Granted, Refused}
+use Rattle.metric_history.specs.declared.event.Reply.TheVariants.{Accepted, Collected, Done}
+use Rattle.metric_history.specs.declared.event.Reply.TheVariants.{Granted, Refused}
 use Rattle.metric_plan.specs.Plans.{PlanValue}
 use Rattle.metric_lines.specs.Batches.{batch_text}
 use Rattle.metric_commands.specs.Written.{parts_text}

@@ -10,12 +10,14 @@ use Rattle.metric_history.specs.declared.entry.Entry.{Entry}
 use Rattle.metric_history.specs.declared.event.Event.{Event}
 use Rattle.metric_history.specs.declared.event.Event.TheVariants.{Record, Collect, Close, Grant}
 use Rattle.metric_history.specs.declared.event.Reply.{Reply}
-use Rattle.metric_history.specs.declared.event.Reply.TheVariants.{Accepted, Collected, Done, Granted, Refused}
+use Rattle.metric_history.specs.declared.event.Reply.TheVariants.{Accepted, Collected, Done}
+use Rattle.metric_history.specs.declared.event.Reply.TheVariants.{Granted, Refused}
 use Rattle.metric_plan.specs.Plans.{PlanValue}
 use Rattle.metric_commands.specs.Replies.{is_want_of_memory}
 
 -- A legal reply to each event, and none of them want of memory.
-pub record IsRun (plan : PlanValue) (start : ℕ) (events : List Event) (replies : List Reply) : Type 0 where
+pub record IsRun (plan : PlanValue) (start : ℕ) (events : List Event) (replies : List Reply)
+    : Type 0 where
   pub legal : AllLegal plan.facts start [] events replies
   pub remembered : list_any is_want_of_memory replies ≡ false
 
@@ -38,18 +40,23 @@ grant_reply (Err refusal) = Refused refusal
 
 -- the reply to an event after a history, where memory is not refused
 abbrev pub due_reply : RunFacts → ℕ → History → Event → Reply
-due_reply facts start h (Record recorder instrument attrs value) = record_reply (recording facts start h recorder instrument attrs value)
-due_reply facts start h (Collect reader instrument now) = collect_reply (collection facts start h reader instrument now)
+due_reply facts start h (Record recorder instrument attrs value) =
+    record_reply (recording facts start h recorder instrument attrs value)
+due_reply facts start h (Collect reader instrument now) =
+    collect_reply (collection facts start h reader instrument now)
 due_reply facts start h (Close instrument) = close_reply (close facts start h instrument)
-due_reply facts start h (Grant recorder instrument amount) = grant_reply (grant facts start h recorder instrument amount)
+due_reply facts start h (Grant recorder instrument amount) =
+    grant_reply (grant facts start h recorder instrument amount)
 
 -- the history after more events with these replies
 unfoldable pub due_history : RunFacts → ℕ → History → List Event → History
 due_history facts start h [] = h
-due_history facts start h (event ∷ events) = due_history facts start (answered event (due_reply facts start h event) ∷ h) events
+due_history facts start h (event ∷ events) =
+    due_history facts start (answered event (due_reply facts start h event) ∷ h) events
 
 -- the replies to events after a history
 unfoldable pub due_replies : RunFacts → ℕ → History → List Event → List Reply
 due_replies facts start h [] = []
 due_replies facts start h (event ∷ events) =
-    due_reply facts start h event ∷ due_replies facts start (answered event (due_reply facts start h event) ∷ h) events
+    due_reply facts start h event
+    ∷ due_replies facts start (answered event (due_reply facts start h event) ∷ h) events

@@ -13,7 +13,19 @@ use Rattle.metric_resolve.specs.Resolved.{streams_of}
 use Rattle.metric_resolve.specs.Warnings.{warnings_of}
 use Rattle.metric_lines.specs.Streams.{shown_text, warning_text}
 use Rattle.metric_commands.specs.declared.fault.KitFault.{KitFault}
-use Rattle.metric_commands.specs.declared.fault.KitFault.TheVariants.{Read, Input, Catalogue, Config as BadConfig, Certificate as BadCertificate, Check, Make, Audit, Finish, Write, Memory}
+use Rattle.metric_commands.specs.declared.fault.KitFault.TheVariants.{
+  Read,
+  Input,
+  Catalogue,
+  Config as BadConfig,
+  Certificate as BadCertificate,
+  Check,
+  Make,
+  Audit,
+  Finish,
+  Write,
+  Memory,
+}
 use Rattle.metric_commands.specs.Declarations.{IsDeclared, IsDeclaredFault, IsMisdeclared}
 use Rattle.metric_commands.specs.Written.{parts_text}
 
@@ -24,14 +36,16 @@ show_needs = record { certificate = false; script = false }
 -- the lines of streams, numbered from 0, and those of warnings
 unfoldable pub listing_text : Contents → Setup → List Stream → List Warning → List ℕ
 listing_text contents config streams warnings =
-    parts_text (shown_text contents config) streams ++ parts_text (λ _ warning. warning_text warning) warnings
+    parts_text (shown_text contents config) streams
+    ++ parts_text (λ _ warning. warning_text warning) warnings
 
 -- The lines of the streams that the parts declare, and those of the warnings.
 pub record IsListed (read : Parts) (text : List ℕ) : Type 0 where
   pub contents : Contents
   pub config : Setup
   pub declared : IsDeclared read contents config
-  pub written : text ≡ listing_text contents config (streams_of contents config) (warnings_of contents config)
+  pub written : text ≡ listing_text contents config (streams_of contents config)
+      (warnings_of contents config)
 
 -- The text that showing the input writes.
 pub record IsShown (input text : List ℕ) : Type 0 where
@@ -42,8 +56,10 @@ pub record IsShown (input text : List ℕ) : Type 0 where
 -- The fault is the first that the input has.
 abbrev pub IsFirstShowFault : List ℕ → KitFault → Type 0
 IsFirstShowFault input (Input line) = IsFaultyLine show_needs (lines_of input) line
-IsFirstShowFault input (Catalogue fault) = IsMisdeclared show_needs input (IsDeclaredFault (Catalogue fault))
-IsFirstShowFault input (BadConfig fault) = IsMisdeclared show_needs input (IsDeclaredFault (BadConfig fault))
+IsFirstShowFault input (Catalogue fault) =
+    IsMisdeclared show_needs input (IsDeclaredFault (Catalogue fault))
+IsFirstShowFault input (BadConfig fault) =
+    IsMisdeclared show_needs input (IsDeclaredFault (BadConfig fault))
 IsFirstShowFault input Memory = Unit {0}
 IsFirstShowFault input _ = ⊥
 
@@ -53,8 +69,10 @@ pub show_refused : (input : List ℕ) (read : Parts) (fault : KitFault)
     → IsFirstShowFault input fault
 show_refused input read Read is_read found = found
 show_refused input read (Input line) is_read found = absurd found
-show_refused input read (Catalogue fault) is_read found = record { read = read; is_read = is_read; first = found }
-show_refused input read (BadConfig fault) is_read found = record { read = read; is_read = is_read; first = found }
+show_refused input read (Catalogue fault) is_read found =
+    record { read = read; is_read = is_read; first = found }
+show_refused input read (BadConfig fault) is_read found =
+    record { read = read; is_read = is_read; first = found }
 show_refused input read (BadCertificate fault) is_read found = found
 show_refused input read (Check fault) is_read found = found
 show_refused input read (Make fault) is_read found = found

@@ -17,13 +17,16 @@ sum_text sum = codes " sum " ++ (signed_decimal sum ++ codes "\n")
 
 -- the line of an instrument's total
 abbrev pub total_text : ℕ → Total → List ℕ
-total_text instrument total = numbered (codes "instrument ") instrument ++ (numbered (codes " count ") total.count ++ sum_text total.sum)
+total_text instrument total =
+    numbered (codes "instrument ") instrument
+    ++ (numbered (codes " count ") total.count ++ sum_text total.sum)
 
 -- those of all instruments, numbered from 0
 abbrev pub totals_text : List Total → List ℕ
 totals_text totals = parts_text total_text totals
 
--- The text that threads over the input come to: a line for a total of each instrument of the certified plan.
+-- The text that threads over the input come to: a line for a total of each
+-- instrument of the certified plan.
 pub record IsCounted (input text : List ℕ) : Type 0 where
   pub plan : PlanValue
   pub totals : List Total

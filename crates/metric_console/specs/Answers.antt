@@ -11,7 +11,8 @@ use Rattle.metric_bounds.specs.Amounts.{total_of}
 use Rattle.metric_advice.specs.Headrooms.{IsHeadroom}
 use Rattle.metric_advice.specs.Remarks.{AreRemarks}
 use Rattle.metric_request.specs.declared.request.Task.{Task}
-use Rattle.metric_request.specs.declared.request.Task.TheVariants.{Lint, Show, Make, Check, Headroom, Replay, Draw}
+use Rattle.metric_request.specs.declared.request.Task.TheVariants.{Lint, Show, Make, Check}
+use Rattle.metric_request.specs.declared.request.Task.TheVariants.{Headroom, Replay, Draw}
 use Rattle.metric_commands.specs.declared.fault.KitFault.{KitFault}
 use Rattle.metric_commands.specs.Certifying.{IsCertified, IsMakeFault}
 use Rattle.metric_commands.specs.Claims.{IsCertifiedPlan, IsClaimFault}
@@ -26,12 +27,14 @@ use Rattle.metric_console.specs.declared.answer.Answer.TheVariants as answers
 pub record IsListing (parts : Parts) (listing : Listing) : Type 0 where
   pub declared : IsDeclared parts listing.declared.catalogue listing.declared.config
   pub streams : listing.streams ≡ streams_of listing.declared.catalogue listing.declared.config
-  pub totals : listing.totals ≡ map (total_of listing.declared.catalogue) (all_instruments listing.declared.catalogue)
+  pub totals : listing.totals ≡ map (total_of listing.declared.catalogue)
+      (all_instruments listing.declared.catalogue)
 
 -- The headroom of each instrument that the parts declare.
 pub record AreRooms (parts : Parts) (rooms : Rooms) : Type 0 where
   pub declared : IsDeclared parts rooms.declared.catalogue rooms.declared.config
-  pub rooms_of : AllZip (IsHeadroom rooms.declared.catalogue (streams_of rooms.declared.catalogue rooms.declared.config))
+  pub rooms_of : AllZip (IsHeadroom rooms.declared.catalogue
+      (streams_of rooms.declared.catalogue rooms.declared.config))
       (all_instruments rooms.declared.catalogue) rooms.rooms
 
 -- The remarks on what the parts declare.

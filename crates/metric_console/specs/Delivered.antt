@@ -1,23 +1,34 @@
 -- Where an answer is written, and the exit status then.
-use Rattle.std.specs.Prelude.{◌≡◌, ◌&&◌, ◌==◌, ℕ, Bool, not, List, Option, Some, None, codes, if◌then◌else◌, length}
+use Rattle.std.specs.Prelude.{◌≡◌, ◌&&◌, ◌==◌, ℕ, Bool, not, List, Option, Some, None, codes}
+use Rattle.std.specs.Prelude.{if◌then◌else◌, length}
 use Rattle.std.specs.Io.KnownBytes.{Appends}
 use Rattle.metric_console.specs.Folders.{MadeFile, Makes}
 use Rattle.metric_console.specs.declared.answer.Answer.{Answer}
 use Rattle.metric_console.specs.declared.answer.Answer.TheVariants as answers
 
--- The text is made as a file at the path and nothing written to the sink, or else the text is written to the sink and no file made.
-abbrev pub IsDelivered : Option (List ℕ) → List ℕ → Option (List MadeFile) → Option (List MadeFile) → Option (List ℕ) → Option (List ℕ) → Type 0
-IsDelivered None text made made_after contents contents_after = Appends contents contents_after text × (made_after ≡ made)
-IsDelivered (Some path) text made made_after contents contents_after = Makes made made_after path text × (contents_after ≡ contents)
+-- The text is made as a file at the path and nothing written to the sink, or else the text is
+-- written to the sink and no file made.
+abbrev pub IsDelivered : Option (List ℕ) → List ℕ → Option (List MadeFile) → Option (List MadeFile)
+    → Option (List ℕ) → Option (List ℕ) → Type 0
+IsDelivered None text made made_after contents contents_after =
+    Appends contents contents_after text × (made_after ≡ made)
+IsDelivered (Some path) text made made_after contents contents_after =
+    Makes made made_after path text × (contents_after ≡ contents)
 
--- A certificate, a picture and the line of an accepted certificate are written whole and once. A file is made of none but the first two.
-abbrev pub IsDeliveredAnswer : Option (List ℕ) → Answer → Option (List MadeFile) → Option (List MadeFile) → Option (List ℕ) → Option (List ℕ) → Type 0
-IsDeliveredAnswer output (answers.Certificate text) made made_after contents contents_after = IsDelivered output text made made_after contents contents_after
-IsDeliveredAnswer output (answers.Picture text) made made_after contents contents_after = IsDelivered output text made made_after contents contents_after
-IsDeliveredAnswer output answers.Accepted made made_after contents contents_after = IsDelivered None (codes "accepted\n") made made_after contents contents_after
+-- A certificate, a picture and the line of an accepted certificate are written whole and once. A
+-- file is made of none but the first two.
+abbrev pub IsDeliveredAnswer : Option (List ℕ) → Answer → Option (List MadeFile)
+    → Option (List MadeFile) → Option (List ℕ) → Option (List ℕ) → Type 0
+IsDeliveredAnswer output (answers.Certificate text) made made_after contents contents_after =
+    IsDelivered output text made made_after contents contents_after
+IsDeliveredAnswer output (answers.Picture text) made made_after contents contents_after =
+    IsDelivered output text made made_after contents contents_after
+IsDeliveredAnswer output answers.Accepted made made_after contents contents_after =
+    IsDelivered None (codes "accepted\n") made made_after contents contents_after
 IsDeliveredAnswer output answer made made_after contents contents_after = made_after ≡ made
 
 -- 1 where there are remarks and they are errors, else 0
 abbrev pub answer_status : Bool → Answer → ℕ
-answer_status strict (answers.Notes notes) = if strict && not (length notes.remarks == 0) then 1 else 0
+answer_status strict (answers.Notes notes) =
+    if strict && not (length notes.remarks == 0) then 1 else 0
 answer_status strict _ = 0

@@ -19,10 +19,13 @@ optional_text header (Some text) = part_text header text
 unfoldable pub input_of : List ℕ → List ℕ → Option (List ℕ) → List ℕ → List ℕ
 input_of catalogue config certificate script =
     part_text (codes "%% catalogue\n") catalogue ++ part_text (codes "%% config\n") config
-    ++ optional_text (codes "%% certificate\n") certificate ++ part_text (codes "%% script\n") script
+    ++ optional_text (codes "%% certificate\n") certificate
+    ++ part_text (codes "%% script\n") script
 
 -- The replay of an input that stands in memory, as `metric_kit` promises it.
-pub record IsReplay (trial audit : Bool) (input : List ℕ) (sink : SinkRun) (result : Result (Unit {0}) KitFault) : Type 0 where
+pub record IsReplay (trial audit : Bool) (input : List ℕ) (sink : SinkRun)
+    (result : Result (Unit {0}) KitFault) : Type 0 where
   pub counts_after : ReadCounts
-  pub runs : RunsCommand (IsOutput (replay_options trial audit)) (IsFirstFault (replay_options trial audit))
+  pub runs : RunsCommand (IsOutput (replay_options trial audit))
+      (IsFirstFault (replay_options trial audit))
       (record { input = Some input; counts = no_reads; counts_after = counts_after }) sink result

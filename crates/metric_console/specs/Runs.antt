@@ -1,5 +1,6 @@
 -- What running a request does.
-use Rattle.std.specs.Prelude.{◌≡◌, ◌≢◌, ◌⊎◌, ℕ, Bool, not, List, Option, Some, None, Result, Ok, Err, IfErr, IfOk, IsErr, IsErrAnd, is_some}
+use Rattle.std.specs.Prelude.{◌≡◌, ◌≢◌, ◌⊎◌, ℕ, Bool, not, List, Option, Some, None, Result, Ok}
+use Rattle.std.specs.Prelude.{Err, IfErr, IfOk, IsErr, IsErrAnd, is_some}
 use Rattle.metric_parts.specs.declared.parts.Parts.{Parts}
 use Rattle.metric_request.specs.declared.request.Request.{Request}
 use Rattle.metric_request.specs.declared.request.Task.{Task}
@@ -24,7 +25,8 @@ pub record Writing : Type 0 where
   pub contents : Option (List ℕ)
   pub contents_after : Option (List ℕ)
 
-abbrev pub writing : {F W : Type 0} → (F → Option (List MadeFile)) → (W → Option (List ℕ)) → F → F → W → W → Writing
+abbrev pub writing : {F W : Type 0} → (F → Option (List MadeFile)) → (W → Option (List ℕ)) → F → F
+    → W → W → Writing
 writing made contents folder folder_after sink sink_after = record {
   made = made folder;
   made_after = made folder_after;
@@ -32,14 +34,18 @@ writing made contents folder folder_after sink sink_after = record {
   contents_after = contents sink_after;
 }
 
--- The answer that is due of the parts is written where the request wants it, and the status is the answer's.
-pub record Answers (request : Request) (parts : Parts) (writing : Writing) (status : ℕ) : Type 0 where
+-- The answer that is due of the parts is written where the request wants it,
+-- and the status is the answer's.
+pub record Answers (request : Request) (parts : Parts) (writing : Writing) (status : ℕ)
+    : Type 0 where
   pub answer : Answer
   pub is_answer : IsAnswer request.task parts answer
-  pub delivered : IsDeliveredAnswer request.files.output answer writing.made writing.made_after writing.contents writing.contents_after
+  pub delivered : IsDeliveredAnswer request.files.output answer writing.made writing.made_after
+      writing.contents writing.contents_after
   pub is_status : status ≡ answer_status request.options.strict answer
 
--- A fault is of a device, or the first that the parts have, or a certificate is not there to be checked.
+-- A fault is of a device, or the first that the parts have, or a
+-- certificate is not there to be checked.
 abbrev pub RefusesFor : Task → Parts → ConsoleFault → Type 0
 RefusesFor task parts (Unread role cause) = parts.certificate ≡ None
 RefusesFor task parts (Header role) = ⊥
@@ -48,9 +54,12 @@ RefusesFor task parts (Kit fault) = IsDeviceFault fault ⊎ IsAnswerFault task f
 -- What the replay of a script that is there comes to.
 abbrev pub ReplaysScript : Bool → Parts → List ℕ → SinkRun → Result ℕ ConsoleFault → Type 0
 ReplaysScript audit parts script sink (Ok status) =
-    (status ≡ 0) × IsReplay (not (is_some parts.certificate)) audit (input_of parts.catalogue parts.config parts.certificate script) sink (Ok tt)
+    (status ≡ 0) × IsReplay (not (is_some parts.certificate)) audit
+    (input_of parts.catalogue parts.config parts.certificate script) sink (Ok tt)
 ReplaysScript audit parts script sink (Err (Kit fault)) =
-    ((fault ≡ Memory) × (sink.contents_after ≡ sink.contents)) ⊎ IsReplay (not (is_some parts.certificate)) audit (input_of parts.catalogue parts.config parts.certificate script) sink (Err fault)
+    ((fault ≡ Memory) × (sink.contents_after ≡ sink.contents))
+    ⊎ IsReplay (not (is_some parts.certificate)) audit
+    (input_of parts.catalogue parts.config parts.certificate script) sink (Err fault)
 ReplaysScript audit parts script sink (Err (Header role)) = sink.contents_after ≡ sink.contents
 ReplaysScript audit parts script sink (Err (Unread role cause)) = ⊥
 
@@ -64,28 +73,37 @@ Replays audit texts sink result = ReplaysText audit texts.parts texts.script sin
 
 -- Nothing was made and nothing written.
 abbrev pub IsUntouched : Writing → Type 0
-IsUntouched writing = (writing.made_after ≡ writing.made) × (writing.contents_after ≡ writing.contents)
+IsUntouched writing =
+    (writing.made_after ≡ writing.made) × (writing.contents_after ≡ writing.contents)
 
--- An answer is written, or the command refused; where it is refused, nothing is made and nothing written.
-pub record RunsAnswer (request : Request) (parts : Parts) (writing : Writing) (end : Result ℕ ConsoleFault) : Type 0 where
+-- An answer is written, or the command refused; where it is refused,
+-- nothing is made and nothing written.
+pub record RunsAnswer (request : Request) (parts : Parts) (writing : Writing)
+    (end : Result ℕ ConsoleFault) : Type 0 where
   pub ok : IfOk end (Answers request parts writing)
   pub first : IfErr end (RefusesFor request.task parts)
   pub untouched : IfErr end (λ fault. IsRefusal fault → IsUntouched writing)
 
 -- A replay is run, and each other command answered.
-pub record RunsTexts (request : Request) (texts : Texts) (writing : Writing) (sink : SinkRun) (end : Result ℕ ConsoleFault) : Type 0 where
-  pub replayed : request.task ≡ Replay → Replays request.options.audit texts sink end × (writing.made_after ≡ writing.made)
+pub record RunsTexts (request : Request) (texts : Texts) (writing : Writing) (sink : SinkRun)
+    (end : Result ℕ ConsoleFault) : Type 0 where
+  pub replayed : request.task ≡ Replay
+      → Replays request.options.audit texts sink end × (writing.made_after ≡ writing.made)
   pub answered : request.task ≢ Replay → RunsAnswer request texts.parts writing end
 
 -- The texts of the files, with what running the command on them comes to.
-pub record RunsRead (held : List ℕ → Option (List ℕ)) (request : Request) (writing : Writing) (sink : SinkRun) (end : Result ℕ ConsoleFault) : Type 0 where
+pub record RunsRead (held : List ℕ → Option (List ℕ)) (request : Request) (writing : Writing)
+    (sink : SinkRun) (end : Result ℕ ConsoleFault) : Type 0 where
   pub texts : Texts
   pub are_texts : AreTexts held request.files texts
   pub runs : RunsTexts request texts writing sink end
 
--- A file is not read, and nothing is made or written; or the command runs on the texts of the files.
-abbrev pub RunsFiles : (List ℕ → Option (List ℕ)) → Request → Writing → SinkRun → Result ℕ ConsoleFault → Type 0
-RunsFiles held request writing sink end = (IsErrAnd end IsUnread × IsUntouched writing) ⊎ RunsRead held request writing sink end
+-- A file is not read, and nothing is made or written; or the command
+-- runs on the texts of the files.
+abbrev pub RunsFiles : (List ℕ → Option (List ℕ)) → Request → Writing → SinkRun
+    → Result ℕ ConsoleFault → Type 0
+RunsFiles held request writing sink end =
+    (IsErrAnd end IsUnread × IsUntouched writing) ⊎ RunsRead held request writing sink end
 
 -- the exit status of how a command ends
 abbrev pub exit_of : Result ℕ ConsoleFault → ℕ
@@ -93,7 +111,8 @@ exit_of (Ok status) = status
 exit_of (Err fault) = status_of fault
 
 -- A request is run, and its end is told by the exit status.
-pub record RunsRequest (held : List ℕ → Option (List ℕ)) (request : Request) (writing : Writing) (sink : SinkRun) (status : ℕ) : Type 0 where
+pub record RunsRequest (held : List ℕ → Option (List ℕ)) (request : Request) (writing : Writing)
+    (sink : SinkRun) (status : ℕ) : Type 0 where
   pub end : Result ℕ ConsoleFault
   pub runs : RunsFiles held request writing sink end
   pub is_status : status ≡ exit_of end

@@ -1,7 +1,8 @@
 -- How a stream stays within its limit.
 use Rattle.std.specs.Prelude.{ℕ, ◌≤◌, ◌<◌}
 use Rattle.metric_console.specs.declared.rows.Within.{Within}
-use Rattle.metric_console.specs.declared.rows.Within.TheVariants.{Product, List as Listed, Budget, Not}
+use Rattle.metric_console.specs.declared.rows.Within.TheVariants.{Product, List as Listed, Budget}
+use Rattle.metric_console.specs.declared.rows.Within.TheVariants.{Not}
 
 -- by its sets, or else by its recordings, or not
 abbrev pub IsWithin : ℕ → ℕ → ℕ → Within → Type 0

@@ -2,10 +2,11 @@
 use Rattle.std.specs.Prelude.{◌≡◌, ◌⊎◌, ℕ, List, Option, string_bytes}
 use Rattle.std.specs.Io.KnownBytes.{Appends}
 use Rattle.metric_request.specs.declared.fault.LineFault.{LineFault}
-use Rattle.metric_request.specs.declared.fault.LineFault.TheVariants.{Told, Usage, Nothing, Deny, Memory}
+use Rattle.metric_request.specs.declared.fault.LineFault.TheVariants.{Told, Usage, Nothing, Deny}
+use Rattle.metric_request.specs.declared.fault.LineFault.TheVariants.{Memory}
 
--- Help and the version are written whole, or the status is that of a write that failed; else nothing is written to the sink, and
--- the status is that of a misuse or of want of memory.
+-- Help and the version are written whole, or the status is that of a write that failed; else
+-- nothing is written to the sink, and the status is that of a misuse or of want of memory.
 abbrev pub IsLineEnd : LineFault → Option (List ℕ) → Option (List ℕ) → ℕ → Type 0
 IsLineEnd (Told text) contents contents_after status =
     ((status ≡ 0) × Appends contents contents_after (string_bytes text)) ⊎ (status ≡ 5)

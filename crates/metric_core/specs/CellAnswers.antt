@@ -1,8 +1,10 @@
 -- What the calls of a cell answer, and what they make of it.
-use Rattle.std.specs.Prelude.{◌≡◌, ◌<◌, ◌≤◌, ◌+◌, ◌-◌, ◌+ℤ◌, ℕ, ℤ, Bool, true, false, List, [], ◌∷◌, ◌++◌, Result, Ok, Err, slice_index, slice_set}
+use Rattle.std.specs.Prelude.{◌≡◌, ◌<◌, ◌≤◌, ◌+◌, ◌-◌, ◌+ℤ◌, ℕ, ℤ, Bool, true, false, List, [], ◌∷◌}
+use Rattle.std.specs.Prelude.{◌++◌, Result, Ok, Err, slice_index, slice_set}
 use Rattle.metric_book.specs.Journals.{Standing, kept_of}
 use Rattle.metric_catalogue.specs.declared.refusal.Refusal.{Refusal}
-use Rattle.metric_catalogue.specs.declared.refusal.Refusal.TheVariants.{Closed, Budget, NoSpare, SumRange, Memory}
+use Rattle.metric_catalogue.specs.declared.refusal.Refusal.TheVariants.{Closed, Budget, NoSpare}
+use Rattle.metric_catalogue.specs.declared.refusal.Refusal.TheVariants.{SumRange, Memory}
 use Rattle.metric_history.specs.declared.batch.Batch.{Batch}
 use Rattle.metric_history.specs.declared.entry.Entry.{Entry}
 use Rattle.metric_history.specs.Answers.{batch}
@@ -16,19 +18,24 @@ entry_of recorder set value = record { recorder = recorder; set = set; value = v
 abbrev pub budget_of : {B : Type 0} → CellValue B → ℕ → ℕ
 budget_of c recorder = slice_index c.facts.budgets recorder + slice_index c.granted recorder
 
--- The instrument is open, the recorder has recordings left, and whether each series stays in range is this.
-pub record IsJudged {B : Type 0} (stands : B → Standing) (c : CellValue B) (entry : Entry) (fits : Bool) : Type 0 where
+-- The instrument is open, the recorder has recordings left, and whether
+-- each series stays in range is this.
+pub record IsJudged {B : Type 0} (stands : B → Standing) (c : CellValue B) (entry : Entry)
+    (fits : Bool) : Type 0 where
   pub is_open : c.is_closed ≡ false
   pub has_budget : slice_index c.spent entry.recorder < budget_of c entry.recorder
-  pub fitting : (journal : List Entry) → CellStands stands c journal → fits_all c.facts (slice_index c.marks) journal entry ≡ fits
+  pub fitting : (journal : List Entry) → CellStands stands c journal
+      → fits_all c.facts (slice_index c.marks) journal entry ≡ fits
 
 -- The instrument is open, and the recorder has no recordings left.
 pub record IsOverBudget {B : Type 0} (c : CellValue B) (recorder : ℕ) : Type 0 where
   pub is_open : c.is_closed ≡ false
   pub no_budget : budget_of c recorder ≤ slice_index c.spent recorder
 
--- what a recording is answered: `Closed`, `Budget`, `SumRange`, whichever applies first, else done, unless memory is refused
-abbrev pub AnswersRecording : {B : Type 0} → (B → Standing) → CellValue B → Entry → Result (Unit {0}) Refusal → Type 0
+-- what a recording is answered: `Closed`, `Budget`, `SumRange`, whichever applies first,
+-- else done, unless memory is refused
+abbrev pub AnswersRecording : {B : Type 0} → (B → Standing) → CellValue B → Entry
+    → Result (Unit {0}) Refusal → Type 0
 AnswersRecording stands c entry (Ok done) = IsJudged stands c entry true
 AnswersRecording stands c entry (Err Closed) = c.is_closed ≡ true
 AnswersRecording stands c entry (Err Budget) = IsOverBudget c entry.recorder
@@ -47,14 +54,18 @@ with_entry c entry book = record c {
 
 -- the new cell stands for one recording more
 abbrev pub GainsEntry : {B : Type 0} → (B → Standing) → CellValue B → CellValue B → Entry → Type 0
-GainsEntry stands old new entry = (journal : List Entry) → CellStands stands old journal → CellStands stands new (journal ++ entry ∷ [])
+GainsEntry stands old new entry =
+    (journal : List Entry) → CellStands stands old journal
+    → CellStands stands new (journal ++ entry ∷ [])
 
 -- the batch is what the reader is told at a time of each journal for which the cell stands
 abbrev pub ReportsBatch : {B : Type 0} → (B → Standing) → CellValue B → ℕ → ℕ → Batch → Type 0
 ReportsBatch stands c reader now told =
-    (journal : List Entry) → CellStands stands c journal → told ≡ batch c.facts c.start (told_by c journal) reader now
+    (journal : List Entry) → CellStands stands c journal
+    → told ≡ batch c.facts c.start (told_by c journal) reader now
 
--- the cell after a batch of the reader with this time, in which the book has moved the reader's mark
+-- the cell after a batch of the reader with this time, in which the
+-- book has moved the reader's mark
 abbrev pub with_batch : {B : Type 0} → CellValue B → ℕ → ℕ → B → CellValue B
 with_batch c reader time book = record c {
   book = book;
@@ -64,7 +75,8 @@ with_batch c reader time book = record c {
 
 -- the new cell stands for the same recordings
 abbrev pub KeepsJournal : {B : Type 0} → (B → Standing) → CellValue B → CellValue B → Type 0
-KeepsJournal stands old new = (journal : List Entry) → CellStands stands old journal → CellStands stands new journal
+KeepsJournal stands old new =
+    (journal : List Entry) → CellStands stands old journal → CellStands stands new journal
 
 -- what a close is answered: `Closed` where the instrument is closed, else done
 abbrev pub AnswersClose : {B : Type 0} → CellValue B → Result (Unit {0}) Refusal → Type 0
@@ -97,4 +109,5 @@ with_grant c recorder amount = record c {
 
 -- the entries are what is kept of each journal for which the cell stands: all of it, or nothing
 abbrev pub TellsEntries : {B : Type 0} → (B → Standing) → Bool → CellValue B → List Entry → Type 0
-TellsEntries stands keeps c entries = (journal : List Entry) → CellStands stands c journal → entries ≡ kept_of keeps journal
+TellsEntries stands keeps c entries =
+    (journal : List Entry) → CellStands stands c journal → entries ≡ kept_of keeps journal

@@ -1,5 +1,6 @@
 -- The state of one instrument, and for which recordings it stands.
-use Rattle.std.specs.Prelude.{◌≡◌, ◌<◌, ◌≤◌, ◌+◌, ◌*◌, ◌^◌, ℕ, ℤ, pos, neg_ℤ, ◌≤ℤ◌, Bool, true, false, List, length, replicate, slice_index, slice_index_or, sum}
+use Rattle.std.specs.Prelude.{◌≡◌, ◌<◌, ◌≤◌, ◌+◌, ◌*◌, ◌^◌, ℕ, ℤ, pos, neg_ℤ, ◌≤ℤ◌, Bool, true}
+use Rattle.std.specs.Prelude.{false, List, length, replicate, slice_index, slice_index_or, sum}
 use Rattle.metric_aggregate.specs.Value.{sum_of}
 use Rattle.metric_book.specs.Journals.{Standing, no_marks}
 use Rattle.metric_history.specs.declared.entry.Entry.{Entry}
@@ -8,9 +9,10 @@ use Rattle.metric_history.specs.Answers.{Told, spent}
 use Rattle.metric_history.specs.Points.{values}
 use Rattle.metric_safety.specs.SafeFacts.{are_admitted, total}
 
--- what its run depends on, the book of its recordings, the start, how many recordings each reader's last batch
--- counted and the time of that batch, how many recordings each recorder made, how many each was granted beside its budget and how
--- many may still be, how many there are and their sum, and whether it is closed
+-- what its run depends on, the book of its recordings, the start, how many recordings each
+-- reader's last batch counted and the time of that batch, how many recordings each recorder made,
+-- how many each was granted beside its budget and how many may still be, how many there are and
+-- their sum, and whether it is closed
 pub record CellValue (B : Type 0) : Type 0 where
   pub facts : Facts
   pub book : B
@@ -40,16 +42,19 @@ new_cell facts start book = record {
   is_closed = false;
 }
 
--- The cell stands for these accepted recordings, oldest first: its book does, and it has counted them.
-pub record CellStands {B : Type 0} (stands : B → Standing) (c : CellValue B) (journal : List Entry) : Type 0 where
+-- The cell stands for these accepted recordings, oldest first: its book does, and it has counted
+-- them.
+pub record CellStands {B : Type 0} (stands : B → Standing) (c : CellValue B) (journal : List Entry)
+    : Type 0 where
   pub book : stands c.book c.facts journal c.marks
   pub counted : c.count ≡ length journal
   pub summed : c.total ≡ sum_of (values journal)
-  pub charged : (recorder : ℕ) → recorder < length c.facts.budgets → slice_index c.spent recorder ≡ spent journal recorder
+  pub charged : (recorder : ℕ) → recorder < length c.facts.budgets
+      → slice_index c.spent recorder ≡ spent journal recorder
 
--- What each cell keeps: it stands for some recordings that the instrument admits, no recorder has made more of them than its budget
--- and what it was granted, all grants and what is left of the spare are the instrument's spare, and the budgets with the spare are
--- a u64.
+-- What each cell keeps: it stands for some recordings that the instrument admits, no recorder has
+-- made more of them than its budget and what it was granted, all grants and what is left of the
+-- spare are the instrument's spare, and the budgets with the spare are a u64.
 pub record CellKept {B : Type 0} (stands : B → Standing) (c : CellValue B) : Type 0 where
   pub journal : List Entry
   pub known : CellStands stands c journal
@@ -58,7 +63,8 @@ pub record CellKept {B : Type 0} (stands : B → Standing) (c : CellValue B) : T
   pub one_time_each : length c.times ≡ length c.facts.delta
   pub one_budget_each : length c.spent ≡ length c.facts.budgets
   pub one_grant_each : length c.granted ≡ length c.facts.budgets
-  pub within : (recorder : ℕ) → slice_index c.spent recorder ≤ slice_index c.facts.budgets recorder + slice_index c.granted recorder
+  pub within : (recorder : ℕ) → slice_index c.spent recorder
+      ≤ slice_index c.facts.budgets recorder + slice_index c.granted recorder
   pub shared : sum c.granted + c.spare ≡ c.facts.spare
   pub past : (reader : ℕ) → slice_index c.marks reader ≤ c.count
   pub counted : c.count ≡ sum c.spent

@@ -1,5 +1,6 @@
 -- For which history a core stands.
-use Rattle.std.specs.Prelude.{◌≡◌, ℕ, Bool, List, Some, length, slice_get, slice_index, slice_index_or, sum}
+use Rattle.std.specs.Prelude.{◌≡◌, ℕ, Bool, List, Some, length, slice_get, slice_index}
+use Rattle.std.specs.Prelude.{slice_index_or, sum}
 use Rattle.metric_book.specs.Journals.{Standing, kept_of}
 use Rattle.metric_history.specs.declared.entry.Entry.{Entry}
 use Rattle.metric_facts.specs.declared.facts.Facts.{Facts}
@@ -9,9 +10,10 @@ use Rattle.metric_history.specs.History.{History, accepted, told_of}
 use Rattle.metric_core.specs.Cells.{CellValue, CellStands}
 use Rattle.metric_plan.specs.Plans.{PlanValue}
 
--- A cell has what was told of its instrument since a start: its book stands for the accepted recordings with the
--- marks of the answered collections, and it has granted as much.
-pub record CellKeepsTo {B : Type 0} (stands : B → Standing) (c : CellValue B) (since : ℕ) (told : Told) : Type 0 where
+-- A cell has what was told of its instrument since a start: its book stands for the accepted
+-- recordings with the marks of the answered collections, and it has granted as much.
+pub record CellKeepsTo {B : Type 0} (stands : B → Standing) (c : CellValue B) (since : ℕ)
+    (told : Told) : Type 0 where
   pub known : CellStands stands c told.accepted
   pub begins : c.start ≡ since
   pub mark : (reader : ℕ) → slice_index c.marks reader ≡ told.mark reader
@@ -29,9 +31,11 @@ pub record AreCellsOf {B : Type 0} (all : List Facts) (cells : List (CellValue B
   pub own : (i : ℕ) (c : CellValue B) → slice_get cells i ≡ Some c → slice_get all i ≡ Some c.facts
 
 -- each cell has what the history says of its instrument
-pub record CellsStand {B : Type 0} (stands : B → Standing) (facts : RunFacts) (since : ℕ) (cells : List (CellValue B)) (h : History) : Type 0 where
+pub record CellsStand {B : Type 0} (stands : B → Standing) (facts : RunFacts) (since : ℕ)
+    (cells : List (CellValue B)) (h : History) : Type 0 where
   pub cells_of : AreCellsOf facts.instruments cells
-  pub each : (i : ℕ) (c : CellValue B) → slice_get cells i ≡ Some c → CellKeepsTo stands c since (told_of facts since h i)
+  pub each : (i : ℕ) (c : CellValue B) → slice_get cells i ≡ Some c
+      → CellKeepsTo stands c since (told_of facts since h i)
 
 pub record CoreValue (B : Type 0) : Type 0 where
   pub plan : PlanValue
@@ -42,7 +46,10 @@ pub record CoreValue (B : Type 0) : Type 0 where
 abbrev pub CoreStands : {B : Type 0} → (B → Standing) → CoreValue B → History → Type 0
 CoreStands stands core h = CellsStand stands core.plan.facts core.start core.cells h
 
--- the entries are what is kept of the instrument's accepted recordings in each history for which the core stands: all of them, or nothing
-abbrev pub TellsAccepted : {B : Type 0} → (B → Standing) → Bool → CoreValue B → ℕ → List Entry → Type 0
+-- the entries are what is kept of the instrument's accepted recordings in each history for which
+-- the core stands: all of them, or nothing
+abbrev pub TellsAccepted : {B : Type 0} → (B → Standing) → Bool → CoreValue B → ℕ
+    → List Entry → Type 0
 TellsAccepted stands keeps core instrument entries =
-    (h : History) → CoreStands stands core h → entries ≡ kept_of keeps (accepted core.plan.facts h instrument)
+    (h : History) → CoreStands stands core h
+    → entries ≡ kept_of keeps (accepted core.plan.facts h instrument)

@@ -1,5 +1,6 @@
 -- What a dense table keeps, and for which recordings it stands.
-use Rattle.std.specs.Prelude.{◌≡◌, ◌≤◌, ◌<◌, ℕ, ℤ, Bool, true, All, List, [], Some, length, get_or, slice_get, slice_set}
+use Rattle.std.specs.Prelude.{◌≡◌, ◌≤◌, ◌<◌, ℕ, ℤ, Bool, true, All, List, [], Some, length, get_or}
+use Rattle.std.specs.Prelude.{slice_get, slice_set}
 use Rattle.metric_aggregate.specs.BucketAgg.{Histogram as Buckets}
 use Rattle.metric_aggregate.specs.contracts.buckets.BucketAggAggregate.TheImpl as of_buckets
 use Rattle.metric_aggregate.specs.contracts.last.LastAggAggregate.TheImpl as of_last
@@ -40,8 +41,9 @@ abbrev pub HasAllRoom : {A : Type 0} → DenseValue A → Type 0
 HasAllRoom t = Unit {0}
 
 module _ {A P : Type 0} (by : aggregate.Ghosts A P) where
-  -- The table keeps the numbers of the recordings of the window in a stream: they are of full sets, the stream holds each series
-  -- that there can be, and the aggregate of each rank has the recordings of its series.
+  -- The table keeps the numbers of the recordings of the window in a stream: they are of full
+  -- sets, the stream holds each series that there can be, and the aggregate of each rank has
+  -- the recordings of its series.
   pub record StandsDense (t : DenseValue A) (s : Stream) (window : List Entry) : Type 0 where
     pub kept : t.kept ≡ s.kept
     pub ranked : IsRanked s.kept t.keys
@@ -73,7 +75,8 @@ module _ {A P : Type 0} (by : aggregate.Ghosts A P) where
     pub fits : JudgesAt t.aggregates (rank t.kept t.keys set) value true
 
   -- the table was made ready for the value of a set, for which nothing has to be put in
-  pub record IsReadyDense (old new : DenseValue A) (set : List ℕ) (value : ℤ) (place : Place) : Type 0 where
+  pub record IsReadyDense (old new : DenseValue A) (set : List ℕ) (value : ℤ) (place : Place)
+      : Type 0 where
     pub same : new ≡ old
     pub falls : FallsTo old set value place
 
@@ -89,11 +92,17 @@ module _ {A P : Type 0} (by : aggregate.Ghosts A P) where
 
 -- the tables whose series are found by their ranks
 abbrev pub ranked : {A P : Type 0} → aggregate.Ghosts A P → table.Ghosts (DenseValue A)
-ranked by = record { stands = StandsDense by; takes = TakesFull; has_room = HasAllRoom; is_ready = IsReadyDense by }
+ranked by = record {
+  stands = StandsDense by;
+  takes = TakesFull;
+  has_room = HasAllRoom;
+  is_ready = IsReadyDense by;
+}
 
 -- a `DenseTable`, and what is known of it
 abbrev pub DenseTableValue : Type 0
 DenseTableValue = ByAggregation (DenseValue SumAgg) (DenseValue LastAgg) (DenseValue Buckets)
 
 abbrev pub dense_tables : table.Ghosts DenseTableValue
-dense_tables = by_aggregation (ranked of_sum.ghosts) (ranked of_last.ghosts) (ranked of_buckets.ghosts)
+dense_tables =
+    by_aggregation (ranked of_sum.ghosts) (ranked of_last.ghosts) (ranked of_buckets.ghosts)

@@ -1,5 +1,6 @@
 -- The series of a rank, and the keys whose sets have one.
-use Rattle.std.specs.Prelude.{◌≡◌, ℕ, ◌+◌, ◌-◌, ◌*◌, ◌/◌, ◌%◌, ◌≤◌, ◌<◌, ◌^◌, Bool, true, if◌then◌else◌, List, [], ◌∷◌, length, replicate}
+use Rattle.std.specs.Prelude.{◌≡◌, ℕ, ◌+◌, ◌-◌, ◌*◌, ◌/◌, ◌%◌, ◌≤◌, ◌<◌, ◌^◌, Bool, true}
+use Rattle.std.specs.Prelude.{if◌then◌else◌, List, [], ◌∷◌, length, replicate}
 use Rattle.metric_facts.specs.declared.facts.KeyFacts.{KeyFacts}
 use Rattle.metric_facts.specs.Facts.{is_full_set}
 use Rattle.metric_facts.specs.Products.{key_choices, product_of}
@@ -27,7 +28,8 @@ pub record IsTaken (keys : List KeyFacts) (set : List ℕ) : Type 0 where
   pub long : length set ≡ 8
   pub full : is_full_set keys set ≡ true
 
--- of at most 8 keys each is kept or not, and there is some series, but no more than a number of 32 bits says
+-- of at most 8 keys each is kept or not, and there is some series, but no
+-- more than a number of 32 bits says
 pub record IsRanked (kept : List Bool) (keys : List KeyFacts) : Type 0 where
   pub flags : length kept ≡ length keys
   pub few : length keys ≤ 8

@@ -6,7 +6,8 @@ use Rattle.metric_views.specs.declared.fault.ViewFault.{ViewFault}
 use Rattle.metric_views.specs.declared.fault.ViewFault.TheVariants as config
 use Rattle.metric_catalogue.specs.declared.fault.CataloguePlace.TheVariants.{Instrument, Recorder}
 use Rattle.metric_views.specs.declared.fault.ConfigPlace.TheVariants.{Top, View}
-use Rattle.metric_advice.specs.declared.limit.Limit.TheVariants.{Count, Amount, SumLow, SumHigh, Series}
+use Rattle.metric_advice.specs.declared.limit.Limit.TheVariants.{Count, Amount, SumLow, SumHigh}
+use Rattle.metric_advice.specs.declared.limit.Limit.TheVariants.{Series}
 use Rattle.metric_advice.specs.declared.position.Position.{Position}
 use Rattle.metric_advice.specs.declared.remark.Remark.{Remark}
 use Rattle.metric_advice.specs.declared.remark.Remark.TheVariants as remarks
@@ -19,7 +20,8 @@ use Rattle.metric_diagnosis.specs.declared.places.Place.TheVariants.{Catalogue, 
 -- A table's fault stands where the table does. Of a text that is no TOML nothing is said here.
 abbrev pub StandsInCatalogue : List ℕ → CatalogueFault → Option Position → Type 0
 StandsInCatalogue text catalogue.NotToml position = Unit {0}
-StandsInCatalogue text (catalogue.At defect place) position = position ≡ located text (catalogue_place place)
+StandsInCatalogue text (catalogue.At defect place) position =
+    position ≡ located text (catalogue_place place)
 StandsInCatalogue text catalogue.Memory position = position ≡ None
 
 abbrev pub StandsInConfig : List ℕ → ViewFault → Option Position → Type 0
@@ -32,7 +34,8 @@ abbrev pub standing : List ℕ → List ℕ → Place → Option Position
 standing catalogue config (Catalogue place) = located catalogue (catalogue_place place)
 standing catalogue config (Config place) = located config (config_place place)
 
--- the table that a remark is about; of a collision, which is about two streams, nothing is said here
+-- the table that a remark is about; of a collision, which is about two streams, nothing is said
+-- here
 abbrev pub IsAbout : Remark → Place → Type 0
 IsAbout (remarks.Unfit view instrument) place = place ≡ Config (View view)
 IsAbout (remarks.Collision first later) place = Unit {0}
@@ -45,7 +48,8 @@ IsAbout remarks.NoReader place = place ≡ Config Top
 
 -- A remark stands where the table does that it is about.
 abbrev pub RemarkStands : List ℕ → List ℕ → Remark → Option Position → Type 0
-RemarkStands catalogue config remark position = (place : Place) × (IsAbout remark place × (position ≡ standing catalogue config place))
+RemarkStands catalogue config remark position =
+    (place : Place) × (IsAbout remark place × (position ≡ standing catalogue config place))
 
 -- the table that a part of safety is about, where that is an instrument
 abbrev pub IsAboutPart : UnsafePart → Place → Type 0

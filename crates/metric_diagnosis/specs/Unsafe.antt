@@ -13,8 +13,12 @@ IsAboutFound None place = Unit {0}
 IsAboutFound (Some part) place = IsAboutPart part place
 
 abbrev pub IsPlaced : Pair → Place → Type 0
-IsPlaced pair place = (part : Option UnsafePart) × (UnsafeFinds pair.catalogue.now pair.config.now part × IsAboutFound part place)
+IsPlaced pair place =
+    (part : Option UnsafePart)
+    × (UnsafeFinds pair.catalogue.now pair.config.now part × IsAboutFound part place)
 
 -- the position is that of what is found
 abbrev pub PartStands : Pair → Option Position → Type 0
-PartStands pair position = (place : Place) × (IsPlaced pair place × (position ≡ standing pair.catalogue_source.text.now pair.config_source.text.now place))
+PartStands pair position =
+    (place : Place) × (IsPlaced pair place
+    × (position ≡ standing pair.catalogue_source.text.now pair.config_source.text.now place))

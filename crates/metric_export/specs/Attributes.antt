@@ -8,7 +8,8 @@ use Rattle.metric_views.specs.declared.stream.Stream.{Stream}
 use Rattle.metric_plan.specs.Plans.{PlanValue}
 use Rattle.metric_lines.specs.Keys.{Attribute, attributes_of}
 
--- the attributes of a series, of the declared keys in order those that are kept and present, or the mark of the overflow series
+-- the attributes of a series, of the declared keys in order those that are kept and present, or
+-- the mark of the overflow series
 abbrev pub series_attributes : List Key → List Bool → Option (List ℕ) → List Attribute
 series_attributes keys kept (Some set) = attributes_of keys kept set
 series_attributes keys kept None = (codes "otel.metric.overflow", Flag true) ∷ []
@@ -16,4 +17,5 @@ series_attributes keys kept None = (codes "otel.metric.overflow", Flag true) ∷
 -- the declared keys of a stream's instrument, none where the plan has no such instrument
 abbrev pub declared_keys : PlanValue → Stream → List Key
 declared_keys plan stream =
-    option_map_or (λ (instrument : Instrument). instrument.keys) (slice_get plan.facts.contents.instruments stream.instrument) []
+    option_map_or (λ (instrument : Instrument). instrument.keys)
+    (slice_get plan.facts.contents.instruments stream.instrument) []

@@ -8,8 +8,8 @@ use Rattle.metric_export.specs.declared.fault.ExportFault.TheVariants as fault
 use Rattle.metric_export.specs.declared.state.ExporterState.{ExporterState}
 use Rattle.metric_export.specs.declared.state.ExporterState.TheVariants.{Open, ShutDown}
 
--- A call, as the clauses of an exporter tell of it: whether it shuts the exporter down, the states and the counts of failures
--- before and after it, and its answer.
+-- A call, as the clauses of an exporter tell of it: whether it shuts the exporter down, the states
+-- and the counts of failures before and after it, and its answer.
 pub record Call : Type 0 where
   pub is_shutdown : Bool
   pub before : ExporterState
@@ -28,13 +28,16 @@ FailedInSome [] = ⊥
 FailedInSome (call ∷ calls) = FailedIn call ⊎ FailedInSome calls
 
 -- the state that a call leaves, where it shuts down and where not
-abbrev pub Leaves : {T : Type 0} → Bool → ExporterState → ExporterState → Result T ExportFault → Type 0
+abbrev pub Leaves : {T : Type 0} → Bool → ExporterState → ExporterState
+    → Result T ExportFault → Type 0
 Leaves true before after answer = after ≡ ShutDown
 Leaves false before after answer = GoesOn before after answer
 
 -- what the clauses of an exporter say of a call
 abbrev pub IsCall : Call → Type 0
-IsCall call = Answers call.before (FailedIn call) call.answer × Leaves call.is_shutdown call.before call.after call.answer
+IsCall call =
+    Answers call.before (FailedIn call) call.answer
+    × Leaves call.is_shutdown call.before call.after call.answer
 
 -- calls one after the other, from a state
 abbrev pub IsRun : ExporterState → List Call → Type 0
@@ -47,7 +50,10 @@ StaysShutDown = (state : ExporterState) (calls : List Call) (shutdown : Call) (l
     → IsRun state (calls ++ shutdown ∷ later) → shutdown.is_shutdown ≡ true
     → AllByRecursion (λ call. call.answer ≡ Err fault.ShutDown) later
 
--- where the last of the calls of a new exporter answers Write, the device failed in it or in an earlier one
+-- where the last of the calls of a new exporter answers Write, the device
+-- failed in it or in an earlier one
 abbrev pub IsFaultOfDevice : Type 0
-IsFaultOfDevice = (calls : List Call) (last : Call) → IsRun Open (calls ++ last ∷ []) → last.answer ≡ Err fault.Write
+IsFaultOfDevice =
+    (calls : List Call) (last : Call) → IsRun Open (calls ++ last ∷ [])
+    → last.answer ≡ Err fault.Write
     → FailedInSome (calls ++ last ∷ [])

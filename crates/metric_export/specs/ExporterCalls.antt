@@ -11,8 +11,8 @@ use Rattle.metric_export.specs.declared.fault.ExportFault.TheVariants as fault
 use Rattle.metric_export.specs.declared.state.ExporterState.{ExporterState}
 use Rattle.metric_export.specs.declared.state.ExporterState.TheVariants.{Open, ShutDown}
 
--- One call of `export`, as contracts see an exporter: what the exporter itself says of the call, what was appended, the answer, and the
--- state after it.
+-- One call of `export`, as contracts see an exporter: what the exporter itself says of the call,
+-- what was appended, the answer, and the state after it.
 pub record IsExport {E : Type 0}
     (gives : E → E → PlanValue → Batch → Result (Unit {0}) ExportFault → Type 0)
     (text : PlanValue → Batch → List ℕ)
@@ -41,7 +41,8 @@ pub record IsShutdown {E : Type 0}
   pub answers : Answers (state old) (HasFailed (failures old) (failures new)) answer
   pub shut_down : state new ≡ ShutDown
 
--- One call of `export` of an exporter of texts: Ok tells that no write failed, and without a write the sink is as it was.
+-- One call of `export` of an exporter of texts: Ok tells that no write failed, and
+-- without a write the sink is as it was.
 pub record ExportsText {W : Type 0}
     (contents : W → Option (List ℕ))
     (failures : W → ℕ)

@@ -12,8 +12,10 @@ use Rattle.metric_export.specs.declared.fault.ExportFault.TheVariants.{Write, Sh
 abbrev pub plan_text : PlanValue → Batch → List ℕ
 plan_text plan batch = batch_text plan.facts.contents plan.config plan.streams batch
 
--- what is appended, by the answer: the whole text, a prefix of it where the device failed, and nothing on any other fault
-abbrev pub Exports : {T : Type 0} → Option (List ℕ) → Option (List ℕ) → List ℕ → Result T ExportFault → Type 0
+-- what is appended, by the answer: the whole text, a prefix of it where the device
+-- failed, and nothing on any other fault
+abbrev pub Exports : {T : Type 0} → Option (List ℕ) → Option (List ℕ) → List ℕ
+    → Result T ExportFault → Type 0
 Exports old new text (Ok done) = Appends old new text
 Exports old new text (Err Write) = AppendsPrefix old new text
 Exports old new text (Err ShutDown) = Keeps old new

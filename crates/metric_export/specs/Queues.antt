@@ -1,13 +1,15 @@
 -- An exporter that keeps the batches which another one refused.
-use Rattle.std.specs.Prelude.{◌≡◌, ◌≤◌, ◌+◌, ◌-◌, ℕ, Bool, true, false, List, [], ◌∷◌, ◌++◌, length, map, take, drop, flat_map, IsErr, OnOk, Result, Ok, Err}
+use Rattle.std.specs.Prelude.{◌≡◌, ◌≤◌, ◌+◌, ◌-◌, ℕ, Bool, true, false, List, [], ◌∷◌, ◌++◌, length}
+use Rattle.std.specs.Prelude.{map, take, drop, flat_map, IsErr, OnOk, Result, Ok, Err}
 use Rattle.metric_io.specs.Counts.{higher_count, next_count}
 use Rattle.metric_history.specs.declared.batch.Batch.{Batch}
 use Rattle.metric_export.specs.declared.fault.ExportFault.{ExportFault}
 use Rattle.metric_export.specs.declared.fault.ExportFault.TheVariants as fault
 
--- An exporter that keeps batches, as contracts see it: the exporter below it; the batches that are kept, the oldest first, and how many
--- may be; and counts: of the batches that went out, of those that were dropped since more may not be kept, of those that want of memory
--- kept out, and of the calls in which the device failed.
+-- An exporter that keeps batches, as contracts see it: the exporter below it; the batches that are
+-- kept, the oldest first, and how many may be; and counts: of the batches that went out, of those
+-- that were dropped since more may not be kept, of those that want of memory kept out, and of the
+-- calls in which the device failed.
 pub record QueuedValue (E : Type 0) : Type 0 where
   pub inner : E
   pub kept : List Batch
@@ -17,17 +19,21 @@ pub record QueuedValue (E : Type 0) : Type 0 where
   pub unkept : ℕ
   pub failures : ℕ
 
--- what is said of a call of an exporter for a batch: the exporter before and after it, the batch and the answer
+-- what is said of a call of an exporter for a batch: the exporter before and
+-- after it, the batch and the answer
 abbrev pub Exporting : Type 0 → Type 1
 Exporting E = E → E → Batch → Result (Unit {0}) ExportFault → Type 0
 
 -- each of these batches was exported once, in order, and taken
 abbrev pub TakesEach : {E : Type 0} → Exporting E → E → E → List Batch → Type 0
 TakesEach exports old new [] = new ≡ old
-TakesEach {E} exports old new (batch ∷ batches) = (mid : E) × (exports old mid batch (Ok tt) × TakesEach exports mid new batches)
+TakesEach {E} exports old new (batch ∷ batches) =
+    (mid : E) × (exports old mid batch (Ok tt) × TakesEach exports mid new batches)
 
--- why no more of the batches that are left were tried: there are none, or the first of them was exported once and refused
-abbrev pub StopsBefore : {E : Type 0} → Exporting E → E → E → List Batch → Result (Unit {0}) ExportFault → Type 0
+-- why no more of the batches that are left were tried: there are none, or the first of
+-- them was exported once and refused
+abbrev pub StopsBefore : {E : Type 0} → Exporting E → E → E → List Batch
+    → Result (Unit {0}) ExportFault → Type 0
 StopsBefore exports old new [] answer = (answer ≡ Ok tt) × (new ≡ old)
 StopsBefore exports old new (batch ∷ batches) answer = IsErr answer × exports old new batch answer
 
@@ -60,8 +66,9 @@ failures_after failures (Err fault.Write) = next_count failures
 failures_after failures (Err fault.ShutDown) = failures
 failures_after failures (Err fault.Memory) = failures
 
--- A batch was handed in: those that were kept and then the new one were exported in order up to the first that was refused. What is left
--- is kept, but for the oldest that are more than may be kept. Only a batch that did not go out is kept out by want of memory.
+-- A batch was handed in: those that were kept and then the new one were exported in order up to the
+-- first that was refused. What is left is kept, but for the oldest that are more than may be kept.
+-- Only a batch that did not go out is kept out by want of memory.
 pub record HandsIn {E : Type 0}
     (exports : Exporting E)
     (old new : QueuedValue E)
@@ -81,8 +88,10 @@ pub record HandsIn {E : Type 0}
   pub most : new.most ≡ old.most
 
 -- A call passed on to the exporter below changes nothing of what is kept.
-abbrev pub PassesOn : {E : Type 0} → QueuedValue E → QueuedValue E → Result (Unit {0}) ExportFault → Type 0
-PassesOn old new answer = new ≡ record old { inner = new.inner; failures = failures_after old.failures answer }
+abbrev pub PassesOn : {E : Type 0} → QueuedValue E → QueuedValue E
+    → Result (Unit {0}) ExportFault → Type 0
+PassesOn old new answer =
+    new ≡ record old { inner = new.inner; failures = failures_after old.failures answer }
 
 -- A shutdown shuts the exporter below down, and leaves what is kept.
 pub record ShutsQueueDown {E : Type 0}
@@ -94,8 +103,9 @@ pub record ShutsQueueDown {E : Type 0}
 
 -- ---- many calls
 
--- A call that handed a batch in, as `HandsIn` tells of it: what was kept before and after it, whether the batch went out or was kept, how
--- many went out, the oldest first, and how many of the next were dropped.
+-- A call that handed a batch in, as `HandsIn` tells of it: what was kept before and after
+-- it, whether the batch went out or was kept, how many went out, the oldest first, and
+-- how many of the next were dropped.
 pub record HandedIn : Type 0 where
   pub before : List Batch
   pub batch : Batch
@@ -112,7 +122,8 @@ entered_by call = entered call.is_taken call.batch
 abbrev pub queue_of : HandedIn → List Batch
 queue_of call = call.before ++ entered_by call
 
--- the batches that a call took from the queue: first those that went out, then those that were dropped
+-- the batches that a call took from the queue: first those that went
+-- out, then those that were dropped
 abbrev pub gone_by : HandedIn → List Batch
 gone_by call = take call.sent (queue_of call) ++ take call.lost (drop call.sent (queue_of call))
 
@@ -120,14 +131,17 @@ gone_by call = take call.sent (queue_of call) ++ take call.lost (drop call.sent 
 abbrev pub HandsInEach : List Batch → List HandedIn → Type 0
 HandsInEach kept [] = Unit {0}
 HandsInEach kept (call ∷ calls) =
-    (call.before ≡ kept) × ((call.after ≡ drop (call.sent + call.lost) (queue_of call)) × HandsInEach call.after calls)
+    (call.before ≡ kept)
+    × ((call.after ≡ drop (call.sent + call.lost) (queue_of call)) × HandsInEach call.after calls)
 
 -- what is kept after them
 abbrev pub kept_after : List Batch → List HandedIn → List Batch
 kept_after kept [] = kept
 kept_after kept (call ∷ calls) = kept_after call.after calls
 
--- the batches that entered an empty queue are, in order, those that went out or were dropped by one call after the other, and then those
--- that are kept
+-- the batches that entered an empty queue are, in order, those that went out or were dropped by one
+-- call after the other, and then those that are kept
 abbrev pub IsAccounted : Type 0
-IsAccounted = (calls : List HandedIn) → HandsInEach [] calls → flat_map entered_by calls ≡ flat_map gone_by calls ++ kept_after [] calls
+IsAccounted =
+    (calls : List HandedIn) → HandsInEach [] calls
+    → flat_map entered_by calls ≡ flat_map gone_by calls ++ kept_after [] calls

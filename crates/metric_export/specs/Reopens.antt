@@ -10,7 +10,8 @@ use Rattle.metric_export.specs.declared.fault.ExportFault.TheVariants as fault
 use Rattle.metric_export.specs.declared.state.ExporterState.{ExporterState}
 use Rattle.metric_export.specs.declared.state.ExporterState.TheVariants.{Open}
 
--- such an exporter, as contracts see it: what opens sinks, the sink that is open, how often a call failed, and its state
+-- such an exporter, as contracts see it: what opens sinks, the sink that is open, how
+-- often a call failed, and its state
 pub record ReopeningValue (O W : Type 0) : Type 0 where
   pub opener : O
   pub sink : Option W
@@ -45,7 +46,8 @@ pub record WritesText {W : Type 0}
   pub left_is : left ≡ left_open after answer
 
 -- the same of the sink that was found; where none could be opened, the answer is Write
-abbrev pub WritesToFound : {W : Type 0} → (W → Option (List ℕ)) → List ℕ → Result W Broken → Option W → Result (Unit {0}) ExportFault → Type 0
+abbrev pub WritesToFound : {W : Type 0} → (W → Option (List ℕ)) → List ℕ → Result W Broken
+    → Option W → Result (Unit {0}) ExportFault → Type 0
 WritesToFound contents text (Ok sink) left answer = WritesText contents text sink left answer
 WritesToFound contents text (Err broken) left answer = (left ≡ None) × (answer ≡ Err fault.Write)
 

@@ -17,14 +17,16 @@ Admits state (Err fault.Write) = state ≡ Broken
 Admits state (Err fault.ShutDown) = state ≡ ShutDown
 Admits state (Err fault.Memory) = ⊥
 
--- what a call may answer, by the state that it finds: an open exporter fails only where its device failed in this call
+-- what a call may answer, by the state that it finds: an open exporter fails only
+-- where its device failed in this call
 abbrev pub Answers : {T : Type 0} → ExporterState → Type 0 → Result T ExportFault → Type 0
 Answers state failed (Ok done) = state ≡ Open
 Answers state failed (Err fault.Write) = (state ≡ Broken) ⊎ ((state ≡ Open) × failed)
 Answers state failed (Err fault.ShutDown) = state ≡ ShutDown
 Answers state failed (Err fault.Memory) = state ≡ Open
 
--- the state after an export or a flush: it stays as it was, but a fault of the device may break the exporter
+-- the state after an export or a flush: it stays as it was, but a fault of
+-- the device may break the exporter
 abbrev pub GoesOn : {T : Type 0} → ExporterState → ExporterState → Result T ExportFault → Type 0
 GoesOn old new (Ok done) = new ≡ old
 GoesOn old new (Err fault.Write) = (new ≡ old) ⊎ (new ≡ Broken)

@@ -1,5 +1,6 @@
 -- What the run of an instrument depends on.
-use Rattle.std.specs.Prelude.{◌≡◌, ℕ, ℤ, Ok, ◌+◌, Bool, true, false, ◌&&◌, List, [], ◌∷◌, ◌++◌, length, map, slice_index_or, nat_le, int_le, ◌==◌, if◌then◌else◌}
+use Rattle.std.specs.Prelude.{◌≡◌, ℕ, ℤ, Ok, ◌+◌, Bool, true, false, ◌&&◌, List, [], ◌∷◌, ◌++◌}
+use Rattle.std.specs.Prelude.{length, map, slice_index_or, nat_le, int_le, ◌==◌, if◌then◌else◌}
 use Rattle.std.specs.List.{list_all}
 use Rattle.metric_combinations.specs.Combinations.{permits}
 use Rattle.metric_catalogue.specs.Budgets.{amount_of}
@@ -44,7 +45,8 @@ is_full_set [] set = list_all (λ entry. entry == 0) set
 is_full_set (key ∷ keys) [] = false
 is_full_set (key ∷ keys) (entry ∷ set) = is_entry key entry && is_full_set keys set
 
--- whether a set key is a full set of the keys, and one of the allowed combinations where these are listed
+-- whether a set key is a full set of the keys, and one of the allowed
+-- combinations where these are listed
 abbrev pub is_allowed_set : Facts → List ℕ → Bool
 is_allowed_set facts set = is_full_set facts.keys set && permits facts.allowed set
 
@@ -59,23 +61,27 @@ is_delta_temporality Cumulative = false
 abbrev pub is_delta_reader : Kind → Reader → Bool
 is_delta_reader kind reader = is_delta_temporality (choice_for reader.temporality kind)
 
--- whether the stream of a number is by product: a flag for each stream, in order, and where there is none it is not
+-- whether the stream of a number is by product: a flag for each stream, in order,
+-- and where there is none it is not
 abbrev pub is_by_product : List Bool → ℕ → Bool
 is_by_product flags number = slice_index_or flags number false
 
 -- a stream with its number, and whether it is by product, where it is of the instrument
 abbrev pub numbered : ℕ → ℕ → Bool → Stream → List NumberedStream
 numbered instrument number by_product s =
-    if s.instrument == instrument then record { number = number; by_product = by_product; stream = s } ∷ [] else []
+    if s.instrument == instrument
+    then record { number = number; by_product = by_product; stream = s } ∷ [] else []
 
 -- those of the instrument's streams, the first of which has this number
 abbrev pub numbered_from : List Bool → ℕ → ℕ → List Stream → List NumberedStream
 numbered_from flags instrument number [] = []
 numbered_from flags instrument number (s ∷ streams) =
-    numbered instrument number (is_by_product flags number) s ++ numbered_from flags instrument (number + 1) streams
+    numbered instrument number (is_by_product flags number) s
+    ++ numbered_from flags instrument (number + 1) streams
 
 -- the facts of the instrument of a number. A stream's number is its place among all.
-abbrev pub facts_of : Bool → List Bool → List Recorder → List Reader → List Stream → ℕ → Instrument → Facts
+abbrev pub facts_of : Bool → List Bool → List Recorder → List Reader → List Stream → ℕ
+    → Instrument → Facts
 facts_of certified flags recorders readers streams number instrument = record {
   certified = certified;
   instrument = number;
@@ -90,7 +96,8 @@ facts_of certified flags recorders readers streams number instrument = record {
 }
 
 -- those of each instrument, the first of which has this number
-abbrev pub facts_from : Bool → List Bool → List Recorder → List Reader → List Stream → ℕ → List Instrument → List Facts
+abbrev pub facts_from : Bool → List Bool → List Recorder → List Reader → List Stream → ℕ
+    → List Instrument → List Facts
 facts_from certified flags recorders readers streams number [] = []
 facts_from certified flags recorders readers streams number (instrument ∷ instruments) =
     facts_of certified flags recorders readers streams number instrument
@@ -100,10 +107,13 @@ facts_from certified flags recorders readers streams number (instrument ∷ inst
 abbrev pub with_stream : ℕ → ℕ → Bool → Stream → List Facts → List Facts
 with_stream first number by_product s [] = []
 with_stream first number by_product s (own ∷ all) =
-    record own { streams = own.streams ++ numbered first number by_product s } ∷ with_stream (first + 1) number by_product s all
+    record own { streams = own.streams ++ numbered first number by_product s }
+    ∷ with_stream (first + 1) number by_product s all
 
--- what attributes are encoded to is a full set of the instrument, and one of its combinations where these are listed
+-- what attributes are encoded to is a full set of the instrument, and one of its
+-- combinations where these are listed
 abbrev pub EncodesAllowedSets : Type 0
 EncodesAllowedSets =
-    (instrument : Instrument) (attrs : List Given) (set : List ℕ) → allowed_set instrument attrs ≡ Ok set
+    (instrument : Instrument) (attrs : List Given) (set : List ℕ)
+    → allowed_set instrument attrs ≡ Ok set
     → (is_full_set (map key_facts instrument.keys) set && permits instrument.allowed set) ≡ true

@@ -1,12 +1,15 @@
--- Facts as one list of bytes. What the list says of each field is found by reading it from the front, so that
--- equal lists are of equal facts.
-use Rattle.std.specs.Prelude.{ℕ, zero, suc, ◌+◌, ◌/◌, ◌%◌, ℤ, pos, Bool, true, false, if◌then◌else◌, nat_lt, int_lt, unsigned_abs, List, [], ◌∷◌, ◌++◌, length, take, drop, Option, Some, None, ◌&&◌, ◌==◌, find}
+-- Facts as one list of bytes. What the list says of each field is found by reading it from the
+-- front, so that equal lists are of equal facts.
+use Rattle.std.specs.Prelude.{ℕ, zero, suc, ◌+◌, ◌/◌, ◌%◌, ℤ, pos, Bool, true, false, if◌then◌else◌}
+use Rattle.std.specs.Prelude.{nat_lt, int_lt, unsigned_abs, List, [], ◌∷◌, ◌++◌, length, take, drop}
+use Rattle.std.specs.Prelude.{Option, Some, None, ◌&&◌, ◌==◌, find}
 use Rattle.std.specs.Cmp.Lexicographic.{pointwise}
 use Rattle.std.specs.List.{list_all}
 use Rattle.std.specs.Ordering.{int_eq}
 use Rattle.std.specs.Str.{bytes_eq}
 use Rattle.metric_catalogue.specs.declared.contents.Kind.{Kind}
-use Rattle.metric_catalogue.specs.declared.contents.Kind.TheVariants.{Counter, UpDownCounter, Histogram, Gauge}
+use Rattle.metric_catalogue.specs.declared.contents.Kind.TheVariants.{Counter, UpDownCounter}
+use Rattle.metric_catalogue.specs.declared.contents.Kind.TheVariants.{Histogram, Gauge}
 use Rattle.metric_views.specs.declared.stream.Stream.{Stream}
 use Rattle.metric_views.specs.declared.stream.StreamAggregation.{StreamAggregation}
 use Rattle.metric_views.specs.declared.stream.StreamAggregation.TheVariants as aggregations
@@ -16,11 +19,12 @@ use Rattle.metric_facts.specs.declared.facts.NumberedStream.{NumberedStream}
 use Rattle.metric_facts.specs.declared.flat.StreamDetails.{StreamDetails}
 use Rattle.metric_facts.specs.Facts.{is_delta_temporality}
 
--- a number in groups of seven bits, the lowest first; 128 more says that another follows. The first argument is as
--- large as the number.
+-- a number in groups of seven bits, the lowest first; 128 more says that another follows. The first
+-- argument is as large as the number.
 abbrev pub groups : ℕ → ℕ → List ℕ
 groups zero number = number ∷ []
-groups (suc more) number = if nat_lt number 128 then number ∷ [] else (number % 128 + 128) ∷ groups more (number / 128)
+groups (suc more) number =
+    if nat_lt number 128 then number ∷ [] else (number % 128 + 128) ∷ groups more (number / 128)
 
 abbrev pub flat_number : ℕ → List ℕ
 flat_number number = groups number number
@@ -81,17 +85,30 @@ pub record Details : Type 0 where
   pub boundaries : List ℤ
 
 abbrev pub details_of : Stream → Details
-details_of s = record { name = s.name; description = s.description; unit = s.unit; boundaries = boundaries_of s.aggregation }
+details_of s = record {
+  name = s.name;
+  description = s.description;
+  unit = s.unit;
+  boundaries = boundaries_of s.aggregation;
+}
 
 abbrev pub details_seen : StreamDetails → Details
-details_seen d = record { name = d.name.now; description = d.description.now; unit = d.unit.now; boundaries = d.boundaries.now }
+details_seen d = record {
+  name = d.name.now;
+  description = d.description.now;
+  unit = d.unit.now;
+  boundaries = d.boundaries.now;
+}
 
 abbrev pub is_same_details : Details → Details → Bool
 is_same_details a b =
-    bytes_eq a.name b.name && bytes_eq a.description b.description && bytes_eq a.unit b.unit && pointwise int_eq a.boundaries b.boundaries
+    bytes_eq a.name b.name && bytes_eq a.description b.description && bytes_eq a.unit b.unit
+    && pointwise int_eq a.boundaries b.boundaries
 
 abbrev pub flat_details : Details → List ℕ
-flat_details d = flat_text d.name ++ flat_text d.description ++ flat_text d.unit ++ flat_list flat_signed d.boundaries
+flat_details d =
+    flat_text d.name ++ flat_text d.description ++ flat_text d.unit
+    ++ flat_list flat_signed d.boundaries
 
 -- whether details are those of an earlier stream
 abbrev pub repeats : Option NumberedStream → Details → Bool
@@ -104,12 +121,15 @@ flat_details_after earlier d = if repeats earlier d then 0 ∷ [] else 1 ∷ fla
 
 -- of which reader and instrument a stream is, of which view, and of which kind
 abbrev pub flat_source : Stream → List ℕ
-flat_source s = flat_number s.reader ++ flat_number s.instrument ++ flat_number (view_number s.view) ++ kind_number s.kind ∷ []
+flat_source s =
+    flat_number s.reader ++ flat_number s.instrument ++ flat_number (view_number s.view)
+    ++ kind_number s.kind ∷ []
 
 -- how the points of a stream are made, and of which series
 abbrev pub flat_points : Stream → List ℕ
 flat_points s =
-    aggregation_number s.aggregation ∷ [] ++ flat_list flat_flag s.kept ++ flat_number s.limit ++ flat_flag (is_delta_temporality s.temporality)
+    aggregation_number s.aggregation ∷ [] ++ flat_list flat_flag s.kept ++ flat_number s.limit
+    ++ flat_flag (is_delta_temporality s.temporality)
 
 -- what a stream has beside its details
 abbrev pub flat_settings : Stream → List ℕ
@@ -122,23 +142,28 @@ is_of_view view numbered = view_number numbered.stream.view == view
 -- a stream after an earlier one
 abbrev pub flat_stream : Option NumberedStream → NumberedStream → List ℕ
 flat_stream earlier numbered =
-    flat_number numbered.number ++ flat_flag numbered.by_product ++ flat_settings numbered.stream ++ flat_details_after earlier (details_of numbered.stream)
+    flat_number numbered.number ++ flat_flag numbered.by_product ++ flat_settings numbered.stream
+    ++ flat_details_after earlier (details_of numbered.stream)
 
 -- the last stream of the same view, where the last of all stands first
 abbrev pub last_of_view : List NumberedStream → NumberedStream → Option NumberedStream
 last_of_view earlier numbered = find (is_of_view (view_number numbered.stream.view)) earlier
 
--- streams, each after the last earlier one of its view; the last of all the earlier ones stands first
+-- streams, each after the last earlier one of its view; the last of all the earlier ones stands
+-- first
 abbrev pub flat_streams : List NumberedStream → List NumberedStream → List ℕ
 flat_streams earlier [] = []
 flat_streams earlier (numbered ∷ streams) =
-    flat_stream (last_of_view earlier numbered) numbered ++ flat_streams (numbered ∷ earlier) streams
+    flat_stream (last_of_view earlier numbered) numbered
+    ++ flat_streams (numbered ∷ earlier) streams
 
 -- what an instrument has beside its streams and its combinations
 abbrev pub flat_instrument : FactsFields → List ℕ
 flat_instrument facts =
-    flat_flag facts.certified ++ flat_number facts.instrument ++ flat_list flat_key facts.keys ++ flat_signed facts.lo ++ flat_signed facts.hi
-    ++ flat_list flat_number facts.budgets ++ flat_number facts.spare ++ flat_list flat_flag facts.delta
+    flat_flag facts.certified ++ flat_number facts.instrument ++ flat_list flat_key facts.keys
+    ++ flat_signed facts.lo ++ flat_signed facts.hi
+    ++ flat_list flat_number facts.budgets ++ flat_number facts.spare
+    ++ flat_list flat_flag facts.delta
 
 -- whether a set key has eight entries, of which those after so many keys are 0
 abbrev pub is_of_keys : ℕ → List ℕ → Bool
@@ -151,7 +176,8 @@ flat_row keys row = flat_each flat_number (take keys row)
 -- rows of set keys, shortly where each is of so many keys
 abbrev pub flat_rows : ℕ → List (List ℕ) → List ℕ
 flat_rows keys rows =
-    if list_all (is_of_keys keys) rows then 0 ∷ flat_list (flat_row keys) rows else 1 ∷ flat_list (flat_list flat_number) rows
+    if list_all (is_of_keys keys) rows then 0 ∷ flat_list (flat_row keys) rows
+    else 1 ∷ flat_list (flat_list flat_number) rows
 
 -- the allowed combinations of so many keys, where these are listed
 abbrev pub flat_allowed : ℕ → Option (List (List ℕ)) → List ℕ
@@ -160,7 +186,8 @@ flat_allowed keys (Some rows) = 1 ∷ flat_rows keys rows
 
 abbrev pub flat_facts : FactsFields → List ℕ
 flat_facts facts =
-    flat_instrument facts ++ (flat_number (length facts.streams) ++ flat_streams [] facts.streams) ++ flat_allowed (length facts.keys) facts.allowed
+    flat_instrument facts ++ (flat_number (length facts.streams) ++ flat_streams [] facts.streams)
+    ++ flat_allowed (length facts.keys) facts.allowed
 
 -- whether two facts are the same, as their bytes tell
 abbrev pub facts_eq : FactsFields → FactsFields → Bool

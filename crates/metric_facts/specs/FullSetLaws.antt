@@ -5,7 +5,8 @@ use Rattle.std.specs.List.{list_all}
 use Rattle.std.proofs.lemmas.Bool.{and_parts, eqb-true}
 
 -- zeros of one length are one list
-pub zeros_same : (xs ys : List ℕ) → list_all (λ entry. entry == 0) xs ≡ true → list_all (λ entry. entry == 0) ys ≡ true → length xs ≡ length ys → xs ≡ ys
+pub zeros_same : (xs ys : List ℕ) → list_all (λ entry. entry == 0) xs ≡ true
+    → list_all (λ entry. entry == 0) ys ≡ true → length xs ≡ length ys → xs ≡ ys
 zeros_same [] [] p q l = refl
 zeros_same [] (y ∷ ys) p q l = absurd (omega arith)
 zeros_same (x ∷ xs) [] p q l = absurd (omega arith)

@@ -1,5 +1,6 @@
 -- How many series a stream can have, as far as facts tell it.
-use Rattle.std.specs.Prelude.{◌≡◌, ℕ, ◌+◌, ◌*◌, ◌≤◌, ◌<◌, Bool, if◌then◌else◌, IsTrue, All, List, [], ◌∷◌, length}
+use Rattle.std.specs.Prelude.{◌≡◌, ℕ, ◌+◌, ◌*◌, ◌≤◌, ◌<◌, Bool, if◌then◌else◌, IsTrue, All, List}
+use Rattle.std.specs.Prelude.{[], ◌∷◌, length}
 use Rattle.metric_facts.specs.declared.facts.FactsFields.{FactsFields as Facts}
 use Rattle.metric_facts.specs.declared.facts.KeyFacts.{KeyFacts}
 use Rattle.metric_facts.specs.declared.facts.NumberedStream.{NumberedStream}
@@ -13,7 +14,8 @@ key_choices key = key.values + (if key.optional then 1 else 0)
 abbrev pub radix : Bool → KeyFacts → ℕ
 radix kept key = if kept then key_choices key else 1
 
--- how many distinct series recordings may have: the product over the keys, of which each is kept or not
+-- how many distinct series recordings may have: the product over the
+-- keys, of which each is kept or not
 abbrev pub product_of : List Bool → List KeyFacts → ℕ
 product_of [] keys = 1
 product_of (flag ∷ kept) [] = 1
@@ -23,12 +25,14 @@ product_of (flag ∷ kept) (key ∷ keys) = radix flag key * product_of kept key
 abbrev pub IsProductWithin : Facts → NumberedStream → Type 0
 IsProductWithin facts s = product_of s.stream.kept facts.keys ≤ s.stream.limit
 
--- Whatever is recorded, no stream of the facts that is by product can have more series than its limit.
+-- Whatever is recorded, no stream of the facts that is by product can
+-- have more series than its limit.
 abbrev pub AreProductsWithin : Facts → Type 0
-AreProductsWithin facts = All (λ (s : NumberedStream). IsTrue s.by_product → IsProductWithin facts s) facts.streams
+AreProductsWithin facts =
+    All (λ (s : NumberedStream). IsTrue s.by_product → IsProductWithin facts s) facts.streams
 
--- A stream of at most 8 keys has room for each series that there can be: it says of each key whether it is kept, and some number of
--- series, at most its limit, can come of the kept ones.
+-- A stream of at most 8 keys has room for each series that there can be: it says of each key
+-- whether it is kept, and some number of series, at most its limit, can come of the kept ones.
 pub record IsDense (keys : List KeyFacts) (s : Stream) : Type 0 where
   pub few : length keys ≤ 8
   pub flags : length s.kept ≡ length keys
@@ -37,7 +41,8 @@ pub record IsDense (keys : List KeyFacts) (s : Stream) : Type 0 where
 
 -- each stream that is by product has
 abbrev pub AreDense : Facts → Type 0
-AreDense facts = All (λ (s : NumberedStream). IsTrue s.by_product → IsDense facts.keys s.stream) facts.streams
+AreDense facts =
+    All (λ (s : NumberedStream). IsTrue s.by_product → IsDense facts.keys s.stream) facts.streams
 
 -- each stream is by product
 abbrev pub AreAllByProduct : Facts → Type 0

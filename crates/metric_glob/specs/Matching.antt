@@ -1,5 +1,6 @@
 -- When a text matches a pattern: a division into pieces, one for each pattern character.
-use Rattle.std.specs.Prelude.{◌≡◌, ◌==◌, ◌||◌, ◌&&◌, ℕ, Bool, true, false, List, [], ◌∷◌, length, slice_index, nat_lt, not, ◌<◌, if◌then◌else◌, IsTrue, ⊤}
+use Rattle.std.specs.Prelude.{◌≡◌, ◌==◌, ◌||◌, ◌&&◌, ℕ, Bool, true, false, List, [], ◌∷◌, length}
+use Rattle.std.specs.Prelude.{slice_index, nat_lt, not, ◌<◌, if◌then◌else◌, IsTrue, ⊤}
 use Rattle.std.specs.Bool.{MatchBool}
 use Rattle.std.specs.Char.{to_ascii_lowercase}
 use Rattle.std.specs.List.{AllZip, concat}
@@ -37,7 +38,8 @@ star_at pattern place = nat_lt place (length pattern) && takes_any (slice_index 
 
 abbrev pub stands_at : List ℕ → ℕ → ℕ → Bool
 stands_at pattern place x =
-    nat_lt place (length pattern) && (not (takes_any (slice_index pattern place)) && stands_for (slice_index pattern place) x)
+    nat_lt place (length pattern)
+    && (not (takes_any (slice_index pattern place)) && stands_for (slice_index pattern place) x)
 
 -- a piece of text that a pattern character stands for
 abbrev pub IsPiece : ℕ → List ℕ → Type 0
@@ -70,4 +72,5 @@ is_empty (x ∷ xs) = false
 -- whether the text matches, as a test that computes
 unfoldable pub is_match : List ℕ → List ℕ → Bool
 is_match [] text = is_empty text
-is_match (c ∷ cs) text = if takes_any c then any_suffix (is_match cs) text else first_stands c (is_match cs) text
+is_match (c ∷ cs) text =
+    if takes_any c then any_suffix (is_match cs) text else first_stands c (is_match cs) text

@@ -5,7 +5,8 @@ use Rattle.metric_base.specs.Steps.{◌>>=◌, require, require_none}
 use Rattle.metric_names.specs.Names.{first_other}
 use Rattle.metric_names.specs.Units.{is_printable}
 use Rattle.metric_glob.specs.declared.pattern.PatternFault.{PatternFault}
-use Rattle.metric_glob.specs.declared.pattern.PatternFault.TheVariants.{Empty, BadCharacter, TooLong}
+use Rattle.metric_glob.specs.declared.pattern.PatternFault.TheVariants.{Empty, BadCharacter}
+use Rattle.metric_glob.specs.declared.pattern.PatternFault.TheVariants.{TooLong}
 
 -- A pattern is a text of 1 to 255 printable ASCII characters.
 abbrev pub IsPattern : List ℕ → Type 0

@@ -1,10 +1,12 @@
 -- How the values of a stream's series are aggregated.
 use Rattle.std.specs.Prelude.{Bool}
-use Rattle.metric_aggregate.specs.Aggregation.{Aggregation, SumAggregation, LastValueAggregation, HistogramAggregation}
+use Rattle.metric_aggregate.specs.Aggregation.{Aggregation, SumAggregation, LastValueAggregation}
+use Rattle.metric_aggregate.specs.Aggregation.{HistogramAggregation}
 use Rattle.metric_catalogue.specs.Kinds.{is_monotonic}
 use Rattle.metric_views.specs.declared.stream.Stream.{Stream}
 use Rattle.metric_views.specs.declared.stream.StreamAggregation.{StreamAggregation}
-use Rattle.metric_views.specs.declared.stream.StreamAggregation.TheVariants.{Sum, LastValue, Histogram}
+use Rattle.metric_views.specs.declared.stream.StreamAggregation.TheVariants.{Sum, LastValue}
+use Rattle.metric_views.specs.declared.stream.StreamAggregation.TheVariants.{Histogram}
 
 -- how values are aggregated, where it is said whether a histogram keeps their sum
 abbrev pub aggregation_of : StreamAggregation → Bool → Aggregation

@@ -1,8 +1,17 @@
 -- What an event of a known instrument is answered, by what was told of the instrument before.
-use Rattle.std.specs.Prelude.{ℕ, ℤ, ◌+◌, ◌-◌, Bool, not, List, Result, Ok, count_by, length, max, nat_le, nat_lt, slice_index, ◌==◌, if◌then◌else◌}
+use Rattle.std.specs.Prelude.{ℕ, ℤ, ◌+◌, ◌-◌, Bool, not, List, Result, Ok, count_by, length, max}
+use Rattle.std.specs.Prelude.{nat_le, nat_lt, slice_index, ◌==◌, if◌then◌else◌}
 use Rattle.metric_base.specs.Steps.{◌>>=◌, require}
 use Rattle.metric_catalogue.specs.declared.refusal.Refusal.{Refusal}
-use Rattle.metric_catalogue.specs.declared.refusal.Refusal.TheVariants.{UnknownRecorder, UnknownReader, ValueRange, Closed, Budget, NoSpare, SumRange}
+use Rattle.metric_catalogue.specs.declared.refusal.Refusal.TheVariants.{
+  UnknownRecorder,
+  UnknownReader,
+  ValueRange,
+  Closed,
+  Budget,
+  NoSpare,
+  SumRange,
+}
 use Rattle.metric_history.specs.declared.batch.Batch.{Batch}
 use Rattle.metric_history.specs.declared.entry.Entry.{Entry}
 use Rattle.metric_facts.specs.declared.facts.FactsFields.{FactsFields as Facts}
@@ -35,7 +44,8 @@ recorded facts told encoded recorder value =
     encoded >>= λ set.
     require (in_bounds facts value) ValueRange >>= λ _.
     require (not told.closed) Closed >>= λ _.
-    require (nat_lt (spent told.accepted recorder) (slice_index facts.budgets recorder + told.granted recorder)) Budget >>= λ _.
+    require (nat_lt (spent told.accepted recorder)
+    (slice_index facts.budgets recorder + told.granted recorder)) Budget >>= λ _.
     let entry : Entry = record { recorder = recorder; set = set; value = value } in
     require (fits_all facts told.mark told.accepted entry) SumRange >>= λ _.
     Ok entry
@@ -59,13 +69,15 @@ batch facts start told reader now = record {
 -- a reader's batch, or the refusal
 abbrev pub collected : Facts → ℕ → Told → ℕ → ℕ → Result Batch Refusal
 collected facts start told reader now =
-    require (nat_lt reader (length facts.delta)) UnknownReader >>= λ _. Ok (batch facts start told reader now)
+    require (nat_lt reader (length facts.delta)) UnknownReader >>= λ _.
+    Ok (batch facts start told reader now)
 
 -- whether a close is done
 abbrev pub closing : Told → Result (Unit {0}) Refusal
 closing told = require (not told.closed) Closed
 
--- whether a grant of so many recordings to a recorder is made: no more than what is left of the spare budget
+-- whether a grant of so many recordings to a recorder is made: no more than
+-- what is left of the spare budget
 abbrev pub granting : Facts → Told → ℕ → ℕ → Result (Unit {0}) Refusal
 granting facts told recorder amount =
     require (nat_lt recorder (length facts.budgets)) UnknownRecorder >>= λ _.

@@ -1,5 +1,7 @@
--- Set keys that are put one after the other before the first that comes after them stand in ascending order.
-use Rattle.std.proofs.Common.{◌≡◌, Ordering, Less, Equal, Greater, ℕ, zero, suc, ◌+◌, Bool, true, false, not, cond, List, [], ◌∷◌, refl, sym, subst, arith}
+-- Set keys that are put one after the other before the first that comes
+-- after them stand in ascending order.
+use Rattle.std.proofs.Common.{◌≡◌, Ordering, Less, Equal, Greater, ℕ, zero, suc, ◌+◌, Bool, true}
+use Rattle.std.proofs.Common.{false, not, cond, List, [], ◌∷◌, refl, sym, subst, arith}
 use Rattle.std.specs.Prelude.{fold}
 use Rattle.std.specs.List.{prefix_len}
 use Rattle.std.specs.List.Sorted.{IsSorted}
@@ -29,40 +31,58 @@ one_more : (n : ℕ) → 1 + n ≡ suc n
 one_more n = omega arith
 
 -- a key is put first, or among those behind the first
-put_first : (key first : List ℕ) (keys : List (List ℕ)) (before : Bool) → comes_before key first ≡ before
+put_first : (key first : List ℕ) (keys : List (List ℕ)) (before : Bool)
+    → comes_before key first ≡ before
     → with_key (first ∷ keys) key ≡ cond before (key ∷ first ∷ keys) (first ∷ with_key keys key)
 put_first key first keys true e = rw e refl
-put_first key first keys false e = rw (e, one_more (prefix_len (λ k. not (comes_before key k)) keys)) refl
+put_first key first keys false e =
+    rw (e, one_more (prefix_len (λ k. not (comes_before key k)) keys)) refl
 
-chain_step : (least key first : List ℕ) (keys : List (List ℕ)) (before : Bool) → comes_before key first ≡ before → comes_before key least ≡ false
-    → IsChain least (first ∷ keys) → (comes_before key first ≡ false → IsChain first (with_key keys key)) → IsChain least (with_key (first ∷ keys) key)
-chain_step least key first keys true e above chain later = subst (IsChain least) (sym (put_first key first keys true e)) (above, (not_before key first e, chain.1))
-chain_step least key first keys false e above chain later = subst (IsChain least) (sym (put_first key first keys false e)) (chain.0, later e)
+chain_step : (least key first : List ℕ) (keys : List (List ℕ)) (before : Bool)
+    → comes_before key first ≡ before → comes_before key least ≡ false
+    → IsChain least (first ∷ keys)
+    → (comes_before key first ≡ false → IsChain first (with_key keys key))
+    → IsChain least (with_key (first ∷ keys) key)
+chain_step least key first keys true e above chain later =
+    subst (IsChain least) (sym (put_first key first keys true e))
+    (above, (not_before key first e, chain.1))
+chain_step least key first keys false e above chain later =
+    subst (IsChain least) (sym (put_first key first keys false e)) (chain.0, later e)
 
-chain_put : (least key : List ℕ) (keys : List (List ℕ)) → comes_before key least ≡ false → IsChain least keys → IsChain least (with_key keys key)
+chain_put : (least key : List ℕ) (keys : List (List ℕ)) → comes_before key least ≡ false
+    → IsChain least keys → IsChain least (with_key keys key)
 chain_put least key [] above chain = (above, tt)
 chain_put least key (first ∷ keys) above chain =
-    chain_step least key first keys (comes_before key first) refl above chain (λ e. chain_put first key keys e chain.1)
+    chain_step least key first keys (comes_before key first) refl above chain
+    (λ e. chain_put first key keys e chain.1)
 
-ascending_put : (key : List ℕ) (keys : List (List ℕ)) → IsAscending keys → IsAscending (with_key keys key)
+ascending_put : (key : List ℕ) (keys : List (List ℕ)) → IsAscending keys
+    → IsAscending (with_key keys key)
 ascending_put key [] up = tt
 ascending_put key (first ∷ keys) up = at (comes_before key first) refl
   where
-    at : (before : Bool) → comes_before key first ≡ before → IsAscending (with_key (first ∷ keys) key)
-    at true e = subst IsAscending (sym (put_first key first keys true e)) (not_before key first e, up)
-    at false e = subst IsAscending (sym (put_first key first keys false e)) (chain_put first key keys e up)
+    at : (before : Bool) → comes_before key first ≡ before
+        → IsAscending (with_key (first ∷ keys) key)
+    at true e =
+        subst IsAscending (sym (put_first key first keys true e)) (not_before key first e, up)
+    at false e =
+        subst IsAscending (sym (put_first key first keys false e)) (chain_put first key keys e up)
 
-ascending_fold : (keys sorted : List (List ℕ)) → IsAscending sorted → IsAscending (fold with_key sorted keys)
+ascending_fold : (keys sorted : List (List ℕ)) → IsAscending sorted
+    → IsAscending (fold with_key sorted keys)
 ascending_fold [] sorted up = up
-ascending_fold (key ∷ keys) sorted up = ascending_fold keys (with_key sorted key) (ascending_put key sorted up)
+ascending_fold (key ∷ keys) sorted up =
+    ascending_fold keys (with_key sorted key) (ascending_put key sorted up)
 
 suc_one : (n : ℕ) → suc n + 1 ≡ suc (n + 1)
 suc_one n = omega arith
 
-chain_sorted : (key : List ℕ) (keys : List (List ℕ)) → IsChain key keys → IsSorted (slice_cmp nat_cmp) (key ∷ keys)
+chain_sorted : (key : List ℕ) (keys : List (List ℕ)) → IsChain key keys
+    → IsSorted (slice_cmp nat_cmp) (key ∷ keys)
 chain_sorted key [] chain k d low below = absurd (omega arith)
 chain_sorted key (next ∷ keys) chain zero d low below = chain.0
-chain_sorted key (next ∷ keys) chain (suc k) d low below = rw (suc_one k) (chain_sorted next keys chain.1 k d (omega arith) (omega arith))
+chain_sorted key (next ∷ keys) chain (suc k) d low below =
+    rw (suc_one k) (chain_sorted next keys chain.1 k d (omega arith) (omega arith))
 
 sorted_of : (keys : List (List ℕ)) → IsAscending keys → IsSorted (slice_cmp nat_cmp) keys
 sorted_of [] up = λ k d low below. absurd (omega arith)

@@ -8,4 +8,5 @@ use Rattle.metric_catalogue.specs.declared.refusal.Refusal.{Refusal}
 
 -- the set key that they name for the instrument of this number, or the first refusal
 abbrev pub encoded : Contents → ℕ → List OwnedAttr → Result (List ℕ) Refusal
-encoded contents instrument attrs = encode_of contents.instruments instrument (map given_by_owned attrs)
+encoded contents instrument attrs =
+    encode_of contents.instruments instrument (map given_by_owned attrs)

@@ -1,12 +1,14 @@
 -- What a history of events and replies, newest first, says of one instrument.
-use Rattle.std.specs.Prelude.{ℕ, ◌+◌, Bool, true, false, ◌&&◌, List, [], ◌∷◌, ◌++◌, length, max, ◌==◌, if◌then◌else◌}
+use Rattle.std.specs.Prelude.{ℕ, ◌+◌, Bool, true, false, ◌&&◌, List, [], ◌∷◌, ◌++◌, length, max}
+use Rattle.std.specs.Prelude.{◌==◌, if◌then◌else◌}
 use Rattle.std.specs.Result.{result_unwrap_or}
 use Rattle.metric_history.specs.Encoded.{encoded}
 use Rattle.metric_history.specs.declared.entry.Entry.{Entry}
 use Rattle.metric_history.specs.declared.event.Event.{Event}
 use Rattle.metric_history.specs.declared.event.Event.TheVariants.{Record, Collect, Close, Grant}
 use Rattle.metric_history.specs.declared.event.Reply.{Reply}
-use Rattle.metric_history.specs.declared.event.Reply.TheVariants.{Accepted, Collected, Done, Granted}
+use Rattle.metric_history.specs.declared.event.Reply.TheVariants.{Accepted, Collected, Done}
+use Rattle.metric_history.specs.declared.event.Reply.TheVariants.{Granted}
 use Rattle.metric_history.specs.Answers.{Told}
 use Rattle.metric_facts.specs.Facts.{RunFacts}
 
@@ -25,7 +27,12 @@ History = List Answered
 -- the entries that an event adds to an instrument
 abbrev pub added_by : RunFacts → ℕ → Event → Reply → List Entry
 added_by facts i (Record recorder instrument attrs value) Accepted =
-    if instrument == i then record { recorder = recorder; set = result_unwrap_or (encoded facts.contents instrument attrs) []; value = value } ∷ [] else []
+    if instrument == i then record {
+      recorder = recorder;
+      set =
+          result_unwrap_or (encoded facts.contents instrument attrs) [];
+      value = value;
+    } ∷ [] else []
 added_by facts i (Record recorder instrument attrs value) _ = []
 added_by facts i _ _ = []
 
@@ -39,10 +46,13 @@ abbrev pub collects : ℕ → ℕ → Event → Reply → Bool
 collects i reader (Collect by instrument now) (Collected b) = (instrument == i) && (by == reader)
 collects i reader _ _ = false
 
--- how many recordings of the instrument were accepted before the reader's last collection of it, 0 before one
+-- how many recordings of the instrument were accepted before the reader's
+-- last collection of it, 0 before one
 abbrev pub mark_of : RunFacts → History → ℕ → ℕ → ℕ
 mark_of facts [] i reader = 0
-mark_of facts (a ∷ older) i reader = if collects i reader a.event a.reply then length (accepted facts older i) else mark_of facts older i reader
+mark_of facts (a ∷ older) i reader =
+    if collects i reader a.event a.reply then length (accepted facts older i)
+    else mark_of facts older i reader
 
 abbrev pub batch_time : Reply → ℕ
 batch_time (Collected b) = b.time
@@ -52,7 +62,8 @@ batch_time _ = 0
 abbrev pub previous_of : ℕ → History → ℕ → ℕ → ℕ
 previous_of start [] i reader = start
 previous_of start (a ∷ older) i reader =
-    if collects i reader a.event a.reply then max (batch_time a.reply) (previous_of start older i reader) else previous_of start older i reader
+    if collects i reader a.event a.reply then max (batch_time a.reply)
+    (previous_of start older i reader) else previous_of start older i reader
 
 abbrev pub closes : ℕ → Event → Reply → Bool
 closes i (Close instrument) Done = instrument == i
@@ -65,13 +76,15 @@ is_closed (a ∷ older) i = if closes i a.event a.reply then true else is_closed
 
 -- how many recordings of the instrument an event granted a recorder
 abbrev pub grants_to : ℕ → ℕ → Event → Reply → ℕ
-grants_to i recorder (Grant to instrument amount) Granted = if (instrument == i) && (to == recorder) then amount else 0
+grants_to i recorder (Grant to instrument amount) Granted =
+    if (instrument == i) && (to == recorder) then amount else 0
 grants_to i recorder _ _ = 0
 
 -- how many were granted the recorder
 abbrev pub granted_of : History → ℕ → ℕ → ℕ
 granted_of [] i recorder = 0
-granted_of (a ∷ older) i recorder = granted_of older i recorder + grants_to i recorder a.event a.reply
+granted_of (a ∷ older) i recorder =
+    granted_of older i recorder + grants_to i recorder a.event a.reply
 
 -- how many recordings of the instrument an event granted
 abbrev pub grants_of : ℕ → Event → Reply → ℕ

@@ -1,5 +1,6 @@
 -- What a collection reports of a stream.
-use Rattle.std.specs.Prelude.{◌≡◌, ℕ, ℤ, Bool, List, [], ◌∷◌, ◌++◌, Option, Some, None, map, filter, fold, insert, count_by, slice_get, if◌then◌else◌}
+use Rattle.std.specs.Prelude.{◌≡◌, ℕ, ℤ, Bool, List, [], ◌∷◌, ◌++◌, Option, Some, None, map, filter}
+use Rattle.std.specs.Prelude.{fold, insert, count_by, slice_get, if◌then◌else◌}
 use Rattle.std.specs.List.{list_any, position_or_len}
 use Rattle.std.specs.Ordering.{nat_cmp, is_lt}
 use Rattle.std.specs.Cmp.Lexicographic.{slice_cmp}
@@ -32,7 +33,8 @@ ascending keys = fold with_key [] keys
 
 -- the point of a series, or of the overflow series
 abbrev pub point : Stream → List Entry → Option (List ℕ) → Point
-point s window place = record { set = place; value = value_of (stream_aggregation s) (values (rows s window place)) }
+point s window place =
+    record { set = place; value = value_of (stream_aggregation s) (values (rows s window place)) }
 
 -- the overflow point, where some recording belongs to no held series
 abbrev pub overflow : Stream → List Entry → List Point
@@ -40,7 +42,8 @@ overflow s window = if list_any (belongs s window None) window then point s wind
 
 -- the points of the held series in ascending order, then the overflow point
 abbrev pub points : Stream → List Entry → List Point
-points s window = map (λ key. point s window (Some key)) (ascending (held s window)) ++ overflow s window
+points s window =
+    map (λ key. point s window (Some key)) (ascending (held s window)) ++ overflow s window
 
 -- the points of a stream, with its number
 abbrev pub stream_points : List Entry → NumberedStream → StreamPoints
@@ -48,17 +51,21 @@ stream_points window s = record { stream = s.number; points = points s.stream wi
 
 -- what a reader is told: the points of each of its streams
 abbrev pub reported : Facts → ℕ → List Entry → List StreamPoints
-reported facts reader window = map (stream_points window) (filter (is_of_reader reader) facts.streams)
+reported facts reader window =
+    map (stream_points window) (filter (is_of_reader reader) facts.streams)
 
 -- the points with the overflow point, where there is one
 abbrev pub with_overflow : Stream → List Entry → List Point → List Point
-with_overflow s window points = if list_any (belongs s window None) window then points ++ point s window None ∷ [] else points
+with_overflow s window points =
+    if list_any (belongs s window None) window then points ++ point s window None ∷ [] else points
 
 -- the points of one more stream, where it is the reader's
 abbrev pub with_points : ℕ → List Entry → List StreamPoints → NumberedStream → List StreamPoints
-with_points reader window all s = if is_of_reader reader s then all ++ stream_points window s ∷ [] else all
+with_points reader window all s =
+    if is_of_reader reader s then all ++ stream_points window s ∷ [] else all
 
--- each recording of a window belongs to exactly one point, of a held series or of the overflow series
+-- each recording of a window belongs to exactly one point, of a held
+-- series or of the overflow series
 abbrev pub CountsOnce : Stream → List Entry → Type 0
 CountsOnce s window =
     (i : ℕ) (entry : Entry) → slice_get window i ≡ Some entry

@@ -6,10 +6,12 @@ use Rattle.metric_views.specs.declared.stream.Stream.{Stream}
 use Rattle.metric_history.specs.Series.{has, held, belongs}
 use Rattle.metric_history.specs.Windows.{fits_stream}
 
--- whether each recording fits the stream after those before it, of which these came before the first
+-- whether each recording fits the stream after those before it, of
+-- which these came before the first
 abbrev pub each_fits : Stream → List Entry → List Entry → Bool
 each_fits s before [] = true
-each_fits s before (entry ∷ entries) = fits_stream s before entry && each_fits s (before ++ entry ∷ []) entries
+each_fits s before (entry ∷ entries) =
+    fits_stream s before entry && each_fits s (before ++ entry ∷ []) entries
 
 abbrev pub stays_in_range : Stream → List Entry → Bool
 stays_in_range s entries = each_fits s [] entries

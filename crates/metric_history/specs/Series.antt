@@ -1,5 +1,6 @@
 -- Into which series the recordings of a window fall.
-use Rattle.std.specs.Prelude.{ℕ, Bool, not, ◌||◌, List, [], ◌∷◌, ◌++◌, Option, Some, None, length, map, filter, fold, take, nat_le, if◌then◌else◌}
+use Rattle.std.specs.Prelude.{ℕ, Bool, not, ◌||◌, List, [], ◌∷◌, ◌++◌, Option, Some, None, length}
+use Rattle.std.specs.Prelude.{map, filter, fold, take, nat_le, if◌then◌else◌}
 use Rattle.std.specs.List.{list_any}
 use Rattle.std.specs.Str.{bytes_eq}
 use Rattle.metric_combinations.specs.Restrictions.{restricted}
@@ -23,7 +24,8 @@ found_with found key = if has found key then found else found ++ key ∷ []
 
 -- one more series, while there are fewer than the limit
 abbrev pub found_within : ℕ → List (List ℕ) → List ℕ → List (List ℕ)
-found_within limit found key = if nat_le limit (length found) || has found key then found else found ++ key ∷ []
+found_within limit found key =
+    if nat_le limit (length found) || has found key then found else found ++ key ∷ []
 
 -- the distinct series in the order in which they come first
 abbrev pub distinct : List (List ℕ) → List (List ℕ)
@@ -37,7 +39,8 @@ others key keys = filter (λ (other : List ℕ). not (bytes_eq other key)) keys
 abbrev pub held : Stream → List Entry → List (List ℕ)
 held s window = take s.limit (distinct (all_series s.kept window))
 
--- whether a recording of the window belongs to a series, or to the overflow series, which is no set key
+-- whether a recording of the window belongs to a series, or to the
+-- overflow series, which is no set key
 abbrev pub belongs : Stream → List Entry → Option (List ℕ) → Entry → Bool
 belongs s window (Some key) entry = bytes_eq (series s.kept entry) key
 belongs s window None entry = not (has (held s window) (series s.kept entry))
@@ -48,7 +51,8 @@ rows s window place = filter (belongs s window place) window
 
 -- the series into which a recording of the window falls
 abbrev pub place_of : Stream → List Entry → Entry → Option (List ℕ)
-place_of s window entry = if has (held s window) (series s.kept entry) then Some (series s.kept entry) else None
+place_of s window entry =
+    if has (held s window) (series s.kept entry) then Some (series s.kept entry) else None
 
 -- the series into which a recording falls that is the window's next
 abbrev pub place_found : Stream → List Entry → Entry → Option (List ℕ)

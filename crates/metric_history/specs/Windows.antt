@@ -17,11 +17,14 @@ window delta mark accepted = if delta then drop mark accepted else accepted
 
 -- whether the series into which a recording falls stays in range
 abbrev pub fits_stream : Stream → List Entry → Entry → Bool
-fits_stream s before entry = let longer = before ++ entry ∷ [] in in_range (stream_aggregation s) (values (rows s longer (place_of s longer entry)))
+fits_stream s before entry =
+    let longer = before ++ entry ∷ [] in
+    in_range (stream_aggregation s) (values (rows s longer (place_of s longer entry)))
 
 -- whether a recording fits each stream of the instrument, where each reader has its mark
 abbrev pub fits_all : Facts → (ℕ → ℕ) → List Entry → Entry → Bool
 fits_all facts mark accepted entry =
     list_all (λ (s : NumberedStream).
     let reader = s.stream.reader in
-    fits_stream s.stream (window (is_delta facts reader) (mark reader) accepted) entry) facts.streams
+    fits_stream s.stream
+    (window (is_delta facts reader) (mark reader) accepted) entry) facts.streams

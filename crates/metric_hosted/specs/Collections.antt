@@ -16,14 +16,19 @@ use Rattle.std.specs.Prelude.{slice_index}
 abbrev pub allowance_of : PlanValue → HostedValue → CollectorValue → Result Facts Refusal
 allowance_of plan h seat = collectable (run_of plan h) seat (number_of h)
 
--- What a collection with this allowance at a time is answered: what it is refused for, else the batch that goes on where the seat's last
--- one ended, or what the instrument refuses, which is `Stranger` exactly where its numbers are not the seat's, else `Memory`.
-abbrev pub AnswersReading : Result Facts Refusal → HostedValue → CollectorValue → ℕ → Result Batch Refusal → Type 0
+-- What a collection with this allowance at a time is answered: what it is refused for, else the
+-- batch that goes on where the seat's last one ended, or what the instrument refuses, which is
+-- `Stranger` exactly where its numbers are not the seat's, else `Memory`.
+abbrev pub AnswersReading : Result Facts Refusal → HostedValue → CollectorValue → ℕ
+    → Result Batch Refusal → Type 0
 AnswersReading (Err first) h seat now (Err refusal) = refusal ≡ first
 AnswersReading (Err first) h seat now (Ok batch) = ⊥
-AnswersReading (Ok own) h seat now (Ok batch) = IsNextBatch own seat.number (slice_index seat.seen (number_of h)) now batch
-AnswersReading (Ok own) h seat now (Err refusal) = RefusesReader h.cell own (slice_index seat.seen (number_of h)) seat.number refusal
+AnswersReading (Ok own) h seat now (Ok batch) =
+    IsNextBatch own seat.number (slice_index seat.seen (number_of h)) now batch
+AnswersReading (Ok own) h seat now (Err refusal) =
+    RefusesReader h.cell own (slice_index seat.seen (number_of h)) seat.number refusal
 
--- the instrument after a batch of a reader with this time, in which the book has moved the reader's mark
+-- the instrument after a batch of a reader with this time, in which the
+-- book has moved the reader's mark
 abbrev pub with_collected : HostedValue → ℕ → ℕ → MarkedValue → HostedValue
 with_collected h reader time book = record h { cell = with_batch h.cell reader time book }

@@ -5,10 +5,12 @@ use Rattle.metric_catalogue.specs.declared.refusal.Refusal.TheVariants.{UnknownR
 use Rattle.metric_core.specs.CellAnswers.{AnswersGrant, with_grant}
 use Rattle.metric_hosted.specs.Hosts.{HostedValue}
 
--- `UnknownRecorder` exactly where the instrument has no budget of the recorder, else what the instrument answers
+-- `UnknownRecorder` exactly where the instrument has no budget of the recorder,
+-- else what the instrument answers
 abbrev pub AnswersGranting : HostedValue → ℕ → ℕ → Result (Unit {0}) Refusal → Type 0
 AnswersGranting h recorder amount (Err UnknownRecorder) = length h.cell.facts.budgets ≤ recorder
-AnswersGranting h recorder amount result = (recorder < length h.cell.facts.budgets) × AnswersGrant h.cell amount result
+AnswersGranting h recorder amount result =
+    (recorder < length h.cell.facts.budgets) × AnswersGrant h.cell amount result
 
 -- the instrument of which a recorder was granted so many recordings
 abbrev pub with_granted : HostedValue → ℕ → ℕ → HostedValue

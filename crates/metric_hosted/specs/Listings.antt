@@ -8,24 +8,32 @@ use Rattle.metric_hosted.specs.Hosts.{HostedValue}
 use Rattle.metric_hosted.specs.Recordings.{AnswersHosted, RecordsHosted, admission_of_key}
 
 -- one recording is made
-pub record IsMade (plan : PlanValue) (old new : HostedValue) (before after : RecorderValue) (one : Prepared) : Type 0 where
-  pub answer : AnswersHosted (admission_of_key plan old before one.set one.value) plan old before one.value (Ok tt)
-  pub made : RecordsHosted (admission_of_key plan old before one.set one.value) plan old new before after one.value
+pub record IsMade (plan : PlanValue) (old new : HostedValue) (before after : RecorderValue)
+    (one : Prepared) : Type 0 where
+  pub answer : AnswersHosted
+      (admission_of_key plan old before one.set one.value) plan old before one.value (Ok tt)
+  pub made : RecordsHosted
+      (admission_of_key plan old before one.set one.value) plan old new before after one.value
 
 -- all of them are made in order, from one state of the instrument and the seat to another
-abbrev pub AreMade : PlanValue → HostedValue → HostedValue → RecorderValue → RecorderValue → List Prepared → Type 0
+abbrev pub AreMade : PlanValue → HostedValue → HostedValue → RecorderValue → RecorderValue
+    → List Prepared → Type 0
 AreMade plan old new before after [] = (new ≡ old) × (after ≡ before)
 AreMade plan old new before after (one ∷ others) =
-    (next : HostedValue) × (told : RecorderValue) × IsMade plan old next before told one × AreMade plan next new told after others
+    (next : HostedValue) × (told : RecorderValue) × IsMade plan old next before told one
+    × AreMade plan next new told after others
 
 -- The first so many are made, and the one after them is refused for this.
-pub record StopsAt (plan : PlanValue) (old new : HostedValue) (before after : RecorderValue) (all : List Prepared) (stop : ListRefusal) : Type 0 where
+pub record StopsAt (plan : PlanValue) (old new : HostedValue) (before after : RecorderValue)
+    (all : List Prepared) (stop : ListRefusal) : Type 0 where
   pub one : Prepared
   pub next : slice_get all stop.done ≡ Some one
   pub made : AreMade plan old new before after (take stop.done all)
-  pub refused : AnswersHosted (admission_of_key plan new after one.set one.value) plan new after one.value (Err stop.refusal)
+  pub refused : AnswersHosted (admission_of_key plan new after one.set one.value) plan new after
+      one.value (Err stop.refusal)
 
 -- what several recordings in one call are answered
-abbrev pub AnswersList : PlanValue → HostedValue → HostedValue → RecorderValue → RecorderValue → List Prepared → Result (Unit {0}) ListRefusal → Type 0
+abbrev pub AnswersList : PlanValue → HostedValue → HostedValue → RecorderValue → RecorderValue
+    → List Prepared → Result (Unit {0}) ListRefusal → Type 0
 AnswersList plan old new before after all (Ok done) = AreMade plan old new before after all
 AnswersList plan old new before after all (Err stop) = StopsAt plan old new before after all stop

@@ -14,22 +14,29 @@ use Rattle.metric_provider.specs.Seats.{RecorderValue}
 use Rattle.metric_slot.specs.SlotAnswers.{AnswersRecorder}
 use Rattle.metric_hosted.specs.Hosts.{HostedValue, number_of, run_of}
 
--- the set key of a recording that a seat with a plan may make on the instrument, or the first refusal
-abbrev pub admission_of : PlanValue → HostedValue → RecorderValue → List Given → ℤ → Result (List ℕ) Refusal
+-- the set key of a recording that a seat with a plan may make on the
+-- instrument, or the first refusal
+abbrev pub admission_of : PlanValue → HostedValue → RecorderValue → List Given → ℤ
+    → Result (List ℕ) Refusal
 admission_of plan h seat attrs value = admitted (run_of plan h) seat (number_of h) attrs value
 
 -- the same of a recording of a set key
-abbrev pub admission_of_key : PlanValue → HostedValue → RecorderValue → List ℕ → ℤ → Result (List ℕ) Refusal
+abbrev pub admission_of_key : PlanValue → HostedValue → RecorderValue → List ℕ → ℤ
+    → Result (List ℕ) Refusal
 admission_of_key plan h seat set value = admitted_key (run_of plan h) seat (number_of h) set value
 
--- What a recording of a set key is answered by an instrument whose facts the plan has like this: what its slot answers, never `Memory`
--- where all its streams are by product.
-pub record AnswersKnown (h : HostedValue) (seat : RecorderValue) (set : List ℕ) (value : ℤ) (result : Result (Unit {0}) Refusal) (own : Facts) : Type 0 where
-  pub answer : AnswersRecorder StandsMarked h.cell own (told_at seat (number_of h)) (entry_of seat.number set value) result
+-- What a recording of a set key is answered by an instrument whose facts the plan has like this:
+-- what its slot answers, never `Memory` where all its streams are by product.
+pub record AnswersKnown (h : HostedValue) (seat : RecorderValue) (set : List ℕ) (value : ℤ)
+    (result : Result (Unit {0}) Refusal) (own : Facts) : Type 0 where
+  pub answer : AnswersRecorder StandsMarked h.cell own (told_at seat (number_of h))
+      (entry_of seat.number set value) result
   pub memory : AreAllByProduct own → result ≢ Err Memory
 
--- What a recording with this admission is answered: what it is refused for, else what the instrument answers.
-abbrev pub AnswersHosted : Result (List ℕ) Refusal → PlanValue → HostedValue → RecorderValue → ℤ → Result (Unit {0}) Refusal → Type 0
+-- What a recording with this admission is answered: what it is refused for,
+-- else what the instrument answers.
+abbrev pub AnswersHosted : Result (List ℕ) Refusal → PlanValue → HostedValue → RecorderValue → ℤ
+    → Result (Unit {0}) Refusal → Type 0
 AnswersHosted (Err first) plan h seat value (Err refusal) = refusal ≡ first
 AnswersHosted (Err first) plan h seat value (Ok done) = ⊥
 AnswersHosted (Ok set) plan h seat value result =
@@ -37,16 +44,21 @@ AnswersHosted (Ok set) plan h seat value result =
 
 -- the instrument with a recording of a recorder, which this book has
 abbrev pub with_recorded : HostedValue → ℕ → List ℕ → ℤ → MarkedValue → HostedValue
-with_recorded h recorder set value book = record h { cell = with_entry h.cell (entry_of recorder set value) book }
+with_recorded h recorder set value book =
+    record h { cell = with_entry h.cell (entry_of recorder set value) book }
 
--- The instrument and the seat after a recording of a set key: one recording more, for which the instrument stands, and of which the
--- seat was told.
-pub record IsRecorded (plan : PlanValue) (old new : HostedValue) (before after : RecorderValue) (set : List ℕ) (value : ℤ) : Type 0 where
+-- The instrument and the seat after a recording of a set key: one recording more, for which the
+-- instrument stands, and of which the seat was told.
+pub record IsRecorded (plan : PlanValue) (old new : HostedValue) (before after : RecorderValue)
+    (set : List ℕ) (value : ℤ) : Type 0 where
   pub is : new ≡ with_recorded old before.number set value new.cell.book
   pub stands : GainsEntry StandsMarked old.cell new.cell (entry_of before.number set value)
-  pub told : IfSome (slice_get plan.facts.instruments (number_of old)) (λ own. after ≡ with_recording before (number_of old) own value)
+  pub told : IfSome (slice_get plan.facts.instruments (number_of old))
+      (λ own. after ≡ with_recording before (number_of old) own value)
 
 -- the same of a recording with this admission
-abbrev pub RecordsHosted : Result (List ℕ) Refusal → PlanValue → HostedValue → HostedValue → RecorderValue → RecorderValue → ℤ → Type 0
+abbrev pub RecordsHosted : Result (List ℕ) Refusal → PlanValue → HostedValue → HostedValue
+    → RecorderValue → RecorderValue → ℤ → Type 0
 RecordsHosted (Err first) plan old new before after value = ⊥
-RecordsHosted (Ok set) plan old new before after value = IsRecorded plan old new before after set value
+RecordsHosted (Ok set) plan old new before after value =
+    IsRecorded plan old new before after set value

@@ -1,5 +1,6 @@
 -- One instrument compared with what its recorders were told.
-use Rattle.std.specs.Prelude.{◌≡◌, ℕ, ℤ, pos, ◌+ℤ◌, ◌*ℤ◌, Bool, true, not, ◌&&◌, ◌==◌, List, [], ◌∷◌, Some, Result, Ok, Err, nat_lt, slice_get, slice_index, sum_by}
+use Rattle.std.specs.Prelude.{◌≡◌, ℕ, ℤ, pos, ◌+ℤ◌, ◌*ℤ◌, Bool, true, not, ◌&&◌, ◌==◌, List, []}
+use Rattle.std.specs.Prelude.{◌∷◌, Some, Result, Ok, Err, nat_lt, slice_get, slice_index, sum_by}
 use Rattle.std.specs.List.{list_all, list_any, range_with_len}
 use Rattle.metric_base.specs.Steps.{◌>>=◌, require}
 use Rattle.metric_core.specs.Cells.{CellValue}
@@ -9,7 +10,8 @@ use Rattle.metric_plan.specs.Plans.{PlanValue}
 use Rattle.metric_provider.specs.Recordings.{told_at}
 use Rattle.metric_provider.specs.Seats.{RecorderValue, is_recorder_of}
 use Rattle.metric_provider.specs.declared.fault.FinishFault.{FinishFault}
-use Rattle.metric_provider.specs.declared.fault.FinishFault.TheVariants.{RecorderMissing, Stranger, AuditMismatch}
+use Rattle.metric_provider.specs.declared.fault.FinishFault.TheVariants.{RecorderMissing, Stranger}
+use Rattle.metric_provider.specs.declared.fault.FinishFault.TheVariants.{AuditMismatch}
 use Rattle.metric_provider.specs.declared.totals.Total.{Total}
 use Rattle.metric_hosted.specs.declared.settling.SeatTold.{SeatTold}
 use Rattle.metric_hosted.specs.Hosts.{HostedValue, number_of, run_of}
@@ -21,7 +23,9 @@ pub record IsSeatOf (plan : PlanValue) (h : HostedValue) (seat : RecorderValue) 
 
 -- what a seat was told of an instrument; a stranger to it is refused
 abbrev pub TellsOf : PlanValue → HostedValue → RecorderValue → Result SeatTold FinishFault → Type 0
-TellsOf plan h seat (Ok told) = IsSeatOf plan h seat × (told ≡ record { number = seat.number; told = told_at seat (number_of h) })
+TellsOf plan h seat (Ok told) =
+    IsSeatOf plan h seat
+    × (told ≡ record { number = seat.number; told = told_at seat (number_of h) })
 TellsOf plan h seat (Err fault) = (fault ≡ Stranger) × (IsSeatOf plan h seat → ⊥)
 
 -- how many recordings the seats were told of
@@ -66,7 +70,8 @@ seated recorders seats =
 
 -- whether each recorder has made as many recordings as its seat was told of
 abbrev pub are_spent : List ℕ → List SeatTold → Bool
-are_spent spent seats = list_all (λ (seat : SeatTold). slice_index spent seat.number == seat.told.count) seats
+are_spent spent seats =
+    list_all (λ (seat : SeatTold). slice_index spent seat.number == seat.told.count) seats
 
 -- The cell's numbers are what the seats were told.
 pub record IsAsTold (c : CellValue MarkedValue) (seats : List SeatTold) : Type 0 where
@@ -74,9 +79,10 @@ pub record IsAsTold (c : CellValue MarkedValue) (seats : List SeatTold) : Type 0
   pub count : c.count ≡ told_count seats
   pub sum : c.total ≡ told_sum c.facts seats
 
--- What settling with these seats is answered: their own fault, `AuditMismatch` exactly where the numbers are not what they were told, else
--- the total of what they were told.
-abbrev pub Settles : CellValue MarkedValue → List SeatTold → Result (Unit {0}) FinishFault → Result Total FinishFault → Type 0
+-- What settling with these seats is answered: their own fault, `AuditMismatch` exactly where the
+-- numbers are not what they were told, else the total of what they were told.
+abbrev pub Settles : CellValue MarkedValue → List SeatTold → Result (Unit {0}) FinishFault
+    → Result Total FinishFault → Type 0
 Settles c seats (Err first) (Ok total) = ⊥
 Settles c seats (Err first) (Err fault) = fault ≡ first
 Settles c seats (Ok done) (Ok total) = IsAsTold c seats × (total ≡ told_total c.facts seats)

@@ -1,5 +1,6 @@
 -- The counts by which a device tells its reads and its failures.
-use Rattle.std.specs.Prelude.{◌≡◌, ℕ, ◌+◌, ◌-◌, ◌^◌, ◌<◌, ◌≤◌, min, List, length, Result, Ok, Err, MatchResult}
+use Rattle.std.specs.Prelude.{◌≡◌, ℕ, ◌+◌, ◌-◌, ◌^◌, ◌<◌, ◌≤◌, min, List, length, Result, Ok, Err}
+use Rattle.std.specs.Prelude.{MatchResult}
 use Rattle.metric_io.specs.declared.counts.ReadCounts.{ReadCounts}
 use Rattle.metric_io.specs.declared.devices.SourceFault.{SourceFault}
 use Rattle.metric_io.specs.declared.devices.SourceFault.TheVariants.{Interrupted, Broken}
@@ -23,13 +24,16 @@ no_reads = record { reads = 0; interruptions = 0; failures = 0 }
 -- the counts after a read that gave this answer: an interrupted read is no failure
 abbrev pub counts_after : ReadCounts → Result ℕ SourceFault → ReadCounts
 counts_after old (Ok given) = record old { reads = next_count old.reads }
-counts_after old (Err Interrupted) = record old { reads = next_count old.reads; interruptions = next_count old.interruptions }
-counts_after old (Err Broken) = record old { reads = next_count old.reads; failures = next_count old.failures }
+counts_after old (Err Interrupted) =
+    record old { reads = next_count old.reads; interruptions = next_count old.interruptions }
+counts_after old (Err Broken) =
+    record old { reads = next_count old.reads; failures = next_count old.failures }
 
 -- a write that answers an error, or takes nothing of something, is a failure, and no other
 abbrev pub CountsWrite : {E : Type 0} → ℕ → ℕ → Result ℕ E → List ℕ → Type 0
 CountsWrite old new r buf = MatchResult r
-    (λ n. (0 < n → new ≡ old) × (length buf ≡ 0 → new ≡ old) × (n ≡ 0 → 0 < length buf → new ≡ next_count old))
+    (λ n. (0 < n → new ≡ old) × (length buf ≡ 0 → new ≡ old)
+    × (n ≡ 0 → 0 < length buf → new ≡ next_count old))
     (λ _. new ≡ next_count old)
 
 -- a flush that answers an error is a failure, and no other

@@ -1,13 +1,14 @@
 -- What a source and a sink over memory do, call by call.
-use Rattle.std.specs.Prelude.{ℕ, Bool, false, ◌-◌, ◌==◌, nat_le, if◌then◌else◌, ◌&&◌, min, List, ◌++◌, length, take, drop, Option, None, Some, Result, Ok, Err}
+use Rattle.std.specs.Prelude.{ℕ, Bool, false, ◌-◌, ◌==◌, nat_le, if◌then◌else◌, ◌&&◌, min, List}
+use Rattle.std.specs.Prelude.{◌++◌, length, take, drop, Option, None, Some, Result, Ok, Err}
 use Rattle.std.specs.Result.{result_unwrap_or}
 use Rattle.metric_io.specs.Counts.{counts_after, next_count}
 use Rattle.metric_io.specs.declared.counts.ReadCounts.{ReadCounts}
 use Rattle.metric_io.specs.declared.devices.SourceFault.{SourceFault}
 use Rattle.metric_io.specs.declared.devices.SourceFault.TheVariants.{Interrupted, Broken}
 
--- A source over memory: the bytes that are left, the most that one read gives, the read that a signal interrupts and the
--- read from which on it fails, both counted from 1, and its counts.
+-- A source over memory: the bytes that are left, the most that one read gives, the read that a
+-- signal interrupts and the read from which on it fails, both counted from 1, and its counts.
 pub record SourceState : Type 0 where
   pub rest : List ℕ
   pub most : ℕ

@@ -11,12 +11,15 @@ most_bytes = 67108864
 abbrev pub most_reads : ℕ
 most_reads = 4194304
 
--- The source was read as often as it may be, and each of these reads gave a byte or was interrupted.
+-- The source was read as often as it may be, and each of these reads
+-- gave a byte or was interrupted.
 pub record ReachesReadLimit (old new : ReadCounts) (input : Option (List ℕ)) : Type 0 where
   pub reads : higher_count old.reads most_reads ≤ new.reads
-  pub gave : IfSome input (λ xs. higher_count old.interruptions most_reads ≤ new.interruptions + length xs)
+  pub gave : IfSome input
+      (λ xs. higher_count old.interruptions most_reads ≤ new.interruptions + length xs)
 
 -- The source failed, or has more bytes than an input may have, or was read as often as it may be.
 abbrev pub IsReadFault : ReadCounts → ReadCounts → Option (List ℕ) → Type 0
 IsReadFault old new input =
-    HasFailed old.failures new.failures ⊎ (IfSome input (λ xs. most_bytes < length xs) ⊎ ReachesReadLimit old new input)
+    HasFailed old.failures new.failures
+    ⊎ (IfSome input (λ xs. most_bytes < length xs) ⊎ ReachesReadLimit old new input)

@@ -16,7 +16,8 @@ abbrev pub empty_journal : Facts → JournalValue
 empty_journal facts = record { facts = facts; entries = []; marks = no_marks facts }
 
 -- the list is the journal, each reader has its mark, and each stream's window stays in range
-pub record StandsForList (book : JournalValue) (facts : Facts) (journal : List Entry) (marks : List ℕ) : Type 0 where
+pub record StandsForList (book : JournalValue) (facts : Facts) (journal : List Entry)
+    (marks : List ℕ) : Type 0 where
   pub same_facts : book.facts ≡ facts
   pub same_entries : book.entries ≡ journal
   pub same_marks : book.marks ≡ marks

@@ -17,8 +17,11 @@ reader_in_range reader entries streams = list_all (stream_in_range reader entrie
 
 -- what the next collection by a stream's reader covers
 abbrev pub stream_window : Facts → List Entry → List ℕ → NumberedStream → List Entry
-stream_window facts journal marks s = window (is_delta facts s.stream.reader) (slice_index marks s.stream.reader) journal
+stream_window facts journal marks s =
+    window (is_delta facts s.stream.reader) (slice_index marks s.stream.reader) journal
 
 -- whether the window of each of these streams stays in range
 abbrev pub windows_in_range : Facts → List Entry → List ℕ → List NumberedStream → Bool
-windows_in_range facts journal marks streams = list_all (λ (s : NumberedStream). stays_in_range s.stream (stream_window facts journal marks s)) streams
+windows_in_range facts journal marks streams =
+    list_all
+    (λ (s : NumberedStream). stays_in_range s.stream (stream_window facts journal marks s)) streams

@@ -1,5 +1,6 @@
 -- How a batch is written.
-use Rattle.std.specs.Prelude.{ℕ, ◌==◌, if◌then◌else◌, List, [], ◌∷◌, ◌++◌, Option, Some, codes, length, sum_by, slice_get}
+use Rattle.std.specs.Prelude.{ℕ, ◌==◌, if◌then◌else◌, List, [], ◌∷◌, ◌++◌, Option, Some, codes}
+use Rattle.std.specs.Prelude.{length, sum_by, slice_get}
 use Rattle.std.specs.List.{concat, flat_map}
 use Rattle.std.specs.Option.{option_map_or}
 use Rattle.metric_text.specs.Lists.{numbered}
@@ -23,7 +24,8 @@ pub record DescribedStream : Type 0 where
   pub instrument : Instrument
   pub meter : Meter
 
--- the stream of a number. A number that names no stream, reader, instrument or meter describes nothing.
+-- the stream of a number. A number that names no stream, reader,
+-- instrument or meter describes nothing.
 unfoldable pub described_stream : Contents → Setup → List Stream → ℕ → Option DescribedStream
 described_stream catalogue config streams number = do
   stream ← slice_get streams number
@@ -45,22 +47,28 @@ head_text batch = concat (
 
 -- the lines of the points of a stream
 abbrev pub points_text : Batch → List Point → DescribedStream → List ℕ
-points_text batch points d = flat_map (point_text d.instrument.keys d.stream.kept batch.start batch.time) points
+points_text batch points d =
+    flat_map (point_text d.instrument.keys d.stream.kept batch.start batch.time) points
 
 -- the line of a stream, and those of its points
 abbrev pub described_text : Batch → List Point → DescribedStream → List ℕ
-described_text batch points d = stream_line d.reader.name d.meter d.stream ++ points_text batch points d
+described_text batch points d =
+    stream_line d.reader.name d.meter d.stream ++ points_text batch points d
 
--- the lines of a stream and its points. A stream without points has no line, nor has one that is not described.
+-- the lines of a stream and its points. A stream without points has no line,
+-- nor has one that is not described.
 abbrev pub stream_text : Contents → Setup → List Stream → Batch → StreamPoints → List ℕ
 stream_text catalogue config streams batch s =
     if length s.points == 0 then [] else
-    option_map_or (described_text batch s.points) (described_stream catalogue config streams s.stream) []
+    option_map_or (described_text batch s.points)
+    (described_stream catalogue config streams s.stream) []
 
 -- the lines of all streams of a batch, in its own order
 abbrev pub streams_text : Contents → Setup → List Stream → Batch → List ℕ
-streams_text catalogue config streams batch = flat_map (stream_text catalogue config streams batch) batch.streams
+streams_text catalogue config streams batch =
+    flat_map (stream_text catalogue config streams batch) batch.streams
 
 -- the text of a batch: its first line, then its streams
 unfoldable pub batch_text : Contents → Setup → List Stream → Batch → List ℕ
-batch_text catalogue config streams batch = head_text batch ++ streams_text catalogue config streams batch
+batch_text catalogue config streams batch =
+    head_text batch ++ streams_text catalogue config streams batch

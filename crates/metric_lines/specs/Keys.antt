@@ -1,5 +1,6 @@
 -- How the keys of a stream are written: as attributes with their values, and by name.
-use Rattle.std.specs.Prelude.{ℕ, Bool, true, false, ◌-◌, ◌==◌, if◌then◌else◌, List, Option, Some, None, codes, slice_get}
+use Rattle.std.specs.Prelude.{ℕ, Bool, true, false, ◌-◌, ◌==◌, if◌then◌else◌, List, Option, Some}
+use Rattle.std.specs.Prelude.{None, codes, slice_get}
 use Rattle.std.specs.List.{filter_map, zip}
 use Rattle.std.specs.Option.{option_map}
 use Rattle.metric_names.specs.declared.value.AttrValue.{AttrValue}
@@ -16,7 +17,8 @@ Attribute = List ℕ × AttrValue
 abbrev pub attribute_text : Attribute → List ℕ
 attribute_text attribute = pair_text attribute.0 attribute.1
 
--- the value that an entry of a set key names: one less is the value's number, and 0 says that the key is absent
+-- the value that an entry of a set key names: one less is the value's number,
+-- and 0 says that the key is absent
 abbrev pub value_at : List AttrValue → ℕ → Option AttrValue
 value_at values entry = if entry == 0 then None else slice_get values (entry - 1)
 
@@ -27,7 +29,8 @@ attribute_of key false entry = None
 
 -- the attributes of a set key: of the declared keys in order those that are kept and present
 abbrev pub attributes_of : List Key → List Bool → List ℕ → List Attribute
-attributes_of keys kept set = filter_map (λ x. attribute_of x.0 x.1.0 x.1.1) (zip keys (zip kept set))
+attributes_of keys kept set =
+    filter_map (λ x. attribute_of x.0 x.1.0 x.1.1) (zip keys (zip kept set))
 
 -- the attributes of a series, or the mark of the overflow series
 unfoldable pub series_text : List Key → List Bool → Option (List ℕ) → List ℕ

@@ -4,7 +4,8 @@ use Rattle.std.specs.Fmt.{decimal, signed_decimal}
 use Rattle.metric_text.specs.Lists.{labelled, list_text, numbered}
 use Rattle.metric_lines.specs.Keys.{names_text, series_text}
 use Rattle.metric_lines.specs.declared.piece.Piece.{Piece}
-use Rattle.metric_lines.specs.declared.piece.Piece.TheVariants.{Text, Quoted, Number, Wide, Signed, Counts, Bounds, Series, Names}
+use Rattle.metric_lines.specs.declared.piece.Piece.TheVariants.{Text, Quoted, Number, Wide, Signed}
+use Rattle.metric_lines.specs.declared.piece.Piece.TheVariants.{Counts, Bounds, Series, Names}
 
 -- a label with a number that may be negative
 unfoldable pub signed : List ℕ → ℤ → List ℕ

@@ -45,4 +45,5 @@ covered_text keys kept start time set = concat (
 
 -- the line of a point, with the times of its batch
 unfoldable pub point_text : List Key → List Bool → ℕ → ℕ → Point → List ℕ
-point_text keys kept start time point = covered_text keys kept start time point.set ++ value_text point.value
+point_text keys kept start time point =
+    covered_text keys kept start time point.set ++ value_text point.value

@@ -1,5 +1,6 @@
 -- How a stream is described, in a batch and in what `show` prints.
-use Rattle.std.specs.Prelude.{ℕ, Bool, true, false, List, [], ◌∷◌, ◌++◌, Option, Some, None, codes, slice_get}
+use Rattle.std.specs.Prelude.{ℕ, Bool, true, false, List, [], ◌∷◌, ◌++◌, Option, Some, None, codes}
+use Rattle.std.specs.Prelude.{slice_get}
 use Rattle.std.specs.Fmt.{signed_decimal}
 use Rattle.std.specs.List.{concat}
 use Rattle.std.specs.Option.{option_map_or}
@@ -15,7 +16,8 @@ use Rattle.metric_views.specs.declared.config.Setup.{Setup}
 use Rattle.metric_views.specs.declared.config.Reader.{Reader}
 use Rattle.metric_views.specs.declared.stream.Stream.{Stream}
 use Rattle.metric_views.specs.declared.stream.StreamAggregation.{StreamAggregation}
-use Rattle.metric_views.specs.declared.stream.StreamAggregation.TheVariants.{Sum, LastValue, Histogram}
+use Rattle.metric_views.specs.declared.stream.StreamAggregation.TheVariants.{Sum, LastValue}
+use Rattle.metric_views.specs.declared.stream.StreamAggregation.TheVariants.{Histogram}
 use Rattle.metric_resolve.specs.declared.warning.Warning.{Warning}
 use Rattle.metric_resolve.specs.declared.warning.Warning.TheVariants.{Unfit, Collision}
 use Rattle.metric_lines.specs.Keys.{names_text}
@@ -26,11 +28,13 @@ abbrev pub monotonic_text : Bool → List ℕ
 monotonic_text true = codes " kind=sum monotonic=yes"
 monotonic_text false = codes " kind=sum monotonic=no"
 
--- how points are made of an instrument of this kind: as a sum that only rises or another, as last values, as histograms
+-- how points are made of an instrument of this kind: as a sum that only rises or
+-- another, as last values, as histograms
 abbrev pub kind_text : Kind → StreamAggregation → List ℕ
 kind_text kind Sum = monotonic_text (is_monotonic kind)
 kind_text kind LastValue = codes " kind=last"
-kind_text kind (Histogram boundaries) = listed signed_decimal (codes " kind=histogram bounds=") boundaries
+kind_text kind (Histogram boundaries) =
+    listed signed_decimal (codes " kind=histogram bounds=") boundaries
 
 -- what a stream's points cover
 abbrev pub temporality_text : Temporality → List ℕ
@@ -82,7 +86,9 @@ shown_line number stream reader instrument = concat (
 -- the same, or nothing where the stream names no reader or no instrument
 abbrev pub shown_text : Contents → Setup → ℕ → Stream → List ℕ
 shown_text contents config number stream =
-    option_map_or (λ reader. option_map_or (λ instrument. shown_line number stream reader instrument) (slice_get contents.instruments stream.instrument) [])
+    option_map_or
+    (λ reader. option_map_or (λ instrument. shown_line number stream reader instrument)
+    (slice_get contents.instruments stream.instrument) [])
     (slice_get config.readers stream.reader) []
 
 -- a view that names an aggregation which an instrument that it selects does not have

@@ -1,5 +1,6 @@
 -- What a book of tables keeps, and for which journals it stands.
-use Rattle.std.specs.Prelude.{◌≡◌, ◌≤◌, ℕ, Bool, true, false, List, [], ◌∷◌, ◌++◌, length, filter, map, slice_index}
+use Rattle.std.specs.Prelude.{◌≡◌, ◌≤◌, ℕ, Bool, true, false, List, [], ◌∷◌, ◌++◌, length, filter}
+use Rattle.std.specs.Prelude.{map, slice_index}
 use Rattle.std.specs.List.{list_all}
 use Rattle.metric_history.specs.declared.batch.StreamPoints.{StreamPoints}
 use Rattle.metric_history.specs.declared.entry.Entry.{Entry}
@@ -15,7 +16,8 @@ use Rattle.metric_series.specs.declared.fault.SeriesFault.{SeriesFault}
 use Rattle.metric_series.specs.declared.fault.SeriesFault.TheVariants.{SumRange}
 use Rattle.metric_marked.specs.declared.stream_table.StreamTable.{StreamTable}
 
--- a table for each stream of the instrument, whether each reader is delta, each reader's mark, and how many recordings there are
+-- a table for each stream of the instrument, whether each reader is delta, each reader's mark,
+-- and how many recordings there are
 pub record MarkedValue : Type 0 where
   pub tables : List StreamTable
   pub delta : List Bool
@@ -37,7 +39,8 @@ abbrev pub StandAll : List StreamTable → List NumberedStream → (ℕ → List
 StandAll [] [] windows = Unit {0}
 StandAll [] (s ∷ streams) windows = ⊥
 StandAll (t ∷ tables) [] windows = ⊥
-StandAll (t ∷ tables) (s ∷ streams) windows = StandsFor t s (windows s.stream.reader) × StandAll tables streams windows
+StandAll (t ∷ tables) (s ∷ streams) windows =
+    StandsFor t s (windows s.stream.reader) × StandAll tables streams windows
 
 -- each table has a place for a set
 abbrev pub TakeAll : List StreamTable → List ℕ → Type 0
@@ -55,10 +58,12 @@ KeepPlaces old new = KeepsPlaces TakeAll HaveRoom old new
 
 -- the recordings that each reader's next collection covers
 abbrev pub windows_of : Facts → List Entry → List ℕ → ℕ → List Entry
-windows_of facts journal marks reader = window (is_delta facts reader) (slice_index marks reader) journal
+windows_of facts journal marks reader =
+    window (is_delta facts reader) (slice_index marks reader) journal
 
 -- a book stands for a journal with marks where its tables stand for their windows
-pub record StandsMarked (b : MarkedValue) (facts : Facts) (journal : List Entry) (marks : List ℕ) : Type 0 where
+pub record StandsMarked (b : MarkedValue) (facts : Facts) (journal : List Entry) (marks : List ℕ)
+    : Type 0 where
   pub tables : StandAll b.tables facts.streams (windows_of facts journal marks)
   pub takes : (set : List ℕ) → is_full_set facts.keys set ≡ true → TakeAll b.tables set
   pub room : AreAllByProduct facts → HaveRoom b.tables
@@ -68,7 +73,8 @@ pub record StandsMarked (b : MarkedValue) (facts : Facts) (journal : List Entry)
   pub one_each : length marks ≡ length facts.delta
   pub low : (reader : ℕ) → slice_index marks reader ≤ length journal
 
--- the fault of one table beside others, where it is said whether those stay in range: `SumRange` goes before `Memory`
+-- the fault of one table beside others, where it is said whether those stay in range:
+-- `SumRange` goes before `Memory`
 abbrev pub weightier : SeriesFault → Bool → SeriesFault
 weightier fault true = fault
 weightier fault false = SumRange
@@ -77,7 +83,8 @@ weightier fault false = SumRange
 abbrev pub JudgesAll : List StreamTable → Entry → Bool → Type 0
 JudgesAll tables entry verdict =
     (streams : List NumberedStream) (windows : ℕ → List Entry) → StandAll tables streams windows
-    → list_all (λ (s : NumberedStream). fits_stream s.stream (windows s.stream.reader) entry) streams ≡ verdict
+    → list_all
+    (λ (s : NumberedStream). fits_stream s.stream (windows s.stream.reader) entry) streams ≡ verdict
 
 -- each table takes a recording
 abbrev pub TakesAll : List StreamTable → List StreamTable → Entry → Type 0
@@ -110,7 +117,8 @@ pub record EmptiesOne (old new : StreamTable) (reader : ℕ) : Type 0 where
 
 -- and so does each table
 pub record EmptiesReader (old new : List StreamTable) (reader : ℕ) : Type 0 where
-  pub stands : (streams : List NumberedStream) (windows later : ℕ → List Entry) → EmptyFor windows later reader
+  pub stands : (streams : List NumberedStream) (windows later : ℕ → List Entry)
+      → EmptyFor windows later reader
       → StandAll old streams windows → StandAll new streams later
   pub places : KeepPlaces old new
 

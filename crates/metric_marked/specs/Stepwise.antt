@@ -1,4 +1,5 @@
--- What is done to the first tables of an instrument, one after the other, while the rest stay as they are.
+-- What is done to the first tables of an instrument, one after the other,
+-- while the rest stay as they are.
 use Rattle.std.specs.Prelude.{◌≡◌, ◌≢◌, true, List, [], ◌∷◌, Result, Err, OnOk, OnErr}
 use Rattle.metric_history.specs.declared.entry.Entry.{Entry}
 use Rattle.metric_series.specs.Calls.{JudgesRange, JudgesValue, KeepsPlaces, TakesRecording}
@@ -9,8 +10,10 @@ use Rattle.metric_series.specs.declared.place.Place.{Place}
 use Rattle.metric_marked.specs.Marks.{TableStands}
 use Rattle.metric_marked.specs.declared.stream_table.StreamTable.{StreamTable}
 
--- each of the first tables became another one as the relation says, one for each thing of a list; the rest are what they were
-abbrev pub EachAt : {P : Type 0} → (StreamTable → StreamTable → P → Type 0) → List StreamTable → List StreamTable → List P → Type 0
+-- each of the first tables became another one as the relation says, one for each thing of a
+-- list; the rest are what they were
+abbrev pub EachAt : {P : Type 0} → (StreamTable → StreamTable → P → Type 0) → List StreamTable
+    → List StreamTable → List P → Type 0
 EachAt R old new [] = new ≡ old
 EachAt R [] new (p ∷ ps) = ⊥
 EachAt R (o ∷ old) [] (p ∷ ps) = ⊥
@@ -29,7 +32,8 @@ pub record IsReadyFor (entry : Entry) (old new : StreamTable) (place : Place) : 
 
 -- the new table is what the old one was before it was made ready
 abbrev pub Restores : StreamTable → StreamTable → Place → Type 0
-Restores old new place = (entry : Entry) (before : StreamTable) → IsReadyFor entry before old place → new ≡ before
+Restores old new place =
+    (entry : Entry) (before : StreamTable) → IsReadyFor entry before old place → new ≡ before
 
 -- a table was made ready for a recording
 abbrev pub IsReady : Entry → StreamTable → Place → Type 0
@@ -46,18 +50,23 @@ AreReady entry (t ∷ tables) (place ∷ places) = IsReady entry t place × AreR
 abbrev pub Puts : Entry → StreamTable → StreamTable → Place → Type 0
 Puts entry old new place =
     (before : StreamTable) → IsReadyFor entry before old place
-    → IsSameStream before new × TakesRecording (TableStands before) (TableStands new) entry.set entry.value
+    → IsSameStream before new
+    × TakesRecording (TableStands before) (TableStands new) entry.set entry.value
 
 -- each table stays in range with a recording
 abbrev pub AreInRange : Entry → List StreamTable → Type 0
 AreInRange entry [] = Unit {0}
-AreInRange entry (t ∷ tables) = JudgesValue (TableStands t) entry.set entry.value true × AreInRange entry tables
+AreInRange entry (t ∷ tables) =
+    JudgesValue (TableStands t) entry.set entry.value true × AreInRange entry tables
 
--- What one call makes of a table: it takes a recording, or is what it was where the recording is refused. `SumRange` comes exactly
--- where the recording does not fit, and `Memory` never where the table has room for all values.
-pub record AddsTo (entry : Entry) (old new : StreamTable) (result : Result (Unit {0}) SeriesFault) : Type 0 where
+-- What one call makes of a table: it takes a recording, or is what it was where the recording is
+-- refused. `SumRange` comes exactly where the recording does not fit, and `Memory` never where
+-- the table has room for all values.
+pub record AddsTo (entry : Entry) (old new : StreamTable) (result : Result (Unit {0}) SeriesFault)
+    : Type 0 where
   pub in_range : JudgesRange (TableStands old) entry.set entry.value result
   pub memory : stream_series.has_room old.table → result ≢ Err Memory
   pub same : IsSameStream old new
-  pub stands : OnOk result (TakesRecording (TableStands old) (TableStands new) entry.set entry.value)
+  pub stands : OnOk result
+      (TakesRecording (TableStands old) (TableStands new) entry.set entry.value)
   pub err : OnErr result (new ≡ old)

@@ -1,4 +1,5 @@
--- For which recordings a table stands whose series are found by hash or by rank, and when it is ready for a value.
+-- For which recordings a table stands whose series are found by hash or by rank,
+-- and when it is ready for a value.
 use Rattle.std.specs.Prelude.{ℕ, ℤ, List}
 use Rattle.metric_dense.specs.DenseTables.{DenseTableValue, dense_tables}
 use Rattle.metric_marked.specs.declared.stream_series.Placed.{Placed}

@@ -1,5 +1,6 @@
 -- Instrument names: what a name is, when two are the same, and which fault a text has.
-use Rattle.std.specs.Prelude.{◌≡◌, ℕ, ◌≤◌, Bool, ◌||◌, ◌==◌, List, [], ◌∷◌, length, map, Option, Result, Ok, IsTrue, nat_le, slice_get}
+use Rattle.std.specs.Prelude.{◌≡◌, ℕ, ◌≤◌, Bool, ◌||◌, ◌==◌, List, [], ◌∷◌, length, map, Option}
+use Rattle.std.specs.Prelude.{Result, Ok, IsTrue, nat_le, slice_get}
 use Rattle.std.specs.Ordering.{nat_cmp}
 use Rattle.std.specs.declared.cmp.Ordering.{Ordering}
 use Rattle.std.specs.Prelude.{not}
@@ -8,7 +9,8 @@ use Rattle.std.specs.Cmp.Lexicographic.{slice_cmp}
 use Rattle.std.specs.List.{list_all, position_from}
 use Rattle.metric_base.specs.Steps.{◌>>=◌, require, require_some, require_none}
 use Rattle.metric_names.specs.declared.name.NameFault.{NameFault}
-use Rattle.metric_names.specs.declared.name.NameFault.TheVariants.{Empty, FirstLetter, BadCharacter, TooLong}
+use Rattle.metric_names.specs.declared.name.NameFault.TheVariants.{Empty, FirstLetter, BadCharacter}
+use Rattle.metric_names.specs.declared.name.NameFault.TheVariants.{TooLong}
 
 -- a letter, a digit, `_`, `.`, `-` or `/`
 abbrev pub is_name_character : ℕ → Bool
@@ -17,7 +19,9 @@ is_name_character c = is_ascii_alphanumeric c || (c == 95 || (c == 46 || (c == 4
 -- A name is a letter, and then at most 254 name characters.
 abbrev pub IsName : List ℕ → Type 0
 IsName [] = ⊥
-IsName (first ∷ rest) = IsTrue (is_ascii_alphabetic first) × IsTrue (list_all is_name_character rest) × (length rest ≤ 254)
+IsName (first ∷ rest) =
+    IsTrue (is_ascii_alphabetic first) × IsTrue (list_all is_name_character rest)
+    × (length rest ≤ 254)
 
 -- the place of the first character that does not pass
 abbrev pub first_other : (ℕ → Bool) → List ℕ → Option ℕ

@@ -1,5 +1,6 @@
 -- What an input of parts is, and which of its lines is the first faulty one.
-use Rattle.std.specs.Prelude.{◌≡◌, ℕ, ◌+◌, Bool, not, ◌&&◌, nat_eq, IsTrue, List, [], ◌∷◌, ◌++◌, Option, None, Some, IsSome, unwrap_or, codes}
+use Rattle.std.specs.Prelude.{◌≡◌, ℕ, ◌+◌, Bool, not, ◌&&◌, nat_eq, IsTrue, List, [], ◌∷◌, ◌++◌}
+use Rattle.std.specs.Prelude.{Option, None, Some, IsSome, unwrap_or, codes}
 use Rattle.std.specs.List.{starts_with, list_all}
 use Rattle.std.specs.Str.{is_utf8}
 use Rattle.metric_base.specs.Fronts.{BreaksOffAt}
@@ -23,7 +24,9 @@ optional_part header (Some lines) = header ∷ lines
 
 -- the lines of an input before the script's header
 abbrev pub before_script : Contents → List (List ℕ)
-before_script parts = codes "%% catalogue" ∷ (parts.catalogue ++ (codes "%% config" ∷ (parts.config ++ optional_part (codes "%% certificate") parts.certificate)))
+before_script parts =
+    codes "%% catalogue" ∷ (parts.catalogue ++ (codes "%% config"
+    ∷ (parts.config ++ optional_part (codes "%% certificate") parts.certificate)))
 
 -- the lines of an input
 abbrev pub printed : Contents → List (List ℕ)
@@ -44,8 +47,8 @@ pub record IsSomeInput (needs : Needs) (lines : List (List ℕ)) : Type 0 where
   pub parts : Contents
   pub is_input : IsInput needs lines parts
 
--- The line of this number, counted from 1, is the first with which no input goes on. Where the lines are the
--- beginning of an input and no input, it is the line after the last.
+-- The line of this number, counted from 1, is the first with which no input goes on. Where the
+-- lines are the beginning of an input and no input, it is the line after the last.
 pub record IsFirstFault (needs : Needs) (lines : List (List ℕ)) (number : ℕ) : Type 0 where
   pub place : ℕ
   pub numbered : number ≡ place + 1

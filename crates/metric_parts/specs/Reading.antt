@@ -1,5 +1,6 @@
 -- The parts of an input, one after the other: the parts, or the lines from the faulty one on.
-use Rattle.std.specs.Prelude.{ℕ, Bool, if◌then◌else◌, List, [], ◌∷◌, take, drop, Option, None, Some, Result, Ok, Err, map, codes}
+use Rattle.std.specs.Prelude.{ℕ, Bool, if◌then◌else◌, List, [], ◌∷◌, take, drop, Option, None, Some}
+use Rattle.std.specs.Prelude.{Result, Ok, Err, map, codes}
 use Rattle.std.specs.List.{prefix_len}
 use Rattle.std.specs.Str.{bytes_eq}
 use Rattle.std.specs.Borrow.{Bor}
@@ -12,7 +13,8 @@ abbrev pub texts : List (Bor (List ℕ)) → List (List ℕ)
 texts lines = map (λ line. line.now) lines
 
 -- what a function on such references gives, as lists of lines
-abbrev pub seen : {X Y : Type 0} → (X → Y) → Result X (Bor (List (Bor (List ℕ)))) → Result Y (List (List ℕ))
+abbrev pub seen : {X Y : Type 0} → (X → Y) → Result X (Bor (List (Bor (List ℕ))))
+    → Result Y (List (List ℕ))
 seen view (Ok x) = Ok (view x)
 seen view (Err rest) = Err (texts rest.now)
 
@@ -24,15 +26,18 @@ contents_len lines = prefix_len is_content lines
 abbrev pub part_in : List ℕ → List (List ℕ) → Result (List (List ℕ) × List (List ℕ)) (List (List ℕ))
 part_in header [] = Err []
 part_in header (line ∷ lines) =
-    if bytes_eq line header then Ok (take (contents_len lines) lines, drop (contents_len lines) lines) else Err (line ∷ lines)
+    if bytes_eq line header then Ok
+    (take (contents_len lines) lines, drop (contents_len lines) lines) else Err (line ∷ lines)
 
 -- the same of a part that may be missing where it is not needed
-abbrev pub part_unless : Bool → List (List ℕ) → Result (List (List ℕ) × List (List ℕ)) (List (List ℕ))
+abbrev pub part_unless : Bool → List (List ℕ)
+    → Result (List (List ℕ) × List (List ℕ)) (List (List ℕ))
     → Result (Option (List (List ℕ)) × List (List ℕ)) (List (List ℕ))
 part_unless needed lines (Ok part) = Ok (Some part.0, part.1)
 part_unless needed lines (Err rest) = if needed then Err rest else Ok (None, lines)
 
-abbrev pub optional_part_in : Bool → List ℕ → List (List ℕ) → Result (Option (List (List ℕ)) × List (List ℕ)) (List (List ℕ))
+abbrev pub optional_part_in : Bool → List ℕ → List (List ℕ)
+    → Result (Option (List (List ℕ)) × List (List ℕ)) (List (List ℕ))
 optional_part_in needed header lines = part_unless needed lines (part_in header lines)
 
 -- these parts, if no line is left

@@ -6,7 +6,8 @@ use Rattle.std.specs.List.{join_by}
 abbrev pub joined : List (List ℕ) → List ℕ
 joined lines = join_by (λ line. line) (10 ∷ []) lines
 
--- The lines of a script, and the number of the first of them in the input, where the first line has the number 1.
+-- The lines of a script, and the number of the first of them in the input, where
+-- the first line has the number 1.
 pub record ScriptLines : Type 0 where
   pub first_line : ℕ
   pub lines : List (List ℕ)

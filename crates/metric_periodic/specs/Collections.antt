@@ -10,7 +10,8 @@ use Rattle.metric_provider.specs.Seats.{CollectorValue, ProviderValue, is_collec
 abbrev pub Collected : Type 0
 Collected = Result (Vec Batch Global) AllFault
 
--- what is said of a collection: the moment that it is made at, the seat before and after it, and the answer
+-- what is said of a collection: the moment that it is made at, the seat
+-- before and after it, and the answer
 abbrev pub Collecting : Type 0 → Type 1
 Collecting C = ℕ → C → C → Collected → Type 0
 
@@ -24,19 +25,23 @@ batches_of (Ok batches) = batches.items
 batches_of (Err fault) = fault.done.items
 
 -- The next batch of each instrument of the provider at a moment, in order.
-pub record AreNextBatches (p : ProviderValue) (seat : CollectorValue) (now : ℕ) (batches : List Batch) : Type 0 where
+pub record AreNextBatches (p : ProviderValue) (seat : CollectorValue) (now : ℕ)
+    (batches : List Batch) : Type 0 where
   pub own : is_collector_of p seat ≡ true
   pub each : AnswersEach p seat now batches
   pub all : length batches ≡ length p.plan.facts.instruments
 
 -- a collection at a moment with a seat, which has then seen the batches that it gave
 abbrev pub Collects : ProviderValue → Collecting CollectorValue
-Collects p now old new (Ok batches) = AreNextBatches p old now batches.items × (new ≡ with_all_seen old batches.items)
+Collects p now old new (Ok batches) =
+    AreNextBatches p old now batches.items × (new ≡ with_all_seen old batches.items)
 Collects p now old new (Err fault) =
-    AllRefused p old now fault.done.items fault.instrument fault.refusal × (new ≡ with_all_seen old fault.done.items)
+    AllRefused p old now fault.done.items fault.instrument fault.refusal
+    × (new ≡ with_all_seen old fault.done.items)
 
 -- the last collection with a seat, which is kept only where it was refused
 abbrev pub CollectsLast : ProviderValue → CollectingLast CollectorValue
 CollectsLast p now old kept (Ok batches) = AreNextBatches p old now batches.items × (kept ≡ None)
 CollectsLast p now old kept (Err fault) =
-    AllRefused p old now fault.done.items fault.instrument fault.refusal × (kept ≡ Some (with_all_seen old fault.done.items))
+    AllRefused p old now fault.done.items fault.instrument fault.refusal
+    × (kept ≡ Some (with_all_seen old fault.done.items))

@@ -6,7 +6,8 @@ use Rattle.metric_export.specs.declared.fault.ExportFault.{ExportFault}
 use Rattle.metric_periodic.specs.Collections.{Collected, batches_of}
 use Rattle.metric_periodic.specs.Counts.{IsCounted}
 
--- an exporter, with the counts of its exports, of its failed calls, and of the collections that were refused
+-- an exporter, with the counts of its exports, of its failed calls, and of
+-- the collections that were refused
 pub record Tally (E : Type 0) : Type 0 where
   pub exporter : E
   pub exported : ℕ
@@ -17,7 +18,8 @@ abbrev pub tally : {E : Type 0} → E → ℕ → ℕ → ℕ → Tally E
 tally exporter exported failed refused =
     record { exporter = exporter; exported = exported; failed = failed; refused = refused }
 
--- what is said of a call of an exporter for a batch: the exporter before and after it, the batch and the answer
+-- what is said of a call of an exporter for a batch: the exporter before and
+-- after it, the batch and the answer
 abbrev pub Exporting : Type 0 → Type 1
 Exporting E = E → E → Batch → Result (Unit {0}) ExportFault → Type 0
 
@@ -48,7 +50,8 @@ with_collection counts (Err fault) = record counts { refused = next_count counts
 
 -- a collection was counted, and the exporter called for each batch that it gave
 abbrev pub ExportsCollected : {E : Type 0} → Exporting E → Tally E → Tally E → Collected → Type 0
-ExportsCollected exports old new collected = ExportsEach exports (with_collection old collected) new (batches_of collected)
+ExportsCollected exports old new collected =
+    ExportsEach exports (with_collection old collected) new (batches_of collected)
 
 -- the failed calls after one with this answer
 abbrev pub failed_after : ℕ → Result (Unit {0}) ExportFault → ℕ

@@ -3,11 +3,13 @@ use Rattle.std.specs.Prelude.{◌≡◌, ℕ, Bool, Option}
 use Rattle.metric_export.specs.Ticks.{moment_of}
 use Rattle.metric_export.specs.declared.tick.Tick.{Tick}
 use Rattle.metric_periodic.specs.Collections.{Collected, Collecting, CollectingLast}
-use Rattle.metric_periodic.specs.Exported.{Exporting, ExportsCollected, ShutsDown, ShuttingDown, Tally}
+use Rattle.metric_periodic.specs.Exported.{Exporting, ExportsCollected, ShutsDown, ShuttingDown}
+use Rattle.metric_periodic.specs.Exported.{Tally}
 use Rattle.metric_periodic.specs.Turns.{Giving, MakesTurns, Progress, is_stop}
 
--- After its turns a run makes the last collection, at the moment of the last tick, calls the exporter for each batch that it gave, and
--- shuts the exporter down. The run was stopped where the ticker's last tick was a stop.
+-- After its turns a run makes the last collection, at the moment of the last tick, calls the
+-- exporter for each batch that it gave, and shuts the exporter down. The run was stopped where
+-- the ticker's last tick was a stop.
 pub record IsRun {T C E : Type 0}
     (gives : Giving T)
     (collects : Collecting C)

@@ -15,7 +15,8 @@ abbrev pub is_stop : Tick → Bool
 is_stop (At moment) = false
 is_stop (Stop moment) = true
 
--- how far a run has come: its ticker, the moment of the last tick, the seat, and the exporter with the counts
+-- how far a run has come: its ticker, the moment of the last tick, the seat,
+-- and the exporter with the counts
 pub record Progress (T C E : Type 0) : Type 0 where
   pub ticker : T
   pub moment : ℕ
@@ -23,7 +24,8 @@ pub record Progress (T C E : Type 0) : Type 0 where
   pub counts : Tally E
 
 abbrev pub progress : {T C E : Type 0} → T → ℕ → C → Tally E → Progress T C E
-progress ticker moment seat counts = record { ticker = ticker; moment = moment; seat = seat; counts = counts }
+progress ticker moment seat counts =
+    record { ticker = ticker; moment = moment; seat = seat; counts = counts }
 
 -- what is said of a tick: the ticker before and after it was asked, and the tick
 abbrev pub Giving : Type 0 → Type 1
@@ -47,20 +49,25 @@ pub record IsTurn {T C E : Type 0}
     (exports : Exporting E)
     (old new : Progress T C E) : Type 0 where
   pub tick : gives old.ticker new.ticker (At new.moment)
-  pub collected_at : IsCollectedAt collects exports new.moment old.seat new.seat old.counts new.counts
+  pub collected_at : IsCollectedAt collects exports new.moment old.seat new.seat
+      old.counts new.counts
 
 -- so many turns, one after the other
-abbrev pub AreTurns : {T C E : Type 0} → Giving T → Collecting C → Exporting E → ℕ → Progress T C E → Progress T C E → Type 0
+abbrev pub AreTurns : {T C E : Type 0} → Giving T → Collecting C → Exporting E → ℕ → Progress T C E
+    → Progress T C E → Type 0
 AreTurns gives collects exports zero old new = new ≡ old
 AreTurns {T} {C} {E} gives collects exports (suc turns) old new =
-    (mid : Progress T C E) × (AreTurns gives collects exports turns old mid × IsTurn gives collects exports mid new)
+    (mid : Progress T C E)
+    × (AreTurns gives collects exports turns old mid × IsTurn gives collects exports mid new)
 
--- How the turns end: all are made and the moment is that of the last tick, or fewer are made and the ticker then gave a stop.
+-- How the turns end: all are made and the moment is that of the last tick, or fewer are made
+-- and the ticker then gave a stop.
 abbrev pub EndsTurns : {T : Type 0} → Giving T → ℕ → ℕ → ℕ → T → T → Tick → Type 0
 EndsTurns gives most made moment old new (At last) = (made ≡ most) × ((last ≡ moment) × (new ≡ old))
 EndsTurns gives most made moment old new (Stop last) = (made < most) × gives old new (Stop last)
 
--- All turns of a run, from a start on: what they leave of the ticker, the last tick, the seat, and the exporter with the counts.
+-- All turns of a run, from a start on: what they leave of the ticker, the last tick, the seat,
+-- and the exporter with the counts.
 pub record MakesTurns {T C E : Type 0}
     (gives : Giving T)
     (collects : Collecting C)

@@ -2,7 +2,22 @@
 use Rattle.std.specs.Prelude.{ℕ, List, ◌∷◌, ◌++◌, codes}
 use Rattle.std.specs.Fmt.{decimal}
 use Rattle.metric_plan.specs.declared.fault.CheckFault.{CheckFault}
-use Rattle.metric_plan.specs.declared.fault.CheckFault.TheVariants.{PairMissing, BadTakes, BadRows, BadMiss, StreamMissing, StreamStrange, BadOrder, BadSets, LimitExceeded, SumLow, SumHigh, CountRange, AmountRange, Memory}
+use Rattle.metric_plan.specs.declared.fault.CheckFault.TheVariants.{
+  PairMissing,
+  BadTakes,
+  BadRows,
+  BadMiss,
+  StreamMissing,
+  StreamStrange,
+  BadOrder,
+  BadSets,
+  LimitExceeded,
+  SumLow,
+  SumHigh,
+  CountRange,
+  AmountRange,
+  Memory,
+}
 
 abbrev pub number_of : CheckFault → ℕ
 number_of PairMissing = 1

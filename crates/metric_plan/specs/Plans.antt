@@ -1,5 +1,6 @@
 -- What a plan is.
-use Rattle.std.specs.Prelude.{◌≡◌, ℕ, ◌≤◌, Bool, true, IsTrue, List, Some, length, slice_get, FitsSigned}
+use Rattle.std.specs.Prelude.{◌≡◌, ℕ, ◌≤◌, Bool, true, IsTrue, List, Some, length, slice_get}
+use Rattle.std.specs.Prelude.{FitsSigned}
 use Rattle.std.specs.Int.{w64}
 use Rattle.metric_bounds.specs.Safe.{AreSafe}
 use Rattle.metric_bounds.specs.Sets.{product_of}
@@ -11,8 +12,8 @@ use Rattle.metric_facts.specs.declared.facts.Facts.{Facts}
 use Rattle.metric_facts.specs.Facts.{RunFacts, facts_from, is_by_product}
 use Rattle.metric_plan.specs.Counting.{is_counted}
 
--- whether it is certified, a flag for each stream that says whether it is by product, the config, the streams, and the facts of
--- the instruments with their catalogue
+-- whether it is certified, a flag for each stream that says whether it is by product, the config,
+-- the streams, and the facts of the instruments with their catalogue
 pub record PlanValue : Type 0 where
   pub is_certified : Bool
   pub by_product : List Bool
@@ -24,7 +25,9 @@ pub record PlanValue : Type 0 where
 abbrev pub run_facts : Bool → List Bool → Contents → Config → List Stream → RunFacts
 run_facts is_certified by_product contents config streams = record {
   contents = contents;
-  instruments = facts_from is_certified by_product contents.recorders config.readers streams 0 contents.instruments;
+  instruments =
+      facts_from is_certified by_product contents.recorders config.readers streams 0
+      contents.instruments;
 }
 
 -- the plan of a catalogue with a config
@@ -39,24 +42,32 @@ plan_of is_certified by_product contents config = record {
 
 -- the ranges of the instruments are of 64-bit numbers
 abbrev pub RangesFit : List Facts → Type 0
-RangesFit all = (number : ℕ) (own : Facts) → slice_get all number ≡ Some own → FitsSigned w64 own.lo × FitsSigned w64 own.hi
+RangesFit all =
+    (number : ℕ) (own : Facts) → slice_get all number ≡ Some own
+    → FitsSigned w64 own.lo × FitsSigned w64 own.hi
 
--- The product over the keys that a stream keeps is within its limit, where the stream is by product.
+-- The product over the keys that a stream keeps is within its limit,
+-- where the stream is by product.
 abbrev pub ProductsFit : Contents → List Bool → List Stream → Type 0
 ProductsFit contents by_product streams =
-    (number : ℕ) (s : Stream) → slice_get streams number ≡ Some s → IsTrue (is_by_product by_product number) → product_of contents s ≤ s.limit
+    (number : ℕ) (s : Stream) → slice_get streams number ≡ Some s
+    → IsTrue (is_by_product by_product number) → product_of contents s ≤ s.limit
 
 -- No stream is by product unless the plan is certified.
 abbrev pub AreVouched : Bool → List Bool → Type 0
-AreVouched is_certified by_product = (number : ℕ) → IsTrue (is_by_product by_product number) → IsTrue is_certified
+AreVouched is_certified by_product =
+    (number : ℕ) → IsTrue (is_by_product by_product number) → IsTrue is_certified
 
--- What each plan keeps: the streams are those that the config gives for the catalogue, and the facts are theirs, one of each
--- instrument. The budgets and the spare budget of each instrument are together a u64, and its range is one of 64-bit numbers. A certified plan can overflow
--- neither a limit nor a number, and its streams by product can have no more series than their limits, whatever is recorded.
+-- What each plan keeps: the streams are those that the config gives for the catalogue, and the
+-- facts are theirs, one of each instrument. The budgets and the spare budget of each
+-- instrument are together a u64, and its range is one of 64-bit numbers. A certified plan can
+-- overflow neither a limit nor a number, and its streams by product can have no more series
+-- than their limits, whatever is recorded.
 pub record IsPlan (plan : PlanValue) : Type 0 where
   pub one_each : length plan.facts.instruments ≡ length plan.facts.contents.instruments
   pub streams : plan.streams ≡ streams_of plan.facts.contents plan.config
-  pub facts : plan.facts ≡ run_facts plan.is_certified plan.by_product plan.facts.contents plan.config plan.streams
+  pub facts : plan.facts
+      ≡ run_facts plan.is_certified plan.by_product plan.facts.contents plan.config plan.streams
   pub counted : is_counted plan.facts.contents ≡ true
   pub ranges : RangesFit plan.facts.instruments
   pub safe : IsTrue plan.is_certified → AreSafe plan.facts.contents plan.streams

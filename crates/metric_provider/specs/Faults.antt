@@ -2,7 +2,8 @@
 use Rattle.std.specs.Prelude.{ℕ, List, ◌∷◌, ◌++◌, codes}
 use Rattle.std.specs.Fmt.{decimal}
 use Rattle.metric_provider.specs.declared.fault.FinishFault.{FinishFault}
-use Rattle.metric_provider.specs.declared.fault.FinishFault.TheVariants.{RecorderMissing, Stranger, AuditMismatch, Memory}
+use Rattle.metric_provider.specs.declared.fault.FinishFault.TheVariants.{RecorderMissing, Stranger}
+use Rattle.metric_provider.specs.declared.fault.FinishFault.TheVariants.{AuditMismatch, Memory}
 
 abbrev pub number_of : FinishFault → ℕ
 number_of RecorderMissing = 1

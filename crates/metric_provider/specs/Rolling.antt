@@ -20,8 +20,8 @@ new_collectors run plan =
     map (new_collector run (length plan.facts.instruments))
     (range_with_len 0 (length plan.config.readers))
 
--- What refuses to go over, by whether the next run has the number of this one: that it has, else what refuses to finish with
--- the seats.
+-- What refuses to go over, by whether the next run has the number of this one: that it has, else
+-- what refuses to finish with the seats.
 abbrev pub RefusesRoll : Bool → Result (Unit {0}) FinishFault → RollFault → Type 0
 RefusesRoll true ended SameRun = Unit {0}
 RefusesRoll true ended (Finish fault) = ⊥

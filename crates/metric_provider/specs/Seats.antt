@@ -1,5 +1,6 @@
 -- Providers and their seats.
-use Rattle.std.specs.Prelude.{ℕ, Bool, ◌&&◌, List, [], length, nat_lt, replicate, slice_index_or, ◌==◌, if◌then◌else◌}
+use Rattle.std.specs.Prelude.{ℕ, Bool, ◌&&◌, List, [], length, nat_lt, replicate, slice_index_or}
+use Rattle.std.specs.Prelude.{◌==◌, if◌then◌else◌}
 use Rattle.metric_book.specs.declared.slip.Slip.{Slip}
 use Rattle.metric_plan.specs.Plans.{PlanValue}
 use Rattle.metric_slot.specs.declared.told.Told.{Told}
@@ -9,14 +10,16 @@ pub record ProviderValue : Type 0 where
   pub plan : PlanValue
   pub run : ℕ
 
--- the number of the run, that of the recorder, what it was told of each instrument, and its slips of each, where its book keeps entries
+-- the number of the run, that of the recorder, what it was told of each instrument, and its slips
+-- of each, where its book keeps entries
 pub record RecorderValue : Type 0 where
   pub run : ℕ
   pub number : ℕ
   pub told : List Told
   pub slips : List (List Slip)
 
--- the number of the run, that of the reader, and how many recordings of each instrument its last batch counted
+-- the number of the run, that of the reader, and how many recordings of each
+-- instrument its last batch counted
 pub record CollectorValue : Type 0 where
   pub run : ℕ
   pub number : ℕ
@@ -33,7 +36,8 @@ nothing_told = record { count = 0; amount = 0 }
 abbrev pub no_slips : Bool → ℕ → List (List Slip)
 no_slips keeps instruments = if keeps then replicate instruments [] else []
 
--- the seat of a recorder that was told of nothing, of so many instruments, and whether it keeps slips
+-- the seat of a recorder that was told of nothing, of so many
+-- instruments, and whether it keeps slips
 abbrev pub new_recorder : Bool → ℕ → ℕ → ℕ → RecorderValue
 new_recorder keeps run instruments number = record {
   run = run;
@@ -48,14 +52,18 @@ slips_at seat instrument = slice_index_or seat.slips instrument []
 
 -- the seat of a reader that has seen nothing
 abbrev pub new_collector : ℕ → ℕ → ℕ → CollectorValue
-new_collector run instruments number = record { run = run; number = number; seen = replicate instruments 0 }
+new_collector run instruments number =
+    record { run = run; number = number; seen = replicate instruments 0 }
 
--- whether it is of this run, of a recorder of the plan, and made for as many instruments; else it is a stranger
+-- whether it is of this run, of a recorder of the plan, and made for as many
+-- instruments; else it is a stranger
 abbrev pub is_recorder_of : ProviderValue → RecorderValue → Bool
 is_recorder_of p seat =
-    (seat.run == p.run) && (nat_lt seat.number (length p.plan.facts.contents.recorders) && (length seat.told == length p.plan.facts.instruments))
+    (seat.run == p.run) && (nat_lt seat.number (length p.plan.facts.contents.recorders)
+    && (length seat.told == length p.plan.facts.instruments))
 
 -- the same of a reader's seat
 abbrev pub is_collector_of : ProviderValue → CollectorValue → Bool
 is_collector_of p seat =
-    (seat.run == p.run) && (nat_lt seat.number (length p.plan.config.readers) && (length seat.seen == length p.plan.facts.instruments))
+    (seat.run == p.run) && (nat_lt seat.number (length p.plan.config.readers)
+    && (length seat.seen == length p.plan.facts.instruments))

@@ -1,5 +1,7 @@
 -- What a provider comes to when it is finished.
-use Rattle.std.specs.Prelude.{◌≡◌, ◌+◌, ℕ, ℤ, pos, ◌+ℤ◌, ◌*ℤ◌, Bool, true, not, ◌&&◌, ◌==◌, All, List, [], ◌∷◌, Some, Result, Ok, Err, length, map, nat_lt, slice_get, slice_index, sum_by, if◌then◌else◌}
+use Rattle.std.specs.Prelude.{◌≡◌, ◌+◌, ℕ, ℤ, pos, ◌+ℤ◌, ◌*ℤ◌, Bool, true, not, ◌&&◌, ◌==◌, All}
+use Rattle.std.specs.Prelude.{List, [], ◌∷◌, Some, Result, Ok, Err, length, map, nat_lt, slice_get}
+use Rattle.std.specs.Prelude.{slice_index, sum_by, if◌then◌else◌}
 use Rattle.std.specs.List.{list_all, list_any, range_with_len}
 use Rattle.metric_base.specs.Steps.{◌>>=◌, require}
 use Rattle.metric_aggregate.specs.Value.{sum_of}
@@ -13,31 +15,37 @@ use Rattle.metric_history.specs.declared.entry.Entry.{Entry}
 use Rattle.metric_plan.specs.Plans.{PlanValue}
 use Rattle.metric_safety.specs.SafeFacts.{are_admitted}
 use Rattle.metric_provider.specs.declared.fault.FinishFault.{FinishFault}
-use Rattle.metric_provider.specs.declared.fault.FinishFault.TheVariants.{RecorderMissing, Stranger, AuditMismatch, Memory}
+use Rattle.metric_provider.specs.declared.fault.FinishFault.TheVariants.{RecorderMissing, Stranger}
+use Rattle.metric_provider.specs.declared.fault.FinishFault.TheVariants.{AuditMismatch, Memory}
 use Rattle.metric_provider.specs.declared.totals.Total.{Total}
 use Rattle.metric_provider.specs.Recordings.{told_at}
 use Rattle.metric_provider.specs.Seats.{ProviderValue, RecorderValue, is_recorder_of, slips_at}
 
 -- how many recordings the recorders were told of on the instrument of a number
 abbrev pub told_count : List RecorderValue → ℕ → ℕ
-told_count seats instrument = sum_by (λ (seat : RecorderValue). (told_at seat instrument).count) seats
+told_count seats instrument =
+    sum_by (λ (seat : RecorderValue). (told_at seat instrument).count) seats
 
 -- how far their values are together above the least
 abbrev pub told_amount : List RecorderValue → ℕ → ℕ
-told_amount seats instrument = sum_by (λ (seat : RecorderValue). (told_at seat instrument).amount) seats
+told_amount seats instrument =
+    sum_by (λ (seat : RecorderValue). (told_at seat instrument).amount) seats
 
 -- the sum of their values
 abbrev pub told_sum : Facts → List RecorderValue → ℕ → ℤ
-told_sum own seats instrument = pos (told_amount seats instrument) +ℤ pos (told_count seats instrument) *ℤ own.lo
+told_sum own seats instrument =
+    pos (told_amount seats instrument) +ℤ pos (told_count seats instrument) *ℤ own.lo
 
 -- what the recorders were told of an instrument with these facts
 abbrev pub told_total : Facts → List RecorderValue → ℕ → Total
-told_total own seats instrument = record { count = told_count seats instrument; sum = told_sum own seats instrument }
+told_total own seats instrument =
+    record { count = told_count seats instrument; sum = told_sum own seats instrument }
 
 -- that of each instrument, the first of which has this number
 abbrev pub told_totals : List RecorderValue → ℕ → List Facts → List Total
 told_totals seats number [] = []
-told_totals seats number (own ∷ all) = told_total own seats number ∷ told_totals seats (number + 1) all
+told_totals seats number (own ∷ all) =
+    told_total own seats number ∷ told_totals seats (number + 1) all
 
 -- whether a seat is of the recorder of a number
 abbrev pub is_numbered : ℕ → RecorderValue → Bool
@@ -72,28 +80,36 @@ pub record AreOneEach (recorders : ℕ) (seats : List RecorderValue) : Type 0 wh
 -- There is one seat for each recorder of the plan, made for as many instruments.
 pub record AreAllSeats (plan : PlanValue) (seats : List RecorderValue) : Type 0 where
   pub one_each : AreOneEach (length plan.facts.contents.recorders) seats
-  pub long : list_all (λ (seat : RecorderValue). length seat.told == length plan.facts.instruments) seats ≡ true
+  pub long : list_all
+      (λ (seat : RecorderValue). length seat.told == length plan.facts.instruments) seats ≡ true
 
 -- the slips of each seat are the entries of its recorder, each once, in their order
 abbrev pub AreNoted : List RecorderValue → ℕ → List Entry → Type 0
-AreNoted seats instrument entries = All (λ (seat : RecorderValue). slips_at seat instrument ≡ slips_of seat.number entries) seats
+AreNoted seats instrument entries =
+    All (λ (seat : RecorderValue). slips_at seat instrument ≡ slips_of seat.number entries) seats
 
--- A cell has the facts of the plan's instrument, its numbers are what the recorders were told, and the entries that its book keeps are
--- those of which they have slips.
-pub record IsAsTold {B : Type 0} (kept : B → List Entry) (own : Facts) (c : CellValue B) (seats : List RecorderValue) (instrument : ℕ) : Type 0 where
+-- A cell has the facts of the plan's instrument, its numbers are what the recorders were told, and
+-- the entries that its book keeps are those of which they have slips.
+pub record IsAsTold {B : Type 0} (kept : B → List Entry) (own : Facts) (c : CellValue B)
+    (seats : List RecorderValue) (instrument : ℕ) : Type 0 where
   pub facts : c.facts ≡ own
-  pub spent : list_all (λ (seat : RecorderValue). slice_index c.spent seat.number == (told_at seat instrument).count) seats ≡ true
+  pub spent : list_all (λ (seat : RecorderValue). slice_index c.spent seat.number
+      == (told_at seat instrument).count) seats ≡ true
   pub sum : c.total ≡ told_sum own seats instrument
   pub noted : AreNoted seats instrument (kept c.book)
 
 -- the cell of each instrument is
-abbrev pub AreAsTold : {B : Type 0} → (B → List Entry) → List Facts → List (CellValue B) → List RecorderValue → Type 0
+abbrev pub AreAsTold : {B : Type 0} → (B → List Entry) → List Facts → List (CellValue B)
+    → List RecorderValue → Type 0
 AreAsTold {B} kept instruments cells seats =
-    (i : ℕ) (own : Facts) (c : CellValue B) → slice_get instruments i ≡ Some own → slice_get cells i ≡ Some c → IsAsTold kept own c seats i
+    (i : ℕ) (own : Facts) (c : CellValue B) → slice_get instruments i ≡ Some own
+    → slice_get cells i ≡ Some c → IsAsTold kept own c seats i
 
 -- what refuses the totals: some cell is not as told, or memory was refused
-abbrev pub RefusesTotals : {B : Type 0} → (B → List Entry) → List Facts → List (CellValue B) → List RecorderValue → FinishFault → Type 0
-RefusesTotals kept instruments cells seats AuditMismatch = AreAsTold kept instruments cells seats → ⊥
+abbrev pub RefusesTotals : {B : Type 0} → (B → List Entry) → List Facts → List (CellValue B)
+    → List RecorderValue → FinishFault → Type 0
+RefusesTotals kept instruments cells seats AuditMismatch =
+    AreAsTold kept instruments cells seats → ⊥
 RefusesTotals kept instruments cells seats Memory = Unit {0}
 RefusesTotals kept instruments cells seats other = ⊥
 
@@ -109,23 +125,27 @@ RefusesFinish (Ok done) other = ⊥
 -- the slips on an instrument of the seat of the recorder of a number
 abbrev pub slips_by : List RecorderValue → ℕ → ℕ → List Slip
 slips_by [] number instrument = []
-slips_by (seat ∷ seats) number instrument = if seat.number == number then slips_at seat instrument else slips_by seats number instrument
+slips_by (seat ∷ seats) number instrument =
+    if seat.number == number then slips_at seat instrument else slips_by seats number instrument
 
 -- those of each of so many recorders, in their order
 abbrev pub slips_on : List RecorderValue → ℕ → ℕ → List (List Slip)
-slips_on seats recorders instrument = map (λ number. slips_by seats number instrument) (range_with_len 0 recorders)
+slips_on seats recorders instrument =
+    map (λ number. slips_by seats number instrument) (range_with_len 0 recorders)
 
 -- those of each of so many instruments
 abbrev pub slips_of_seats : List RecorderValue → ℕ → ℕ → List (List (List Slip))
-slips_of_seats seats recorders instruments = map (slips_on seats recorders) (range_with_len 0 instruments)
+slips_of_seats seats recorders instruments =
+    map (slips_on seats recorders) (range_with_len 0 instruments)
 
 -- each recorder's entries in a journal
 abbrev pub entries_by : ℕ → List Entry → List (List Slip)
 entries_by recorders journal = map (λ number. slips_of number journal) (range_with_len 0 recorders)
 
--- The accepted recordings of an instrument are all kept, or none. They are as many as the recorders were told of, with the same sum, and
--- the instrument admits each.
-pub record IsToldJournal (keeps : Bool) (own : Facts) (seats : List RecorderValue) (instrument : ℕ) (journal : List Entry) : Type 0 where
+-- The accepted recordings of an instrument are all kept, or none. They are as many as the recorders
+-- were told of, with the same sum, and the instrument admits each.
+pub record IsToldJournal (keeps : Bool) (own : Facts) (seats : List RecorderValue) (instrument : ℕ)
+    (journal : List Entry) : Type 0 where
   pub accepted : List Entry
   pub kept : journal ≡ kept_of keeps accepted
   pub counted : length accepted ≡ told_count seats instrument
@@ -133,20 +153,28 @@ pub record IsToldJournal (keeps : Bool) (own : Facts) (seats : List RecorderValu
   pub admitted : are_admitted own accepted ≡ true
 
 -- there is such a journal of each instrument
-pub record AreToldJournals (keeps : Bool) (instruments : List Facts) (seats : List RecorderValue) (journals : List (List Entry)) : Type 0 where
+pub record AreToldJournals (keeps : Bool) (instruments : List Facts) (seats : List RecorderValue)
+    (journals : List (List Entry)) : Type 0 where
   pub one_each : length journals ≡ length instruments
-  pub told : (i : ℕ) (own : Facts) (journal : List Entry) → slice_get instruments i ≡ Some own → slice_get journals i ≡ Some journal
+  pub told : (i : ℕ) (own : Facts) (journal : List Entry) → slice_get instruments i ≡ Some own
+      → slice_get journals i ≡ Some journal
       → IsToldJournal keeps own seats i journal
 
 -- the entries that the book of each cell keeps are such a journal
-abbrev pub KeepToldJournals : {B : Type 0} → (B → List Entry) → Bool → List Facts → List (CellValue B) → List RecorderValue → Type 0
+abbrev pub KeepToldJournals : {B : Type 0} → (B → List Entry) → Bool → List Facts
+    → List (CellValue B) → List RecorderValue → Type 0
 KeepToldJournals {B} kept keeps instruments cells seats =
-    (i : ℕ) (own : Facts) (c : CellValue B) → slice_get instruments i ≡ Some own → slice_get cells i ≡ Some c → IsToldJournal keeps own seats i (kept c.book)
+    (i : ℕ) (own : Facts) (c : CellValue B) → slice_get instruments i ≡ Some own
+    → slice_get cells i ≡ Some c → IsToldJournal keeps own seats i (kept c.book)
 
--- What a finished provider comes to: the totals are what the recorders were told, there is a journal of each instrument, and the slips
--- are those of the seats, which are each recorder's entries in each journal, each once, in their order.
-pub record Finishes (keeps : Bool) (plan : PlanValue) (seats : List RecorderValue) (totals : List Total) (journals : List (List Entry)) (slips : List (List (List Slip))) : Type 0 where
+-- What a finished provider comes to: the totals are what the recorders were told, there is a
+-- journal of each instrument, and the slips are those of the seats, which are each recorder's
+-- entries in each journal, each once, in their order.
+pub record Finishes (keeps : Bool) (plan : PlanValue) (seats : List RecorderValue)
+    (totals : List Total) (journals : List (List Entry)) (slips : List (List (List Slip)))
+    : Type 0 where
   pub told : totals ≡ told_totals seats 0 plan.facts.instruments
   pub accepted : AreToldJournals keeps plan.facts.instruments seats journals
-  pub noted : slips ≡ slips_of_seats seats (length plan.facts.contents.recorders) (length plan.facts.instruments)
+  pub noted : slips ≡ slips_of_seats seats (length plan.facts.contents.recorders)
+      (length plan.facts.instruments)
   pub entries : slips ≡ map (entries_by (length plan.facts.contents.recorders)) journals

@@ -6,7 +6,8 @@ use Rattle.clap.specs.declared.builder.ValueParser.TheVariants.{Unsigned}
 
 -- the path of a file, by its place
 abbrev pub file_rule : Text → Bool → Rule
-file_rule id required = record (new_rule id) { action = Some Set; required = required; value_names = 1 }
+file_rule id required =
+    record (new_rule id) { action = Some Set; required = required; value_names = 1 }
 
 -- an option with a text
 abbrev pub text_rule : Text → Rule
@@ -38,7 +39,9 @@ most_instances = 1000000
 
 -- a command over a catalogue and a config
 abbrev pub pair_app : Text → App
-pair_app name = with_rule (with_rule (new_app name) (file_rule (codes "catalogue") true)) (file_rule (codes "config") true)
+pair_app name =
+    with_rule (with_rule (new_app name) (file_rule (codes "catalogue") true))
+    (file_rule (codes "config") true)
 
 -- with the option of its output
 abbrev pub output_rule : Rule
@@ -46,7 +49,9 @@ output_rule = record (text_rule (codes "output")) { short = Some 111 }
 
 -- with those of a table
 abbrev pub table_app : Text → App
-table_app name = with_rule (with_rule (pair_app name) (flag_rule (codes "json"))) (number_rule (codes "width") 0 most_width (codes "0"))
+table_app name =
+    with_rule (with_rule (pair_app name) (flag_rule (codes "json")))
+    (number_rule (codes "width") 0 most_width (codes "0"))
 
 abbrev pub lint_app : App
 lint_app = with_rule (pair_app (codes "lint")) (text_rule (codes "deny"))
@@ -62,12 +67,14 @@ check_app = with_rule (pair_app (codes "check")) (file_rule (codes "certificate"
 
 abbrev pub headroom_app : App
 headroom_app = with_rule
-    (with_rule (table_app (codes "headroom")) (number_rule (codes "rate") 1 most_rate (codes "10000")))
+    (with_rule (table_app (codes "headroom"))
+    (number_rule (codes "rate") 1 most_rate (codes "10000")))
     (number_rule (codes "instances") 1 most_instances (codes "1"))
 
 abbrev pub replay_app : App
 replay_app = with_rule
-    (with_rule (with_rule (pair_app (codes "replay")) (file_rule (codes "third") true)) (file_rule (codes "fourth") false))
+    (with_rule (with_rule (pair_app (codes "replay")) (file_rule (codes "third") true))
+    (file_rule (codes "fourth") false))
     (flag_rule (codes "audit"))
 
 abbrev pub draw_app : App
@@ -75,11 +82,15 @@ draw_app = with_rule (pair_app (codes "draw")) output_rule
 
 -- the program, with its version and without a command
 abbrev pub bare_app : App
-bare_app = let app = new_app (codes "wormweekly") in record app { top = record app.top { has_version = true } }
+bare_app =
+    let app = new_app (codes "wormweekly") in
+    record app { top = record app.top { has_version = true } }
 
 -- the program with its first commands, and with all
 abbrev pub first_app : App
-first_app = with_subcommand (with_subcommand (with_subcommand bare_app lint_app.top) show_app.top) headroom_app.top
+first_app =
+    with_subcommand
+    (with_subcommand (with_subcommand bare_app lint_app.top) show_app.top) headroom_app.top
 
 abbrev pub second_app : App
 second_app = with_subcommand (with_subcommand first_app make_app.top) check_app.top

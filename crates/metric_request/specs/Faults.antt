@@ -1,8 +1,10 @@
 -- What clap's refusal of a command line is told as.
 use Rattle.clap.specs.declared.error.ErrorKind.{ErrorKind}
-use Rattle.clap.specs.declared.error.ErrorKind.TheVariants.{DisplayHelp, DisplayVersion, OutOfMemory}
+use Rattle.clap.specs.declared.error.ErrorKind.TheVariants.{DisplayHelp, DisplayVersion}
+use Rattle.clap.specs.declared.error.ErrorKind.TheVariants.{OutOfMemory}
 use Rattle.metric_request.specs.declared.fault.LineFault.{LineFault}
-use Rattle.metric_request.specs.declared.fault.LineFault.TheVariants.{Told, Usage, Nothing, Deny, Memory}
+use Rattle.metric_request.specs.declared.fault.LineFault.TheVariants.{Told, Usage, Nothing, Deny}
+use Rattle.metric_request.specs.declared.fault.LineFault.TheVariants.{Memory}
 
 -- Help or the version is told, unless memory was refused to the text.
 abbrev pub IsToldOrMemory : LineFault → Type 0
@@ -27,7 +29,8 @@ IsMemory Nothing = ⊥
 IsMemory Deny = ⊥
 IsMemory Memory = Unit {0}
 
--- A call for help or for the version is told as that, want of memory as such, and everything else as a misuse.
+-- A call for help or for the version is told as that, want of memory as such,
+-- and everything else as a misuse.
 abbrev pub TellsKind : ErrorKind → LineFault → Type 0
 TellsKind DisplayHelp = IsToldOrMemory
 TellsKind DisplayVersion = IsToldOrMemory

@@ -1,5 +1,6 @@
 -- The number that an option has.
-use Rattle.std.specs.Prelude.{◌&&◌, ◌^◌, ℕ, Bool, true, List, [], ◌∷◌, Option, length, if◌then◌else◌, nat_lt}
+use Rattle.std.specs.Prelude.{◌&&◌, ◌^◌, ℕ, Bool, true, List, [], ◌∷◌, Option, length}
+use Rattle.std.specs.Prelude.{if◌then◌else◌, nat_lt}
 use Rattle.std.specs.Char.{digit_value}
 use Rattle.std.specs.Option.{option_map_or}
 use Rattle.std.specs.Str.Parse.{digits_value, without_leading_plus}
@@ -14,7 +15,9 @@ is_numeral text = nat_lt 0 (length text) && all_digits text
 
 -- the text is a number of 32 bits, with or without a plus before it
 abbrev pub is_number : List ℕ → Bool
-is_number text = is_numeral (without_leading_plus text) && nat_lt (digits_value 10 (without_leading_plus text)) (2 ^ 32)
+is_number text =
+    is_numeral (without_leading_plus text)
+    && nat_lt (digits_value 10 (without_leading_plus text)) (2 ^ 32)
 
 -- that number, and 0 where the text is none
 abbrev pub number_of : List ℕ → ℕ

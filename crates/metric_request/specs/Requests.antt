@@ -1,5 +1,6 @@
 -- What the words of a command line mean.
-use Rattle.std.specs.Prelude.{Bool, false, List, [], Option, codes, is_some, if◌then◌else◌, unwrap_or}
+use Rattle.std.specs.Prelude.{Bool, false, List, [], Option, codes, is_some, if◌then◌else◌}
+use Rattle.std.specs.Prelude.{unwrap_or}
 use Rattle.std.specs.Option.{option_map_or}
 use Rattle.std.specs.Str.{bytes_eq}
 use Rattle.clap.specs.Words.{Row, Text, first_of}
@@ -8,7 +9,8 @@ use Rattle.metric_request.specs.declared.request.Files.{Files}
 use Rattle.metric_request.specs.declared.request.Options.{Options}
 use Rattle.metric_request.specs.declared.request.Request.{Request}
 use Rattle.metric_request.specs.declared.request.Task.{Task}
-use Rattle.metric_request.specs.declared.request.Task.TheVariants.{Lint, Show, Make, Check, Headroom, Replay, Draw}
+use Rattle.metric_request.specs.declared.request.Task.TheVariants.{Lint, Show, Make, Check}
+use Rattle.metric_request.specs.declared.request.Task.TheVariants.{Headroom, Replay, Draw}
 
 -- the command by its name
 abbrev pub task_of : Text → Task
@@ -31,10 +33,14 @@ text_in id rows = unwrap_or (first_of id rows) []
 
 -- Of the two last files of a replay the certificate is the first, where there are two.
 abbrev pub certificate_in : List Row → Option Text
-certificate_in rows = if is_some (first_of (codes "fourth") rows) then first_of (codes "third") rows else first_of (codes "certificate") rows
+certificate_in rows =
+    if is_some (first_of (codes "fourth") rows) then first_of (codes "third") rows
+    else first_of (codes "certificate") rows
 
 abbrev pub script_in : List Row → Option Text
-script_in rows = if is_some (first_of (codes "fourth") rows) then first_of (codes "fourth") rows else first_of (codes "third") rows
+script_in rows =
+    if is_some (first_of (codes "fourth") rows) then first_of (codes "fourth") rows
+    else first_of (codes "third") rows
 
 abbrev pub files_in : List Row → Files
 files_in rows = record {
@@ -57,4 +63,5 @@ options_in rows = record {
 
 -- the request of a command by its name, with its arguments
 abbrev pub request_in : Text × List Row → Request
-request_in named = record { task = task_of named.0; files = files_in named.1; options = options_in named.1 }
+request_in named =
+    record { task = task_of named.0; files = files_in named.1; options = options_in named.1 }

@@ -1,5 +1,6 @@
 -- What the streams of a config are, in other words: which there are, and in which order.
-use Rattle.std.specs.Prelude.{◌≡◌, ◌≢◌, ℕ, ◌<◌, ◌⊎◌, Contains, List, Option, Some, None, option_and_then, slice_get}
+use Rattle.std.specs.Prelude.{◌≡◌, ◌≢◌, ℕ, ◌<◌, ◌⊎◌, Contains, List, Option, Some, None}
+use Rattle.std.specs.Prelude.{option_and_then, slice_get}
 use Rattle.metric_catalogue.specs.declared.contents.Contents.{Contents}
 use Rattle.metric_catalogue.specs.declared.contents.Instrument.{Instrument}
 use Rattle.metric_catalogue.specs.declared.contents.Kind.TheVariants.{Gauge}
@@ -16,11 +17,12 @@ use Rattle.metric_resolve.specs.declared.warning.Warning.TheVariants as warnings
 use Rattle.metric_resolve.specs.Applying.{meter_at, views_for}
 use Rattle.metric_resolve.specs.Collisions.{Identity, identity_of}
 
--- The stream is what its own view, or the default, makes of its own instrument for its own reader, and the reader sees the
--- instrument by that view, or by the default.
+-- The stream is what its own view, or the default, makes of its own instrument for its own reader,
+-- and the reader sees the instrument by that view, or by the default.
 pub record IsOwn (contents : Contents) (config : Config) (stream : Stream) : Type 0 where
   pub seen : Contains (views_for contents config stream.reader stream.instrument) stream.view
-  pub filled : fill_at contents config stream.reader stream.instrument stream.view ≡ Some (Kept stream)
+  pub filled : fill_at contents config stream.reader stream.instrument stream.view
+      ≡ Some (Kept stream)
 
 -- The default stands alone, so it comes before no view and after none.
 abbrev pub IsBefore : Option ℕ → Option ℕ → Type 0
@@ -32,11 +34,13 @@ IsBefore None other = ⊥
 abbrev pub Precedes : Stream → Stream → Type 0
 Precedes stream other =
     (stream.reader < other.reader)
-    ⊎ ((stream.reader ≡ other.reader) × ((stream.instrument < other.instrument) ⊎ ((stream.instrument ≡ other.instrument) × IsBefore stream.view other.view)))
+    ⊎ ((stream.reader ≡ other.reader) × ((stream.instrument < other.instrument)
+    ⊎ ((stream.instrument ≡ other.instrument) × IsBefore stream.view other.view)))
 
 -- the identity of the stream of a number
 abbrev pub identity_at : Contents → List Stream → ℕ → Option Identity
-identity_at contents streams number = option_and_then (identity_of contents) (slice_get streams number)
+identity_at contents streams number =
+    option_and_then (identity_of contents) (slice_get streams number)
 
 -- The streams of two numbers have one identity, which no stream before the first has.
 pub record Collide (contents : Contents) (streams : List Stream) (a b : ℕ) : Type 0 where
@@ -46,7 +50,8 @@ pub record Collide (contents : Contents) (streams : List Stream) (a b : ℕ) : T
   pub later : identity_at contents streams b ≡ Some identity
   pub least : (k : ℕ) → k < a → identity_at contents streams k ≢ Some identity
 
--- The view of a number itself names a sum, and selects the instrument of a number, which is a gauge.
+-- The view of a number itself names a sum, and selects the instrument of a number, which is a
+-- gauge.
 pub record SumsGauge (contents : Contents) (config : Config) (view instrument : ℕ) : Type 0 where
   pub own_view : View
   pub own_instrument : Instrument
@@ -60,5 +65,6 @@ pub record SumsGauge (contents : Contents) (config : Config) (view instrument : 
 
 -- one unfit view stands before another: by view and instrument
 abbrev pub WarnsBefore : Warning → Warning → Type 0
-WarnsBefore (warnings.Unfit view instrument) (warnings.Unfit other further) = (view < other) ⊎ ((view ≡ other) × (instrument < further))
+WarnsBefore (warnings.Unfit view instrument) (warnings.Unfit other further) =
+    (view < other) ⊎ ((view ≡ other) × (instrument < further))
 WarnsBefore _ _ = ⊥

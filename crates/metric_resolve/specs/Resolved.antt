@@ -1,5 +1,6 @@
 -- The streams that a config gives for a catalogue.
-use Rattle.std.specs.Prelude.{ℕ, ◌<◌, Bool, true, false, List, [], length, Option, Some, None, option_and_then}
+use Rattle.std.specs.Prelude.{ℕ, ◌<◌, Bool, true, false, List, [], length, Option, Some, None}
+use Rattle.std.specs.Prelude.{option_and_then}
 use Rattle.std.specs.List.{cons_option, filter_map, flat_map}
 use Rattle.metric_catalogue.specs.declared.contents.Contents.{Contents}
 use Rattle.metric_views.specs.declared.config.Config.{Config}
@@ -17,16 +18,19 @@ kept (Kept stream) = Some stream
 
 -- the stream that a view, or the default, gives of an instrument for a reader
 unfoldable pub stream_at : Contents → Config → ℕ → ℕ → Option ℕ → Option Stream
-stream_at contents config reader instrument view = option_and_then kept (fill_at contents config reader instrument view)
+stream_at contents config reader instrument view =
+    option_and_then kept (fill_at contents config reader instrument view)
 
 -- the streams of an instrument for a reader, by view
 unfoldable pub streams_of_instrument : Contents → Config → ℕ → ℕ → List Stream
 streams_of_instrument contents config reader instrument =
-    filter_map (stream_at contents config reader instrument) (views_for contents config reader instrument)
+    filter_map (stream_at contents config reader instrument)
+    (views_for contents config reader instrument)
 
 -- the streams of a reader, by instrument
 unfoldable pub streams_of_reader : Contents → Config → ℕ → List Stream
-streams_of_reader contents config reader = flat_map (streams_of_instrument contents config reader) (all_instruments contents)
+streams_of_reader contents config reader =
+    flat_map (streams_of_instrument contents config reader) (all_instruments contents)
 
 -- all streams, by reader. The number of a stream is its place in this list.
 unfoldable pub streams_of : Contents → Config → List Stream

@@ -15,16 +15,25 @@ use Rattle.metric_resolve.specs.Collisions.{Identity, identity_of}
 
 -- by reader, meter and name, which is compared without ASCII case
 abbrev pub key_order : StreamKey → StreamKey → Ordering
-key_order = then_cmp (on (λ k. k.reader) nat_cmp) (then_cmp (on (λ k. k.meter) nat_cmp) (on (λ k. folded k.name) (slice_cmp nat_cmp)))
+key_order =
+    then_cmp (on (λ k. k.reader) nat_cmp)
+    (then_cmp (on (λ k. k.meter) nat_cmp) (on (λ k. folded k.name) (slice_cmp nat_cmp)))
 
 pub key_order_total : IsTotalOrder key_order
 key_order_total =
-    then_total (on_total (λ k. k.reader) nat_cmp_total) (then_total (on_total (λ k. k.meter) nat_cmp_total) (on_total (λ k. folded k.name) nat_list_cmp_total))
+    then_total (on_total (λ k. k.reader) nat_cmp_total) (then_total
+    (on_total (λ k. k.meter) nat_cmp_total) (on_total (λ k. folded k.name) nat_list_cmp_total))
 
 -- the identity of the streams of a key whose meter is this one
 abbrev pub key_identity : StreamKey → Meter → Identity
 key_identity key meter =
-    record { reader = key.reader; meter = meter.name; version = meter.version; schema_url = meter.schema_url; name = folded key.name }
+    record {
+      reader = key.reader;
+      meter = meter.name;
+      version = meter.version;
+      schema_url = meter.schema_url;
+      name = folded key.name;
+    }
 
 -- the identity of the streams of a key
 abbrev pub identity_by : Contents → StreamKey → Option Identity

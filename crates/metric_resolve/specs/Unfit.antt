@@ -1,5 +1,6 @@
 -- Views that themselves name an aggregation that does not fit what they select.
-use Rattle.std.specs.Prelude.{ℕ, Bool, false, ◌&&◌, List, Option, Some, None, slice_get, if◌then◌else◌}
+use Rattle.std.specs.Prelude.{ℕ, Bool, false, ◌&&◌, List, Option, Some, None, slice_get}
+use Rattle.std.specs.Prelude.{if◌then◌else◌}
 use Rattle.std.specs.List.{filter_map, flat_map}
 use Rattle.std.specs.Option.{option_map_or}
 use Rattle.metric_catalogue.specs.declared.contents.Contents.{Contents}
@@ -13,7 +14,8 @@ use Rattle.metric_resolve.specs.Applying.{all_instruments, all_views, meter_at, 
 
 -- the view itself names an aggregation that does not fit the instrument, so a sum of a gauge
 abbrev pub names_unfit : View → Instrument → Bool
-names_unfit view instrument = option_map_or (is_unfit instrument.kind) view.settings.aggregation false
+names_unfit view instrument =
+    option_map_or (is_unfit instrument.kind) view.settings.aggregation false
 
 abbrev pub names_unfit_with : Option View → Option Instrument → Bool
 names_unfit_with (Some view) (Some instrument) = names_unfit view instrument
@@ -27,14 +29,17 @@ is_unfit_with contents view number =
 
 -- the warning of the view of this number at the instrument of a number, where there is one
 abbrev pub unfit_with : Contents → ℕ → Option View → ℕ → Option Warning
-unfit_with contents number view instrument = if is_unfit_with contents view instrument then Some (warnings.Unfit number instrument) else None
+unfit_with contents number view instrument =
+    if is_unfit_with contents view instrument then Some (warnings.Unfit number instrument) else None
 
 unfoldable pub is_unfit_at : Contents → View → ℕ → Bool
 is_unfit_at contents view number = is_unfit_with contents (Some view) number
 
 -- the warnings of the view of a number, by instrument
 unfoldable pub unfit_of_view : Contents → Config → ℕ → List Warning
-unfit_of_view contents config number = filter_map (unfit_with contents number (slice_get config.views number)) (all_instruments contents)
+unfit_of_view contents config number =
+    filter_map (unfit_with contents number (slice_get config.views number))
+    (all_instruments contents)
 
 -- the warnings of all views, in order
 unfoldable pub unfit_of : Contents → Config → List Warning

@@ -10,7 +10,8 @@ use Rattle.metric_resolve.specs.Collisions.{collisions_of}
 
 -- first the views that do not fit, then the collisions
 abbrev pub warnings_of : Contents → Config → List Warning
-warnings_of contents config = unfit_of contents config ++ collisions_of contents (streams_of contents config)
+warnings_of contents config =
+    unfit_of contents config ++ collisions_of contents (streams_of contents config)
 
 -- what a catalogue and a config give
 pub record Resolved : Type 0 where

@@ -1,5 +1,7 @@
--- When the facts of an instrument let no limit and no number overflow, whatever is recorded within its budgets.
-use Rattle.std.specs.Prelude.{◌≡◌, ℕ, ◌+◌, ◌^◌, ◌<◌, ◌≤◌, pos, ◌≤ℤ◌, ◌<ℤ◌, min, Bool, true, ◌&&◌, ◌==◌, IsTrue, All, List, length, sum, FitsSigned}
+-- When the facts of an instrument let no limit and no number overflow, whatever
+-- is recorded within its budgets.
+use Rattle.std.specs.Prelude.{◌≡◌, ℕ, ◌+◌, ◌^◌, ◌<◌, ◌≤◌, pos, ◌≤ℤ◌, ◌<ℤ◌, min, Bool, true, ◌&&◌}
+use Rattle.std.specs.Prelude.{◌==◌, IsTrue, All, List, length, sum, FitsSigned}
 use Rattle.std.specs.Int.{w64}
 use Rattle.std.specs.List.{list_all}
 use Rattle.std.specs.Option.{option_map}
@@ -14,16 +16,19 @@ use Rattle.metric_facts.specs.declared.facts.NumberedStream.{NumberedStream}
 use Rattle.metric_facts.specs.Facts.{in_bounds, is_allowed_set}
 use Rattle.metric_facts.specs.Products.{product_of}
 
--- how often the instrument may be recorded: the budgets of all recorders, and what may be granted beside them
+-- how often the instrument may be recorded: the budgets of all recorders, and
+-- what may be granted beside them
 abbrev pub total : Facts → ℕ
 total facts = sum facts.budgets + facts.spare
 
--- how many series a stream of an instrument can have: as many as the distinct restrictions of its combinations, where these are listed,
--- or else the product over the keys that the stream keeps
+-- how many series a stream of an instrument can have: as many as the distinct restrictions of its
+-- combinations, where these are listed, or else the product over the keys that the stream keeps
 abbrev pub series_of : Facts → Stream → ℕ
-series_of facts s = count_or (product_of s.kept facts.keys) (option_map (restrictions s.kept) facts.allowed)
+series_of facts s =
+    count_or (product_of s.kept facts.keys) (option_map (restrictions s.kept) facts.allowed)
 
--- A stream of an instrument has a place for each series that it can get, and its sums stay in 64 bits where it keeps them.
+-- A stream of an instrument has a place for each series that it can get, and its sums stay
+-- in 64 bits where it keeps them.
 pub record IsSafeStream (facts : Facts) (s : Stream) : Type 0 where
   -- it says of each key whether it is kept
   pub flags : length s.kept ≡ length facts.keys
@@ -34,9 +39,11 @@ pub record IsSafeStream (facts : Facts) (s : Stream) : Type 0 where
   -- no sum of recordings is above the greatest i64
   pub high : IsTrue (keeps_sum s) → FitsSigned w64 (high_with (total facts) facts.hi)
 
--- The facts of an instrument of which a certificate can vouch: its range is not empty, the recordings that its budgets and its spare allow are a
--- u64, any two sums of their values are less than 2^64 apart, and each stream is safe. What a certified plan keeps of each instrument,
--- and each slot behind a lock of its own. Nothing of a journal is said here: the laws of windows hold of every journal of these facts.
+-- The facts of an instrument of which a certificate can vouch: its range is not empty, the
+-- recordings that its budgets and its spare allow are a u64, any two sums of their values are less
+-- than 2^64 apart, and each stream is safe. What a certified plan keeps of each instrument, and
+-- each slot behind a lock of its own. Nothing of a journal is said here: the laws of windows hold
+-- of every journal of these facts.
 pub record IsSafeFacts (facts : Facts) : Type 0 where
   pub ordered : facts.lo ≤ℤ facts.hi
   -- counts are a u64
@@ -45,14 +52,17 @@ pub record IsSafeFacts (facts : Facts) : Type 0 where
   pub amounts : amount_with (total facts) facts.lo facts.hi <ℤ pos (2 ^ 64)
   pub streams : All (λ (s : NumberedStream). IsSafeStream facts s.stream) facts.streams
 
--- whether an instrument admits a recording: an allowed set of as many entries as each set key has, and a value in range
+-- whether an instrument admits a recording: an allowed set of as many entries as each
+-- set key has, and a value in range
 abbrev pub is_admitted : Facts → Entry → Bool
-is_admitted facts entry = length entry.set == 8 && (is_allowed_set facts entry.set && in_bounds facts entry.value)
+is_admitted facts entry =
+    length entry.set == 8 && (is_allowed_set facts entry.set && in_bounds facts entry.value)
 
 abbrev pub are_admitted : Facts → List Entry → Bool
 are_admitted facts entries = list_all (is_admitted facts) entries
 
--- The recordings that an instrument may have accepted: it admits each, and they are no more than its budgets and its spare allow.
+-- The recordings that an instrument may have accepted: it admits each, and they are no more than
+-- its budgets and its spare allow.
 pub record IsJournal (facts : Facts) (journal : List Entry) : Type 0 where
   pub admitted : are_admitted facts journal ≡ true
   pub budgeted : length journal ≤ total facts

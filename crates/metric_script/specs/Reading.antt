@@ -1,11 +1,13 @@
 -- What the parts of a line spell, read from its front. Nothing where they are spelled otherwise.
-use Rattle.std.specs.Prelude.{ℕ, ◌^◌, if◌then◌else◌, List, [], ◌∷◌, Option, Some, None, zero, suc, length, codes, ℤ}
+use Rattle.std.specs.Prelude.{ℕ, ◌^◌, if◌then◌else◌, List, [], ◌∷◌, Option, Some, None, zero, suc}
+use Rattle.std.specs.Prelude.{length, codes, ℤ}
 use Rattle.std.specs.Option.{option_map}
 use Rattle.std.specs.Str.{bytes_eq}
 use Rattle.metric_catalogue.specs.declared.attributes.OwnedAttr.{OwnedAttr}
 use Rattle.metric_history.specs.declared.event.Event.{Event}
 use Rattle.metric_history.specs.declared.event.Event.TheVariants.{Record, Collect, Close, Grant}
-use Rattle.metric_text.specs.Reading.{◌>>=◌, after_in, word_in, number_of, number_in, signed_in, text_in, value_in}
+use Rattle.metric_text.specs.Reading.{◌>>=◌, after_in, word_in, number_of, number_in, signed_in}
+use Rattle.metric_text.specs.Reading.{text_in, value_in}
 
 -- an attribute, and what follows it
 unfoldable pub attribute_in : List ℕ → Option (OwnedAttr × List ℕ)
@@ -82,7 +84,8 @@ other_event_in word rest =
 -- the event that a line spells: its first word says which it is
 unfoldable pub event_in : List ℕ → Option Event
 event_in line =
-    if bytes_eq (word_in line).0 (codes "record") then after_in (32 ∷ []) (word_in line).1 >>= record_in
+    if bytes_eq (word_in line).0 (codes "record")
+    then after_in (32 ∷ []) (word_in line).1 >>= record_in
     else other_event_in (word_in line).0 (word_in line).1
 
 -- the start that a line spells

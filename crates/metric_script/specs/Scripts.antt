@@ -1,5 +1,6 @@
 -- What a script is, and which of its lines is the first faulty one.
-use Rattle.std.specs.Prelude.{◌≡◌, ℕ, ◌+◌, ◌<◌, ◌^◌, Bool, true, not, ◌==◌, List, [], ◌∷◌, filter, map}
+use Rattle.std.specs.Prelude.{◌≡◌, ℕ, ◌+◌, ◌<◌, ◌^◌, Bool, true, not, ◌==◌, List, [], ◌∷◌, filter}
+use Rattle.std.specs.Prelude.{map}
 use Rattle.std.specs.List.{AllByRecursion}
 use Rattle.metric_base.specs.Fronts.{BreaksOffAt}
 use Rattle.metric_history.specs.declared.event.Event.{Event}
@@ -27,8 +28,8 @@ pub record IsSomeScript (lines : List (List ℕ)) : Type 0 where
   pub events : List Event
   pub is_script : IsScript lines start events
 
--- The line at this place, counted from 0, is the first with which no script goes on. Where the lines are the
--- beginning of a script and no script, it is the place after the last.
+-- The line at this place, counted from 0, is the first with which no script goes on. Where the
+-- lines are the beginning of a script and no script, it is the place after the last.
 abbrev pub IsFirstFault : List (List ℕ) → ℕ → Type 0
 IsFirstFault lines place = BreaksOffAt IsSomeScript lines place
 

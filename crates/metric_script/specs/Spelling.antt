@@ -23,19 +23,26 @@ two_numbers_text first second rest = decimal first ++ (32 ∷ (decimal second ++
 -- the line of an event
 abbrev pub event_text : Event → List ℕ
 event_text (Record recorder instrument attrs value) =
-    codes "record " ++ two_numbers_text recorder instrument (32 ∷ (signed_decimal value ++ flat_map attribute_text attrs))
-event_text (Collect reader instrument now) = codes "collect " ++ two_numbers_text reader instrument (32 ∷ decimal now)
+    codes "record " ++ two_numbers_text recorder instrument
+    (32 ∷ (signed_decimal value ++ flat_map attribute_text attrs))
+event_text (Collect reader instrument now) =
+    codes "collect " ++ two_numbers_text reader instrument (32 ∷ decimal now)
 event_text (Close instrument) = codes "close " ++ decimal instrument
-event_text (Grant recorder instrument amount) = codes "grant " ++ two_numbers_text recorder instrument (32 ∷ decimal amount)
+event_text (Grant recorder instrument amount) =
+    codes "grant " ++ two_numbers_text recorder instrument (32 ∷ decimal amount)
 
 -- an attribute whose key and value a program can hold
 abbrev pub FitsAttribute : OwnedAttr → Type 0
 FitsAttribute attr = IsUtf8 attr.key × IsValue attr.value
 
--- an event whose parts a program can hold: numbers are u32, times and granted amounts are u64, and values are i64
+-- an event whose parts a program can hold: numbers are u32, times and granted
+-- amounts are u64, and values are i64
 abbrev pub FitsEvent : Event → Type 0
 FitsEvent (Record recorder instrument attrs value) =
-    (recorder < 2 ^ 32) × (instrument < 2 ^ 32) × FitsSigned w64 value × AllByRecursion FitsAttribute attrs
-FitsEvent (Collect reader instrument now) = (reader < 2 ^ 32) × (instrument < 2 ^ 32) × (now < 2 ^ 64)
+    (recorder < 2 ^ 32) × (instrument < 2 ^ 32) × FitsSigned w64 value
+    × AllByRecursion FitsAttribute attrs
+FitsEvent (Collect reader instrument now) =
+    (reader < 2 ^ 32) × (instrument < 2 ^ 32) × (now < 2 ^ 64)
 FitsEvent (Close instrument) = instrument < 2 ^ 32
-FitsEvent (Grant recorder instrument amount) = (recorder < 2 ^ 32) × (instrument < 2 ^ 32) × (amount < 2 ^ 64)
+FitsEvent (Grant recorder instrument amount) =
+    (recorder < 2 ^ 32) × (instrument < 2 ^ 32) × (amount < 2 ^ 64)

@@ -1,5 +1,7 @@
--- The lines of a script, read one after the other: what they say, or the lines from the faulty one on.
-use Rattle.std.specs.Prelude.{◌≡◌, ℕ, if◌then◌else◌, List, [], ◌∷◌, ◌++◌, Option, Some, None, Result, Ok, Err}
+-- The lines of a script, read one after the other: what they say, or
+-- the lines from the faulty one on.
+use Rattle.std.specs.Prelude.{◌≡◌, ℕ, if◌then◌else◌, List, [], ◌∷◌, ◌++◌, Option, Some, None}
+use Rattle.std.specs.Prelude.{Result, Ok, Err}
 use Rattle.std.specs.Borrow.{Bor}
 use Rattle.metric_base.specs.Steps.{◌>>=◌}
 use Rattle.metric_history.specs.declared.event.Event.{Event}
@@ -31,15 +33,19 @@ begun_by None line lines = Err (line ∷ lines)
 -- the start, and the lines after it
 unfoldable pub begun_in : List (List ℕ) → Result (ℕ × List (List ℕ)) (List (List ℕ))
 begun_in [] = Err []
-begun_in (line ∷ lines) = if is_passed_over line then begun_in lines else begun_by (start_in line) line lines
+begun_in (line ∷ lines) =
+    if is_passed_over line then begun_in lines else begun_by (start_in line) line lines
 
 -- events before those that reading gives
-abbrev pub after_events : List Event → Result (List Event) (List (List ℕ)) → Result (List Event) (List (List ℕ))
+abbrev pub after_events : List Event → Result (List Event) (List (List ℕ))
+    → Result (List Event) (List (List ℕ))
 after_events before (Ok events) = Ok (before ++ events)
 after_events before (Err rest) = Err rest
 
--- the event that a line spells before those that reading the lines after it gives, or the lines from it on
-abbrev pub with_event : Option Event → List ℕ → List (List ℕ) → Result (List Event) (List (List ℕ)) → Result (List Event) (List (List ℕ))
+-- the event that a line spells before those that reading the lines after
+-- it gives, or the lines from it on
+abbrev pub with_event : Option Event → List ℕ → List (List ℕ) → Result (List Event) (List (List ℕ))
+    → Result (List Event) (List (List ℕ))
 with_event (Some event) line lines others = after_events (event ∷ []) others
 with_event None line lines others = Err (line ∷ lines)
 
@@ -47,8 +53,11 @@ with_event None line lines others = Err (line ∷ lines)
 unfoldable pub events_in : List (List ℕ) → Result (List Event) (List (List ℕ))
 events_in [] = Ok []
 events_in (line ∷ lines) =
-    if is_passed_over line then events_in lines else with_event (event_in line) line lines (events_in lines)
+    if is_passed_over line then events_in lines
+    else with_event (event_in line) line lines (events_in lines)
 
 -- the start, and then the events
 unfoldable pub script_in : List (List ℕ) → Result ScriptEvents (List (List ℕ))
-script_in lines = begun_in lines >>= λ begun. (events_in begun.1 >>= λ events. Ok (record { start = begun.0; events = events }))
+script_in lines =
+    begun_in lines >>= λ begun.
+    (events_in begun.1 >>= λ events. Ok (record { start = begun.0; events = events }))

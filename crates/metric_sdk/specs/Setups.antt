@@ -22,14 +22,18 @@ use Rattle.metric_check.specs.Products.{by_product_of}
 use Rattle.metric_plan.specs.Plans.{PlanValue, plan_of}
 use Rattle.metric_plan.specs.declared.fault.CheckFault.{CheckFault}
 use Rattle.metric_sdk.specs.declared.fault.SetupFault.{SetupFault}
-use Rattle.metric_sdk.specs.declared.fault.SetupFault.TheVariants.{Catalogue, Config, Unsafe, Certificate as BadCertificate, Check, Memory}
+use Rattle.metric_sdk.specs.declared.fault.SetupFault.TheVariants.{Catalogue, Config, Unsafe}
+use Rattle.metric_sdk.specs.declared.fault.SetupFault.TheVariants.{Certificate as BadCertificate}
+use Rattle.metric_sdk.specs.declared.fault.SetupFault.TheVariants.{Check, Memory}
 
 -- The texts are this catalogue and this config.
-pub record IsDeclared (catalogue config : List ℕ) (contents : Contents) (setup : Setup) : Type 0 where
+pub record IsDeclared (catalogue config : List ℕ) (contents : Contents) (setup : Setup)
+    : Type 0 where
   pub is_catalogue : catalogue_of catalogue ≡ Ok contents
   pub is_config : config_of config ≡ Ok setup
 
--- whether each stream is by product: it is wherever the product over the keys that it keeps is within its limit
+-- whether each stream is by product: it is wherever the product over the keys
+-- that it keeps is within its limit
 abbrev pub bounded_flags : Contents → List Stream → List Bool
 bounded_flags contents streams = map (λ s. nat_le (product_of contents s) s.limit) streams
 
@@ -39,7 +43,8 @@ pub record IsCertifiedPlan (catalogue config : List ℕ) (plan : PlanValue) : Ty
   pub setup : Setup
   pub declared : IsDeclared catalogue config contents setup
   pub safe : IsSafe contents setup
-  pub planned : plan ≡ plan_of true (bounded_flags contents (streams_of contents setup)) contents setup
+  pub planned : plan
+      ≡ plan_of true (bounded_flags contents (streams_of contents setup)) contents setup
 
 -- The catalogue is right, and the config has this first fault.
 pub record IsFaultyConfig (catalogue config : List ℕ) (fault : ViewFault) : Type 0 where
@@ -49,7 +54,8 @@ pub record IsFaultyConfig (catalogue config : List ℕ) (fault : ViewFault) : Ty
 
 -- This is the first part of safety that fails.
 abbrev pub IsUnsafe : Contents → Setup → MakeFault → Type 0
-IsUnsafe contents setup fault = SafetyFinds make_faults contents (streams_of contents setup) (Some fault)
+IsUnsafe contents setup fault =
+    SafetyFinds make_faults contents (streams_of contents setup) (Some fault)
 
 -- The catalogue and the config are right, and not safe together.
 pub record IsUnsafeSetup (catalogue config : List ℕ) (fault : MakeFault) : Type 0 where
@@ -80,8 +86,10 @@ ReadsConfig (Err (Config fault)) read = read ≡ Err fault
 ReadsConfig (Err Memory) read = Unit {0}
 ReadsConfig (Err _) read = ⊥
 
--- The certificate shows that a catalogue and a config are safe, which they are, by product wherever it can.
-pub record Certifies (contents : Contents) (setup : Setup) (certificate : Certificate) : Type 0 where
+-- The certificate shows that a catalogue and a config are safe, which they
+-- are, by product wherever it can.
+pub record Certifies (contents : Contents) (setup : Setup) (certificate : Certificate)
+    : Type 0 where
   pub safe : IsSafe contents setup
   pub valid : IsValid contents setup certificate
   pub entries : certificate.streams ≡ map (entry_of contents) (streams_of contents setup)
@@ -95,14 +103,16 @@ Makes (Err _) contents setup = ⊥
 
 -- the plan of a certificate, unless memory was refused
 abbrev pub Plans : Result PlanValue SetupFault → Contents → Setup → Certificate → Type 0
-Plans (Ok plan) contents setup certificate = plan ≡ plan_of true (by_product_of certificate) contents setup
+Plans (Ok plan) contents setup certificate =
+    plan ≡ plan_of true (by_product_of certificate) contents setup
 Plans (Err Memory) contents setup certificate = Unit {0}
 Plans (Err _) contents setup certificate = ⊥
 
 -- ---- a certificate that somebody else made
 
 -- The texts are this catalogue, this config and this certificate.
-pub record IsClaimed (catalogue config certificate : List ℕ) (contents : Contents) (setup : Setup) (claims : Certificate) : Type 0 where
+pub record IsClaimed (catalogue config certificate : List ℕ) (contents : Contents) (setup : Setup)
+    (claims : Certificate) : Type 0 where
   pub declared : IsDeclared catalogue config contents setup
   pub is_certificate : certificate_from certificate ≡ Ok claims
 
@@ -116,26 +126,33 @@ pub record IsVouchedPlan (catalogue config certificate : List ℕ) (plan : PlanV
   pub planned : plan ≡ plan_of true (by_product_of claims) contents setup
 
 -- The catalogue and the config are right, and the certificate has this first fault.
-pub record IsFaultyCertificate (catalogue config certificate : List ℕ) (fault : CertFault) : Type 0 where
+pub record IsFaultyCertificate (catalogue config certificate : List ℕ) (fault : CertFault)
+    : Type 0 where
   pub contents : Contents
   pub setup : Setup
   pub declared : IsDeclared catalogue config contents setup
   pub first : certificate_from certificate ≡ Err fault
 
 -- The texts are right, and this is the first fault that the certificate's check finds.
-pub record IsRefusedCheck (catalogue config certificate : List ℕ) (fault : CheckFault) : Type 0 where
+pub record IsRefusedCheck (catalogue config certificate : List ℕ) (fault : CheckFault)
+    : Type 0 where
   pub contents : Contents
   pub setup : Setup
   pub claims : Certificate
   pub claimed : IsClaimed catalogue config certificate contents setup claims
   pub found : CheckFinds contents setup claims (Some fault)
 
--- The fault is the first of the catalogue, the config, the certificate and its check, unless memory was refused.
+-- The fault is the first of the catalogue, the config, the certificate and its
+-- check, unless memory was refused.
 abbrev pub IsFirstClaimFault : SetupFault → List ℕ → List ℕ → List ℕ → Type 0
-IsFirstClaimFault (Catalogue fault) catalogue config certificate = catalogue_of catalogue ≡ Err fault
-IsFirstClaimFault (Config fault) catalogue config certificate = IsFaultyConfig catalogue config fault
-IsFirstClaimFault (BadCertificate fault) catalogue config certificate = IsFaultyCertificate catalogue config certificate fault
-IsFirstClaimFault (Check fault) catalogue config certificate = IsRefusedCheck catalogue config certificate fault
+IsFirstClaimFault (Catalogue fault) catalogue config certificate =
+    catalogue_of catalogue ≡ Err fault
+IsFirstClaimFault (Config fault) catalogue config certificate =
+    IsFaultyConfig catalogue config fault
+IsFirstClaimFault (BadCertificate fault) catalogue config certificate =
+    IsFaultyCertificate catalogue config certificate fault
+IsFirstClaimFault (Check fault) catalogue config certificate =
+    IsRefusedCheck catalogue config certificate fault
 IsFirstClaimFault Memory catalogue config certificate = Unit {0}
 IsFirstClaimFault _ catalogue config certificate = ⊥
 
@@ -146,10 +163,13 @@ ReadsCertificate (Err (BadCertificate fault)) read = read ≡ Err fault
 ReadsCertificate (Err Memory) read = Unit {0}
 ReadsCertificate (Err _) read = ⊥
 
--- the plan that a certificate shows to be safe, or the first fault that its check finds, unless memory was refused
+-- the plan that a certificate shows to be safe, or the first fault that its check
+-- finds, unless memory was refused
 abbrev pub Vouches : Result PlanValue SetupFault → Contents → Setup → Certificate → Type 0
 Vouches (Ok plan) contents setup certificate =
-    IsValid contents setup certificate × (plan ≡ plan_of true (by_product_of certificate) contents setup)
-Vouches (Err (Check fault)) contents setup certificate = CheckFinds contents setup certificate (Some fault)
+    IsValid contents setup certificate
+    × (plan ≡ plan_of true (by_product_of certificate) contents setup)
+Vouches (Err (Check fault)) contents setup certificate =
+    CheckFinds contents setup certificate (Some fault)
 Vouches (Err Memory) contents setup certificate = Unit {0}
 Vouches (Err _) contents setup certificate = ⊥

@@ -1,5 +1,6 @@
 -- What a slot with a book of tables keeps of each table.
-use Rattle.std.specs.Prelude.{◌≡◌, ℕ, ◌-◌, false, List, Some, IsTrue, if◌then◌else◌, length, map, slice_get, slice_index}
+use Rattle.std.specs.Prelude.{◌≡◌, ℕ, ◌-◌, false, List, Some, IsTrue, if◌then◌else◌, length, map}
+use Rattle.std.specs.Prelude.{slice_get, slice_index}
 use Rattle.metric_aggregate.specs.Value.{sum_of}
 use Rattle.metric_bounds.specs.Sums.{keeps_sum}
 use Rattle.metric_core.specs.Cells.{CellValue}
@@ -12,13 +13,16 @@ use Rattle.metric_marked.specs.declared.stream_table.StreamTable.{StreamTable}
 use Rattle.metric_marked.specs.Marks.{MarkedValue, StandsFor}
 use Rattle.metric_safety.specs.WindowBounds.{IsBounded, sum_in}
 
--- how many recordings a stream's next points cover: those since the last batch of its reader (delta), or all
+-- how many recordings a stream's next points cover: those since the last
+-- batch of its reader (delta), or all
 abbrev pub covered_count : CellValue MarkedValue → ℕ → ℕ
-covered_count c reader = if is_delta c.facts reader then c.count - slice_index c.marks reader else c.count
+covered_count c reader =
+    if is_delta c.facts reader then c.count - slice_index c.marks reader else c.count
 
--- A table has the numbers of so many recordings, in bounds by how many they are; where it has those of all, its sums add up to the
--- sum of all accepted values.
-pub record IsTableBounded (c : CellValue MarkedValue) (s : NumberedStream) (t : StreamTable) : Type 0 where
+-- A table has the numbers of so many recordings, in bounds by how many they are; where it has those
+-- of all, its sums add up to the sum of all accepted values.
+pub record IsTableBounded (c : CellValue MarkedValue) (s : NumberedStream) (t : StreamTable)
+    : Type 0 where
   pub window : List Entry
   pub counted : length window ≡ covered_count c s.stream.reader
   pub stands : StandsFor t s window
@@ -29,5 +33,6 @@ pub record IsTableBounded (c : CellValue MarkedValue) (s : NumberedStream) (t : 
 -- There is a table for each stream of the instrument, and each is bounded.
 pub record AreTablesBounded (c : CellValue MarkedValue) : Type 0 where
   pub one_each : length c.book.tables ≡ length c.facts.streams
-  pub each : (k : ℕ) (s : NumberedStream) (t : StreamTable) → slice_get c.facts.streams k ≡ Some s → slice_get c.book.tables k ≡ Some t
+  pub each : (k : ℕ) (s : NumberedStream) (t : StreamTable) → slice_get c.facts.streams k ≡ Some s
+      → slice_get c.book.tables k ≡ Some t
       → IsTableBounded c s t

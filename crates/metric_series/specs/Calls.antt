@@ -1,5 +1,7 @@
--- What the calls of a table say of each stream and each window of recordings for which the table stands.
-use Rattle.std.specs.Prelude.{◌≡◌, ℕ, ℤ, Bool, true, false, List, [], ◌∷◌, ◌++◌, Option, Some, None, Result, Ok, Err}
+-- What the calls of a table say of each stream and each window of
+-- recordings for which the table stands.
+use Rattle.std.specs.Prelude.{◌≡◌, ℕ, ℤ, Bool, true, false, List, [], ◌∷◌, ◌++◌, Option, Some, None}
+use Rattle.std.specs.Prelude.{Result, Ok, Err}
 use Rattle.metric_aggregate.specs.Aggregation.{Aggregation}
 use Rattle.metric_aggregate.specs.Value.{value_of}
 use Rattle.metric_catalogue.specs.declared.refusal.Refusal.{Refusal}
@@ -45,32 +47,41 @@ JudgesRange stands set value result = JudgesValue stands set value (is_in_range 
 -- the verdict on a value whose series has this key
 abbrev pub JudgesSeries : Standing → List ℕ → ℤ → Bool → Type 0
 JudgesSeries stands key value verdict =
-    (s : Stream) (window : List Entry) (entry : Entry) → stands s window → key ≡ series s.kept entry → value ≡ entry.value
+    (s : Stream) (window : List Entry) (entry : Entry) → stands s window → key ≡ series s.kept entry
+    → value ≡ entry.value
     → fits_stream s window entry ≡ verdict
 
 -- the new table stands for one recording more
 abbrev pub TakesRecording : Standing → Standing → List ℕ → ℤ → Type 0
 TakesRecording old new set value =
-    (s : Stream) (window : List Entry) (recorder : ℕ) → old s window → new s (window ++ entry_of recorder set value ∷ [])
+    (s : Stream) (window : List Entry) (recorder : ℕ) → old s window
+    → new s (window ++ entry_of recorder set value ∷ [])
 
 -- the new table stands for no recordings
 abbrev pub ForgetsAll : Standing → Standing → Type 0
 ForgetsAll old new = (s : Stream) (window : List Entry) → old s window → new s []
 
--- a table has places for the sets that another one has places for, and room for all values where the other one has it
-pub record KeepsPlaces {T : Type 0} (takes : T → List ℕ → Type 0) (has_room : T → Type 0) (old new : T) : Type 0 where
+-- a table has places for the sets that another one has places for, and room for all
+-- values where the other one has it
+pub record KeepsPlaces {T : Type 0} (takes : T → List ℕ → Type 0) (has_room : T → Type 0)
+    (old new : T) : Type 0 where
   pub sets : (set : List ℕ) → takes old set → takes new set
   pub room : has_room old → has_room new
 
--- the point of a series or of the overflow series, for the values of its recordings; none without a value
+-- the point of a series or of the overflow series, for the values of its
+-- recordings; none without a value
 abbrev pub point_of : Aggregation → Option (List ℕ) → List ℤ → Option Point
 point_of kind place [] = None
-point_of kind place (value ∷ values) = Some (record { set = place; value = value_of kind (value ∷ values) })
+point_of kind place (value ∷ values) =
+    Some (record { set = place; value = value_of kind (value ∷ values) })
 
 -- the points are those of the window
 abbrev pub ReportsPoints : Standing → List Point → Type 0
-ReportsPoints stands reported = (s : Stream) (window : List Entry) → stands s window → reported ≡ points s window
+ReportsPoints stands reported =
+    (s : Stream) (window : List Entry) → stands s window → reported ≡ points s window
 
 -- the point is that of a series of the window
 abbrev pub ReportsPoint : Standing → List ℕ → Option Point → Type 0
-ReportsPoint stands key reported = (s : Stream) (window : List Entry) → stands s window → reported ≡ Some (point s window (Some key))
+ReportsPoint stands key reported =
+    (s : Stream) (window : List Entry) → stands s window
+    → reported ≡ Some (point s window (Some key))

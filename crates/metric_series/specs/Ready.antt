@@ -1,5 +1,7 @@
--- When a table is ready for a value: the value's place was found, and an empty aggregate stands there where it is new.
-use Rattle.std.specs.Prelude.{◌≡◌, ◌≤◌, ◌<◌, ℕ, ℤ, true, List, [], ◌∷◌, ◌++◌, Option, Some, None, length, position, slice_get}
+-- When a table is ready for a value: the value's place was found, and an empty
+-- aggregate stands there where it is new.
+use Rattle.std.specs.Prelude.{◌≡◌, ◌≤◌, ◌<◌, ℕ, ℤ, true, List, [], ◌∷◌, ◌++◌, Option, Some, None}
+use Rattle.std.specs.Prelude.{length, position, slice_get}
 use Rattle.indexmap.specs.IndexMap.{set_value_at}
 use Rattle.std.specs.Map.{keys_of, values_of, lookup}
 use Rattle.std.specs.Str.{bytes_eq}
@@ -58,12 +60,16 @@ module _ {A P : Type 0} (by : aggregate.Ghosts A P) where
   -- what was put in for a value at a place
   abbrev pub Prepares : TableValue A P → TableValue A P → List ℕ → Place → Type 0
   Prepares old new key (Held index) = new ≡ old
-  Prepares old new key (New index) = PutsEmpty old.series new.series key old.parameters × (new ≡ record old { series = new.series })
+  Prepares old new key (New index) =
+      PutsEmpty old.series new.series key old.parameters
+      × (new ≡ record old { series = new.series })
   Prepares old new key Overflow = new ≡ old
-  Prepares old new key NewOverflow = (empty : A) × IsEmpty empty old.parameters × (new ≡ record old { overflow = Some empty })
+  Prepares old new key NewOverflow =
+      (empty : A) × IsEmpty empty old.parameters × (new ≡ record old { overflow = Some empty })
 
   -- the new table is the old one, made ready for a value of a set
-  pub record IsReadyTable (old new : TableValue A P) (set : List ℕ) (value : ℤ) (place : Place) : Type 0 where
+  pub record IsReadyTable (old new : TableValue A P) (set : List ℕ) (value : ℤ) (place : Place)
+      : Type 0 where
     pub falls : IsPlace old (restricted old.kept set) value place
     pub prepared : Prepares old new (restricted old.kept set) place
 
@@ -74,7 +80,8 @@ module _ {A P : Type 0} (by : aggregate.Ghosts A P) where
 
   -- a value fits in the series at an index
   abbrev pub FitsAt : List (List ℕ × A) → ℕ → ℤ → Type 0
-  FitsAt series index value = (a : A) × (slice_get (values_of series) index ≡ Some a) × (by.fits a value ≡ true)
+  FitsAt series index value =
+      (a : A) × (slice_get (values_of series) index ≡ Some a) × (by.fits a value ≡ true)
 
   -- a value fits in the overflow series
   abbrev pub FitsRest : Option A → ℤ → Type 0

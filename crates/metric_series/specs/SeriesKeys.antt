@@ -12,5 +12,6 @@ number_of set = fold (λ number entry. bit_or ((number * 2 ^ 16) % 2 ^ 128) entr
 abbrev pub hash_input_of : List ℕ → List (List ℕ)
 hash_input_of set = fed.u128 (number_of set)
 
-pub hash_input_respects_eq : (x y : List ℕ) → IsTrue (bytes_eq x y) → hash_input_of x ≡ hash_input_of y
+pub hash_input_respects_eq : (x y : List ℕ) → IsTrue (bytes_eq x y)
+    → hash_input_of x ≡ hash_input_of y
 hash_input_respects_eq x y e = ap hash_input_of (same_key x y e)

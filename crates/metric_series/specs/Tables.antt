@@ -28,7 +28,8 @@ TakesAny t set = Unit {0}
 
 module _ {A P : Type 0} (by : aggregate.Ghosts A P) where
   -- an aggregate has the values of a series of the window, or of its overflow series
-  pub record HasRows (a : A) (s : Stream) (window : List Entry) (place : Option (List ℕ)) : Type 0 where
+  pub record HasRows (a : A) (s : Stream) (window : List Entry) (place : Option (List ℕ))
+      : Type 0 where
     pub aggregation : by.aggregation a ≡ stream_aggregation s
     pub stands : by.stands a (values (rows s window place))
 
@@ -43,5 +44,6 @@ module _ {A P : Type 0} (by : aggregate.Ghosts A P) where
     pub limit : t.limit ≡ s.limit
     pub aggregation : by.aggregation_of t.parameters ≡ stream_aggregation s
     pub held : keys_of t.series ≡ held s window
-    pub each : (key : List ℕ) (a : A) → lookup (bytes_eq key) t.series ≡ Some a → HasRows a s window (Some key)
+    pub each : (key : List ℕ) (a : A) → lookup (bytes_eq key) t.series ≡ Some a
+        → HasRows a s window (Some key)
     pub rest : HasRest t.overflow s window

@@ -16,15 +16,20 @@ use Rattle.metric_safety.specs.WindowBounds.{IsReportWithin}
 use Rattle.metric_slot.specs.declared.told.Told.{Told}
 use Rattle.metric_slot.specs.Slots.{IsOwnReader, IsOwnRecorder}
 
--- what a recording is answered: `Stranger` exactly where the recorder's numbers are not the cell's, else what the cell answers,
--- which is never `SumRange`
-abbrev pub AnswersRecorder : {B : Type 0} → (B → Standing) → CellValue B → Facts → Told → Entry → Result (Unit {0}) Refusal → Type 0
-AnswersRecorder stands c facts told entry (Err Stranger) = IsOwnRecorder c facts told entry.recorder → ⊥
+-- what a recording is answered: `Stranger` exactly where the recorder's numbers are not the cell's,
+-- else what the cell answers, which is never `SumRange`
+abbrev pub AnswersRecorder : {B : Type 0} → (B → Standing) → CellValue B → Facts → Told → Entry
+    → Result (Unit {0}) Refusal → Type 0
+AnswersRecorder stands c facts told entry (Err Stranger) =
+    IsOwnRecorder c facts told entry.recorder → ⊥
 AnswersRecorder stands c facts told entry (Err SumRange) = ⊥
-AnswersRecorder stands c facts told entry result = IsOwnRecorder c facts told entry.recorder × AnswersRecording stands c entry result
+AnswersRecorder stands c facts told entry result =
+    IsOwnRecorder c facts told entry.recorder × AnswersRecording stands c entry result
 
--- what a grant is answered: `Stranger` exactly where the cell's facts are not these, else what the cell answers
-abbrev pub AnswersGranter : {B : Type 0} → CellValue B → Facts → ℕ → Result (Unit {0}) Refusal → Type 0
+-- what a grant is answered: `Stranger` exactly where the cell's facts are not
+-- these, else what the cell answers
+abbrev pub AnswersGranter : {B : Type 0} → CellValue B → Facts → ℕ
+    → Result (Unit {0}) Refusal → Type 0
 AnswersGranter c facts amount (Err Stranger) = c.facts ≡ facts → ⊥
 AnswersGranter c facts amount result = (c.facts ≡ facts) × AnswersGrant c amount result
 
@@ -35,22 +40,26 @@ pub record Continues (facts : Facts) (of seen : ℕ) (told : Batch) : Type 0 whe
   pub from : told.from ≡ (if is_delta facts of then seen else 0)
   pub mark : seen ≤ told.mark
 
--- A batch reports recordings that the instrument may have accepted, as many as it counts: its streams are those of the reader, and each
--- has the points of their window, which is those after the ones seen (delta), or all (cumulative).
+-- A batch reports recordings that the instrument may have accepted, as many as it counts: its
+-- streams are those of the reader, and each has the points of their window, which is those after
+-- the ones seen (delta), or all (cumulative).
 pub record ReportsJournal (facts : Facts) (of seen : ℕ) (told : Batch) : Type 0 where
   pub journal : List Entry
   pub admitted : IsJournal facts journal
   pub counted : length journal ≡ told.mark
   pub streams : told.streams ≡ reported facts of (window (is_delta facts of) seen journal)
 
--- Each such batch of safe facts that goes on where the last one ended is within their bounds: no overflow point, and each number by
--- their range and the number of recordings that the batch covers, which are at most the budgets together.
+-- Each such batch of safe facts that goes on where the last one ended is within their bounds: no
+-- overflow point, and each number by their range and the number of recordings that the batch
+-- covers, which are at most the budgets together.
 abbrev pub WithinReports : Type 0
 WithinReports =
-    (own : Facts) (reader seen : ℕ) (told : Batch) → IsSafeFacts own → Continues own reader seen told → ReportsJournal own reader seen told
+    (own : Facts) (reader seen : ℕ) (told : Batch) → IsSafeFacts own
+    → Continues own reader seen told → ReportsJournal own reader seen told
     → IsReportWithin own told.from told.mark told.streams
 
--- what a collection is refused: `Stranger` exactly where the reader's numbers are not the cell's, else `Memory`
+-- what a collection is refused: `Stranger` exactly where the reader's numbers
+-- are not the cell's, else `Memory`
 abbrev pub RefusesReader : {B : Type 0} → CellValue B → Facts → ℕ → ℕ → Refusal → Type 0
 RefusesReader c facts seen reader Stranger = IsOwnReader c facts seen reader → ⊥
 RefusesReader c facts seen reader Memory = IsOwnReader c facts seen reader

@@ -4,7 +4,8 @@ use Rattle.metric_slot.specs.declared.told.Told.{Told}
 
 -- one recording more: its value is so far above the least
 abbrev pub told_more : Told → ℤ → ℤ → Told
-told_more told lo value = record { count = told.count + 1; amount = told.amount + unsigned_abs (value -ℤ lo) }
+told_more told lo value =
+    record { count = told.count + 1; amount = told.amount + unsigned_abs (value -ℤ lo) }
 
 -- its numbers are each a u64
 pub record HasRoom (told : Told) (lo value : ℤ) : Type 0 where

@@ -1,9 +1,11 @@
 -- What a field of a table is read as: its value, or the first of the faults.
-use Rattle.std.specs.Prelude.{◌≡◌, ℕ, ℤ, pos, negsuc, codes, Bool, ◌&&◌, if◌then◌else◌, List, [], ◌∷◌, length, Option, Some, None, Result, Ok, Err, nat_le, unwrap_or}
+use Rattle.std.specs.Prelude.{◌≡◌, ℕ, ℤ, pos, negsuc, codes, Bool, ◌&&◌, if◌then◌else◌, List, []}
+use Rattle.std.specs.Prelude.{◌∷◌, length, Option, Some, None, Result, Ok, Err, nat_le, unwrap_or}
 use Rattle.std.specs.List.{list_all, list_any}
 use Rattle.std.specs.Option.{option_map}
 use Rattle.std.specs.Str.{bytes_eq, chars}
-use Rattle.toml.specs.Data.{Data, Items, no_items, item, Members, no_members, member, get_member, as_str, as_integer, as_bool, as_array, as_table}
+use Rattle.toml.specs.Data.{Data, Items, no_items, item, Members, no_members, member, get_member}
+use Rattle.toml.specs.Data.{as_str, as_integer, as_bool, as_array, as_table}
 use Rattle.metric_base.specs.Steps.{◌>>=◌, require, require_some, each}
 use Rattle.metric_table.specs.declared.faults.FieldFaults.{FieldFaults}
 use denote.Ref.{Bor}
@@ -52,7 +54,8 @@ text_within faults (Some d) = do
   Ok (Some text)
 
 -- the text of a field, where the table has it
-unfoldable pub optional_text : {F : Type 0} → FieldFaults F → List ℕ → Members → Result (Option (List ℕ)) F
+unfoldable pub optional_text : {F : Type 0} → FieldFaults F → List ℕ → Members
+    → Result (Option (List ℕ)) F
 optional_text faults name table = text_within faults (get_member name table)
 
 -- a text of at most 1,023 characters
@@ -126,8 +129,10 @@ tables_within faults most (Some d) = do
   values ← list_of faults most d
   tables_of faults values
 
--- the tables of a field that is a list of at most so many tables, or none where the table does not have it
-unfoldable pub tables_field : {F : Type 0} → FieldFaults F → ℕ → List ℕ → Members → Result (List Members) F
+-- the tables of a field that is a list of at most so many tables, or none
+-- where the table does not have it
+unfoldable pub tables_field : {F : Type 0} → FieldFaults F → ℕ → List ℕ → Members
+    → Result (List Members) F
 tables_field faults most name table = tables_within faults most (get_member name table)
 
 -- a list of at most so many whole numbers

@@ -1,6 +1,8 @@
 -- What stands at the front of a line, with what follows it. Nothing where the front is spelled
 -- otherwise.
-use Rattle.std.specs.Prelude.{◌≡◌, ℕ, ◌^◌, Bool, true, false, ◌&&◌, ◌==◌, nat_lt, if◌then◌else◌, List, [], ◌∷◌, ◌++◌, Option, Some, None, Result, Ok, Err, is_some, option_and_then, codes, ℤ}
+use Rattle.std.specs.Prelude.{◌≡◌, ℕ, ◌^◌, Bool, true, false, ◌&&◌, ◌==◌, nat_lt, if◌then◌else◌}
+use Rattle.std.specs.Prelude.{List, [], ◌∷◌, ◌++◌, Option, Some, None, Result, Ok, Err, is_some}
+use Rattle.std.specs.Prelude.{option_and_then, codes, ℤ}
 use Rattle.std.specs.Fmt.{decimal, signed_decimal}
 use Rattle.std.specs.Int.Signed.{mag}
 use Rattle.std.specs.Option.{option_map}
@@ -36,7 +38,8 @@ is_space b = b == 32
 abbrev pub split_before : (ℕ → Bool) → List ℕ → List ℕ × List ℕ
 split_before passes [] = ([], [])
 split_before passes (b ∷ bytes) =
-    if passes b then ([], b ∷ bytes) else (b ∷ (split_before passes bytes).0, (split_before passes bytes).1)
+    if passes b then ([], b ∷ bytes)
+    else (b ∷ (split_before passes bytes).0, (split_before passes bytes).1)
 
 -- the bytes up to the first space, and the rest from that space on
 abbrev pub word_in : List ℕ → List ℕ × List ℕ
@@ -51,7 +54,8 @@ number_of limit word =
 -- a word that is the decimal spelling of an i64
 unfoldable pub signed_of : List ℕ → Option ℤ
 signed_of word =
-    if nat_lt (mag (signed_digits_value 10 word)) (2 ^ 63) && bytes_eq (signed_decimal (signed_digits_value 10 word)) word
+    if nat_lt (mag (signed_digits_value 10 word)) (2 ^ 63)
+    && bytes_eq (signed_decimal (signed_digits_value 10 word)) word
     then Some (signed_digits_value 10 word) else None
 
 unfoldable pub number_in : ℕ → List ℕ → Option (ℕ × List ℕ)
@@ -85,13 +89,15 @@ with_front front read = option_map (λ x. (front ++ x.0, x.1)) read
 abbrev pub escaped_in : List ℕ → Option (ℕ × List ℕ)
 escaped_in [] = None
 escaped_in (b ∷ []) = None
-escaped_in (b ∷ letter ∷ rest) = if b == 92 then option_map (λ c. (c, rest)) (byte_of letter) else None
+escaped_in (b ∷ letter ∷ rest) =
+    if b == 92 then option_map (λ c. (c, rest)) (byte_of letter) else None
 
 -- The bytes up to the closing quote, and what follows it. The flag says whether a backslash stands
 -- before.
 unfoldable pub unquoted_in : Bool → List ℕ → Option (List ℕ × List ℕ)
 unquoted_in escaped [] = None
-unquoted_in true (letter ∷ bytes) = byte_of letter >>= λ b. with_front (b ∷ []) (unquoted_in false bytes)
+unquoted_in true (letter ∷ bytes) =
+    byte_of letter >>= λ b. with_front (b ∷ []) (unquoted_in false bytes)
 unquoted_in false (b ∷ bytes) =
     if b == 34 then Some ([], bytes) else (
     if b == 92 then unquoted_in true bytes else (

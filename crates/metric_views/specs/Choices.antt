@@ -24,7 +24,8 @@ is_unfit _ _ = false
 -- the temporality that a text names
 abbrev pub temporality_named : List ℕ → Option Temporality
 temporality_named text =
-    if bytes_eq text (codes "delta") then Some Delta else (if bytes_eq text (codes "cumulative") then Some Cumulative else None)
+    if bytes_eq text (codes "delta") then Some Delta
+    else (if bytes_eq text (codes "cumulative") then Some Cumulative else None)
 
 -- the aggregation that a text names
 abbrev pub aggregation_named : List ℕ → Option Aggregation
@@ -33,4 +34,5 @@ aggregation_named text =
     (if bytes_eq text (codes "drop") then Some aggregations.Drop else
     (if bytes_eq text (codes "sum") then Some aggregations.Sum else
     (if bytes_eq text (codes "last_value") then Some aggregations.LastValue else
-    (if bytes_eq text (codes "explicit_bucket_histogram") then Some aggregations.ExplicitBucketHistogram else None))))
+    (if bytes_eq text (codes "explicit_bucket_histogram")
+    then Some aggregations.ExplicitBucketHistogram else None))))

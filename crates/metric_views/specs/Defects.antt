@@ -1,7 +1,17 @@
 -- How a defect is printed.
 use Rattle.std.specs.Prelude.{ℕ, List, codes}
 use Rattle.metric_views.specs.declared.fault.ViewDefect.{ViewDefect}
-use Rattle.metric_views.specs.declared.fault.ViewDefect.TheVariants.{MissingField, WrongKind, UnknownField, BadPattern, BadName, BadBoundaries, BadLimit, DuplicateReader, TooMany}
+use Rattle.metric_views.specs.declared.fault.ViewDefect.TheVariants.{
+  MissingField,
+  WrongKind,
+  UnknownField,
+  BadPattern,
+  BadName,
+  BadBoundaries,
+  BadLimit,
+  DuplicateReader,
+  TooMany,
+}
 
 -- its number, and its name
 abbrev pub defect_text : ViewDefect → List ℕ

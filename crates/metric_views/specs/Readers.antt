@@ -1,12 +1,14 @@
 -- What the tables of readers are read as, up to the first fault.
-use Rattle.std.specs.Prelude.{ℕ, ℤ, pos, codes, Bool, not, ◌&&◌, ◌==◌, List, [], ◌∷◌, length, Option, Some, None, Result, Ok, int_le, nat_abs}
+use Rattle.std.specs.Prelude.{ℕ, ℤ, pos, codes, Bool, not, ◌&&◌, ◌==◌, List, [], ◌∷◌, length}
+use Rattle.std.specs.Prelude.{Option, Some, None, Result, Ok, int_le, nat_abs}
 use Rattle.std.specs.List.{list_any}
 use Rattle.std.specs.Str.{bytes_eq}
 use Rattle.toml.specs.Data.{Data, Members, get_member}
 use Rattle.metric_base.specs.Steps.{◌>>=◌, require, require_some, each}
 use Rattle.metric_table.specs.Fields.{only, integer_of, short_text, table_of, text_field, text_of}
 use Rattle.metric_catalogue.specs.declared.contents.Kind.{Kind}
-use Rattle.metric_catalogue.specs.declared.contents.Kind.TheVariants.{Counter, UpDownCounter, Histogram, Gauge}
+use Rattle.metric_catalogue.specs.declared.contents.Kind.TheVariants.{Counter, UpDownCounter}
+use Rattle.metric_catalogue.specs.declared.contents.Kind.TheVariants.{Histogram, Gauge}
 use Rattle.metric_views.specs.declared.choices.ByKind.{ByKind}
 use Rattle.metric_views.specs.declared.choices.Temporality.{Temporality}
 use Rattle.metric_views.specs.declared.choices.Temporality.TheVariants.{Cumulative}
@@ -16,7 +18,8 @@ use Rattle.metric_views.specs.declared.config.Reader.{Reader}
 use Rattle.metric_views.specs.declared.fault.ConfigPlace.{ConfigPlace}
 use Rattle.metric_views.specs.declared.fault.ConfigPlace.TheVariants as places
 use Rattle.metric_views.specs.declared.fault.ViewFault.{ViewFault}
-use Rattle.metric_views.specs.declared.fault.ViewDefect.TheVariants.{WrongKind, BadName, BadLimit, DuplicateReader}
+use Rattle.metric_views.specs.declared.fault.ViewDefect.TheVariants.{WrongKind, BadName, BadLimit}
+use Rattle.metric_views.specs.declared.fault.ViewDefect.TheVariants.{DuplicateReader}
 use Rattle.metric_views.specs.declared.fault.ViewFault.TheVariants.{At}
 use Rattle.metric_views.specs.Choices.{aggregation_named, is_unfit, temporality_named}
 use Rattle.metric_views.specs.Faults.{faults_at}
@@ -52,11 +55,13 @@ limit_of at d = do
   Ok (nat_abs number)
 
 -- the choice of a field for one kind, or the usual one
-abbrev pub choice_within : {T : Type 0} → T → (Data → Result T ViewFault) → Option Data → Result T ViewFault
+abbrev pub choice_within : {T : Type 0} → T → (Data → Result T ViewFault) → Option Data
+    → Result T ViewFault
 choice_within usual chosen None = Ok usual
 choice_within usual chosen (Some d) = chosen d
 
-unfoldable pub choice_at : {T : Type 0} → T → (Data → Result T ViewFault) → List ℕ → Members → Result T ViewFault
+unfoldable pub choice_at : {T : Type 0} → T → (Data → Result T ViewFault) → List ℕ → Members
+    → Result T ViewFault
 choice_at usual chosen name table = choice_within usual chosen (get_member name table)
 
 -- the names of the kinds
@@ -64,32 +69,42 @@ unfoldable pub kind_names : List (List ℕ)
 kind_names = codes "counter" ∷ codes "up_down_counter" ∷ codes "histogram" ∷ codes "gauge" ∷ []
 
 -- the choices of a table, kind by kind
-unfoldable pub choices_by_kind : {T : Type 0} → T → (ConfigPlace → Kind → Data → Result T ViewFault) → ConfigPlace → Members → Result (ByKind T) ViewFault
+unfoldable pub choices_by_kind : {T : Type 0} → T → (ConfigPlace → Kind → Data → Result T ViewFault)
+    → ConfigPlace → Members → Result (ByKind T) ViewFault
 choices_by_kind usual chosen at table = do
   counter ← choice_at usual (chosen at Counter) (codes "counter") table
   up_down_counter ← choice_at usual (chosen at UpDownCounter) (codes "up_down_counter") table
   histogram ← choice_at usual (chosen at Histogram) (codes "histogram") table
   gauge ← choice_at usual (chosen at Gauge) (codes "gauge") table
-  Ok (record { counter = counter; up_down_counter = up_down_counter; histogram = histogram; gauge = gauge })
+  Ok (record {
+    counter = counter;
+    up_down_counter = up_down_counter;
+    histogram = histogram;
+    gauge = gauge;
+  })
 
 -- a table of choices, which has no other fields
-unfoldable pub choices_of : {T : Type 0} → T → (ConfigPlace → Kind → Data → Result T ViewFault) → ConfigPlace → Members → Result (ByKind T) ViewFault
+unfoldable pub choices_of : {T : Type 0} → T → (ConfigPlace → Kind → Data → Result T ViewFault)
+    → ConfigPlace → Members → Result (ByKind T) ViewFault
 choices_of usual chosen at table = do
   _ ← only (faults_at at) kind_names table
   choices_by_kind usual chosen at table
 
 -- the usual choice for every kind
 abbrev pub for_all : {T : Type 0} → T → ByKind T
-for_all usual = record { counter = usual; up_down_counter = usual; histogram = usual; gauge = usual }
+for_all usual =
+    record { counter = usual; up_down_counter = usual; histogram = usual; gauge = usual }
 
-abbrev pub choices_within : {T : Type 0} → T → (ConfigPlace → Kind → Data → Result T ViewFault) → ConfigPlace → Option Data → Result (ByKind T) ViewFault
+abbrev pub choices_within : {T : Type 0} → T → (ConfigPlace → Kind → Data → Result T ViewFault)
+    → ConfigPlace → Option Data → Result (ByKind T) ViewFault
 choices_within usual chosen at None = Ok (for_all usual)
 choices_within usual chosen at (Some d) = do
   table ← table_of (faults_at at) d
   choices_of usual chosen at table
 
 -- the choices of a reader's field
-unfoldable pub choices_field : {T : Type 0} → T → (ConfigPlace → Kind → Data → Result T ViewFault) → ConfigPlace → List ℕ → Members → Result (ByKind T) ViewFault
+unfoldable pub choices_field : {T : Type 0} → T → (ConfigPlace → Kind → Data → Result T ViewFault)
+    → ConfigPlace → List ℕ → Members → Result (ByKind T) ViewFault
 choices_field usual chosen at name table = choices_within usual chosen at (get_member name table)
 
 -- a reader of this name stands before
@@ -110,9 +125,11 @@ unfoldable pub reader_fields : List (List ℕ)
 reader_fields = codes "name" ∷ codes "temporality" ∷ codes "aggregation" ∷ codes "limit" ∷ []
 
 -- what a reader chooses for the kinds
-unfoldable pub reader_choices : ConfigPlace → Members → Result (ByKind Temporality × ByKind Aggregation × ByKind ℕ) ViewFault
+unfoldable pub reader_choices : ConfigPlace → Members
+    → Result (ByKind Temporality × ByKind Aggregation × ByKind ℕ) ViewFault
 reader_choices at table = do
-  temporality ← choices_field Cumulative (λ at _ d. temporality_of at d) at (codes "temporality") table
+  temporality ← choices_field Cumulative (λ at _ d. temporality_of at d) at
+      (codes "temporality") table
   aggregation ← choices_field aggregations.Default aggregation_for at (codes "aggregation") table
   limit ← choices_field 2000 (λ at _ d. limit_of at d) at (codes "limit") table
   Ok (temporality, aggregation, limit)

@@ -4,7 +4,8 @@ use Rattle.std.specs.Str.{bytes_eq}
 use Rattle.metric_glob.specs.Matching.{Matches, is_match}
 use Rattle.metric_catalogue.specs.declared.contents.Instrument.{Instrument}
 use Rattle.metric_catalogue.specs.declared.contents.Kind.{Kind}
-use Rattle.metric_catalogue.specs.declared.contents.Kind.TheVariants.{Counter, UpDownCounter, Histogram, Gauge}
+use Rattle.metric_catalogue.specs.declared.contents.Kind.TheVariants.{Counter, UpDownCounter}
+use Rattle.metric_catalogue.specs.declared.contents.Kind.TheVariants.{Histogram, Gauge}
 use Rattle.metric_catalogue.specs.declared.contents.Meter.{Meter}
 use Rattle.metric_views.specs.declared.config.Criteria.{Criteria}
 
@@ -37,11 +38,14 @@ is_text own criterion = passes (λ text. bytes_eq text own) criterion
 unfoldable pub selects_instrument : Criteria → Instrument → Bool
 selects_instrument criteria instrument =
     passes (λ pattern. is_match pattern instrument.name) criteria.instrument_name
-    && (passes (λ kind. is_kind kind instrument.kind) criteria.instrument_type && is_text instrument.unit criteria.instrument_unit)
+    && (passes (λ kind. is_kind kind instrument.kind) criteria.instrument_type
+    && is_text instrument.unit criteria.instrument_unit)
 
 unfoldable pub selects_meter : Criteria → Meter → Bool
 selects_meter criteria meter =
-    is_text meter.name criteria.meter_name && (is_text meter.version criteria.meter_version && is_text meter.schema_url criteria.meter_schema_url)
+    is_text meter.name criteria.meter_name && (is_text meter.version criteria.meter_version
+    && is_text meter.schema_url criteria.meter_schema_url)
 
 unfoldable pub selects : Criteria → Meter → Instrument → Bool
-selects criteria meter instrument = selects_instrument criteria instrument && selects_meter criteria meter
+selects criteria meter instrument =
+    selects_instrument criteria instrument && selects_meter criteria meter

@@ -1,5 +1,6 @@
 -- What holds of every config.
-use Rattle.std.specs.Prelude.{◌≡◌, ℕ, ◌<◌, ◌≤◌, false, All, IfSome, List, Some, length, slice_get, take}
+use Rattle.std.specs.Prelude.{◌≡◌, ℕ, ◌<◌, ◌≤◌, false, All, IfSome, List, Some, length, slice_get}
+use Rattle.std.specs.Prelude.{take}
 use Rattle.metric_catalogue.specs.Sound.{IsFreeText}
 use Rattle.metric_catalogue.specs.declared.contents.Kind.{Kind}
 use Rattle.metric_views.specs.declared.config.Criteria.{Criteria}
@@ -45,7 +46,8 @@ pub record IsSoundView (view : View) : Type 0 where
   pub criteria : AreSoundCriteria view.criteria
   pub settings : AreSoundSettings view.settings
 
--- what holds of every config, beside the lengths of its lists and that boundaries rise, which their types keep
+-- what holds of every config, beside the lengths of its lists and that
+-- boundaries rise, which their types keep
 pub record IsSoundSetup (setup : Setup) : Type 0 where
   pub readers : EachAt IsSoundReader setup.readers
   pub views : All IsSoundView setup.views

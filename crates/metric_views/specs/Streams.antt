@@ -1,5 +1,6 @@
 -- Which stream a view, or the default, makes of an instrument for a reader.
-use Rattle.std.specs.Prelude.{ℕ, ℤ, pos, Bool, true, false, not, ◌&&◌, List, [], ◌∷◌, map, Option, Some, None, slice_get, unwrap_or}
+use Rattle.std.specs.Prelude.{ℕ, ℤ, pos, Bool, true, false, not, ◌&&◌, List, [], ◌∷◌, map, Option}
+use Rattle.std.specs.Prelude.{Some, None, slice_get, unwrap_or}
 use Rattle.std.specs.List.{list_any}
 use Rattle.std.specs.Option.{option_map}
 use Rattle.std.specs.Str.{bytes_eq}
@@ -19,12 +20,21 @@ use Rattle.metric_views.specs.declared.stream.Fill.TheVariants.{Unfit, Dropped, 
 use Rattle.metric_views.specs.declared.stream.Stream.{Stream}
 use Rattle.metric_views.specs.declared.template.Template.{Template}
 use Rattle.metric_views.specs.declared.stream.StreamAggregation.{StreamAggregation}
-use Rattle.metric_views.specs.declared.stream.StreamAggregation.TheVariants.{Sum, LastValue, Histogram}
+use Rattle.metric_views.specs.declared.stream.StreamAggregation.TheVariants.{Sum, LastValue}
+use Rattle.metric_views.specs.declared.stream.StreamAggregation.TheVariants.{Histogram}
 use Rattle.metric_views.specs.Choices.{choice_for, is_unfit}
 
 -- what the default stream is given: nothing
 abbrev pub no_settings : Settings
-no_settings = record { stream_name = None; description = None; aggregation = None; boundaries = None; keep = None; exclude = None; limit = None }
+no_settings = record {
+  stream_name = None;
+  description = None;
+  aggregation = None;
+  boundaries = None;
+  keep = None;
+  exclude = None;
+  limit = None;
+}
 
 -- the aggregation that a view names, else the reader's for the kind
 abbrev pub chosen_aggregation : Reader → Kind → Option Aggregation → Aggregation
@@ -32,7 +42,9 @@ chosen_aggregation reader kind named = unwrap_or named (choice_for reader.aggreg
 
 -- the boundaries of a histogram where neither view nor instrument gives any
 abbrev pub usual_boundaries : List ℤ
-usual_boundaries = map pos (0 ∷ 5 ∷ 10 ∷ 25 ∷ 50 ∷ 75 ∷ 100 ∷ 250 ∷ 500 ∷ 750 ∷ 1000 ∷ 2500 ∷ 5000 ∷ 7500 ∷ 10000 ∷ [])
+usual_boundaries =
+    map pos
+    (0 ∷ 5 ∷ 10 ∷ 25 ∷ 50 ∷ 75 ∷ 100 ∷ 250 ∷ 500 ∷ 750 ∷ 1000 ∷ 2500 ∷ 5000 ∷ 7500 ∷ 10000 ∷ [])
 
 -- the view itself names the histogram
 abbrev pub names_histogram : Option Aggregation → Bool
@@ -46,7 +58,8 @@ advised false advice = unwrap_or advice usual_boundaries
 
 -- the view's boundaries, else the advised, else the usual ones
 abbrev pub boundaries_for : Instrument → Settings → List ℤ
-boundaries_for instrument settings = unwrap_or settings.boundaries (advised (names_histogram settings.aggregation) instrument.advice)
+boundaries_for instrument settings =
+    unwrap_or settings.boundaries (advised (names_histogram settings.aggregation) instrument.advice)
 
 -- what suits a kind
 abbrev pub default_aggregation : Kind → List ℤ → StreamAggregation
@@ -81,7 +94,8 @@ is_excluded name (Some keys) = is_listed name keys
 abbrev pub is_kept : Option (List (List ℕ)) → Option (List (List ℕ)) → Key → Bool
 is_kept keep exclude key = is_wanted key.name keep && not (is_excluded key.name exclude)
 
--- what the streams of an instrument by the view of this number with these settings, or by the default with none, have in common
+-- what the streams of an instrument by the view of this number with these settings, or by the
+-- default with none, have in common
 unfoldable pub template_of : ℕ → Instrument → Option ℕ → Settings → Template
 template_of number instrument view settings = record {
   instrument = number;
@@ -123,19 +137,25 @@ unless_unfit false fill = fill
 -- what a view, or the default, makes of an instrument for the reader of a number
 unfoldable pub fill_by : ℕ → Reader → Template → Fill
 fill_by number reader template =
-    unless_unfit (is_unfit template.kind (chosen_aggregation reader template.kind template.aggregation))
-    (kept_or_dropped (stream_by number reader template) (aggregation_with (chosen_aggregation reader template.kind template.aggregation) template.kind template.boundaries))
+    unless_unfit
+    (is_unfit template.kind (chosen_aggregation reader template.kind template.aggregation))
+    (kept_or_dropped (stream_by number reader template) (aggregation_with (chosen_aggregation reader
+    template.kind template.aggregation) template.kind template.boundaries))
 
 -- what the view of a number gives, or nothing for the default
 abbrev pub settings_at : List View → Option ℕ → Option Settings
 settings_at views None = Some no_settings
 settings_at views (Some number) = option_map (λ view. view.settings) (slice_get views number)
 
-abbrev pub fill_with : ℕ → ℕ → Option ℕ → Option Reader → Option Instrument → Option Settings → Option Fill
-fill_with reader number view (Some r) (Some i) (Some settings) = Some (fill_by reader r (template_of number i view settings))
+abbrev pub fill_with : ℕ → ℕ → Option ℕ → Option Reader → Option Instrument
+    → Option Settings → Option Fill
+fill_with reader number view (Some r) (Some i) (Some settings) =
+    Some (fill_by reader r (template_of number i view settings))
 fill_with reader number view _ _ _ = None
 
--- what the view of a number, or the default without one, makes of the instrument of a number for the reader of a number
+-- what the view of a number, or the default without one, makes of the instrument of a
+-- number for the reader of a number
 abbrev pub fill_at : Contents → Config → ℕ → ℕ → Option ℕ → Option Fill
 fill_at contents config reader number view =
-    fill_with reader number view (slice_get config.readers reader) (slice_get contents.instruments number) (settings_at config.views view)
+    fill_with reader number view (slice_get config.readers reader)
+    (slice_get contents.instruments number) (settings_at config.views view)

@@ -15,7 +15,8 @@ use Rattle.metric_views.specs.declared.config.View.{View}
 use Rattle.metric_views.specs.declared.fault.ConfigPlace.{ConfigPlace}
 use Rattle.metric_views.specs.declared.fault.ConfigPlace.TheVariants as places
 use Rattle.metric_views.specs.declared.fault.ViewFault.{ViewFault}
-use Rattle.metric_views.specs.declared.fault.ViewDefect.TheVariants.{WrongKind, BadPattern, BadName, BadBoundaries}
+use Rattle.metric_views.specs.declared.fault.ViewDefect.TheVariants.{WrongKind, BadPattern, BadName}
+use Rattle.metric_views.specs.declared.fault.ViewDefect.TheVariants.{BadBoundaries}
 use Rattle.metric_views.specs.declared.fault.ViewFault.TheVariants.{At}
 use Rattle.metric_views.specs.Faults.{faults_at}
 use Rattle.metric_views.specs.Readers.{aggregation_of, limit_of}
@@ -54,18 +55,21 @@ unfoldable pub keys_at : ConfigPlace → Data → Result (List (List ℕ)) ViewF
 keys_at at d = texts_of (faults_at at) 64 d
 
 -- a value, where there is one
-abbrev pub value_within : {T : Type 0} → (Data → Result T ViewFault) → Option Data → Result (Option T) ViewFault
+abbrev pub value_within : {T : Type 0} → (Data → Result T ViewFault) → Option Data
+    → Result (Option T) ViewFault
 value_within read None = Ok None
 value_within read (Some d) = do
   value ← read d
   Ok (Some value)
 
 -- the value of a field, where the table has it
-unfoldable pub optional_field : {T : Type 0} → (Data → Result T ViewFault) → List ℕ → Members → Result (Option T) ViewFault
+unfoldable pub optional_field : {T : Type 0} → (Data → Result T ViewFault) → List ℕ → Members
+    → Result (Option T) ViewFault
 optional_field read name table = value_within read (get_member name table)
 
 -- the criteria on the instrument
-unfoldable pub instrument_criteria : ConfigPlace → Members → Result (Option (List ℕ) × Option Kind × Option (List ℕ)) ViewFault
+unfoldable pub instrument_criteria : ConfigPlace → Members
+    → Result (Option (List ℕ) × Option Kind × Option (List ℕ)) ViewFault
 instrument_criteria at table = do
   name ← optional_field (pattern_at at) (codes "instrument_name") table
   kind ← optional_field (kind_at at) (codes "instrument_type") table
@@ -73,7 +77,8 @@ instrument_criteria at table = do
   Ok (name, kind, unit)
 
 -- the criteria on the meter
-unfoldable pub meter_criteria : ConfigPlace → Members → Result (Option (List ℕ) × Option (List ℕ) × Option (List ℕ)) ViewFault
+unfoldable pub meter_criteria : ConfigPlace → Members
+    → Result (Option (List ℕ) × Option (List ℕ) × Option (List ℕ)) ViewFault
 meter_criteria at table = do
   name ← optional_field (text_at at) (codes "meter_name") table
   version ← optional_field (text_at at) (codes "meter_version") table
@@ -95,7 +100,8 @@ criteria_of at table = do
   })
 
 -- what a view says of the stream itself
-unfoldable pub stream_settings : ConfigPlace → Members → Result (Option (List ℕ) × Option (List ℕ) × Option Aggregation) ViewFault
+unfoldable pub stream_settings : ConfigPlace → Members
+    → Result (Option (List ℕ) × Option (List ℕ) × Option Aggregation) ViewFault
 stream_settings at table = do
   name ← optional_field (name_at at) (codes "stream_name") table
   description ← optional_field (text_at at) (codes "description") table
@@ -103,7 +109,8 @@ stream_settings at table = do
   Ok (name, description, aggregation)
 
 -- what a view says of boundaries and keys
-unfoldable pub list_settings : ConfigPlace → Members → Result (Option (List ℤ) × Option (List (List ℕ)) × Option (List (List ℕ))) ViewFault
+unfoldable pub list_settings : ConfigPlace → Members
+    → Result (Option (List ℤ) × Option (List (List ℕ)) × Option (List (List ℕ))) ViewFault
 list_settings at table = do
   boundaries ← optional_field (boundaries_at at) (codes "boundaries") table
   keep ← optional_field (keys_at at) (codes "keep") table
@@ -129,7 +136,8 @@ settings_of at table = do
 -- the fields of a view
 unfoldable pub view_fields : List (List ℕ)
 view_fields =
-    codes "instrument_name" ∷ codes "instrument_type" ∷ codes "instrument_unit" ∷ codes "meter_name" ∷
+    codes "instrument_name" ∷ codes "instrument_type" ∷ codes "instrument_unit"
+    ∷ codes "meter_name" ∷
     codes "meter_version" ∷ codes "meter_schema_url" ∷ codes "stream_name" ∷ codes "description" ∷
     codes "aggregation" ∷ codes "boundaries" ∷ codes "keep" ∷ codes "exclude" ∷
     codes "limit" ∷ []

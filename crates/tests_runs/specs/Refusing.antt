@@ -10,6 +10,7 @@ pub record RefusingValue : Type 0 where
   pub is_new : Bool
 
 -- it stands for what its tables stand for; while it is new, they stand for no recordings
-pub record StandsRefusing (b : RefusingValue) (facts : Facts) (journal : List Entry) (marks : List ℕ) : Type 0 where
+pub record StandsRefusing (b : RefusingValue) (facts : Facts) (journal : List Entry)
+    (marks : List ℕ) : Type 0 where
   pub book : StandsMarked b.book facts journal marks
   pub none : b.is_new ≡ true → journal ≡ []

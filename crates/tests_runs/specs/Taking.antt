@@ -4,7 +4,8 @@ use Rattle.metric_dense.specs.DenseTables.{DenseTableValue, dense_tables}
 use Rattle.metric_facts.specs.Facts.{is_full_set}
 use Rattle.metric_facts.specs.declared.facts.KeyFacts.{KeyFacts}
 use Rattle.metric_series.specs.SeriesTables.{SeriesValue, series_tables}
-use Rattle.metric_series.specs.declared.series_table.ByAggregation.TheVariants.{Sum, LastValue, Histogram}
+use Rattle.metric_series.specs.declared.series_table.ByAggregation.TheVariants.{Sum, LastValue}
+use Rattle.metric_series.specs.declared.series_table.ByAggregation.TheVariants.{Histogram}
 
 -- one whose series are found by hash has a place for any set
 pub takes_any : (t : SeriesValue) (set : List ℕ) → series_tables.takes t set
