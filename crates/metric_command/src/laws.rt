@@ -1,4 +1,4 @@
-// Which command lines the program has, as its definitions tell clap of them.
+//! Which command lines the program has, as its definitions tell clap of them.
 ghost use Rattle.std.specs.Prelude.{List, ℕ, [], ◌∷◌, codes, true, false};
 ghost use Rattle.metric_command.specs.Lines.{IsRefused, Means};
 ghost use Rattle.metric_command.specs.declared.line.Line.TheVariants.{Make, Check, Show, Replay, Threads};

@@ -1,4 +1,4 @@
-// What a command line asks for, and why it is refused.
+//! What a command line asks for, and why it is refused.
 ghost use Rattle.std.specs.Prelude.{◌≡◌};
 ghost use Rattle.clap.specs.Words.{kind_of};
 ghost use Rattle.metric_command.specs.declared.line.LineFault.TheVariants.{Memory};

@@ -1,4 +1,4 @@
-// The reading of a command line.
+//! The reading of a command line.
 ghost use Rattle.std.specs.Prelude.{◌≡◌, [], IfOk, IsErrOf, OnOk, Some, map, false, true};
 ghost use Rattle.clap.specs.Words.{app_of, fault_of, first_of, found_of, rows_of, rule_of, subcommand_of, subcommand_rows_of, takes};
 ghost use Rattle.clap.specs.Words.{with_subcommand};

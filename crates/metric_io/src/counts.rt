@@ -1,4 +1,4 @@
-// How often a source was read, and how the reads ended.
+//! How often a source was read, and how the reads ended.
 use crate::SourceFault;
 
 /// How often a source was read, how often a signal interrupted the read, and how often the source

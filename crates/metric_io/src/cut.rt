@@ -1,4 +1,4 @@
-// A source and a sink over memory that fail where a test wants them to.
+//! A source and a sink over memory that fail where a test wants them to.
 ghost use Rattle.std.specs.Prelude.{◌≡◌, ◌<◌, [], length, Some, None, IsErr, MatchResult, IfOk, false, true, unwrap_or};
 ghost use Rattle.std.specs.Io.{ReadsAtMost, WritesAtMost};
 ghost use Rattle.std.specs.Io.KnownBytes.{Keeps, ReadConsumes, WriteAppends};

@@ -1,4 +1,4 @@
-// What a device promises that bytes are read from or written to.
+//! What a device promises that bytes are read from or written to.
 ghost use Rattle.std.specs.Prelude.{◌≡◌, ℕ, List, Option};
 ghost use Rattle.std.specs.Io.{ReadsAtMost, WritesAtMost};
 ghost use Rattle.std.specs.Io.KnownBytes.{Keeps, ReadConsumes, WriteAppends};

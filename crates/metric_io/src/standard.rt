@@ -1,4 +1,4 @@
-// The readers and writers of std as a source and a sink.
+//! The readers and writers of std as a source and a sink.
 ghost use Rattle.std.specs.Prelude.{◌≡◌};
 ghost use Rattle.std.specs.Io.{WritesAtMost};
 ghost use Rattle.std.specs.Io.KnownBytes.{WriteAppends};

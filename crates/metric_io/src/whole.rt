@@ -1,4 +1,4 @@
-// A whole input read, and a whole text written.
+//! A whole input read, and a whole text written.
 ghost use Rattle.std.specs.Prelude.{◌≡◌, ◌+◌, ◌≤◌, IfOk, IfSome, IsErrOf, OnErr, OnOk, vec_len};
 ghost use Rattle.std.specs.Io.KnownBytes.{Appends, IsAtEnd};
 ghost use Rattle.metric_io.specs.Counts.{HasFailed};

@@ -1,4 +1,4 @@
-// Why an input is not read.
+//! Why an input is not read.
 use std::alloc::AllocError;
 use thiserror::Error;
 

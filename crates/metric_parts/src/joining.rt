@@ -1,4 +1,4 @@
-// Lines joined to a text.
+//! Lines joined to a text.
 ghost use Rattle.std.specs.Prelude.{◌≡◌, ◌∷◌, ◌++◌, IfOk, IsTrue, OnOk};
 ghost use Rattle.std.specs.List.{flat_map, list_all};
 ghost use Rattle.metric_parts.specs.Input.{is_content};

@@ -1,4 +1,4 @@
-// What the definitions of an input and of its first fault entail.
+//! What the definitions of an input and of its first fault entail.
 ghost use Rattle.std.specs.Prelude.{◌≡◌, ℕ, List};
 ghost use Rattle.metric_parts.specs.declared.needs.Needs.{Needs};
 ghost use Rattle.metric_parts.specs.Input.{Contents, IsInput, IsFirstFault};

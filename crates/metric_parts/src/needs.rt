@@ -1,4 +1,4 @@
-// What a command reads.
+//! What a command reads.
 
 /// Which of the parts that may be missing a command needs. Every command needs the catalogue and
 /// the config. A part that is not needed is not read where it is there.

@@ -1,4 +1,4 @@
-// What a command reads of its input.
+//! What a command reads of its input.
 use crate::Script;
 use metric_base::Text;
 

@@ -1,4 +1,4 @@
-// The parts of an input as pieces of the list of its lines.
+//! The parts of an input as pieces of the list of its lines.
 ghost use Rattle.std.specs.Prelude.{◌≡◌, ◌≤◌, length, not, option_map, position};
 ghost use Rattle.std.specs.Str.{is_utf8};
 ghost use Rattle.metric_parts.specs.Input.{is_content};

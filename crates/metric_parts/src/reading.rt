@@ -1,4 +1,4 @@
-// An input read into its parts.
+//! An input read into its parts.
 ghost use Rattle.std.specs.Prelude.{◌≡◌, IfOk, IfErr, IsSome, IsTrue, unwrap_or, option_map, [], if◌then◌else◌};
 ghost use Rattle.std.specs.List.{list_all};
 ghost use Rattle.metric_parts.specs.Input.{is_content, IsInput, IsFirstFault};

@@ -1,4 +1,4 @@
-// The lines of a script.
+//! The lines of a script.
 ghost use Rattle.std.specs.Prelude.{◌≡◌, ◌+◌, ◌≤◌, length};
 ghost use Rattle.metric_parts.specs.Reading.{texts};
 

@@ -1,4 +1,4 @@
-// What a picture shows.
+//! What a picture shows.
 use std::alloc::{AllocError, Global};
 
 /// How a box or a link looks.

@@ -1,4 +1,4 @@
-// The picture of a catalogue and a config.
+//! The picture of a catalogue and a config.
 use crate::diagram::{Diagram, Link, Node, Tone};
 use crate::exported::{each_stream, grouped_streams, red_flags};
 use crate::instruments::{each_instrument, grouped_instruments, stream_counts};

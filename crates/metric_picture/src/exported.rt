@@ -1,4 +1,4 @@
-// The boxes of streams.
+//! The boxes of streams.
 use crate::diagram::{Node, Tone};
 use crate::instruments::count_one;
 use crate::slots::Slots;

@@ -1,4 +1,4 @@
-// The boxes of instruments.
+//! The boxes of instruments.
 use crate::diagram::{Node, Tone};
 use crate::slots::Slots;
 use metric_catalogue::{Catalogue, Instrument, Key, Kind};

@@ -1,4 +1,4 @@
-// Where boxes stand, in points.
+//! Where boxes stand, in points.
 use crate::diagram::{Diagram, Node, Tone};
 use std::alloc::{AllocError, Global};
 

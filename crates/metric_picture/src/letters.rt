@@ -1,4 +1,4 @@
-// Texts as an SVG has them.
+//! Texts as an SVG has them.
 use std::alloc::AllocError;
 
 // So many letters fit in a box.

@@ -1,4 +1,4 @@
-// Links between two columns, each drawn once.
+//! Links between two columns, each drawn once.
 use crate::diagram::{Link, Tone};
 use std::alloc::{AllocError, Global};
 

@@ -1,4 +1,4 @@
-// Boxes that may stand for several things.
+//! Boxes that may stand for several things.
 use crate::diagram::Node;
 use std::alloc::{AllocError, Global};
 

@@ -1,4 +1,4 @@
-// A diagram as a text.
+//! A diagram as a text.
 use crate::diagram::{Diagram, Link, Node, Tone};
 use crate::layout::{LINE, Layout, Place, WIDTH, layout_of};
 use crate::letters::push_fitting;

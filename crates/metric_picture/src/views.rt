@@ -1,4 +1,4 @@
-// The boxes of views.
+//! The boxes of views.
 use crate::diagram::{Node, Tone};
 use crate::instruments::kind_word;
 use metric_base::Text;

@@ -1,4 +1,4 @@
-// The arguments that commands have.
+//! The arguments that commands have.
 ghost use Rattle.std.specs.Prelude.{◌≡◌, false};
 ghost use Rattle.clap.specs.Words.{rule_of};
 ghost use Rattle.metric_request.specs.Apps.{file_rule, flag_rule, number_rule, output_rule, text_rule};

@@ -1,4 +1,4 @@
-// Why a command line asks for nothing.
+//! Why a command line asks for nothing.
 
 ghost use Rattle.clap.specs.Words.{kind_of};
 ghost use Rattle.metric_request.specs.Faults.{IsToldOrMemory, IsUsageOrMemory, TellsKind};

@@ -1,4 +1,4 @@
-// The reading of a command line.
+//! The reading of a command line.
 ghost use Rattle.std.specs.Prelude.{◌≡◌, IfOk, IsSomeAnd, map};
 ghost use Rattle.clap.specs.Words.{first_of, found_of, rows_of, subcommand_of, subcommand_rows_of};
 ghost use Rattle.metric_request.specs.Apps.{program_app};

@@ -1,4 +1,4 @@
-// What a command line asks for.
+//! What a command line asks for.
 use metric_base::Text;
 
 /// A command of the program.

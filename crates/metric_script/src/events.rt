@@ -1,4 +1,4 @@
-// What a script says.
+//! What a script says.
 use metric_base::Items;
 use metric_history::Event;
 

@@ -1,4 +1,4 @@
-// What the definitions of a script and of its first fault entail.
+//! What the definitions of a script and of its first fault entail.
 ghost use Rattle.std.specs.Prelude.{◌≡◌, ◌<◌, ◌^◌, ◌∷◌, ℕ, List, map};
 ghost use Rattle.std.specs.List.{AllByRecursion};
 ghost use Rattle.metric_history.specs.declared.event.Event.{Event};

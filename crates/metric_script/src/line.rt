@@ -1,4 +1,4 @@
-// The lines of a script, each by itself.
+//! The lines of a script, each by itself.
 ghost use Rattle.std.specs.Prelude.{◌≡◌, ◌^◌, length};
 ghost use Rattle.std.specs.Option.{option_map};
 ghost use Rattle.metric_text.specs.Reading.{Tells};

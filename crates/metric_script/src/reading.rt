@@ -1,4 +1,4 @@
-// The lines of a script read into its start and its events.
+//! The lines of a script read into its start and its events.
 ghost use Rattle.std.specs.Prelude.{◌≡◌, ◌≤◌, length, drop, IfErr, IfOk};
 ghost use Rattle.metric_parts.specs.Faults.{OnInput};
 ghost use Rattle.metric_parts.specs.Reading.{texts};

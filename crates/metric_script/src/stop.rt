@@ -1,4 +1,4 @@
-// Where the reading of lines stops.
+//! Where the reading of lines stops.
 use metric_text::SpellingFault;
 use std::alloc::AllocError;
 

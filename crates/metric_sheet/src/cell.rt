@@ -1,4 +1,4 @@
-// What stands at a place of a table.
+//! What stands at a place of a table.
 use std::alloc::{AllocError, Global};
 
 /// What stands at a place of a table.

@@ -1,4 +1,4 @@
-// How wide the columns of a table are.
+//! How wide the columns of a table are.
 use crate::cell::Cell;
 use crate::sheet::Sheet;
 use std::alloc::{AllocError, Global};

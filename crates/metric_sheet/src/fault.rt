@@ -1,4 +1,4 @@
-// Why a table is not written.
+//! Why a table is not written.
 ghost use Rattle.std.specs.Prelude.{◌≡◌};
 
 use metric_io::Broken;

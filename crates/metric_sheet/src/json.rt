@@ -1,4 +1,4 @@
-// Lines of JSON for machines.
+//! Lines of JSON for machines.
 ghost use Rattle.std.specs.Prelude.{◌≡◌, IfErr, OnOk};
 ghost use Rattle.metric_sheet.specs.Written.{IsSheetFault};
 

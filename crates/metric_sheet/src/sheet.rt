@@ -1,4 +1,4 @@
-// What a table is of.
+//! What a table is of.
 use crate::cell::Cell;
 use std::alloc::{AllocError, Global};
 

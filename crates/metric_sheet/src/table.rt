@@ -1,4 +1,4 @@
-// A table for people.
+//! A table for people.
 ghost use Rattle.std.specs.Prelude.{◌≡◌, IfErr, OnOk};
 ghost use Rattle.metric_sheet.specs.Written.{IsSheetFault};
 

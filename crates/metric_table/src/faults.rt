@@ -1,4 +1,4 @@
-// The faults that the fields of a table may have.
+//! The faults that the fields of a table may have.
 
 /// What the reader of a table answers for each fault of its fields, with the table's place in it.
 #[derive(Clone, Copy)]

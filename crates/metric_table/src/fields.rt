@@ -1,4 +1,4 @@
-// The fields of a table that are a text, a number or a flag.
+//! The fields of a table that are a text, a number or a flag.
 ghost use Rattle.std.specs.Prelude.{◌≡◌, map, length};
 ghost use Rattle.std.specs.Option.{option_map};
 ghost use Rattle.std.specs.BTreeMap.{keys};

@@ -1,4 +1,4 @@
-// The fields of a table that are lists.
+//! The fields of a table that are lists.
 ghost use Rattle.std.specs.Prelude.{◌≡◌, ◌≤◌, Ok, Err, MatchResult, IfOk, is_some, map, length, vec_len};
 ghost use Rattle.std.specs.List.{list_all};
 ghost use Rattle.toml.specs.Data.{as_integer};

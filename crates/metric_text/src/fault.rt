@@ -1,4 +1,4 @@
-// Why what is spelled is not read.
+//! Why what is spelled is not read.
 ghost use Rattle.std.specs.Prelude.{◌≡◌};
 
 use std::alloc::AllocError;

@@ -1,4 +1,4 @@
-// Labels with what they name.
+//! Labels with what they name.
 ghost use Rattle.std.specs.Prelude.{◌≡◌, ◌++◌, OnOk};
 ghost use Rattle.metric_text.specs.Lists.{labelled, numbered};
 

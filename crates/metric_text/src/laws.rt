@@ -1,4 +1,4 @@
-// What the spellings promise, as laws of their definitions.
+//! What the spellings promise, as laws of their definitions.
 ghost use Rattle.std.specs.Prelude.{◌≡◌, ◌<◌, ◌≤◌, ◌^◌, ℕ, ℤ, List, Some, ◌++◌, FitsSigned, IsUtf8};
 ghost use Rattle.std.specs.Fmt.{decimal, signed_decimal};
 ghost use Rattle.std.specs.Int.{w64};

@@ -1,4 +1,4 @@
-// The lines of an input.
+//! The lines of an input.
 ghost use Rattle.std.specs.Prelude.{◌≡◌, ◌<◌, length, map, IfOk, IfSome};
 ghost use Rattle.std.specs.List.{position_from};
 ghost use Rattle.metric_text.specs.Lines.{is_feed, line_in, lines_of, without_return};

@@ -1,4 +1,4 @@
-// Numbers in decimal: without leading zeros and without `+`, and a negative one with `-`.
+//! Numbers in decimal: without leading zeros and without `+`, and a negative one with `-`.
 ghost use Rattle.std.specs.Prelude.{◌≡◌, ◌^◌};
 ghost use Rattle.std.specs.Option.{option_map};
 ghost use Rattle.metric_text.specs.Reading.{number_in, number_of, signed_in, signed_of};

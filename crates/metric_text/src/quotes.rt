@@ -1,4 +1,4 @@
-// Texts in quotes.
+//! Texts in quotes.
 ghost use Rattle.std.specs.Prelude.{◌≡◌, ◌<◌, ◌++◌, false, length, IfSome, OnOk};
 ghost use Rattle.std.specs.List.{flat_map, position_from};
 ghost use Rattle.std.specs.Option.{option_map};

@@ -1,4 +1,4 @@
-// Values with one spelling, and lists of them.
+//! Values with one spelling, and lists of them.
 ghost use Rattle.std.specs.Prelude.{◌≡◌, ◌∷◌, ◌++◌, OnOk};
 ghost use Rattle.std.specs.List.{flat_map};
 ghost use Rattle.metric_text.specs.Lists.{joined, list_text};

@@ -1,4 +1,4 @@
-// Attribute values, and keys with their values.
+//! Attribute values, and keys with their values.
 ghost use Rattle.std.specs.Prelude.{◌≡◌, ◌++◌, OnOk};
 ghost use Rattle.std.specs.Option.{option_map};
 ghost use Rattle.metric_text.specs.Reading.{Tells, bare_in, bare_of, quoted_value_in, value_in};

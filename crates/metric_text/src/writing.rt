@@ -1,4 +1,4 @@
-// Texts and numbers, written at the end of a buffer.
+//! Texts and numbers, written at the end of a buffer.
 ghost use Rattle.std.specs.Prelude.{◌≡◌, [], ◌∷◌, ◌++◌, OnOk};
 ghost use Rattle.std.specs.Fmt.{decimal, signed_decimal};
 

@@ -1,4 +1,4 @@
-// Files on a disk.
+//! Files on a disk.
 use metric_base::Text;
 use metric_console::{Folder, Unread};
 use metric_io::{Broken, ReadFault, StdSource, read_all};

@@ -1,4 +1,4 @@
-// A folder in memory.
+//! A folder in memory.
 use metric_base::{Items, Text};
 use metric_console::{Folder, Unread};
 use metric_io::Broken;

@@ -1,4 +1,4 @@
-// The command lines of the transcript.
+//! The command lines of the transcript.
 
 /// Each command on files that are right, and on each mistake.
 pub static LINES: [&str; 42] = [

@@ -1,4 +1,4 @@
-// The files of the transcript.
+//! The files of the transcript.
 
 pub const INTRODUCTION: &str = "# What `wormweekly` prints
 
