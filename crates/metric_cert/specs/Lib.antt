@@ -1,10 +1,10 @@
 pub mod Bounds
 pub mod Certificates
+pub mod Criteria
+pub mod CriteriaLaws
 pub mod Decimals
 pub mod Formats
-pub mod Making
 pub mod Names
-pub mod Ordering
 pub mod Orders
 pub mod Printing
 pub mod Reading

@@ -54,8 +54,9 @@ impl Certificate {
         }
     }
 
-    // The same where they are of such a format.
-    pub(crate) fn made(claims: Claims) -> Certificate
+    /// The certificate that makes these claims, which are of a format that there is: see
+    /// [`Claims::is_formatted`].
+    pub fn made(claims: Claims) -> Certificate
         requires { is_formatted claims ≡ true }
         ensures { result ≡ claims }
     {

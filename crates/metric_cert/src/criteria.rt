@@ -1,7 +1,7 @@
 //! What the criteria of a view ask of an instrument.
 ghost use Rattle.std.specs.Prelude.{◌≡◌, ◌↔◌, ◌∷◌, [], IsTrue};
 ghost use Rattle.metric_glob.specs.Matching.{any_text};
-ghost use Rattle.metric_cert.specs.Making.{holds};
+ghost use Rattle.metric_cert.specs.Criteria.{holds};
 ghost use Rattle.metric_cert.specs.Valid.{Holds, pattern_for};
 
 use crate::reason::Criterion;
@@ -12,7 +12,7 @@ use metric_views::{Criteria, is_of_kind, is_text};
 impl Criterion {
     /// Whether a view does not give this criterion, or it holds for an instrument of a meter (Metrics SDK,
     /// instrument selection criteria). Takes no memory.
-    #[tactic(auto, using(crate::proofs::Holding::holding))]
+    #[tactic(auto, using(crate::specs::CriteriaLaws::holding))]
     pub fn holds(self, criteria: &Criteria, meter: &Meter, instrument: &Instrument) -> bool
         ensures value { result ≡ holds self criteria.now meter.now instrument.now }
         ensures test { IsTrue result ↔ Holds self criteria.now meter.now instrument.now }

@@ -9,9 +9,9 @@ use Rattle.metric_views.specs.declared.config.Setup.{Setup}
 use Rattle.metric_resolve.specs.Resolved.{streams_of}
 use Rattle.metric_bounds.specs.Finding.{SafetyFinds}
 use Rattle.metric_cert.specs.declared.claims.Claims.{Claims as Certificate}
-use Rattle.metric_cert.specs.declared.make_fault.MakeFault.{MakeFault}
+use Rattle.metric_make.specs.declared.fault.MakeFault.{MakeFault}
 use Rattle.metric_cert.specs.Certificates.{certificate_from}
-use Rattle.metric_cert.specs.Making.{IsMade, make_faults}
+use Rattle.metric_make.specs.Making.{IsMade, make_faults}
 use Rattle.metric_cert.specs.Valid.{IsValid}
 use Rattle.metric_commands.specs.declared.fault.KitFault.{KitFault}
 use Rattle.metric_commands.specs.declared.fault.KitFault.TheVariants.{

@@ -4,8 +4,9 @@ ghost use Rattle.metric_commands.specs.Faults.{status_of};
 
 use metric_audit::AuditFault;
 use metric_catalogue::CatalogueFault;
-use metric_cert::{CertFault, MakeFault};
+use metric_cert::CertFault;
 use metric_io::{Broken, ReadFault};
+use metric_make::MakeFault;
 use metric_parts::InputFault;
 use metric_plan::CheckFault;
 use metric_provider::FinishFault;

@@ -5,8 +5,9 @@ ghost use Rattle.metric_commands.specs.Certifying.{FailsToMake, IsCertified, IsM
 use crate::declared::declared_of;
 use metric_base::Text;
 use metric_catalogue::Catalogue;
-use metric_cert::{Certificate, MakeFault, make};
+use metric_cert::Certificate;
 use metric_commands::KitFault;
+use metric_make::{MakeFault, make};
 use metric_parts::Parts;
 use metric_views::Config;
 use std::alloc::Global;

@@ -12,13 +12,13 @@ use crate::parts::Texts;
 use crate::replaying::lines_before;
 use metric_advice::Remark;
 use metric_base::Text;
-use metric_cert::MakeFault;
 use metric_commands::KitFault;
 use metric_diagnosis::{
     Diagnosis, NamedText, Pair, diagnose_catalogue, diagnose_certificate, diagnose_check,
     diagnose_config, diagnose_make, diagnose_remark,
 };
 use metric_io::Sink;
+use metric_make::MakeFault;
 use metric_request::{Files, LineFault, Request};
 use std::alloc::{AllocError, Global};
 

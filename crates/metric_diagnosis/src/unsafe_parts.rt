@@ -11,7 +11,7 @@ use crate::told::told_stream;
 use crate::toml_fault::want_of_memory;
 use metric_advice::{Limit, UnsafePart, explain_unsafe};
 use metric_catalogue::CataloguePlace;
-use metric_cert::MakeFault;
+use metric_make::MakeFault;
 use metric_resolve::resolve_streams;
 use metric_views::{ConfigPlace, Stream};
 use std::alloc::{AllocError, Global};

@@ -7,7 +7,7 @@ use Rattle.metric_views.specs.declared.stream.Stream.{Stream}
 use Rattle.metric_resolve.specs.Resolved.{streams_of}
 use Rattle.metric_bounds.specs.Amounts.{total_of}
 use Rattle.metric_bounds.specs.Sets.{listed_of, product_of}
-use Rattle.metric_cert.specs.Making.{entry_by_list, entry_of, entry_past, entry_with}
+use Rattle.metric_make.specs.Making.{entry_by_list, entry_of, entry_past, entry_with}
 use Rattle.metric_cert.specs.declared.claims.Claims.{Claims as Certificate}
 use Rattle.metric_cert.specs.declared.stream.By.TheVariants as by
 use Rattle.metric_cert.specs.declared.stream.StreamSets.{StreamSets}

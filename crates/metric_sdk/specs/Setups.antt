@@ -12,11 +12,11 @@ use Rattle.metric_bounds.specs.Finding.{SafetyFinds}
 use Rattle.metric_bounds.specs.Safe.{IsSafe}
 use Rattle.metric_bounds.specs.Sets.{product_of}
 use Rattle.metric_cert.specs.Certificates.{certificate_from}
-use Rattle.metric_cert.specs.Making.{entry_of, make_faults}
+use Rattle.metric_make.specs.Making.{entry_of, make_faults}
 use Rattle.metric_cert.specs.Valid.{IsValid}
 use Rattle.metric_cert.specs.declared.claims.Claims.{Claims as Certificate}
 use Rattle.metric_cert.specs.declared.fault.CertFault.{CertFault}
-use Rattle.metric_cert.specs.declared.make_fault.MakeFault.{MakeFault}
+use Rattle.metric_make.specs.declared.fault.MakeFault.{MakeFault}
 use Rattle.metric_check.specs.Findings.{CheckFinds}
 use Rattle.metric_check.specs.Products.{by_product_of}
 use Rattle.metric_plan.specs.Plans.{PlanValue, plan_of}

@@ -1,6 +1,7 @@
 //! Why a service gets no plan.
 use metric_catalogue::CatalogueFault;
-use metric_cert::{CertFault, MakeFault};
+use metric_cert::CertFault;
+use metric_make::MakeFault;
 use metric_plan::CheckFault;
 use metric_views::ViewFault;
 use std::alloc::AllocError;

@@ -7,8 +7,9 @@ ghost use Rattle.metric_sdk.specs.Setups.{IsCertifiedPlan, IsFirstFault, Makes, 
 
 use crate::fault::SetupFault;
 use metric_catalogue::{Catalogue, CatalogueFault};
-use metric_cert::{Certificate, MakeFault, make};
+use metric_cert::Certificate;
 use metric_check::check;
+use metric_make::{MakeFault, make};
 use metric_plan::Plan;
 use metric_views::{Config, ViewFault};
 use std::alloc::Global;

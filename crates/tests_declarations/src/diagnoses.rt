@@ -3,11 +3,12 @@ use crate::declared::{Declared, read_both};
 use crate::equal::assert_equal;
 use metric_advice::lint;
 use metric_catalogue::Catalogue;
-use metric_cert::{CertFault, MakeFault, make};
+use metric_cert::CertFault;
 use metric_diagnosis::{
     NamedText, Pair, diagnose_catalogue, diagnose_certificate, diagnose_check, diagnose_config,
     diagnose_make, diagnose_remark,
 };
+use metric_make::{MakeFault, make};
 use metric_plan::CheckFault;
 use metric_views::Config;
 use std::alloc::{AllocError, Global};

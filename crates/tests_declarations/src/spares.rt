@@ -2,7 +2,8 @@
 use crate::equal::assert_equal;
 use crate::words::write_joined;
 use metric_catalogue::Catalogue;
-use metric_cert::{InstrumentBound, make};
+use metric_cert::InstrumentBound;
+use metric_make::make;
 use metric_views::Config;
 use std::alloc::{AllocError, Global};
 use std::test::Fail;

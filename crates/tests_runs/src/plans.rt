@@ -1,8 +1,9 @@
 //! Plans, read from texts.
 use metric_catalogue::Catalogue;
-use metric_cert::{Certificate, make};
+use metric_cert::Certificate;
 use metric_check::check;
 use metric_facts::Facts;
+use metric_make::make;
 use metric_plan::{CheckFault, Plan};
 use metric_views::Config;
 use std::alloc::Global;

@@ -7,7 +7,7 @@ use crate::certificates::samples::{
 };
 use crate::declared::{Declared, read_both};
 use crate::equal::assert_equal;
-use metric_cert::make;
+use metric_make::make;
 use std::alloc::{AllocError, Global};
 use std::test::Fail;
 

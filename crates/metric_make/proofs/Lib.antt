@@ -1,0 +1,9 @@
+mod Finds
+mod Pairs
+mod Named
+mod Numbered
+mod Collided
+mod Rising
+mod Entries
+mod Formatted
+mod Validity
