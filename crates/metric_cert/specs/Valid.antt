@@ -1,12 +1,9 @@
 -- When a certificate shows that a catalogue and a config are safe. It is said of the certificate
 -- alone, apart from how one is made or checked.
 use Rattle.std.specs.Prelude.{◌≡◌, ℕ, pos, ◌≤◌, IsTrue, All, AllPairs, Contains, IfSome, IsSomeAnd}
-use Rattle.std.specs.Prelude.{List, [], ◌∷◌, map, Option, Some, option_and_then, unwrap_or}
+use Rattle.std.specs.Prelude.{List, [], ◌∷◌, map, Option, Some, unwrap_or}
 use Rattle.std.specs.Prelude.{slice_get}
 use Rattle.std.specs.List.{AllZip, flat_map}
-use Rattle.std.specs.Cmp.Lexicographic.{slice_cmp}
-use Rattle.std.specs.Ordering.{nat_cmp, on, then_cmp}
-use Rattle.std.specs.declared.cmp.Ordering.{Ordering}
 use Rattle.std.specs.declared.cmp.Ordering.TheVariants.{Less}
 use Rattle.metric_glob.specs.Reasons.{Confirms}
 use Rattle.metric_glob.specs.Matching.{any_text}
@@ -18,7 +15,9 @@ use Rattle.metric_views.specs.declared.config.Criteria.{Criteria}
 use Rattle.metric_views.specs.declared.config.View.{View}
 use Rattle.metric_views.specs.declared.stream.Stream.{Stream}
 use Rattle.metric_resolve.specs.Applying.{all_instruments, all_readers, all_views, meter_at}
-use Rattle.metric_resolve.specs.Collisions.{Identity, identity_of}
+use Rattle.metric_resolve.specs.Collisions.{Identity}
+use Rattle.metric_resolve.specs.Identities.{identity_order}
+use Rattle.metric_resolve.specs.Laws.{identity_at}
 use Rattle.metric_resolve.specs.Resolved.{streams_of}
 use Rattle.metric_bounds.specs.Amounts.{amount_with, high_with, low_with, total_of}
 use Rattle.metric_bounds.specs.Safe.{IsSafeInstrument}
@@ -132,21 +131,11 @@ IsBoundAt contents streams number bound =
 
 -- Orders
 
--- by meter name, version, schema URL, then name without ASCII case, each by bytes
-abbrev pub identity_order : Identity → Identity → Ordering
-identity_order =
-    then_cmp (on (λ i. i.meter) (slice_cmp nat_cmp))
-    (then_cmp (on (λ i. i.version) (slice_cmp nat_cmp))
-    (then_cmp (on (λ i. i.schema_url) (slice_cmp nat_cmp)) (on (λ i. i.name) (slice_cmp nat_cmp))))
-
+-- Both are there, and the first is below the second: of one reader, by meter name, version, schema
+-- URL, then name without ASCII case.
 abbrev pub IsBelow : Option Identity → Option Identity → Type 0
 IsBelow (Some x) (Some y) = identity_order x y ≡ Less
 IsBelow _ _ = ⊥
-
--- the identity of the stream of a number
-abbrev pub identity_at : Contents → List Stream → ℕ → Option Identity
-identity_at contents streams number =
-    option_and_then (identity_of contents) (slice_get streams number)
 
 -- The number is that of a stream of the reader.
 abbrev pub IsStreamOf : List Stream → ℕ → ℕ → Type 0

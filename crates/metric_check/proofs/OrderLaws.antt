@@ -1,12 +1,11 @@
 -- Orders of own streams that rise, and name as many streams as there are, name all.
 use Rattle.std.proofs.Common.{◌≡◌, ◌≢◌, ℕ, zero, suc, ◌+◌, ◌-◌, ◌<◌, Bool, true, false, ◌||◌, List, [], ◌∷◌, ◌++◌, length, drop, All, AllPairs, Contains, Decides, IsSomeAnd, get_or, Option, Some, None, slice_get, refl, sym, ap, subst, ◌∙◌, inl, inr, length-append, arith}
-use Rattle.std.specs.Cmp.{IsTotalOrder}
 use Rattle.std.specs.List.{AllByRecursion, AllZip, IsDistinct, list_any, range_with_len}
 use Rattle.std.specs.declared.cmp.Ordering.TheVariants.{Equal, Less}
 use Rattle.std.proofs.Math.Dec.{eqb}
 use Rattle.std.proofs.lemmas.Bool.{or_cases}
 use Rattle.std.proofs.lemmas.Bool.Decides.{eqb_tells}
-use Rattle.std.proofs.lemmas.Cmp.{nat_eq_equiv, nat_list_cmp_total, on_total, then_total, tied_itself}
+use Rattle.std.proofs.lemmas.Cmp.{nat_eq_equiv, tied_itself}
 use Rattle.std.proofs.lemmas.List.Elements.{All-contains, Contains-append_cases, Contains-append_left, Contains-append_right, Contains-get_or, at_from_Contains}
 use Rattle.std.proofs.lemmas.List.FromFn.{length-range_with_len}
 use Rattle.std.proofs.lemmas.Map.Keys.{IsDistinct-cons, IsDistinct-head, IsDistinct-tail}
@@ -19,29 +18,26 @@ use Rattle.metric_catalogue.specs.declared.contents.Contents.{Contents}
 use Rattle.metric_views.specs.declared.config.Config.{Config}
 use Rattle.metric_views.specs.declared.stream.Stream.{Stream}
 use Rattle.metric_resolve.specs.Collisions.{Identity}
+use Rattle.metric_resolve.specs.IdentityLaws.{identity_order_total}
 use Rattle.metric_resolve.specs.Applying.{all_readers}
 use Rattle.metric_resolve.specs.Resolved.{streams_of}
 use Rattle.metric_cert.specs.declared.order.ReaderOrder.{ReaderOrder}
-use Rattle.metric_cert.specs.Valid.{IsBelow, IsOrderOf, IsStreamOf, identity_at, identity_order}
+use Rattle.metric_cert.specs.Valid.{IsBelow, IsOrderOf, IsStreamOf}
+use Rattle.metric_resolve.specs.Laws.{identity_at}
 use Rattle.metric_check.specs.Rising.{AreOwnOrders, AreTested, IsOwnOrder, RisesTo, named_by}
 use Rattle.metric_check.proofs.OwnStreams.{known_reader}
 use Rattle.metric_check.proofs.Walks.{drop_at, there}
 
-identity_total : IsTotalOrder identity_order
-identity_total =
-    then_total (on_total (λ i. i.meter) nat_list_cmp_total) (then_total (on_total (λ i. i.version) nat_list_cmp_total)
-    (then_total (on_total (λ i. i.schema_url) nat_list_cmp_total) (on_total (λ i. i.name) nat_list_cmp_total)))
-
 -- no identity is below itself
 pub never_below : (o : Option Identity) → IsBelow o o → ⊥
 never_below None p = p
-never_below (Some x) p = not_both (sym p ∙ tied_itself identity_total x)
+never_below (Some x) p = not_both (sym p ∙ tied_itself identity_order_total x)
   where
     not_both : Less ≡ Equal → ⊥
     not_both e = cc
 
 pub below_trans : (x y z : Option Identity) → IsBelow x y → IsBelow y z → IsBelow x z
-below_trans (Some x) (Some y) (Some z) p q = identity_total.trans x y z p q
+below_trans (Some x) (Some y) (Some z) p q = identity_order_total.trans x y z p q
 below_trans (Some x) (Some y) None p q = absurd q
 below_trans (Some x) None z p q = absurd p
 below_trans None y z p q = absurd p

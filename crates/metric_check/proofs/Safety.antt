@@ -25,7 +25,8 @@ use Rattle.metric_cert.specs.declared.order.ReaderOrder.{ReaderOrder}
 use Rattle.metric_cert.specs.declared.stream.By.{By}
 use Rattle.metric_cert.specs.declared.stream.By.TheVariants as by
 use Rattle.metric_cert.specs.declared.stream.StreamSets.{StreamSets}
-use Rattle.metric_cert.specs.Valid.{IsBelow, IsBoundAt, IsBoundOf, IsEntryOf, IsOrderOf, IsStreamOf, bound_by, identity_at}
+use Rattle.metric_cert.specs.Valid.{IsBelow, IsBoundAt, IsBoundOf, IsEntryOf, IsOrderOf, IsStreamOf, bound_by}
+use Rattle.metric_resolve.specs.Laws.{identity_at}
 use Rattle.metric_check.specs.Checked.{ValidIsSafe}
 use Rattle.metric_check.specs.Rising.{RisesTo}
 use Rattle.metric_check.proofs.OrderLaws.{length-zip_range, never_below, range_zip}

@@ -4,7 +4,8 @@ use Rattle.metric_catalogue.specs.declared.contents.Contents.{Contents}
 use Rattle.metric_views.specs.declared.config.Config.{Config}
 use Rattle.metric_views.specs.declared.stream.Stream.{Stream}
 use Rattle.metric_cert.specs.declared.order.ReaderOrder.{ReaderOrder}
-use Rattle.metric_cert.specs.Valid.{IsBelow, IsStreamOf, identity_at}
+use Rattle.metric_cert.specs.Valid.{IsBelow, IsStreamOf}
+use Rattle.metric_resolve.specs.Laws.{identity_at}
 
 -- The identity of the stream of one number is below that of another.
 abbrev pub RisesTo : Contents → List Stream → ℕ → ℕ → Type 0

@@ -1,7 +1,8 @@
 //! Whether a certificate names the streams of each reader in the order in which their identities rise.
 ghost use Rattle.std.specs.Prelude.{◌≡◌, ◌↔◌, All, AllPairs, IsTrue, length, option_map};
 ghost use Rattle.std.specs.Result.{result_err};
-ghost use Rattle.metric_cert.specs.Valid.{IsStreamOf, identity_at, identity_order};
+ghost use Rattle.metric_cert.specs.Valid.{IsStreamOf};
+ghost use Rattle.metric_resolve.specs.Laws.{identity_at};
 ghost use Rattle.metric_resolve.specs.Collisions.{identity_with};
 ghost use Rattle.metric_resolve.specs.Resolved.{streams_of};
 ghost use Rattle.metric_check.specs.Findings.{OrdersFind};
@@ -10,6 +11,7 @@ ghost use Rattle.metric_check.specs.Rising.{AreOwnOrders, AreTested, IsOwnOrder,
 use metric_catalogue::{Catalogue, Meter};
 use metric_cert::ReaderOrder;
 use metric_plan::CheckFault;
+use metric_resolve::identity_order;
 use metric_views::{Config, Stream};
 use std::cmp::Ordering;
 
@@ -144,19 +146,4 @@ fn identified<'a>(
     let instrument = catalogue.instruments().get(stream.instrument as usize)?;
     let meter = catalogue.meters().get(instrument.meter as usize)?;
     Some((stream, meter))
-}
-
-// The order of identities.
-fn identity_order(stream: &Stream, meter: &Meter, other: &Stream, other_meter: &Meter) -> Ordering
-    ensures { result ≡ identity_order (identity_with stream.now meter.now)
-        (identity_with other.now other_meter.now) }
-{
-    let names = stream.name.get().fold_order(other.name.get());
-    let urls = meter
-        .schema_url
-        .as_str()
-        .cmp(other_meter.schema_url.as_str());
-    let versions = meter.version.as_str().cmp(other_meter.version.as_str());
-    let meters = meter.name.as_str().cmp(other_meter.name.as_str());
-    meters.then(versions.then(urls.then(names)))
 }

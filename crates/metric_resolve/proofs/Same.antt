@@ -1,8 +1,6 @@
 -- Equal identities.
 use Rattle.std.proofs.Common.{◌≡◌, ℕ, ◌+◌, ◌<◌, Bool, true, false, cond, ◌&&◌, List, [], ◌∷◌, ◌++◌, length, take, get_or, Option, Some, None, Decides, refl, sym, ap, subst, ◌∙◌, arith, length-take}
-use Rattle.std.specs.Cmp.{IsTotalOrder}
 use Rattle.std.specs.Option.{option_map}
-use Rattle.std.proofs.lemmas.Cmp.{nat_cmp_total, nat_list_cmp_total, on_total, then_total}
 use Rattle.std.proofs.lemmas.Option.{slice_get_read}
 use Rattle.std.proofs.lemmas.Bool.Decides.{Decides-eqb}
 use Rattle.std.proofs.lemmas.List.{take_more}
@@ -11,7 +9,6 @@ use Rattle.metric_catalogue.specs.declared.contents.Contents.{Contents}
 use Rattle.metric_catalogue.specs.PlaceLaws.{or_else, position_from-push}
 use Rattle.metric_views.specs.declared.stream.Stream.{Stream}
 use Rattle.metric_resolve.specs.declared.warning.Warning.TheVariants as warnings
-use Rattle.metric_resolve.specs.Identities.{identity_order}
 use Rattle.metric_resolve.specs.Collisions.{Identity, collision_at, first_of, identity_of, is_identity, is_same}
 
 pub both : {P Q : Type 0} (a b : Bool) → Decides a P → Decides b Q → Decides (a && b) (P × Q)
@@ -95,10 +92,3 @@ pub collision_at-is : (contents : Contents) (streams : List Stream) (n : ℕ) (s
 unfolding collision_at
 collision_at-is contents streams n stream own first within is e found =
     rw (slice_get_read streams (length streams) n stream refl within is, e, found) refl
-
--- identities have a total order
-pub identity_order_total : IsTotalOrder identity_order
-identity_order_total =
-    then_total (on_total (λ i. i.reader) nat_cmp_total)
-    (then_total (then_total (on_total (λ i. i.meter) nat_list_cmp_total) (then_total (on_total (λ i. i.version) nat_list_cmp_total) (on_total (λ i. i.schema_url) nat_list_cmp_total)))
-    (on_total (λ i. i.name) nat_list_cmp_total))

@@ -5,6 +5,7 @@ pub mod Unfit
 pub mod Collisions
 pub mod Warnings
 pub mod Identities
+pub mod IdentityLaws
 pub mod StreamKeys
 pub mod Firsts
 pub mod Laws
