@@ -10,7 +10,7 @@ use toml::Value;
 
 /// A kind of entry of a certificate. What is written is read as itself. It is no type that crates above see: they would
 /// all carry what TOML's values are.
-pub(crate) trait Entry {
+pub(crate) trait EntryKind {
     ghost use Rattle.std.specs.Prelude.{ℕ, Result};
     ghost use Rattle.toml.specs.Data.{Data};
     ghost use Rattle.metric_cert.specs.declared.fault.CertFault.{CertFault as Fault};

@@ -5,7 +5,7 @@ ghost use Rattle.toml.specs.View.{table_view};
 ghost use Rattle.metric_base.specs.Steps.{Gives};
 ghost use Rattle.metric_cert.specs.Writing.{IsPrintable};
 
-use crate::entry::Entry;
+use crate::entry::EntryKind;
 use crate::fault::{CertFault, shape_faults};
 use crate::lists::ListOf;
 use crate::tables::{empty_table, tabled};
@@ -46,7 +46,7 @@ pub(crate) struct TableEntry<F>(PhantomData<F>);
 /// A list of such entries.
 pub(crate) type TableEntries<F> = ListOf<TableEntry<F>>;
 
-impl<F: Fields> Entry for TableEntry<F> {
+impl<F: Fields> EntryKind for TableEntry<F> {
     ghost use Rattle.std.specs.Prelude.{◌+◌};
     ghost use Rattle.metric_cert.specs.Reading.{table_as};
 

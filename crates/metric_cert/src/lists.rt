@@ -7,7 +7,7 @@ ghost use Rattle.metric_table.specs.Fields.{each_alone};
 ghost use Rattle.metric_cert.specs.Reading.{values_of};
 ghost use Rattle.metric_cert.specs.Writing.{IsPrintable};
 
-use crate::entry::Entry;
+use crate::entry::EntryKind;
 use crate::fault::CertFault;
 use metric_base::Items;
 use std::alloc::{AllocError, Global};
@@ -17,7 +17,7 @@ use toml::Value;
 /// A list of entries of a kind.
 pub(crate) struct ListOf<E>(PhantomData<E>);
 
-impl<E: Entry> Entry for ListOf<E> {
+impl<E: EntryKind> EntryKind for ListOf<E> {
     ghost use Rattle.std.specs.Prelude.{◌+◌};
     ghost use Rattle.metric_cert.specs.Reading.{list_of};
 
@@ -57,7 +57,7 @@ pub(crate) fn listed(values: Vec<Value>) -> Value
     Value::Array(values)
 }
 
-fn read_all<E: Entry>(alloc: Global, values: &[Value]) -> Result<Items<E::Read>, CertFault>
+fn read_all<E: EntryKind>(alloc: Global, values: &[Value]) -> Result<Items<E::Read>, CertFault>
     ensures { Gives CertFault.Memory result (each_alone E.step (map view values.now)) }
 {
     let mut entries = Items::new(alloc);
@@ -69,7 +69,7 @@ fn read_all<E: Entry>(alloc: Global, values: &[Value]) -> Result<Items<E::Read>,
 }
 
 /// The values of the entries.
-pub(crate) fn write_all<E: Entry>(
+pub(crate) fn write_all<E: EntryKind>(
     alloc: Global,
     entries: &[E::Read],
 ) -> Result<Vec<Value>, AllocError>

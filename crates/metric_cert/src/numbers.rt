@@ -4,7 +4,7 @@ ghost use Rattle.toml.specs.Data.{integer, string};
 ghost use Rattle.toml.specs.View.{view};
 
 use crate::decimals::i128_of;
-use crate::entry::Entry;
+use crate::entry::EntryKind;
 use crate::fault::{CertFault, shape_faults};
 use metric_table::{integer_of, text_of};
 use metric_text::u64_of;
@@ -14,7 +14,7 @@ use toml::Value;
 /// A number of 16 bits.
 pub(crate) struct ShortNumber;
 
-impl Entry for ShortNumber {
+impl EntryKind for ShortNumber {
     ghost use Rattle.std.specs.Prelude.{◌^◌};
     ghost use Rattle.metric_cert.specs.Reading.{whole_of};
 
@@ -39,7 +39,7 @@ impl Entry for ShortNumber {
 /// A number of 32 bits.
 pub(crate) struct Number;
 
-impl Entry for Number {
+impl EntryKind for Number {
     ghost use Rattle.std.specs.Prelude.{◌^◌};
     ghost use Rattle.metric_cert.specs.Reading.{whole_of};
 
@@ -64,7 +64,7 @@ impl Entry for Number {
 /// A number of 64 bits, as a decimal text.
 pub(crate) struct Decimal;
 
-impl Entry for Decimal {
+impl EntryKind for Decimal {
     ghost use Rattle.metric_cert.specs.Reading.{decimal_of};
 
     type Read = u64;
@@ -90,7 +90,7 @@ impl Entry for Decimal {
 /// A number of 128 bits with a sign, as a decimal text.
 pub(crate) struct SignedDecimal;
 
-impl Entry for SignedDecimal {
+impl EntryKind for SignedDecimal {
     ghost use Rattle.metric_cert.specs.Reading.{signed_decimal_of};
 
     type Read = i128;

@@ -4,7 +4,7 @@ ghost use Rattle.toml.specs.View.{view};
 ghost use Rattle.metric_cert.specs.Printing.{AppendsEntries, AppendsEntry, AppendsLines, IsFieldText, IsPair, pair, pair_of};
 ghost use Rattle.metric_cert.specs.Reading.{table_as};
 
-use crate::entry::Entry;
+use crate::entry::EntryKind;
 use crate::fields::{Fields, TableEntry};
 use crate::lists::listed;
 use crate::tables::{empty_table, insert};

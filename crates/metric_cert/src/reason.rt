@@ -7,7 +7,7 @@ ghost use Rattle.metric_cert.specs.Names.{criterion_name, criterion_named};
 ghost use Rattle.metric_cert.specs.Reading.{shape_faults};
 ghost use Rattle.metric_cert.specs.Reasons.{PutsEvidence, evidence_of, one_of, reason_fields};
 
-use crate::entry::Entry;
+use crate::entry::EntryKind;
 use crate::fault::{CertFault, shape_faults};
 use crate::fields::Fields;
 use crate::lists::ListOf;
@@ -90,7 +90,7 @@ type Takes = ListOf<ShortNumber>;
 /// The word for a criterion.
 pub(crate) struct CriterionWord;
 
-impl Entry for CriterionWord {
+impl EntryKind for CriterionWord {
     ghost use Rattle.metric_cert.specs.Names.{criterion_of};
 
     type Read = Criterion;

@@ -7,7 +7,7 @@ ghost use Rattle.metric_cert.specs.Names.{by_name, word_for, word_name, word_nam
 ghost use Rattle.metric_cert.specs.Reading.{shape_faults};
 ghost use Rattle.metric_cert.specs.Streams.{PutsList, by_of, by_with, stream_fields};
 
-use crate::entry::Entry;
+use crate::entry::EntryKind;
 use crate::fault::{CertFault, shape_faults};
 use crate::fields::Fields;
 use crate::lists::{ListOf, listed, write_all};
@@ -98,7 +98,7 @@ impl BoundWord {
 /// Such a word.
 pub(crate) struct ByWord;
 
-impl Entry for ByWord {
+impl EntryKind for ByWord {
     ghost use Rattle.metric_cert.specs.Names.{word_of};
 
     type Read = BoundWord;
@@ -125,7 +125,7 @@ pub(crate) struct SetKeyEntry;
 // The sets of a list.
 type SetKeys = ListOf<SetKeyEntry>;
 
-impl Entry for SetKeyEntry {
+impl EntryKind for SetKeyEntry {
     ghost use Rattle.metric_cert.specs.Streams.{set_key_of};
 
     type Read = SetKey;

@@ -6,7 +6,7 @@ ghost use Rattle.metric_base.specs.Steps.{Gives};
 ghost use Rattle.metric_cert.specs.Reading.{needed, optional};
 ghost use Rattle.metric_cert.specs.Writing.{Puts, PutsGiven, with_member};
 
-use crate::entry::Entry;
+use crate::entry::EntryKind;
 use crate::fault::{CertFault, shape_faults};
 use metric_table::{member, required};
 use std::alloc::{AllocError, Global};
@@ -14,7 +14,7 @@ use toml::{Table, Value};
 
 /// What a needed field stands for.
 #[tactic(auto, unfolding(crate::specs::Reading::needed))]
-pub(crate) fn needed<E: Entry>(
+pub(crate) fn needed<E: EntryKind>(
     alloc: Global,
     table: &Table,
     name: &str,
@@ -27,7 +27,7 @@ pub(crate) fn needed<E: Entry>(
 
 /// What a field stands for, where the table has it.
 #[tactic(auto, unfolding(crate::specs::Reading::optional))]
-pub(crate) fn optional<E: Entry>(
+pub(crate) fn optional<E: EntryKind>(
     alloc: Global,
     table: &Table,
     name: &str,
@@ -58,7 +58,7 @@ pub(crate) fn tabled(table: Table) -> Value
 }
 
 /// Puts a field that the table does not have.
-pub(crate) fn put<E: Entry>(
+pub(crate) fn put<E: EntryKind>(
     alloc: Global,
     table: &mut Table,
     name: &str,
@@ -73,7 +73,7 @@ pub(crate) fn put<E: Entry>(
 }
 
 /// Puts a field that may be left out.
-pub(crate) fn put_given<E: Entry>(
+pub(crate) fn put_given<E: EntryKind>(
     alloc: Global,
     table: &mut Table,
     name: &str,

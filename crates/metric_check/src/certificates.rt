@@ -13,12 +13,12 @@ use crate::limits::check_limits;
 use crate::orders::check_orders;
 use crate::reasons::check_reasons;
 use crate::selection::ByReasons;
-use metric_base::{Few, Items};
+use metric_base::Items;
 use metric_catalogue::Catalogue;
 use metric_cert::{By, Certificate, Claims, StreamSets};
 use metric_glob::Pattern;
 use metric_plan::{CheckFault, Plan};
-use metric_resolve::streams_by;
+use metric_resolve::{StreamList, streams_by};
 use metric_views::{Config, Stream};
 use std::alloc::{AllocError, Global};
 
@@ -63,7 +63,7 @@ pub fn check(
 
 // The streams of a config, and a flag for each that says whether its entry is by product.
 struct CheckedStreams {
-    streams: Few<Stream, 2_097_152>,
+    streams: StreamList,
     by_product: Items<bool>,
 }
 

@@ -33,7 +33,7 @@ pub fn command_of<'a>(alloc: Global, words: &'a [&'a str]) -> Result<Line, LineF
         takes kit_app (map (λ w. w.now) words.entry.now) ≡ true → ⊥ }
 {
     let matches = kit_command(alloc)?.try_get_matches_from(words)?;
-    Ok(line_of(&matches))
+    Ok(line_asked(&matches))
 }
 
 fn kit_command<'a>(alloc: Global) -> Result<Command<'a>, AllocError>
@@ -102,7 +102,7 @@ fn plain_command<'a>(alloc: Global) -> Result<Command<'a>, AllocError>
         .subcommand(Command::new(alloc, "show"))
 }
 
-fn line_of(matches: &ArgMatches<'_>) -> Line
+fn line_asked(matches: &ArgMatches<'_>) -> Line
     ensures { result ≡ line_in (subcommand_rows_of matches.now) }
 {
     match matches.subcommand() {

@@ -31,7 +31,7 @@ use Rattle.metric_catalogue.specs.declared.refusal.Refusal.TheVariants.{UnknownI
 use Rattle.metric_facts.specs.declared.facts.Facts.{Facts}
 use Rattle.metric_facts.specs.declared.facts.NumberedStream.{NumberedStream}
 use Rattle.metric_facts.specs.Facts.{EncodesAllowedSets, RunFacts, in_bounds, is_allowed_set, is_delta, is_full_set, is_of_reader, key_facts}
-use Rattle.metric_history.specs.Answers.{Told, batch, collected, recorded, spent}
+use Rattle.metric_history.specs.Answers.{Past, batch, collected, recorded, spent}
 use Rattle.metric_history.specs.Encoded.{encoded}
 use Rattle.metric_history.specs.History.{History, accepted, added_by, batch_time, collects, granted_of, handed_of, is_closed, mark_of, previous_of, told_of}
 use Rattle.metric_history.specs.Legal.{AllLegal, IsLegal, KeepsLegal, Legal, LegalClose, LegalCollect, LegalGrant, LegalRecord, grown}
@@ -129,7 +129,7 @@ record_taken run start h i own recorder attrs value (Some other) found legal =
     at (Ok entry) is ok = recorded_taken run start h i other recorder attrs value entry is
     at (Err refusal) is ok = absurd ok
 
-collect_told : (own : Facts) (start : ℕ) (told : Told) (q now : ℕ) (b : Batch) (o : Option Facts) → o ≡ Some own
+collect_told : (own : Facts) (start : ℕ) (told : Past) (q now : ℕ) (b : Batch) (o : Option Facts) → o ≡ Some own
     → LegalCollect (require_some o UnknownInstrument >>= λ own. collected own start told q now) (Collected b)
     → (q < length own.delta) × (b ≡ batch own start told q now)
 collect_told own start told q now b None found legal = absurd cc

@@ -30,7 +30,7 @@ use Rattle.metric_catalogue.specs.declared.refusal.Refusal.TheVariants.{
 }
 use Rattle.metric_facts.specs.declared.facts.FactsFields.{FactsFields as Facts}
 use Rattle.metric_facts.specs.Facts.{RunFacts, in_bounds}
-use Rattle.metric_history.specs.Answers.{Told, batch, closing, collected, granting, recorded, spent}
+use Rattle.metric_history.specs.Answers.{Past, batch, closing, collected, granting, recorded, spent}
 use Rattle.metric_history.specs.Encoded.{encoded}
 use Rattle.metric_history.specs.History.{History, answered, told_of}
 use Rattle.metric_history.specs.Legal.{AllLegal, Legal, LegalClose, LegalCollect, LegalGrant}
@@ -108,7 +108,7 @@ record_steps true (Ok s) true false d fits entry known = record { known = refl }
 record_steps true (Ok s) true true false fits entry known = record { known = refl }
 record_steps true (Ok s) true true true fits entry known = one_step (fits s) SumRange (entry s) refl
 
-recorded_remembered : (own : Option Facts) (told : Told) (set : Result (List ℕ) Refusal)
+recorded_remembered : (own : Option Facts) (told : Past) (set : Result (List ℕ) Refusal)
     (recorder : ℕ) (value : ℤ) → IsRemembered set
     → IsRemembered
     (require_some own UnknownInstrument >>= λ facts. recorded facts told set recorder value)
@@ -120,7 +120,7 @@ recorded_remembered (Some facts) told set recorder value known =
     (slice_index facts.budgets recorder + told.granted recorder))
     (λ s. fits_all facts told.mark told.accepted (entry s)) entry known
 
-collected_remembered : (own : Option Facts) (start : ℕ) (told : Told) (reader now : ℕ)
+collected_remembered : (own : Option Facts) (start : ℕ) (told : Past) (reader now : ℕ)
     → IsRemembered
     (require_some own UnknownInstrument >>= λ facts. collected facts start told reader now)
 collected_remembered None start told reader now = record { known = refl }
@@ -132,7 +132,7 @@ closed_remembered : (b : Bool) → IsRemembered (require b Closed)
 closed_remembered true = record { known = refl }
 closed_remembered false = record { known = refl }
 
-closing_remembered : (own : Option Facts) (told : Told)
+closing_remembered : (own : Option Facts) (told : Past)
     → IsRemembered (require_some own UnknownInstrument >>= λ _. closing told)
 closing_remembered None told = record { known = refl }
 closing_remembered (Some facts) told = closed_remembered (not told.closed)
@@ -144,7 +144,7 @@ grant_steps true false c = record { known = refl }
 grant_steps true true false = record { known = refl }
 grant_steps true true true = record { known = refl }
 
-granting_remembered : (own : Option Facts) (told : Told) (recorder amount : ℕ)
+granting_remembered : (own : Option Facts) (told : Past) (recorder amount : ℕ)
     → IsRemembered
     (require_some own UnknownInstrument >>= λ facts. granting facts told recorder amount)
 granting_remembered None told recorder amount = record { known = refl }

@@ -2,7 +2,7 @@
 ghost use Rattle.metric_commands.specs.Checking.{IsAcceptance, IsFirstCheckFault};
 ghost use Rattle.metric_commands.specs.Commands.{RunsCommand, sink_run, source_run};
 
-use crate::command::{Command, run};
+use crate::command::{Command, run_whole};
 use crate::fault::KitFault;
 use crate::parts::write_text;
 use crate::planning::certified_plan;
@@ -27,7 +27,7 @@ pub fn check_run<R: Source, W: Sink>(
         (source_run R.remaining R.counts source.old source.new)
         (sink_run W.contents W.failures sink.old sink.new) result }
 {
-    run(alloc, &Check, source, sink)
+    run_whole(alloc, &Check, source, sink)
 }
 
 /// The command that checks a certificate.

@@ -87,7 +87,7 @@ pub(crate) trait Command {
 }
 
 /// Reads an input, and writes the text of the command's answer.
-pub(crate) fn run<C: Command, R: Source, W: Sink>(
+pub(crate) fn run_whole<C: Command, R: Source, W: Sink>(
     alloc: Global,
     command: &C,
     source: &mut R,
@@ -98,12 +98,12 @@ pub(crate) fn run<C: Command, R: Source, W: Sink>(
         (sink_run W.contents W.failures sink.old sink.new) result }
 {
     let input = read_all(alloc, source)?;
-    let answer = answer_to(alloc, command, &input)?;
+    let answer = read_and_answer(alloc, command, &input)?;
     write_answer(alloc, command, sink, answer)
 }
 
 /// The answer of a command to an input.
-pub(crate) fn answer_to<C: Command>(
+pub(crate) fn read_and_answer<C: Command>(
     alloc: Global,
     command: &C,
     input: &[u8],

@@ -4,7 +4,7 @@ ghost use Rattle.metric_commands.specs.Certifying.{FailsToMake, IsCertificateTex
 ghost use Rattle.metric_commands.specs.Commands.{RunsCommand, sink_run, source_run};
 ghost use Rattle.metric_commands.specs.Faults.{IsOfInput};
 
-use crate::command::{Command, run};
+use crate::command::{Command, run_whole};
 use crate::fault::KitFault;
 use crate::parts::write_text;
 use crate::planning::declared_of;
@@ -32,7 +32,7 @@ pub fn make_run<R: Source, W: Sink>(
         (source_run R.remaining R.counts source.old source.new)
         (sink_run W.contents W.failures sink.old sink.new) result }
 {
-    run(alloc, &Make, source, sink)
+    run_whole(alloc, &Make, source, sink)
 }
 
 // The command that makes a certificate.

@@ -5,7 +5,7 @@ ghost use Rattle.metric_commands.specs.Faults.{IsOfInput};
 ghost use Rattle.metric_commands.specs.Replaying.{IsAuditedRun, IsFirstFault, IsOutput, IsReplayFault};
 
 use crate::audits::audited_replies;
-use crate::command::{Command, run};
+use crate::command::{Command, run_whole};
 use crate::fault::KitFault;
 use crate::options::ReplayOptions;
 use crate::pieces::write_run;
@@ -43,9 +43,9 @@ pub fn replay<R: Source, W: Sink>(
 {
     let trial = options.trial;
     if options.audit {
-        run(alloc, &AuditedReplay { trial }, source, sink)
+        run_whole(alloc, &AuditedReplay { trial }, source, sink)
     } else {
-        run(alloc, &PlainReplay { trial }, source, sink)
+        run_whole(alloc, &PlainReplay { trial }, source, sink)
     }
 }
 

@@ -8,7 +8,7 @@ ghost use Rattle.metric_commands.specs.Faults.{IsOfInput};
 ghost use Rattle.metric_commands.specs.Showing.{IsFirstShowFault, IsListed, IsShown, listing_text};
 ghost use Rattle.metric_commands.specs.Written.{IsSinkFault};
 
-use crate::command::{Command, run};
+use crate::command::{Command, run_whole};
 use crate::fault::KitFault;
 use crate::parts::{Parts, write_parts, write_text};
 use crate::planning::{Declared, declared_of};
@@ -35,7 +35,7 @@ pub fn show_run<R: Source, W: Sink>(
         (source_run R.remaining R.counts source.old source.new)
         (sink_run W.contents W.failures sink.old sink.new) result }
 {
-    run(alloc, &Show, source, sink)
+    run_whole(alloc, &Show, source, sink)
 }
 
 // The command that shows the streams of a config.

@@ -5,7 +5,7 @@ ghost use Rattle.metric_commands.specs.Faults.{IsOfInput};
 ghost use Rattle.metric_commands.specs.Threading.{IsAfterThreads, IsCounted, IsFirstThreadsFault, totals_text};
 
 use crate::checks::Check;
-use crate::command::answer_to;
+use crate::command::read_and_answer;
 use crate::fault::KitFault;
 use crate::options::ThreadsOptions;
 use crate::seats::run_seats;
@@ -57,7 +57,7 @@ fn counted<R: Threads + Wait + Sync>(
     ensures first { IfErr result (IsFirstThreadsFault input.now) }
     ensures own { IfErr result IsOfInput }
 {
-    let plan = answer_to(alloc, &Check, input)?;
+    let plan = read_and_answer(alloc, &Check, input)?;
     let totals = totals_of(rt, alloc, options, plan)?;
     Ok(totals)
 }

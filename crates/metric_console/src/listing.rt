@@ -5,11 +5,11 @@ ghost use Rattle.metric_console.specs.Answers.{IsListing};
 
 use crate::declared::{Declared, declared_of};
 use crate::rows::stream_row;
-use metric_base::{Few, Items};
+use metric_base::Items;
 use metric_bounds::totals;
 use metric_commands::KitFault;
 use metric_parts::Parts;
-use metric_resolve::resolve_streams;
+use metric_resolve::{StreamList, resolve_streams};
 use metric_sheet::{Cell, Sheet};
 use metric_views::Stream;
 use std::alloc::{AllocError, Global};
@@ -32,7 +32,7 @@ static TITLES: [&str; 12] = [
 /// The streams of a config, with how often each instrument may be recorded.
 pub(crate) struct Listing {
     pub declared: Declared,
-    pub streams: Few<Stream, 2_097_152>,
+    pub streams: StreamList,
     pub totals: Items<u128>,
 }
 

@@ -1,6 +1,6 @@
 pub mod BudgetLaws
 pub mod CellLaws
-pub mod HistoryLaws
+pub mod FollowingLaws
 pub mod PlanFacts
 pub mod RunLaws
 pub mod StepLaws

@@ -17,7 +17,7 @@ use Rattle.metric_history.specs.Legal.{Legal, AllLegal, grown}
 use Rattle.metric_core.specs.Cells.{CellValue}
 use Rattle.metric_core.specs.CoreStands.{AreCellsOf, CellKeepsTo}
 use Rattle.metric_core.specs.Steps.{CellStep, Steps, outcome}
-use Rattle.metric_core.proofs.HistoryLaws.{cell_facts, elsewhere_is_quiet, event_follows, event_legal, quiet_follows, refused_is_quiet, unknown_legal}
+use Rattle.metric_core.proofs.FollowingLaws.{cell_facts, elsewhere_is_quiet, event_follows, event_legal, quiet_follows, refused_is_quiet, unknown_legal}
 
 slice_get-set_same : {X : Type 0} (xs : List X) (k : ℕ) (x : X) → k < length xs → slice_get (slice_set xs k x) k ≡ Some x
 slice_get-set_same xs k x below =

@@ -9,7 +9,7 @@ use Rattle.metric_catalogue.specs.declared.refusal.Refusal.TheVariants.{UnknownR
 use Rattle.metric_history.specs.declared.entry.Entry.{Entry}
 use Rattle.metric_history.specs.declared.event.Reply.TheVariants.{Accepted}
 use Rattle.metric_facts.specs.declared.facts.Facts.{Facts}
-use Rattle.metric_history.specs.Answers.{Told, recorded, spent}
+use Rattle.metric_history.specs.Answers.{Past, recorded, spent}
 use Rattle.metric_facts.specs.Facts.{in_bounds}
 use Rattle.metric_history.specs.Legal.{LegalRecord}
 use Rattle.metric_history.specs.Windows.{fits_all}
@@ -18,7 +18,7 @@ use Rattle.metric_core.specs.CellAnswers.{GainsEntry, IsJudged, budget_of, entry
 use Rattle.metric_core.specs.Steps.{RecordStep, encoded_entry, outcome}
 
 -- what a recording comes to, test by test
-recorded_by : (facts : Facts) (told : Told) (recorder : ℕ) (set : List ℕ) (value : ℤ) (given : Result (List ℕ) Refusal) → given ≡ Ok set
+recorded_by : (facts : Facts) (told : Past) (recorder : ℕ) (set : List ℕ) (value : ℤ) (given : Result (List ℕ) Refusal) → given ≡ Ok set
     → nat_lt recorder (length facts.budgets) ≡ true → in_bounds facts value ≡ true → told.closed ≡ false
     → nat_lt (spent told.accepted recorder) (slice_index facts.budgets recorder + told.granted recorder) ≡ true
     → fits_all facts told.mark told.accepted (entry_of recorder set value) ≡ true

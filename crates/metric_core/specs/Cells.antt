@@ -5,7 +5,7 @@ use Rattle.metric_aggregate.specs.Value.{sum_of}
 use Rattle.metric_book.specs.Journals.{Standing, no_marks}
 use Rattle.metric_history.specs.declared.entry.Entry.{Entry}
 use Rattle.metric_facts.specs.declared.facts.Facts.{Facts}
-use Rattle.metric_history.specs.Answers.{Told, spent}
+use Rattle.metric_history.specs.Answers.{Past, spent}
 use Rattle.metric_history.specs.Points.{values}
 use Rattle.metric_safety.specs.SafeFacts.{are_admitted, total}
 
@@ -73,7 +73,7 @@ pub record CellKept {B : Type 0} (stands : B → Standing) (c : CellValue B) : T
   pub high : c.total ≤ℤ pos (2 ^ 63 * c.count)
 
 -- what a cell that stands for these recordings tells of the instrument
-abbrev pub told_by : {B : Type 0} → CellValue B → List Entry → Told
+abbrev pub told_by : {B : Type 0} → CellValue B → List Entry → Past
 told_by c journal = record {
   accepted = journal;
   mark = slice_index c.marks;

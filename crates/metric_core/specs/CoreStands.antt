@@ -5,7 +5,7 @@ use Rattle.metric_book.specs.Journals.{Standing, kept_of}
 use Rattle.metric_history.specs.declared.entry.Entry.{Entry}
 use Rattle.metric_facts.specs.declared.facts.Facts.{Facts}
 use Rattle.metric_facts.specs.Facts.{RunFacts}
-use Rattle.metric_history.specs.Answers.{Told}
+use Rattle.metric_history.specs.Answers.{Past}
 use Rattle.metric_history.specs.History.{History, accepted, told_of}
 use Rattle.metric_core.specs.Cells.{CellValue, CellStands}
 use Rattle.metric_plan.specs.Plans.{PlanValue}
@@ -13,7 +13,7 @@ use Rattle.metric_plan.specs.Plans.{PlanValue}
 -- A cell has what was told of its instrument since a start: its book stands for the accepted
 -- recordings with the marks of the answered collections, and it has granted as much.
 pub record CellKeepsTo {B : Type 0} (stands : B → Standing) (c : CellValue B) (since : ℕ)
-    (told : Told) : Type 0 where
+    (told : Past) : Type 0 where
   pub known : CellStands stands c told.accepted
   pub begins : c.start ≡ since
   pub mark : (reader : ℕ) → slice_index c.marks reader ≡ told.mark reader

@@ -20,7 +20,7 @@ use Rattle.metric_history.specs.Points.{reported}
 use Rattle.metric_history.specs.Windows.{window, fits_all}
 
 -- what a history comes to for an instrument
-pub record Told : Type 0 where
+pub record Past : Type 0 where
   -- the accepted recordings, oldest first
   pub accepted : List Entry
   -- how many of them each reader's last batch counted, 0 before one
@@ -38,7 +38,7 @@ abbrev pub spent : List Entry → ℕ → ℕ
 spent accepted recorder = count_by (λ (entry : Entry). entry.recorder == recorder) accepted
 
 -- a recording's entry, or the first refusal
-abbrev pub recorded : Facts → Told → Result (List ℕ) Refusal → ℕ → ℤ → Result Entry Refusal
+abbrev pub recorded : Facts → Past → Result (List ℕ) Refusal → ℕ → ℤ → Result Entry Refusal
 recorded facts told encoded recorder value =
     require (nat_lt recorder (length facts.budgets)) UnknownRecorder >>= λ _.
     encoded >>= λ set.
@@ -51,11 +51,11 @@ recorded facts told encoded recorder value =
     Ok entry
 
 -- the recordings that a reader's next batch covers
-abbrev pub covered : Facts → Told → ℕ → List Entry
+abbrev pub covered : Facts → Past → ℕ → List Entry
 covered facts told reader = window (is_delta facts reader) (told.mark reader) told.accepted
 
 -- a reader's batch, for a start of the run and a time
-abbrev pub batch : Facts → ℕ → Told → ℕ → ℕ → Batch
+abbrev pub batch : Facts → ℕ → Past → ℕ → ℕ → Batch
 batch facts start told reader now = record {
   reader = reader;
   instrument = facts.instrument;
@@ -67,18 +67,18 @@ batch facts start told reader now = record {
 }
 
 -- a reader's batch, or the refusal
-abbrev pub collected : Facts → ℕ → Told → ℕ → ℕ → Result Batch Refusal
+abbrev pub collected : Facts → ℕ → Past → ℕ → ℕ → Result Batch Refusal
 collected facts start told reader now =
     require (nat_lt reader (length facts.delta)) UnknownReader >>= λ _.
     Ok (batch facts start told reader now)
 
 -- whether a close is done
-abbrev pub closing : Told → Result (Unit {0}) Refusal
+abbrev pub closing : Past → Result (Unit {0}) Refusal
 closing told = require (not told.closed) Closed
 
 -- whether a grant of so many recordings to a recorder is made: no more than
 -- what is left of the spare budget
-abbrev pub granting : Facts → Told → ℕ → ℕ → Result (Unit {0}) Refusal
+abbrev pub granting : Facts → Past → ℕ → ℕ → Result (Unit {0}) Refusal
 granting facts told recorder amount =
     require (nat_lt recorder (length facts.budgets)) UnknownRecorder >>= λ _.
     require (not told.closed) Closed >>= λ _.

@@ -9,7 +9,7 @@ use Rattle.metric_history.specs.declared.event.Event.TheVariants.{Record, Collec
 use Rattle.metric_history.specs.declared.event.Reply.{Reply}
 use Rattle.metric_history.specs.declared.event.Reply.TheVariants.{Accepted, Collected, Done}
 use Rattle.metric_history.specs.declared.event.Reply.TheVariants.{Granted}
-use Rattle.metric_history.specs.Answers.{Told}
+use Rattle.metric_history.specs.Answers.{Past}
 use Rattle.metric_facts.specs.Facts.{RunFacts}
 
 -- an event and its reply
@@ -97,7 +97,7 @@ handed_of [] i = 0
 handed_of (a ∷ older) i = handed_of older i + grants_of i a.event a.reply
 
 -- all of it
-abbrev pub told_of : RunFacts → ℕ → History → ℕ → Told
+abbrev pub told_of : RunFacts → ℕ → History → ℕ → Past
 told_of facts start h i = record {
   accepted = accepted facts h i;
   mark = mark_of facts h i;

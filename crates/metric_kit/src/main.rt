@@ -12,7 +12,7 @@ use std::sync::Wait;
 use std::thread::Threads;
 
 fn main(rt: HostRuntime) -> ExitCode {
-    ExitCode::from(run(&rt, &rt, line_of(&rt)))
+    ExitCode::from(run_buffered(&rt, &rt, line_of(&rt)))
 }
 
 // The command that the words of the command line name.
@@ -42,7 +42,7 @@ fn borrowed<'a>(alloc: Global, owned: &'a [String]) -> Result<Vec<&'a str>, Allo
 }
 
 // Runs a command, and gives the exit status. Only main's own handle may start threads.
-fn run<T: Threads + Wait + Sync>(
+fn run_buffered<T: Threads + Wait + Sync>(
     threads: &T,
     rt: &HostRuntime,
     line: Result<Line, LineFault>,

@@ -6,4 +6,4 @@ mod Collided
 mod Rising
 mod Entries
 mod Formatted
-mod Validity
+mod MadeValid

@@ -11,10 +11,10 @@ ghost use Rattle.metric_plan.specs.Plans.{AreVouched, IsPlan, ProductsFit, Range
 
 use crate::counting::is_counted;
 use crate::fault::CheckFault;
-use metric_base::{Few, Items};
+use metric_base::Items;
 use metric_catalogue::Catalogue;
 use metric_facts::{Facts, all_facts, is_by_product};
-use metric_resolve::resolve_streams;
+use metric_resolve::{StreamList, resolve_streams};
 use metric_views::{Config, Stream};
 use std::alloc::{AllocError, Global};
 use std::marker::Model;
@@ -28,7 +28,7 @@ use std::marker::Model;
 pub struct Plan {
     catalogue: Catalogue,
     config: Config,
-    streams: Few<Stream, 2_097_152>,
+    streams: StreamList,
     by_product: Items<bool>,
     facts: Items<Facts>,
     is_certified: bool,
@@ -107,7 +107,7 @@ impl Plan {
         alloc: Global,
         catalogue: Catalogue,
         config: Config,
-        streams: Few<Stream, 2_097_152>,
+        streams: StreamList,
         by_product: Items<bool>,
     ) -> Result<Plan, (Catalogue, Config, CheckFault)>
         requires streams { streams ≡ streams_of catalogue config }
@@ -125,7 +125,7 @@ impl Plan {
         is_certified: bool,
         catalogue: Catalogue,
         config: Config,
-        streams: Few<Stream, 2_097_152>,
+        streams: StreamList,
         by_product: Items<bool>,
     ) -> Result<Plan, (Catalogue, Config, CheckFault)>
         requires streams { streams ≡ streams_of catalogue config }
@@ -236,7 +236,7 @@ fn facts_of(
     by_product: &Items<bool>,
     catalogue: &Catalogue,
     config: &Config,
-    streams: &Few<Stream, 2_097_152>,
+    streams: &StreamList,
 ) -> Result<Items<Facts>, AllocError>
     ensures { IfOk result (λ facts. facts
         ≡ (run_facts is_certified by_product.now catalogue.now config.now streams.now).instruments) }

@@ -16,7 +16,7 @@ pub use identity::identity_order;
 pub use laws::{
     collisions_are_of_one_identity, streams_are_what_views_give, unfit_views_sum_gauges,
 };
-pub use resolved::{Streams, resolve, resolve_streams};
+pub use resolved::{StreamList, Streams, resolve, resolve_streams};
 pub use selection::Selection;
 pub use stream_list::streams_by;
 pub use warning::Warning;

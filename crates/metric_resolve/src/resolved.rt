@@ -14,9 +14,12 @@ use metric_views::{Config, Stream};
 use std::alloc::{AllocError, Global};
 use std::marker::Model;
 
+/// The streams of all readers: those of 16 readers, of 512 instruments each, by 256 views at most.
+pub type StreamList = Few<Stream, 2_097_152>;
+
 /// The streams of all readers, numbered from 0, with what is to be warned of.
 pub struct Streams {
-    list: Few<Stream, 2_097_152>,
+    list: StreamList,
     warnings: Items<Warning>,
 }
 
@@ -80,7 +83,7 @@ pub fn resolve_streams(
     alloc: Global,
     catalogue: &Catalogue,
     config: &Config,
-) -> Result<Few<Stream, 2_097_152>, AllocError>
+) -> Result<StreamList, AllocError>
     ensures list { IfOk result (λ s. s ≡ streams_of catalogue.now config.now) }
     ensures few { IfOk result (λ s. length s ≤ 2097152) }
     ensures known { IfOk result (All (IsKnown catalogue.now)) }

@@ -6,6 +6,7 @@ ghost use Rattle.metric_resolve.specs.Offers.{AreOffers, streams_of_offer};
 ghost use Rattle.metric_resolve.specs.Resolved.{IsKnown, is_fit, kept, kept_of, streams_of};
 
 use crate::offers::{Offer, offers_of};
+use crate::resolved::StreamList;
 use crate::selection::Selection;
 use metric_base::{Few, Items};
 use metric_catalogue::Catalogue;
@@ -14,10 +15,7 @@ use std::alloc::{AllocError, Global};
 
 /// The streams of all readers (Metrics SDK, View), by reader, instrument and view, where the selection tells which views
 /// select which instruments. There are at most 2,097,152. Fails only where memory is refused.
-pub fn streams_by<S: Selection>(
-    alloc: Global,
-    selection: &S,
-) -> Result<Few<Stream, 2_097_152>, AllocError>
+pub fn streams_by<S: Selection>(alloc: Global, selection: &S) -> Result<StreamList, AllocError>
     ensures exact { IfOk result (λ s. s
         ≡ streams_of (S.contents selection.now) (S.setup selection.now)) }
     ensures few { IfOk result (λ s. length s ≤ 2097152) }

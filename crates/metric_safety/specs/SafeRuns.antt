@@ -20,7 +20,7 @@ use Rattle.metric_history.specs.declared.event.Reply.{Reply}
 use Rattle.metric_history.specs.declared.event.Reply.TheVariants.{Accepted, Collected, Refused}
 use Rattle.metric_facts.specs.declared.facts.Facts.{Facts}
 use Rattle.metric_facts.specs.declared.facts.NumberedStream.{NumberedStream}
-use Rattle.metric_history.specs.Answers.{Told, batch, covered, spent}
+use Rattle.metric_history.specs.Answers.{Past, batch, covered, spent}
 use Rattle.metric_history.specs.Encoded.{encoded}
 use Rattle.metric_facts.specs.Facts.{RunFacts, in_bounds, key_facts}
 use Rattle.metric_history.specs.History.{Answered, History, accepted, granted_of, is_closed}
@@ -71,7 +71,7 @@ pub record AreIdentified (contents : Contents) (streams : List Stream) (h : Hist
 
 -- The accepted recordings of an instrument are admitted, each recorder's are within its budget and
 -- what it was granted, and no more than the spare was granted in all.
-pub record KeepsBudgets (own : Facts) (told : Told) : Type 0 where
+pub record KeepsBudgets (own : Facts) (told : Past) : Type 0 where
   pub admitted : IsJournal own told.accepted
   pub within : (recorder : ℕ)
       → spent told.accepted recorder ≤ slice_index own.budgets recorder + told.granted recorder

@@ -6,4 +6,4 @@ use Rattle.metric_cert.proofs.lists.read_all.Given as goal
 
 abbrev pub invariant-loop-value : goal.invariant-loop-value
 invariant-loop-value g l =
-    each (λ _ d. g.E.Entry.step d) l.entries (map view (drop l.value-index l.values)) ≡ each (λ _ d. g.E.Entry.step d) [] (map view l.values)
+    each (λ _ d. g.E.EntryKind.step d) l.entries (map view (drop l.value-index l.values)) ≡ each (λ _ d. g.E.EntryKind.step d) [] (map view l.values)

@@ -8,6 +8,6 @@ use Rattle.metric_cert.proofs.lists.write_all.Given as goal
 
 abbrev pub invariant-loop-entry : goal.invariant-loop-entry
 invariant-loop-entry g l = record {
-  reads : each_alone g.E.Entry.step (map view l.values.items) ≡ Ok (take l.entry-index l.entries);
-  printable : IsPrintable (g.E.Entry.levels + 1) (array (items_view l.values.items));
+  reads : each_alone g.E.EntryKind.step (map view l.values.items) ≡ Ok (take l.entry-index l.entries);
+  printable : IsPrintable (g.E.EntryKind.levels + 1) (array (items_view l.values.items));
 }

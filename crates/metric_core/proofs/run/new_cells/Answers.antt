@@ -5,7 +5,7 @@ use Rattle.std.proofs.lemmas.List.{length_push}
 use Rattle.metric_core.specs.Cells.{CellValue}
 use Rattle.metric_core.specs.CoreStands.{CellKeepsTo}
 use Rattle.metric_history.specs.History.{told_of}
-use Rattle.metric_core.proofs.HistoryLaws.{new_follows}
+use Rattle.metric_core.proofs.FollowingLaws.{new_follows}
 use Rattle.metric_core.proofs.RunLaws.{at_each_push}
 use Rattle.metric_core.proofs.run.new_cells.Goals as goal
 

@@ -1,7 +1,7 @@
 -- a certificate is valid, and what is safe has one
 use Rattle.std.proofs.Common.{sym, subst, ◌∙◌}
 use Rattle.metric_bounds.specs.Safe.{AreDistinct}
-use Rattle.metric_make.proofs.Validity.{concluded}
+use Rattle.metric_make.proofs.MadeValid.{concluded}
 use Rattle.metric_make.proofs.making.make.Goals as goal
 
 pub returns-clause-valid : goal.returns-clause-valid

@@ -2,7 +2,7 @@
 use Rattle.std.proofs.Common.{ap, ◌∙◌}
 use Rattle.toml.specs.Data.{string}
 use Rattle.metric_cert.proofs.Tabled.{word_written}
-use Rattle.metric_cert.proofs.stream.ByWordEntry.write.Goals as goal
+use Rattle.metric_cert.proofs.stream.ByWordEntryKind.write.Goals as goal
 
 pub returns-clause-reads : goal.returns-clause-reads
 returns-clause-reads c =

@@ -1,7 +1,7 @@
 use Rattle.std.proofs.Common.{Err, ap}
 use Rattle.std.proofs.KnownBytes.{Keeps-refl}
 use Rattle.metric_commands.proofs.RunLaws.{answered, refused, unread}
-use Rattle.metric_commands.proofs.command.run.Goals as goal
+use Rattle.metric_commands.proofs.command.run_whole.Goals as goal
 
 pub returns-in_err-input : goal.returns-in_err-input
 returns-in_err-input g c =

@@ -3,7 +3,7 @@ use Rattle.std.proofs.Common.{ap, ◌∙◌, arith}
 use Rattle.toml.specs.Data.{string}
 use Rattle.metric_cert.specs.Reading.{decimal_of}
 use Rattle.metric_cert.proofs.Written.{decimal_of-decimal}
-use Rattle.metric_cert.proofs.numbers.DecimalEntry.write.Goals as goal
+use Rattle.metric_cert.proofs.numbers.DecimalEntryKind.write.Goals as goal
 
 pub returns-clause-reads : goal.returns-clause-reads
 returns-clause-reads c =

@@ -2,7 +2,7 @@
 use Rattle.std.proofs.Common.{ap, ◌∙◌}
 use Rattle.toml.specs.Data.{string}
 use Rattle.metric_cert.proofs.Tabled.{criterion_written}
-use Rattle.metric_cert.proofs.reason.CriterionWordEntry.write.Goals as goal
+use Rattle.metric_cert.proofs.reason.CriterionWordEntryKind.write.Goals as goal
 
 pub returns-clause-reads : goal.returns-clause-reads
 returns-clause-reads c =

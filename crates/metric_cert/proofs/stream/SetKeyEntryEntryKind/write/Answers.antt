@@ -1,7 +1,7 @@
 -- the numbers that were written are read back
 use Rattle.std.proofs.Common.{Ok, ap, ◌∙◌}
 use Rattle.metric_cert.proofs.Written.{set_key_of-array}
-use Rattle.metric_cert.proofs.stream.SetKeyEntryEntry.write.Goals as goal
+use Rattle.metric_cert.proofs.stream.SetKeyEntryEntryKind.write.Goals as goal
 
 pub returns-clause-reads : goal.returns-clause-reads
 returns-clause-reads c =

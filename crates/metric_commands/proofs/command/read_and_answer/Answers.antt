@@ -2,7 +2,7 @@ use Rattle.std.proofs.Common.{ap, ◌∙◌}
 use Rattle.std.proofs.lemmas.Result.{IfOk-weaker, IfErr-weaker}
 use Rattle.metric_parts.specs.Reading.{texts}
 use Rattle.metric_commands.proofs.AnsweredInputs.{lines_refused, read_of_input}
-use Rattle.metric_commands.proofs.command.answer_to.Goals as goal
+use Rattle.metric_commands.proofs.command.read_and_answer.Goals as goal
 
 pub returns-in_err-parts-clause-first : goal.returns-in_err-parts-clause-first
 returns-in_err-parts-clause-first g c =

@@ -20,7 +20,7 @@ use Rattle.metric_history.specs.declared.event.Reply.TheVariants.{Accepted, Coll
 use Rattle.metric_history.specs.Events.{instrument_of}
 use Rattle.metric_facts.specs.declared.facts.Facts.{Facts}
 use Rattle.metric_facts.specs.Facts.{RunFacts}
-use Rattle.metric_history.specs.Answers.{Told, recorded, collected, closing, granting, batch}
+use Rattle.metric_history.specs.Answers.{Past, recorded, collected, closing, granting, batch}
 use Rattle.metric_history.specs.History.{History, answered, added_by, accepted, collects, mark_of, batch_time, previous_of, closes, is_closed, grants_to, granted_of, grants_of, handed_of, told_of}
 use Rattle.metric_history.specs.Legal.{LegalRecord, LegalCollect, LegalClose, LegalGrant, Legal}
 use Rattle.metric_core.specs.Cells.{CellStands, CellValue, new_cell, told_by}
@@ -281,11 +281,11 @@ pub event_legal : {B : Type 0} (stands : B → Standing) (facts : RunFacts) (sin
 event_legal stands facts since c new h (Record n i attrs v) reply known s step =
     let given = encoded facts.contents i attrs in
     subst (λ (answer : Result Entry Refusal). LegalRecord answer reply)
-    (ap (λ (t : Told). recorded c.facts t given n v) (same_told stands facts since c h i s)
+    (ap (λ (t : Past). recorded c.facts t given n v) (same_told stands facts since c h i s)
     ∙ sym (ap (λ (o : Option Facts). require_some o UnknownInstrument >>= λ f. recorded f (told_of facts since h i) given n v) known)) (step.legal (accepted facts h i) s.known)
 event_legal stands facts since c new h (Collect q i now) reply known s step =
     subst (λ (answer : Result Batch Refusal). LegalCollect answer reply)
-    (ap (λ (t : Told). collected c.facts c.start t q now) (same_told stands facts since c h i s)
+    (ap (λ (t : Past). collected c.facts c.start t q now) (same_told stands facts since c h i s)
     ∙ ap (λ (n : ℕ). collected c.facts n (told_of facts since h i) q now) s.begins
     ∙ sym (ap (λ (o : Option Facts). require_some o UnknownInstrument >>= λ f. collected f since (told_of facts since h i) q now) known)) (step.legal (accepted facts h i) s.known)
 event_legal stands facts since c new h (Close i) reply known s step =
@@ -294,7 +294,7 @@ event_legal stands facts since c new h (Close i) reply known s step =
     ∙ sym (ap (λ (o : Option Facts). require_some o UnknownInstrument >>= λ f. closing (told_of facts since h i)) known)) (step.legal (accepted facts h i) s.known)
 event_legal stands facts since c new h (Grant n i amount) reply known s step =
     subst (λ (answer : Result (Unit {0}) Refusal). LegalGrant answer reply)
-    (ap (λ (t : Told). granting c.facts t n amount) (same_told stands facts since c h i s)
+    (ap (λ (t : Past). granting c.facts t n amount) (same_told stands facts since c h i s)
     ∙ sym (ap (λ (o : Option Facts). require_some o UnknownInstrument >>= λ f. granting f (told_of facts since h i) n amount) known)) (step.legal (accepted facts h i) s.known)
 
 -- an event of an unknown instrument

@@ -1,7 +1,7 @@
 -- the fields that were put are read back
 use Rattle.std.proofs.Common.{◌+◌}
 use Rattle.metric_cert.proofs.Written.{same_printable, table_as-table}
-use Rattle.metric_cert.proofs.fields.TableEntryEntry.write.Goals as goal
+use Rattle.metric_cert.proofs.fields.TableEntryEntryKind.write.Goals as goal
 
 pub returns-clause-reads : goal.returns-clause-reads
 returns-clause-reads g c = table_as-table g.F.Fields.step _ _ _ c.tabled.ensures c.in_ok-put.ensures.reads
