@@ -5,7 +5,7 @@ use Rattle.std.specs.Int.{w64, int_min, int_max}
 use Rattle.std.proofs.lemmas.Int.{ints, clamps}
 use Rattle.std.proofs.Math.Nat.{le-div_iff_mul-le}
 use Rattle.metric_bounds.specs.Amounts.{amount_with, low_with, high_with}
-use Rattle.metric_catalogue.specs.declared.contents.Instrument.{Instrument}
+use Rattle.metric_contents.specs.declared.contents.Instrument.{Instrument}
 use Rattle.metric_bounds.specs.Safe.{AmountsFit, HighFits, LowFits}
 use Rattle.metric_advice.specs.Edges.{IsMost}
 use Rattle.metric_advice.specs.Headrooms.{above, below}

@@ -10,8 +10,8 @@ use Rattle.metric_bounds.specs.First.{Asks, Each, Then}
 use Rattle.metric_bounds.specs.Safe.{AmountsFit, CountsFit, HighFits, LowFits, SetsFit}
 use Rattle.metric_bounds.specs.Sets.{sets_of}
 use Rattle.metric_bounds.specs.Sums.{is_summed}
-use Rattle.metric_catalogue.specs.declared.contents.Contents.{Contents}
-use Rattle.metric_catalogue.specs.declared.contents.Instrument.{Instrument}
+use Rattle.metric_contents.specs.declared.contents.Contents.{Contents}
+use Rattle.metric_contents.specs.declared.contents.Instrument.{Instrument}
 use Rattle.metric_views.specs.declared.stream.Stream.{Stream}
 use Rattle.metric_advice.specs.declared.limit.Limit.{Limit}
 use Rattle.metric_advice.specs.declared.limit.Limit.TheVariants.{Count, Amount, SumLow, SumHigh, Series}
@@ -143,10 +143,3 @@ pub range_failed : {F : Type 0} (Finds : ℕ → Option F → Type 0) (n len : �
 range_failed Finds n len within fault here =
     let more : len - n ≡ suc (len - (n + 1)) = omega arith in
     subst (λ (k : ℕ). Each Finds (range_with_len n k) (Some fault)) (sym more) (inl here)
-
--- two after one another
-pub then_first : {F : Type 0} (First Second : Option F → Type 0) (fault : F) → First (Some fault) → Then First Second (Some fault)
-then_first First Second fault found = inl found
-
-pub then_second : {F : Type 0} (First Second : Option F → Type 0) → First None → (r : Option F) → Second r → Then First Second r
-then_second First Second none r second = passed First Second none r second

@@ -7,8 +7,8 @@ use Rattle.metric_bounds.specs.Finding.{WhereThere}
 use Rattle.metric_bounds.specs.First.{Asks, Then}
 use Rattle.metric_bounds.specs.Safe.{AmountsFit, CountsFit, HighFits, LowFits}
 use Rattle.metric_bounds.specs.Sums.{is_summed}
-use Rattle.metric_catalogue.specs.declared.contents.Contents.{Contents}
-use Rattle.metric_catalogue.specs.declared.contents.Instrument.{Instrument}
+use Rattle.metric_contents.specs.declared.contents.Contents.{Contents}
+use Rattle.metric_contents.specs.declared.contents.Instrument.{Instrument}
 use Rattle.metric_views.specs.declared.stream.Stream.{Stream}
 use Rattle.metric_advice.specs.declared.headroom.Headroom.{Headroom}
 use Rattle.metric_advice.specs.declared.limit.Limit.{Limit}

@@ -7,11 +7,11 @@ use Rattle.std.specs.Option.{option_map, option_or}
 use Rattle.metric_base.specs.Steps.{◌>>=◌, require, require_some}
 use Rattle.metric_names.specs.declared.value.AttrValue.{AttrValue}
 use Rattle.metric_names.specs.Values.{value_of}
-use Rattle.metric_catalogue.specs.declared.contents.Instrument.{Instrument}
-use Rattle.metric_catalogue.specs.declared.refusal.Refusal.{Refusal}
-use Rattle.metric_catalogue.specs.declared.refusal.Refusal.TheVariants as refusals
-use Rattle.metric_catalogue.specs.Encoding.{Given, encode_of, has_declared_value, is_complete}
-use Rattle.metric_catalogue.specs.Encoding.{is_declared, is_of}
+use Rattle.metric_contents.specs.declared.contents.Instrument.{Instrument}
+use Rattle.metric_contents.specs.declared.refusal.Refusal.{Refusal}
+use Rattle.metric_contents.specs.declared.refusal.Refusal.TheVariants as refusals
+use Rattle.metric_contents.specs.Encoding.{Given, encode_of, has_declared_value, is_complete}
+use Rattle.metric_contents.specs.Encoding.{is_declared, is_of}
 use Rattle.metric_advice.specs.declared.explanation.Explanation.{Explanation}
 use Rattle.metric_advice.specs.declared.explanation.Explanation.TheVariants as explanations
 use Rattle.metric_advice.specs.declared.explanation.Mistake.{Mistake}

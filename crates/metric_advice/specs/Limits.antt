@@ -2,8 +2,8 @@
 -- the order in which they are asked.
 use Rattle.std.specs.Prelude.{◌≡◌, ℕ, ◌≤◌, min, IsTrue, List, Option, slice_get}
 use Rattle.std.specs.List.{enumerate_from}
-use Rattle.metric_catalogue.specs.declared.contents.Contents.{Contents}
-use Rattle.metric_catalogue.specs.declared.contents.Instrument.{Instrument}
+use Rattle.metric_contents.specs.declared.contents.Contents.{Contents}
+use Rattle.metric_contents.specs.declared.contents.Instrument.{Instrument}
 use Rattle.metric_views.specs.declared.stream.Stream.{Stream}
 use Rattle.metric_bounds.specs.Finding.{WhereThere}
 use Rattle.metric_bounds.specs.First.{Asks, Each, Then}

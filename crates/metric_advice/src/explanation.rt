@@ -3,12 +3,13 @@ ghost use Rattle.std.specs.Prelude.{◌≡◌, Some, find, map, not, slice_get};
 ghost use Rattle.std.specs.List.{list_any};
 ghost use Rattle.std.specs.Option.{option_copied, option_map};
 ghost use Rattle.std.specs.Result.{result_err};
-ghost use Rattle.metric_catalogue.specs.Attributes.{given_by};
-ghost use Rattle.metric_catalogue.specs.Encoding.{declares, has_declared_value, is_complete, is_declared, is_of};
-ghost use Rattle.metric_catalogue.specs.Keys.{is_key};
+ghost use Rattle.metric_contents.specs.Attributes.{given_by};
+ghost use Rattle.metric_contents.specs.Encoding.{declares, has_declared_value, is_complete, is_declared, is_of};
+ghost use Rattle.metric_contents.specs.KeyNames.{is_key};
 ghost use Rattle.metric_advice.specs.Explanations.{combination_mistake, explained, explained_with, first_repeated, is_combined, key_mistake, missing_mistake, mistake_of, mistake_told, range_mistake, refusal_of, said_of, told_of, value_mistake};
 
-use metric_catalogue::{Attr, Catalogue, Instrument, Key, Refusal, SetKey};
+use metric_catalogue::Catalogue;
+use metric_contents::{Attr, Instrument, Key, Refusal, SetKey};
 use metric_names::ValueRef;
 use std::fmt;
 

@@ -1,12 +1,13 @@
 //! What the instruments are that a view selects, and what they declare.
 ghost use Rattle.std.specs.Prelude.{◌≡◌, ◌<◌, IfOk, Some, length};
 ghost use Rattle.std.specs.List.{list_any};
-ghost use Rattle.metric_catalogue.specs.Keys.{is_key};
+ghost use Rattle.metric_contents.specs.KeyNames.{is_key};
 ghost use Rattle.metric_resolve.specs.Applying.{is_selected, meter_at};
 ghost use Rattle.metric_advice.specs.Remarks.{declares_at, is_declared_by, selection_of};
 
 use metric_base::Items;
-use metric_catalogue::{Catalogue, Key, Meter};
+use metric_catalogue::Catalogue;
+use metric_contents::{Key, Meter};
 use metric_views::Config;
 use std::alloc::{AllocError, Global};
 

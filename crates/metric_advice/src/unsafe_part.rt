@@ -10,7 +10,8 @@ ghost use Rattle.metric_advice.specs.UnsafeParts.{NumberFinds, StreamFindsAt, Un
 use crate::headroom::{most_by_amount, most_by_high, most_by_low, most_by_series};
 use crate::limit::Limit;
 use metric_bounds::{summed, total, totals};
-use metric_catalogue::{Catalogue, Instrument};
+use metric_catalogue::Catalogue;
+use metric_contents::Instrument;
 use metric_resolve::{Warning, resolve};
 use metric_views::{Config, Stream};
 use std::alloc::{AllocError, Global};

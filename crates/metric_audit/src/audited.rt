@@ -4,7 +4,7 @@ ghost use Rattle.metric_book.specs.Journals.{JudgesRecording, MayTake};
 ghost use Rattle.metric_marked.specs.Marks.{StandsMarked};
 
 use metric_book::{Book, Window};
-use metric_catalogue::Refusal;
+use metric_contents::Refusal;
 use metric_history::Entry;
 use metric_marked::Marked;
 use metric_plan::Plan;

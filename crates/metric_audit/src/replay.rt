@@ -7,7 +7,7 @@ ghost use Rattle.metric_book.specs.Journals.{HasReader, MovesMark, no_marks};
 
 use crate::same::are_same_streams;
 use metric_book::Book;
-use metric_catalogue::Refusal;
+use metric_contents::Refusal;
 use metric_facts::{Facts, is_allowed_set};
 use metric_history::{Batch, Entry, StreamPoints};
 use std::alloc::{AllocError, Global};

@@ -2,7 +2,7 @@
 ghost use Rattle.std.specs.Prelude.{◌≡◌, ◌↔◌, IsTrue};
 
 use metric_base::is_same;
-use metric_catalogue::SetKey;
+use metric_contents::SetKey;
 use metric_history::{Point, StreamPoints};
 
 // A value that is compared with another, exactly.

@@ -5,11 +5,12 @@ ghost use Rattle.std.specs.String.{string_bytes};
 use crate::copied::Copied;
 use crate::exact::Exact;
 use std::alloc::{AllocError, Global};
+use std::fmt;
 use std::hash::{Hash, Hasher};
 use std::marker::Model;
 
 /// An owned text. A clause sees the list of its bytes, which are UTF-8.
-#[derive(Debug, Drop)]
+#[derive(Drop)]
 pub struct Text {
     string: String,
 }
@@ -97,5 +98,29 @@ impl Exact for Text {
 impl Copied for Text {
     fn copy(&self, alloc: Global) -> Result<Text, AllocError> {
         Text::new(alloc, self.as_str())
+    }
+}
+
+impl fmt::Display for Text {
+    ghost use Rattle.std.specs.Prelude.{Some};
+    ghost use Rattle.std.specs.Fmt.{styled_text};
+
+    ghost output = { λ text. Some text };
+
+    ghost styled_output = { λ text spec. Some (styled_text spec text) };
+
+    fn fmt<W: fmt::Write>(&self, f: &mut fmt::Formatter<W>) -> fmt::Result {
+        f.pad(self.as_str())
+    }
+}
+
+impl fmt::Debug for Text {
+    ghost use Rattle.std.specs.Fmt.{debug_str};
+
+    ghost debug_output = { debug_str };
+
+    // As that of a `&str`: in quotes.
+    fn fmt<W: fmt::Write>(&self, f: &mut fmt::Formatter<W>) -> fmt::Result {
+        fmt::Debug::fmt(&self.as_str(), f)
     }
 }

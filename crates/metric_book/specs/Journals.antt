@@ -4,8 +4,8 @@ use Rattle.std.specs.Prelude.{Some, Result, Ok, Err, length, replicate, slice_ge
 use Rattle.std.specs.Prelude.{slice_set, if◌then◌else◌}
 use Rattle.metric_combinations.specs.Combinations.{permits}
 use Rattle.metric_book.specs.declared.book.Window.{Window}
-use Rattle.metric_catalogue.specs.declared.refusal.Refusal.{Refusal}
-use Rattle.metric_catalogue.specs.declared.refusal.Refusal.TheVariants.{SumRange, Memory}
+use Rattle.metric_contents.specs.declared.refusal.Refusal.{Refusal}
+use Rattle.metric_contents.specs.declared.refusal.Refusal.TheVariants.{SumRange, Memory}
 use Rattle.metric_history.specs.declared.entry.Entry.{Entry}
 use Rattle.metric_facts.specs.declared.facts.Facts.{Facts}
 use Rattle.metric_facts.specs.Facts.{RunFacts, in_bounds, is_delta, is_full_set}

@@ -5,7 +5,7 @@ ghost use Rattle.metric_history.specs.declared.entry.Entry.{Entry as entries};
 ghost use Rattle.metric_facts.specs.declared.facts.Facts.{Facts as facts};
 
 use metric_base::Items;
-use metric_catalogue::Refusal;
+use metric_contents::Refusal;
 use metric_history::{Entry, StreamPoints};
 use metric_plan::Plan;
 use std::alloc::{AllocError, Global};

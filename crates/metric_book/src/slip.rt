@@ -1,5 +1,5 @@
 //! What a recorder keeps of its recordings.
-use metric_catalogue::SetKey;
+use metric_contents::SetKey;
 
 /// An accepted recording, as its recorder keeps it.
 #[derive(Clone, Copy, Debug, PartialEq, Eq, Drop)]

@@ -7,7 +7,7 @@ use Rattle.std.proofs.lemmas.List.{get_or-set_other, get_or-set_same, get_or-tak
 use Rattle.std.proofs.Math.ListN.{set}
 use Rattle.std.proofs.Math.Dec.{eqb}
 use Rattle.std.proofs.lemmas.List.Folds.{find-append}
-use Rattle.metric_catalogue.specs.declared.contents.Budget.{Budget}
+use Rattle.metric_contents.specs.declared.contents.Budget.{Budget}
 use Rattle.metric_catalogue.specs.Budgets.{amount_in}
 use Rattle.metric_catalogue.specs.Recorders.{is_budget}
 use Rattle.metric_catalogue.specs.Sound.{IsSoundBudget}

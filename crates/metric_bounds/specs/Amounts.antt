@@ -2,7 +2,7 @@
 -- These are whole numbers without a limit.
 use Rattle.std.specs.Prelude.{ℕ, ℤ, pos, ◌+◌, ◌*ℤ◌, ◌-ℤ◌, sum_by}
 use Rattle.std.specs.Int.{int_min, int_max}
-use Rattle.metric_catalogue.specs.declared.contents.Contents.{Contents}
+use Rattle.metric_contents.specs.declared.contents.Contents.{Contents}
 use Rattle.metric_catalogue.specs.Budgets.{amount_of, spare_at}
 
 -- the budgets of all recorders for the instrument of a number, and its spare budget

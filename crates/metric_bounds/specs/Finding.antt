@@ -2,8 +2,8 @@
 -- streams have one identity; then of each instrument its counts, the amount of its values, its
 -- least and its greatest sum; then of each stream how many series it can have.
 use Rattle.std.specs.Prelude.{◌≡◌, ℕ, IsTrue, List, Option, Some, None, slice_get}
-use Rattle.metric_catalogue.specs.declared.contents.Contents.{Contents}
-use Rattle.metric_catalogue.specs.declared.contents.Instrument.{Instrument}
+use Rattle.metric_contents.specs.declared.contents.Contents.{Contents}
+use Rattle.metric_contents.specs.declared.contents.Instrument.{Instrument}
 use Rattle.metric_views.specs.declared.stream.Stream.{Stream}
 use Rattle.metric_resolve.specs.Applying.{all_instruments}
 use Rattle.metric_bounds.specs.Amounts.{total_of}

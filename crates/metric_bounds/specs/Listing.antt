@@ -1,7 +1,7 @@
 -- What lists of combinations change of the bounds of streams.
 use Rattle.std.specs.Prelude.{◌≤◌, Contains}
 use Rattle.metric_catalogue.specs.Sound.{IsSound}
-use Rattle.metric_catalogue.specs.declared.contents.Contents.{Contents}
+use Rattle.metric_contents.specs.declared.contents.Contents.{Contents}
 use Rattle.metric_views.specs.declared.config.Config.{Config}
 use Rattle.metric_views.specs.declared.stream.Stream.{Stream}
 use Rattle.metric_resolve.specs.Resolved.{streams_of}

@@ -49,11 +49,11 @@ use Rattle.std.proofs.lemmas.Slice.Eq.{bytes_eq-Decides}
 use Rattle.metric_combinations.specs.Combinations.{allows}
 use Rattle.metric_combinations.specs.Restrictions.{restricted, restrictions}
 use Rattle.metric_combinations.specs.RestrictionLaws.{restrictions_within}
-use Rattle.metric_catalogue.specs.KeySets.{is_key_set}
+use Rattle.metric_contents.specs.KeySets.{is_key_set}
 use Rattle.metric_catalogue.specs.Sound.{AreSoundRows, IsSound, IsSoundInstrument, IsSoundRow}
-use Rattle.metric_catalogue.specs.declared.contents.Contents.{Contents}
-use Rattle.metric_catalogue.specs.declared.contents.Instrument.{Instrument}
-use Rattle.metric_catalogue.specs.declared.contents.Key.{Key}
+use Rattle.metric_contents.specs.declared.contents.Contents.{Contents}
+use Rattle.metric_contents.specs.declared.contents.Instrument.{Instrument}
+use Rattle.metric_contents.specs.declared.contents.Key.{Key}
 use Rattle.metric_views.specs.declared.stream.Stream.{Stream}
 use Rattle.metric_bounds.specs.Sets.{FlagsEach, FlagsKeys, count_or, factor_of, list_within}
 use Rattle.metric_bounds.specs.Sets.{listed_of, product_of, product_over, product_within, sets_of}

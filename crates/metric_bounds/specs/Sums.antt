@@ -1,8 +1,8 @@
 -- Which streams keep a sum.
 use Rattle.std.specs.Prelude.{ℕ, Bool, true, false, ◌&&◌, ◌==◌, List}
 use Rattle.std.specs.List.{list_any}
-use Rattle.metric_catalogue.specs.Kinds.{is_monotonic}
-use Rattle.metric_catalogue.specs.declared.contents.Kind.{Kind}
+use Rattle.metric_contents.specs.Kinds.{is_monotonic}
+use Rattle.metric_contents.specs.declared.contents.Kind.{Kind}
 use Rattle.metric_views.specs.declared.stream.Stream.{Stream}
 use Rattle.metric_views.specs.declared.stream.StreamAggregation.{StreamAggregation}
 use Rattle.metric_views.specs.declared.stream.StreamAggregation.TheVariants.{Sum, LastValue}

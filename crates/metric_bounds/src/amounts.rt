@@ -7,7 +7,8 @@ ghost use Rattle.metric_catalogue.specs.Recorders.{is_budget};
 ghost use Rattle.metric_bounds.specs.Amounts.{amount_with, high_with, low_with, total_of};
 
 use metric_base::Items;
-use metric_catalogue::{Budget, Catalogue, Instrument, Recorder};
+use metric_catalogue::Catalogue;
+use metric_contents::{Budget, Instrument, Recorder};
 use std::alloc::{AllocError, Global};
 
 /// How often an instrument may be recorded: the sum of its budgets over all recorders, and its spare budget. It may

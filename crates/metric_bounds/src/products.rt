@@ -5,7 +5,8 @@ ghost use Rattle.metric_combinations.specs.Restrictions.{restrictions};
 ghost use Rattle.metric_bounds.specs.Sets.{FlagsKeys, factor_of, listed_of, product_of, product_over, sets_of};
 
 use metric_base::Items;
-use metric_catalogue::{Catalogue, Instrument, Key, SetKey};
+use metric_catalogue::Catalogue;
+use metric_contents::{Instrument, Key, SetKey};
 use metric_views::Stream;
 use std::alloc::{AllocError, Global};
 

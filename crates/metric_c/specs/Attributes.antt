@@ -3,7 +3,7 @@
 use Rattle.std.specs.Prelude.{ℕ, ◌==◌, nat_le, ◌&&◌, List, [], ◌∷◌, Option, Some, None, drop}
 use Rattle.std.specs.Prelude.{length, option_and_then, option_map, take, true, false, if◌then◌else◌}
 use Rattle.std.specs.Str.{is_utf8}
-use Rattle.metric_catalogue.specs.Encoding.{Given}
+use Rattle.metric_contents.specs.Encoding.{Given}
 use Rattle.metric_names.specs.declared.value.AttrValue.{AttrValue}
 use Rattle.metric_names.specs.declared.value.AttrValue.TheVariants.{Text, Whole, Flag}
 use Rattle.metric_c.specs.declared.attributes.Attribute.{Attribute}

@@ -1,8 +1,8 @@
 -- The numbers that calls answer.
 use Rattle.std.specs.Prelude.{◌≡◌, ◌⊎◌, ◌<◌, ℕ, List, Option, Some, None, Result, Ok, Err}
-use Rattle.metric_catalogue.specs.Encoding.{Given}
-use Rattle.metric_catalogue.specs.Refusals.{number_of}
-use Rattle.metric_catalogue.specs.declared.refusal.Refusal.{Refusal}
+use Rattle.metric_contents.specs.Encoding.{Given}
+use Rattle.metric_contents.specs.Refusals.{number_of}
+use Rattle.metric_contents.specs.declared.refusal.Refusal.{Refusal}
 
 -- 0 for done, else the number of the refusal
 abbrev pub code_of : Result (Unit {0}) Refusal → ℕ

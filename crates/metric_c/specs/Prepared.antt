@@ -1,8 +1,8 @@
 -- What calls with prepared set keys are answered.
 use Rattle.std.specs.Prelude.{◌≡◌, ◌⊎◌, ℕ, List, Option, Some, None, Result, Ok, Err, length}
-use Rattle.metric_catalogue.specs.Encoding.{Given, encode_of}
-use Rattle.metric_catalogue.specs.Refusals.{number_of}
-use Rattle.metric_catalogue.specs.declared.refusal.Refusal.{Refusal}
+use Rattle.metric_contents.specs.Encoding.{Given, encode_of}
+use Rattle.metric_contents.specs.Refusals.{number_of}
+use Rattle.metric_contents.specs.declared.refusal.Refusal.{Refusal}
 use Rattle.metric_hosted.specs.declared.listing.ListRefusal.{ListRefusal}
 use Rattle.metric_hosted.specs.declared.listing.Prepared.{Prepared}
 use Rattle.metric_hosted.specs.declared.planned.HostedRecorder.{HostedRecorder}

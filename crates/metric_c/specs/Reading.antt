@@ -1,6 +1,6 @@
 -- What reading attributes answers.
 use Rattle.std.specs.Prelude.{◌≡◌, Bool, true, false, List, Option, Some, None}
-use Rattle.metric_catalogue.specs.Encoding.{Given}
+use Rattle.metric_contents.specs.Encoding.{Given}
 use Rattle.metric_c.specs.declared.attributes.Unread.{Unread}
 use Rattle.metric_c.specs.declared.attributes.Unread.TheVariants.{NoText, Memory}
 

@@ -1,7 +1,7 @@
 -- What recordings through handles are answered.
 use Rattle.std.specs.Prelude.{◌≡◌, ℕ, ℤ, List, Result}
-use Rattle.metric_catalogue.specs.Encoding.{Given}
-use Rattle.metric_catalogue.specs.declared.refusal.Refusal.{Refusal}
+use Rattle.metric_contents.specs.Encoding.{Given}
+use Rattle.metric_contents.specs.declared.refusal.Refusal.{Refusal}
 use Rattle.metric_hosted.specs.declared.planned.HostedRecorder.{HostedRecorder}
 use Rattle.metric_hosted.specs.Hosts.{HostedValue}
 use Rattle.metric_hosted.specs.Recordings.{AnswersHosted, RecordsHosted, admission_of}

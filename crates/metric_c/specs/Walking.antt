@@ -4,13 +4,13 @@ use Rattle.std.specs.Prelude.{option_and_then, option_map, replicate, slice_get,
 use Rattle.std.specs.Prelude.{if◌then◌else◌}
 use Rattle.metric_aggregate.specs.declared.point_value.PointValue.{PointValue}
 use Rattle.metric_aggregate.specs.declared.point_value.PointValue.TheVariants.{Sum, Last, Buckets}
-use Rattle.metric_catalogue.specs.declared.contents.Instrument.{Instrument}
-use Rattle.metric_catalogue.specs.declared.contents.Key.{Key}
-use Rattle.metric_catalogue.specs.declared.contents.Kind.{Kind}
-use Rattle.metric_catalogue.specs.declared.contents.Kind.TheVariants.{Counter, UpDownCounter}
-use Rattle.metric_catalogue.specs.declared.contents.Kind.TheVariants.{Histogram as HistogramKind}
-use Rattle.metric_catalogue.specs.declared.contents.Kind.TheVariants.{Gauge}
-use Rattle.metric_catalogue.specs.declared.contents.Meter.{Meter}
+use Rattle.metric_contents.specs.declared.contents.Instrument.{Instrument}
+use Rattle.metric_contents.specs.declared.contents.Key.{Key}
+use Rattle.metric_contents.specs.declared.contents.Kind.{Kind}
+use Rattle.metric_contents.specs.declared.contents.Kind.TheVariants.{Counter, UpDownCounter}
+use Rattle.metric_contents.specs.declared.contents.Kind.TheVariants.{Histogram as HistogramKind}
+use Rattle.metric_contents.specs.declared.contents.Kind.TheVariants.{Gauge}
+use Rattle.metric_contents.specs.declared.contents.Meter.{Meter}
 use Rattle.metric_history.specs.declared.batch.Batch.{Batch}
 use Rattle.metric_history.specs.declared.batch.Point.{Point}
 use Rattle.metric_history.specs.declared.batch.StreamPoints.{StreamPoints}

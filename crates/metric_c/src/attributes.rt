@@ -2,10 +2,10 @@
 ghost use Rattle.std.specs.Prelude.{◌≡◌, ◌≤◌, Some, length, map, option_map, take, IfErr, IfOk};
 ghost use Rattle.metric_c.specs.Attributes.{attributes_from, given_first, plain_value, text_first};
 ghost use Rattle.metric_c.specs.Reading.{ReadsFew, Refuses};
-ghost use Rattle.metric_catalogue.specs.Attributes.{given_by};
+ghost use Rattle.metric_contents.specs.Attributes.{given_by};
 ghost use Rattle.metric_names.specs.Values.{value_of};
 
-use metric_catalogue::Attr;
+use metric_contents::Attr;
 use metric_names::ValueRef;
 use std::alloc::Global;
 use std::str::from_utf8;

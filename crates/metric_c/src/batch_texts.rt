@@ -11,7 +11,7 @@ use crate::batches::stream_at;
 use crate::codes::{NOT_OPEN, UNKNOWN};
 use crate::reader_handle::ReaderHandle;
 use crate::texts::{copy_all, write_found};
-use metric_catalogue::{Instrument, Key, Meter, Values};
+use metric_contents::{Instrument, Key, Meter, Values};
 use metric_hosted::HostedReader;
 use metric_names::AttrValue;
 use metric_views::Stream;

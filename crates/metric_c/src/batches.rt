@@ -6,7 +6,7 @@ ghost use Rattle.metric_c.specs.Walking.{IsWritten, aggregation_number, batch_ou
 
 use crate::codes::{DONE, NOT_OPEN, UNKNOWN};
 use crate::reader_handle::ReaderHandle;
-use metric_catalogue::{Kind, SetKey};
+use metric_contents::{Kind, SetKey};
 use metric_history::{Point, StreamPoints};
 use metric_hosted::HostedReader;
 use metric_sdk::PointValue;

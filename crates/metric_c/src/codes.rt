@@ -2,7 +2,7 @@
 ghost use Rattle.std.specs.Prelude.{◌≡◌};
 ghost use Rattle.metric_c.specs.Codes.{code_of};
 
-use metric_catalogue::Refusal;
+use metric_contents::Refusal;
 
 /// Done.
 pub const DONE: u32 = 0;

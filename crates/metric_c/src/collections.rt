@@ -8,7 +8,7 @@ use crate::codes::{MEMORY, NOT_OPEN, code_of};
 use crate::instrument_handle::InstrumentHandle;
 use crate::reader_handle::ReaderHandle;
 use crate::texts::copy_text;
-use metric_catalogue::Refusal;
+use metric_contents::Refusal;
 use metric_hosted::{Hosted, HostedReader};
 use metric_lines::push_batch;
 use std::alloc::{AllocError, Global};

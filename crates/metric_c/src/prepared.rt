@@ -4,14 +4,14 @@ ghost use Rattle.metric_c.specs.Attributes.{attributes_from};
 ghost use Rattle.metric_c.specs.Codes.{Changes, IsCodeOf, WhereBoth, WhereHeld};
 ghost use Rattle.metric_c.specs.Prepared.{IsEncoded, IsPrepared, RecordsList};
 ghost use Rattle.metric_c.specs.Recordings.{AnswersKey, RecordsKey};
-ghost use Rattle.metric_catalogue.specs.Attributes.{given_by};
-ghost use Rattle.metric_catalogue.specs.Encoding.{encode_of};
+ghost use Rattle.metric_contents.specs.Attributes.{given_by};
+ghost use Rattle.metric_contents.specs.Encoding.{encode_of};
 
 use crate::attributes::{Attribute, Unread, all_attributes, few_attributes};
 use crate::codes::{DONE, MEMORY, NO_TEXT, NOT_OPEN, code_of};
 use crate::instrument_handle::InstrumentHandle;
 use crate::recorder_handle::RecorderHandle;
-use metric_catalogue::Attr;
+use metric_contents::Attr;
 use metric_hosted::{Hosted, HostedRecorder, Prepared};
 use std::alloc::Global;
 

@@ -3,13 +3,13 @@ ghost use Rattle.std.specs.Prelude.{◌≡◌, ◌≢◌, IsSomeAnd, length, map
 ghost use Rattle.metric_c.specs.Attributes.{attributes_from};
 ghost use Rattle.metric_c.specs.Codes.{Changes, IsCodeOf, IsCodeOfRead, WhereBoth};
 ghost use Rattle.metric_c.specs.Recordings.{AnswersGiven, RecordsGiven};
-ghost use Rattle.metric_catalogue.specs.Attributes.{given_by};
+ghost use Rattle.metric_contents.specs.Attributes.{given_by};
 
 use crate::attributes::{Attribute, Unread, all_attributes, few_attributes};
 use crate::codes::{MEMORY, NO_TEXT, NOT_OPEN, code_of};
 use crate::instrument_handle::InstrumentHandle;
 use crate::recorder_handle::RecorderHandle;
-use metric_catalogue::Attr;
+use metric_contents::Attr;
 use metric_hosted::{Hosted, HostedRecorder};
 use std::alloc::Global;
 

@@ -1,7 +1,4 @@
 pub mod FieldNames
-mod SameValues
-mod Words
-mod Numbered
 mod SoundLists
 mod SoundKeys
 mod SoundRows
@@ -10,7 +7,3 @@ mod PlainFiles
 mod Rows
 mod EachMore
 mod SoundCatalogues
-pub mod Mapped
-mod OrderLaws
-mod Differing
-mod InOrderLaws

@@ -1,7 +1,7 @@
 -- Whether a list of whole numbers is a row, told key by key.
 use Rattle.std.proofs.Common.{◌≡◌, ◌≢◌, ℕ, ◌+◌, ◌-◌, ◌<◌, ◌≤◌, ℤ, Bool, true, false, ◌&&◌, cond, List, [], ◌∷◌, ◌++◌, length, map, drop, take, replicate, get_or, Some, None, unsigned_abs, refl, sym, ap, ◌∙◌, arith}
 use Rattle.std.proofs.lemmas.List.{at_drop_more, drop_all, length-map, take_all}
-use Rattle.metric_catalogue.specs.declared.contents.Key.{Key}
+use Rattle.metric_contents.specs.declared.contents.Key.{Key}
 use Rattle.metric_catalogue.specs.Allowed.{is_entry_of, is_row, row_set}
 
 -- a list of another length is none

@@ -9,11 +9,11 @@ use Rattle.toml.specs.Data.{Members}
 use Rattle.metric_base.specs.Steps.{in_turn, each}
 use Rattle.metric_base.specs.StepLaws.{after_ok, require_ok, ok_is}
 use Rattle.metric_table.specs.Fields.{only, tables_field}
-use Rattle.metric_catalogue.specs.declared.contents.Budget.{Budget}
-use Rattle.metric_catalogue.specs.declared.contents.Contents.{Contents}
-use Rattle.metric_catalogue.specs.declared.contents.Instrument.{Instrument}
-use Rattle.metric_catalogue.specs.declared.contents.Meter.{Meter}
-use Rattle.metric_catalogue.specs.declared.contents.Recorder.{Recorder}
+use Rattle.metric_contents.specs.declared.contents.Budget.{Budget}
+use Rattle.metric_contents.specs.declared.contents.Contents.{Contents}
+use Rattle.metric_contents.specs.declared.contents.Instrument.{Instrument}
+use Rattle.metric_contents.specs.declared.contents.Meter.{Meter}
+use Rattle.metric_contents.specs.declared.contents.Recorder.{Recorder}
 use Rattle.metric_catalogue.specs.declared.meters.Metered.{Metered}
 use Rattle.metric_catalogue.specs.declared.fault.CatalogueDefect.TheVariants.{BadRange, DuplicateBudget, DuplicateMeter, DuplicateRecorder, UnknownInstrument}
 use Rattle.metric_catalogue.specs.declared.fault.CatalogueFault.TheVariants.{At}

@@ -13,9 +13,9 @@ use Rattle.metric_names.specs.NameLaws.{name_of-IsName, unit_of-IsUnit}
 use Rattle.metric_names.specs.Names.{folded, IsName, IsSameName, name_of}
 use Rattle.metric_names.specs.Units.{IsUnit, unit_of}
 use Rattle.metric_table.specs.Fields.{integer_of, integers_of, list_of, optional_text, tables_field, text_field}
-use Rattle.metric_catalogue.specs.declared.contents.Instrument.{Instrument}
-use Rattle.metric_catalogue.specs.declared.contents.Key.{Key}
-use Rattle.metric_catalogue.specs.declared.contents.Kind.{Kind}
+use Rattle.metric_contents.specs.declared.contents.Instrument.{Instrument}
+use Rattle.metric_contents.specs.declared.contents.Key.{Key}
+use Rattle.metric_contents.specs.declared.contents.Kind.{Kind}
 use Rattle.metric_catalogue.specs.declared.instruments.Head.{Head}
 use Rattle.metric_catalogue.specs.declared.instruments.Limits.{Limits}
 use Rattle.metric_catalogue.specs.declared.fault.CatalogueDefect.TheVariants.{BadBoundaries, BadName, BadRange, BadUnit, DuplicateInstrument}
@@ -26,7 +26,7 @@ use Rattle.metric_catalogue.specs.Faults.{faults_at}
 use Rattle.metric_catalogue.specs.Instruments.{advice_field, boundaries_of, boundaries_within, head_of, instrument_name, instrument_of, is_instrument, is_range, kind_field, only_instrument_fields, limits_field, pair_field, range_field, spare_field, spare_within, unit_field}
 use Rattle.metric_catalogue.specs.Allowed.{allowed_field, allowed_of}
 use Rattle.metric_catalogue.specs.Keys.{key_of}
-use Rattle.metric_catalogue.specs.Kinds.{is_monotonic}
+use Rattle.metric_contents.specs.Kinds.{is_monotonic}
 use Rattle.metric_catalogue.specs.Recorders.{amount_from}
 use Rattle.metric_catalogue.specs.Sound.{AreBoundaries, AreInstrumentsApart, AreSoundRows, IsFreeText, IsSoundInstrument, IsSoundKey, IsSoundList}
 use Rattle.metric_catalogue.specs.Texts.{free_text}

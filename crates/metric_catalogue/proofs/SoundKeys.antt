@@ -10,17 +10,18 @@ use Rattle.metric_base.specs.StepLaws.{after_ok, require_ok, ok_is}
 use Rattle.metric_names.specs.declared.value.AttrValue.{AttrValue}
 use Rattle.metric_names.specs.declared.value.AttrValue.TheVariants.{Text, Whole, Flag}
 use Rattle.metric_table.specs.Fields.{field, list_of, optional_text, short_text, text_field}
-use Rattle.metric_catalogue.specs.declared.contents.Key.{Key}
+use Rattle.metric_contents.specs.declared.contents.Key.{Key}
 use Rattle.metric_catalogue.specs.declared.fault.CatalogueDefect.TheVariants.{BadName, DuplicateKey, DuplicateValue, MissingField, ReservedKey, TooMany}
 use Rattle.metric_catalogue.specs.declared.fault.CatalogueFault.TheVariants.{At}
 use Rattle.metric_catalogue.specs.declared.fault.CataloguePlace.{CataloguePlace}
 use Rattle.metric_catalogue.specs.Faults.{faults_at}
-use Rattle.metric_catalogue.specs.Keys.{is_key, key_name, key_of, only_key_fields, optional_field, some_values, value_at, values_field}
-use Rattle.metric_catalogue.proofs.SameValues.{same_value-Decides}
-use Rattle.metric_catalogue.specs.Places.{has_repeat, place, repeats_after, same_value}
+use Rattle.metric_catalogue.specs.Keys.{key_name, key_of, only_key_fields, optional_field, some_values, value_at, values_field}
+use Rattle.metric_contents.specs.KeyNames.{is_key}
+use Rattle.metric_contents.specs.SameValues.{same_value-Decides}
+use Rattle.metric_contents.specs.Places.{has_repeat, place, repeats_after, same_value}
 use Rattle.metric_catalogue.specs.Sound.{IsFreeText, IsLabel, IsSoundKey, IsSoundList, IsSoundValue}
 use Rattle.metric_catalogue.specs.Texts.{free_text, label_field, needed_text}
-use Rattle.metric_catalogue.proofs.Differing.{neither}
+use Rattle.metric_contents.specs.Differing.{neither}
 use Rattle.metric_catalogue.proofs.SoundLists.{IsNext, apart_by, each_length, list_few, made_sound, not_true, texts_apart}
 
 -- a short text is the text, and is a free text

@@ -10,13 +10,13 @@ use Rattle.metric_base.specs.Steps.{each}
 use Rattle.metric_base.specs.StepLaws.{after_ok, require_ok, ok_is}
 use Rattle.metric_combinations.specs.Combinations.{allows}
 use Rattle.metric_table.specs.Fields.{all_integers_of, list_of}
-use Rattle.metric_catalogue.specs.declared.contents.Key.{Key}
+use Rattle.metric_contents.specs.declared.contents.Key.{Key}
 use Rattle.metric_catalogue.specs.declared.fault.CatalogueDefect.TheVariants.{BadCombination, DuplicateCombination}
 use Rattle.metric_catalogue.specs.declared.fault.CatalogueFault.TheVariants.{At}
 use Rattle.metric_catalogue.specs.declared.fault.CataloguePlace.{CataloguePlace}
 use Rattle.metric_catalogue.specs.Allowed.{allowed_field, allowed_of, is_entry_of, is_row, row_of, row_set, rows_within, set_of_row}
 use Rattle.metric_catalogue.specs.Faults.{faults_at}
-use Rattle.metric_catalogue.specs.KeySets.{is_key_entry, is_key_set}
+use Rattle.metric_contents.specs.KeySets.{is_key_entry, is_key_set}
 use Rattle.metric_catalogue.specs.Sound.{AreSoundRows, IsSoundRow}
 use Rattle.metric_catalogue.proofs.SoundLists.{IsNext, apart_by, list_few, made_sound, texts_apart}
 

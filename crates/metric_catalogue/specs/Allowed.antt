@@ -6,14 +6,14 @@ use Rattle.toml.specs.Data.{Data, Members, get_member}
 use Rattle.metric_base.specs.Steps.{◌>>=◌, require, each}
 use Rattle.metric_combinations.specs.Combinations.{allows}
 use Rattle.metric_table.specs.Fields.{all_integers_of, list_of}
-use Rattle.metric_catalogue.specs.declared.contents.Key.{Key}
+use Rattle.metric_contents.specs.declared.contents.Key.{Key}
 use Rattle.metric_catalogue.specs.declared.fault.CatalogueFault.{CatalogueFault}
 use Rattle.metric_catalogue.specs.declared.fault.CatalogueDefect.TheVariants.{BadCombination}
 use Rattle.metric_catalogue.specs.declared.fault.CatalogueDefect.TheVariants.{DuplicateCombination}
 use Rattle.metric_catalogue.specs.declared.fault.CatalogueFault.TheVariants.{At}
 use Rattle.metric_catalogue.specs.declared.fault.CataloguePlace.{CataloguePlace}
 use Rattle.metric_catalogue.specs.Faults.{faults_at}
-use Rattle.metric_catalogue.specs.KeySets.{is_key_entry}
+use Rattle.metric_contents.specs.KeySets.{is_key_entry}
 
 -- the rows of a list, where there is one
 abbrev pub rows_within : CataloguePlace → Option Data → Result (Option (List Data)) CatalogueFault

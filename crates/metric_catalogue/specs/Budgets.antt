@@ -1,8 +1,8 @@
 -- The budgets of recorders, and the spare budgets of instruments.
 use Rattle.std.specs.Prelude.{ℕ, List, Option, Some, None, slice_get, find}
-use Rattle.metric_catalogue.specs.declared.contents.Budget.{Budget}
-use Rattle.metric_catalogue.specs.declared.contents.Instrument.{Instrument}
-use Rattle.metric_catalogue.specs.declared.contents.Recorder.{Recorder}
+use Rattle.metric_contents.specs.declared.contents.Budget.{Budget}
+use Rattle.metric_contents.specs.declared.contents.Instrument.{Instrument}
+use Rattle.metric_contents.specs.declared.contents.Recorder.{Recorder}
 use Rattle.metric_catalogue.specs.Recorders.{is_budget}
 
 -- the amount of a budget, or 0 where there is none

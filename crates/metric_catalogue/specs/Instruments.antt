@@ -9,9 +9,9 @@ use Rattle.metric_names.specs.Names.{folded, name_of}
 use Rattle.metric_names.specs.Units.{unit_of}
 use Rattle.metric_table.specs.Fields.{only, field, text_field, optional_text, list_of, integer_of}
 use Rattle.metric_table.specs.Fields.{integers_of, tables_field}
-use Rattle.metric_catalogue.specs.declared.contents.Instrument.{Instrument}
-use Rattle.metric_catalogue.specs.declared.contents.Key.{Key}
-use Rattle.metric_catalogue.specs.declared.contents.Kind.{Kind}
+use Rattle.metric_contents.specs.declared.contents.Instrument.{Instrument}
+use Rattle.metric_contents.specs.declared.contents.Key.{Key}
+use Rattle.metric_contents.specs.declared.contents.Kind.{Kind}
 use Rattle.metric_catalogue.specs.declared.instruments.Head.{Head}
 use Rattle.metric_catalogue.specs.declared.instruments.Limits.{Limits}
 use Rattle.metric_catalogue.specs.declared.fault.CatalogueFault.{CatalogueFault}
@@ -29,7 +29,7 @@ use Rattle.metric_catalogue.specs.declared.fault.CataloguePlace.TheVariants as p
 use Rattle.metric_base.specs.Boundaries.{is_rising}
 use Rattle.metric_catalogue.specs.Allowed.{allowed_field, allowed_of}
 use Rattle.metric_catalogue.specs.Faults.{faults_at, pair_faults_at}
-use Rattle.metric_catalogue.specs.Kinds.{kind_named, is_monotonic}
+use Rattle.metric_contents.specs.Kinds.{kind_named, is_monotonic}
 use Rattle.metric_catalogue.specs.Recorders.{amount_from}
 use Rattle.metric_catalogue.specs.Texts.{free_text}
 use Rattle.metric_catalogue.specs.Keys.{key_of}

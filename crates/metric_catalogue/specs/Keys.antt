@@ -8,7 +8,7 @@ use Rattle.metric_base.specs.Steps.{◌>>=◌, require}
 use Rattle.metric_names.specs.declared.value.AttrValue.{AttrValue}
 use Rattle.metric_names.specs.declared.value.AttrValue.TheVariants.{Text, Whole, Flag}
 use Rattle.metric_table.specs.Fields.{only, field, list_of, short_text, flag_or, each_alone}
-use Rattle.metric_catalogue.specs.declared.contents.Key.{Key}
+use Rattle.metric_contents.specs.declared.contents.Key.{Key}
 use Rattle.metric_catalogue.specs.declared.fault.CatalogueFault.{CatalogueFault}
 use Rattle.metric_catalogue.specs.declared.fault.CatalogueDefect.TheVariants.{
   MissingField,
@@ -20,7 +20,8 @@ use Rattle.metric_catalogue.specs.declared.fault.CatalogueDefect.TheVariants.{
 use Rattle.metric_catalogue.specs.declared.fault.CatalogueFault.TheVariants.{At}
 use Rattle.metric_catalogue.specs.declared.fault.CataloguePlace.{CataloguePlace}
 use Rattle.metric_catalogue.specs.Faults.{faults_at}
-use Rattle.metric_catalogue.specs.Places.{has_repeat}
+use Rattle.metric_contents.specs.Places.{has_repeat}
+use Rattle.metric_contents.specs.KeyNames.{is_key}
 use Rattle.metric_catalogue.specs.Texts.{label_field}
 
 -- the fields of a key's table
@@ -62,10 +63,6 @@ values_field at table = do
   values ← some_values at table
   _ ← require (not (has_repeat values)) (At DuplicateValue at)
   Ok values
-
--- the key has this name
-abbrev pub is_key : List ℕ → Key → Bool
-is_key name key = bytes_eq key.name name
 
 -- whether a recording may leave the key out
 unfoldable pub optional_field : CataloguePlace → Members → Result Bool CatalogueFault

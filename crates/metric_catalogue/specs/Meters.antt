@@ -6,7 +6,7 @@ use Rattle.std.specs.Str.{bytes_eq}
 use Rattle.toml.specs.Data.{Members}
 use Rattle.metric_base.specs.Steps.{◌>>=◌, require, each}
 use Rattle.metric_table.specs.Fields.{only, tables_field}
-use Rattle.metric_catalogue.specs.declared.contents.Meter.{Meter}
+use Rattle.metric_contents.specs.declared.contents.Meter.{Meter}
 use Rattle.metric_catalogue.specs.declared.meters.Metered.{Metered}
 use Rattle.metric_catalogue.specs.declared.fault.CatalogueFault.{CatalogueFault}
 use Rattle.metric_catalogue.specs.declared.fault.CatalogueDefect.TheVariants.{DuplicateMeter}

@@ -7,14 +7,14 @@ use Rattle.metric_names.specs.Names.{IsName, IsSameName}
 use Rattle.metric_names.specs.Units.{IsUnit}
 use Rattle.metric_names.specs.declared.value.AttrValue.{AttrValue}
 use Rattle.metric_names.specs.declared.value.AttrValue.TheVariants.{Text, Whole, Flag}
-use Rattle.metric_catalogue.specs.declared.contents.Budget.{Budget}
-use Rattle.metric_catalogue.specs.declared.contents.Contents.{Contents}
-use Rattle.metric_catalogue.specs.declared.contents.Instrument.{Instrument}
-use Rattle.metric_catalogue.specs.declared.contents.Key.{Key}
-use Rattle.metric_catalogue.specs.declared.contents.Meter.{Meter}
-use Rattle.metric_catalogue.specs.declared.contents.Recorder.{Recorder}
-use Rattle.metric_catalogue.specs.KeySets.{is_key_set}
-use Rattle.metric_catalogue.specs.Kinds.{is_monotonic}
+use Rattle.metric_contents.specs.declared.contents.Budget.{Budget}
+use Rattle.metric_contents.specs.declared.contents.Contents.{Contents}
+use Rattle.metric_contents.specs.declared.contents.Instrument.{Instrument}
+use Rattle.metric_contents.specs.declared.contents.Key.{Key}
+use Rattle.metric_contents.specs.declared.contents.Meter.{Meter}
+use Rattle.metric_contents.specs.declared.contents.Recorder.{Recorder}
+use Rattle.metric_contents.specs.KeySets.{is_key_set}
+use Rattle.metric_contents.specs.Kinds.{is_monotonic}
 
 -- A list has at most so many elements, a fact holds of each, and any two are apart.
 pub record IsSoundList {X : Type 0} (most : ℕ) (P : X → Type 0) (AreApart : X → X → Type 0)

@@ -6,11 +6,10 @@ ghost use Rattle.metric_base.specs.Steps.{Advances, Gives, each, with_next};
 ghost use Rattle.metric_table.specs.Fields.{Reads, whole_in};
 ghost use Rattle.metric_catalogue.specs.Allowed.{allowed_field, allowed_of, is_entry_of, is_row, row_of, row_set, set_of_row};
 
-use crate::contents::Key;
-use crate::encode::SetKey;
 use crate::fault::{CatalogueDefect, CatalogueFault, CataloguePlace};
 use crate::texts::faults_at;
 use metric_combinations::{CombinationRows, Combinations};
+use metric_contents::{Key, SetKey};
 use metric_table::{all_integers_of, list_of, member, whole_in};
 use std::alloc::Global;
 use toml::{Table, Value};

@@ -3,23 +3,23 @@ ghost use Rattle.std.specs.Prelude.{◌≡◌, ◌≤◌, length, map, find, IfO
 ghost use Rattle.toml.specs.View.{table_view};
 ghost use Rattle.metric_base.specs.Steps.{Gives, GivesBy, in_turn};
 ghost use Rattle.std.specs.Option.{option_copied};
-ghost use Rattle.metric_catalogue.specs.Attributes.{given_by, given_by_owned};
+ghost use Rattle.metric_contents.specs.Attributes.{given_by, given_by_owned};
 ghost use Rattle.metric_catalogue.specs.Budgets.{amount_of, budget_at, spare_at};
-ghost use Rattle.metric_catalogue.specs.Encoding.{encode_of};
+ghost use Rattle.metric_contents.specs.Encoding.{encode_of};
 ghost use Rattle.metric_catalogue.specs.Meters.{with_meter};
 ghost use Rattle.metric_catalogue.specs.Recorders.{is_budget};
 ghost use Rattle.metric_catalogue.specs.Sound.{IsSound};
 ghost use Rattle.metric_catalogue.specs.Catalogues.{catalogue_of, contents_declared, contents_of, document_of, format_of_top, nothing_metered};
 
-use crate::attributes::{Attr, OwnedAttr};
-use crate::contents::{Budget, Contents, Instrument, Meter, Recorder};
-use crate::encode::{SetKey, encode_of, encode_with_room};
 use crate::fault::{CatalogueFault, CataloguePlace};
 use crate::meters::{Metered, add_meters};
 use crate::recorders::recorders_of;
-use crate::refusal::Refusal;
 use crate::texts::faults_at;
 use metric_base::{Few, Items};
+use metric_contents::{
+    Attr, Budget, Contents, Instrument, Meter, OwnedAttr, Recorder, Refusal, SetKey, encode_of,
+    encode_with_room,
+};
 use metric_table::{format_up_to, only, tables_field};
 use std::alloc::Global;
 use std::marker::Model;
@@ -36,7 +36,7 @@ pub struct Catalogue {
 }
 
 impl Model for Catalogue {
-    ghost use Rattle.metric_catalogue.specs.declared.contents.Contents.{Contents};
+    ghost use Rattle.metric_contents.specs.declared.contents.Contents.{Contents};
     ghost use Rattle.metric_catalogue.specs.Sound.{IsSound};
 
     ghost Value = { Contents };

@@ -7,13 +7,13 @@ ghost use Rattle.metric_catalogue.specs.Texts.{free_text};
 ghost use Rattle.metric_catalogue.specs.Instruments.{advice_field, boundaries_of, head_of, instrument_name, instrument_of, is_instrument, is_range, kind_field, only_instrument_fields, pair_field, pair_of, range_field, limits_field, spare_field, unit_field};
 
 use crate::allowed::{allowed_field, allowed_of};
-use crate::contents::{Instrument, Key, Kind};
 use crate::fault::{CatalogueDefect, CatalogueFault, CataloguePlace};
 use crate::keys::keys_of;
 use crate::recorders::amount_from;
 use crate::texts::{faults_at, free_text, pair_faults_at};
 use metric_base::{Boundaries, Few, Items, Shared, Text, is_rising};
 use metric_combinations::Combinations;
+use metric_contents::{Instrument, Key, Kind};
 use metric_names::{Name, NameFault, Unit, UnitFault};
 use metric_table::{
     integer_of, integers_of, list_of, member, only, optional_text, required, tables_field,

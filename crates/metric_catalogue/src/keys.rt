@@ -4,13 +4,13 @@ ghost use Rattle.std.specs.List.{list_any};
 ghost use Rattle.toml.specs.View.{table_view, view};
 ghost use Rattle.metric_base.specs.Steps.{Gives, each};
 ghost use Rattle.metric_table.specs.Fields.{each_alone};
-ghost use Rattle.metric_catalogue.specs.Keys.{is_key, key_name, key_of, only_key_fields, optional_field, some_values, value_at, values_field};
+ghost use Rattle.metric_catalogue.specs.Keys.{key_name, key_of, only_key_fields, optional_field, some_values, value_at, values_field};
+ghost use Rattle.metric_contents.specs.KeyNames.{is_key};
 
-use crate::contents::Key;
 use crate::fault::{CatalogueDefect, CatalogueFault, CataloguePlace};
 use crate::texts::{copy_short, faults_at, label_field};
-use crate::values::Values;
 use metric_base::{Items, Text};
+use metric_contents::{Key, Values};
 use metric_names::AttrValue;
 use metric_table::{flag_or, list_of, only, required};
 use std::alloc::Global;

@@ -5,11 +5,11 @@ ghost use Rattle.toml.specs.View.{table_view};
 ghost use Rattle.metric_base.specs.Steps.{Gives, Advances, in_turn, require};
 ghost use Rattle.metric_catalogue.specs.Meters.{is_meter, meter_of, only_meter_fields, with_meter};
 
-use crate::contents::{Instrument, Meter};
 use crate::fault::{CatalogueDefect, CatalogueFault, CataloguePlace};
 use crate::instruments::add_instruments;
 use crate::texts::{faults_at, free_text, needed_text};
 use metric_base::Items;
+use metric_contents::{Instrument, Meter};
 use metric_table::{only, tables_field};
 use std::alloc::Global;
 use toml::Table;

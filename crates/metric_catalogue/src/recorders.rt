@@ -7,10 +7,10 @@ ghost use Rattle.metric_table.specs.Fields.{only};
 ghost use Rattle.metric_catalogue.specs.Faults.{faults_at};
 ghost use Rattle.metric_catalogue.specs.Recorders.{amount_field, amount_from, budget_of, budgeted, budgets_field, is_budget, is_recorder, number_below, number_field, recorder_fields, recorder_name, recorder_of};
 
-use crate::contents::{Budget, Recorder};
 use crate::fault::{CatalogueDefect, CatalogueFault, CataloguePlace};
 use crate::texts::{faults_at, label_field};
 use metric_base::{Few, Items, Text};
+use metric_contents::{Budget, Recorder};
 use metric_table::{integer_of, only, required, tables_field};
 use std::alloc::Global;
 use toml::Table;

@@ -1,7 +1,7 @@
 -- Whether the criteria of a view hold for an instrument of a meter, as a test that computes.
 use Rattle.std.specs.Prelude.{Bool}
-use Rattle.metric_catalogue.specs.declared.contents.Instrument.{Instrument}
-use Rattle.metric_catalogue.specs.declared.contents.Meter.{Meter}
+use Rattle.metric_contents.specs.declared.contents.Instrument.{Instrument}
+use Rattle.metric_contents.specs.declared.contents.Meter.{Meter}
 use Rattle.metric_views.specs.declared.config.Criteria.{Criteria}
 use Rattle.metric_views.specs.Selection.{is_kind, is_text, passes}
 use Rattle.metric_cert.specs.declared.reason.Criterion.{Criterion}

@@ -1,7 +1,7 @@
 -- The test of a criterion is true exactly where the criterion holds.
 use Rattle.std.proofs.Common.{◌≡◌, Decides}
-use Rattle.metric_catalogue.specs.declared.contents.Instrument.{Instrument}
-use Rattle.metric_catalogue.specs.declared.contents.Meter.{Meter}
+use Rattle.metric_contents.specs.declared.contents.Instrument.{Instrument}
+use Rattle.metric_contents.specs.declared.contents.Meter.{Meter}
 use Rattle.metric_views.specs.declared.config.Criteria.{Criteria}
 use Rattle.metric_views.specs.Selection.{is_kind}
 use Rattle.metric_views.specs.SelectionLaws.{is_kind-Decides, is_text-Decides, passes-Decides}

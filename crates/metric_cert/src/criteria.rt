@@ -5,7 +5,7 @@ ghost use Rattle.metric_cert.specs.Criteria.{holds};
 ghost use Rattle.metric_cert.specs.Valid.{Holds, pattern_for};
 
 use crate::reason::Criterion;
-use metric_catalogue::{Instrument, Meter};
+use metric_contents::{Instrument, Meter};
 use metric_glob::Pattern;
 use metric_views::{Criteria, is_of_kind, is_text};
 

@@ -14,7 +14,7 @@ use crate::lists::{ListOf, listed, write_all};
 use crate::numbers::{Number, ShortNumber};
 use crate::tables::{needed, optional, put, put_given};
 use metric_base::Items;
-use metric_catalogue::SetKey;
+use metric_contents::SetKey;
 use metric_table::{only, text_of};
 use std::alloc::{AllocError, Global};
 use toml::{Table, Value};

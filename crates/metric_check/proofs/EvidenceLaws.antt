@@ -8,9 +8,9 @@ use Rattle.metric_glob.specs.Matching.{Matches}
 use Rattle.metric_glob.specs.declared.reason.Reason.TheVariants.{Takes, Rows}
 use Rattle.metric_glob.proofs.RowLemmas.{no_match-from_ShutsOut}
 use Rattle.metric_glob.proofs.SpellLemmas.{Matches-from_Spells}
-use Rattle.metric_catalogue.specs.declared.contents.Contents.{Contents}
-use Rattle.metric_catalogue.specs.declared.contents.Instrument.{Instrument}
-use Rattle.metric_catalogue.specs.declared.contents.Meter.{Meter}
+use Rattle.metric_contents.specs.declared.contents.Contents.{Contents}
+use Rattle.metric_contents.specs.declared.contents.Instrument.{Instrument}
+use Rattle.metric_contents.specs.declared.contents.Meter.{Meter}
 use Rattle.metric_views.specs.declared.config.Config.{Config}
 use Rattle.metric_views.specs.declared.config.Criteria.{Criteria}
 use Rattle.metric_views.specs.declared.config.View.{View}

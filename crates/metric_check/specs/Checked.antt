@@ -1,7 +1,7 @@
 -- What follows from the definitions of a certificate's check alone.
 use Rattle.std.specs.Prelude.{◌≡◌, ◌↔◌, Option, None}
 use Rattle.metric_catalogue.specs.Sound.{IsSound}
-use Rattle.metric_catalogue.specs.declared.contents.Contents.{Contents}
+use Rattle.metric_contents.specs.declared.contents.Contents.{Contents}
 use Rattle.metric_views.specs.declared.config.Config.{Config}
 use Rattle.metric_bounds.specs.Safe.{IsSafe}
 use Rattle.metric_cert.specs.declared.claims.Claims.{Claims}

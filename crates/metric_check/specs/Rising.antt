@@ -1,6 +1,6 @@
 -- What is tested of the orders of a certificate.
 use Rattle.std.specs.Prelude.{◌≡◌, ℕ, ◌+◌, All, AllPairs, List, [], ◌∷◌, Some, length, slice_get}
-use Rattle.metric_catalogue.specs.declared.contents.Contents.{Contents}
+use Rattle.metric_contents.specs.declared.contents.Contents.{Contents}
 use Rattle.metric_views.specs.declared.config.Config.{Config}
 use Rattle.metric_views.specs.declared.stream.Stream.{Stream}
 use Rattle.metric_cert.specs.declared.order.ReaderOrder.{ReaderOrder}

@@ -6,8 +6,8 @@ ghost use Rattle.metric_check.specs.Findings.{AllHold, EvidenceFinds};
 ghost use Rattle.metric_check.specs.Known.{EachHolds};
 ghost use Rattle.metric_glob.specs.Matching.{any_text};
 
-use metric_catalogue::{Instrument, Meter};
 use metric_cert::{Criterion, Evidence, pattern_for};
+use metric_contents::{Instrument, Meter};
 use metric_glob::{Pattern, Reason};
 use metric_plan::CheckFault;
 use metric_views::Criteria;

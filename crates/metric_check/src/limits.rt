@@ -9,8 +9,9 @@ ghost use Rattle.metric_cert.specs.Valid.{IsListed};
 ghost use Rattle.metric_check.specs.Known.{AreListed, AreTotals, IsLike};
 
 use metric_bounds::{listed, product};
-use metric_catalogue::{Catalogue, SetKey};
+use metric_catalogue::Catalogue;
 use metric_cert::{By, InstrumentBound, StreamSets};
+use metric_contents::SetKey;
 use metric_plan::CheckFault;
 use metric_views::Stream;
 use std::alloc::{AllocError, Global};

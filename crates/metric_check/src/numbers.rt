@@ -5,8 +5,8 @@ ghost use Rattle.std.specs.Result.{result_err};
 ghost use Rattle.metric_check.specs.Findings.{IsAmountOf, IsCountOf, IsHighOf, IsLowOf, NumbersFind};
 
 use metric_bounds::{amount, high, low};
-use metric_catalogue::Instrument;
 use metric_cert::InstrumentBound;
+use metric_contents::Instrument;
 use metric_plan::CheckFault;
 
 // The first fault of a bound where that of this instrument is due, which may be recorded so often, and of

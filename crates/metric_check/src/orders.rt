@@ -8,8 +8,9 @@ ghost use Rattle.metric_resolve.specs.Resolved.{streams_of};
 ghost use Rattle.metric_check.specs.Findings.{OrdersFind};
 ghost use Rattle.metric_check.specs.Rising.{AreOwnOrders, AreTested, IsOwnOrder, RisesTo, named_by};
 
-use metric_catalogue::{Catalogue, Meter};
+use metric_catalogue::Catalogue;
 use metric_cert::ReaderOrder;
+use metric_contents::Meter;
 use metric_plan::CheckFault;
 use metric_resolve::identity_order;
 use metric_views::{Config, Stream};

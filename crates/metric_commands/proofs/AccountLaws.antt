@@ -5,7 +5,7 @@ use Rattle.std.proofs.lemmas.Bool.{ne_eqb, cases_eq}
 use Rattle.std.proofs.lemmas.List.{append-nil, get_or-set_same, get_or-set_other, length-set, length-replicate, take_all, take_more}
 use Rattle.std.proofs.lemmas.Option.{get_or_from_slice_get, slice_get-get_or, slice_get_past, slice_get_within}
 use Rattle.metric_book.specs.declared.slip.Slip.{Slip}
-use Rattle.metric_catalogue.specs.declared.contents.Contents.{Contents}
+use Rattle.metric_contents.specs.declared.contents.Contents.{Contents}
 use Rattle.metric_history.specs.Encoded.{encoded}
 use Rattle.metric_history.specs.Events.{instrument_of}
 use Rattle.metric_history.specs.History.{History, answered}

@@ -2,7 +2,7 @@
 use Rattle.std.proofs.Common.{Bool, true, false, inl, inr, ◌≡◌, ℕ, List, [], ◌++◌, Option, Some, None, Ok, IsSomeAnd, sym, ap, subst, ◌∙◌}
 use Rattle.metric_base.specs.StepLaws.{ok_is}
 use Rattle.metric_catalogue.specs.Catalogues.{catalogue_of}
-use Rattle.metric_catalogue.specs.declared.contents.Contents.{Contents as Declared}
+use Rattle.metric_contents.specs.declared.contents.Contents.{Contents as Declared}
 use Rattle.metric_views.specs.Configs.{config_of}
 use Rattle.metric_views.specs.declared.config.Setup.{Setup}
 use Rattle.metric_parts.specs.Input.{Contents, IsInput}

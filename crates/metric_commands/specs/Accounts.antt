@@ -1,7 +1,7 @@
 -- What the events and replies of a run tell of each instrument.
 use Rattle.std.specs.Prelude.{◌≡◌, ◌==◌, ◌++◌, ℕ, List, [], ◌∷◌, Option, Some, None, length}
 use Rattle.std.specs.Prelude.{replicate, slice_get, if◌then◌else◌}
-use Rattle.metric_catalogue.specs.declared.contents.Contents.{Contents}
+use Rattle.metric_contents.specs.declared.contents.Contents.{Contents}
 use Rattle.metric_history.specs.Events.{instrument_of}
 use Rattle.metric_history.specs.History.{History}
 use Rattle.metric_history.specs.declared.batch.Batch.{Batch}

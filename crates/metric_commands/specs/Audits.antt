@@ -6,8 +6,8 @@ use Rattle.metric_audit.specs.Audits.{Audits}
 use Rattle.metric_audit.specs.declared.fault.AuditFault.{AuditFault}
 use Rattle.metric_audit.specs.declared.fault.AuditFault.TheVariants as audits
 use Rattle.metric_book.specs.declared.slip.Slip.{Slip}
-use Rattle.metric_catalogue.specs.declared.contents.Contents.{Contents}
-use Rattle.metric_catalogue.specs.declared.refusal.Refusal.{Refusal}
+use Rattle.metric_contents.specs.declared.contents.Contents.{Contents}
+use Rattle.metric_contents.specs.declared.refusal.Refusal.{Refusal}
 use Rattle.metric_facts.specs.declared.facts.Facts.{Facts}
 use Rattle.metric_facts.specs.Facts.{RunFacts}
 use Rattle.metric_history.specs.Encoded.{encoded}

@@ -1,7 +1,7 @@
 -- What an input claims by its certificate, and what the check of it gives.
 use Rattle.std.specs.Prelude.{◌≡◌, true, Some, IsSomeAnd, Ok, Err}
 use Rattle.metric_parts.specs.declared.parts.Parts.{Parts}
-use Rattle.metric_catalogue.specs.declared.contents.Contents.{Contents}
+use Rattle.metric_contents.specs.declared.contents.Contents.{Contents}
 use Rattle.metric_views.specs.declared.config.Setup.{Setup}
 use Rattle.metric_cert.specs.declared.claims.Claims.{Claims as Certificate}
 use Rattle.metric_cert.specs.declared.fault.CertFault.{CertFault}

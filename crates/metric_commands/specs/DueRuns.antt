@@ -6,14 +6,14 @@ use Rattle.std.proofs.Common.{refl, ap, ◌∙◌}
 use Rattle.std.specs.List.{list_all, list_any}
 use Rattle.metric_base.specs.Steps.{◌>>=◌, require, require_some}
 use Rattle.metric_combinations.specs.Combinations.{permits}
-use Rattle.metric_catalogue.specs.Attributes.{given_by_owned}
-use Rattle.metric_catalogue.specs.Encoding.{Given, allowed_set, encode_of, has_declared_value}
-use Rattle.metric_catalogue.specs.Encoding.{has_repeated_key, is_complete, is_declared, permitted}
-use Rattle.metric_catalogue.specs.Encoding.{set_key, set_of}
-use Rattle.metric_catalogue.specs.declared.contents.Instrument.{Instrument}
-use Rattle.metric_catalogue.specs.declared.contents.Key.{Key}
-use Rattle.metric_catalogue.specs.declared.refusal.Refusal.{Refusal}
-use Rattle.metric_catalogue.specs.declared.refusal.Refusal.TheVariants.{
+use Rattle.metric_contents.specs.Attributes.{given_by_owned}
+use Rattle.metric_contents.specs.Encoding.{Given, allowed_set, encode_of, has_declared_value}
+use Rattle.metric_contents.specs.Encoding.{has_repeated_key, is_complete, is_declared, permitted}
+use Rattle.metric_contents.specs.Encoding.{set_key, set_of}
+use Rattle.metric_contents.specs.declared.contents.Instrument.{Instrument}
+use Rattle.metric_contents.specs.declared.contents.Key.{Key}
+use Rattle.metric_contents.specs.declared.refusal.Refusal.{Refusal}
+use Rattle.metric_contents.specs.declared.refusal.Refusal.TheVariants.{
   Budget,
   Closed,
   Combination,

@@ -1,6 +1,6 @@
 -- What reading a catalogue, reading a config and planning give, as a command answers it.
 use Rattle.std.specs.Prelude.{◌≡◌, [], true, false, Some, Result, Ok, Err}
-use Rattle.metric_catalogue.specs.declared.contents.Contents.{Contents}
+use Rattle.metric_contents.specs.declared.contents.Contents.{Contents}
 use Rattle.metric_catalogue.specs.declared.fault.CatalogueFault.{CatalogueFault}
 use Rattle.metric_views.specs.declared.config.Setup.{Setup}
 use Rattle.metric_views.specs.declared.fault.ViewFault.{ViewFault}

@@ -9,7 +9,7 @@ use Rattle.metric_parts.specs.Texts.{ScriptLines}
 use Rattle.metric_parts.specs.declared.needs.Needs.{Needs}
 use Rattle.metric_parts.specs.declared.parts.Parts.{Parts}
 use Rattle.metric_script.specs.Scripts.{IsScript, IsFirstFaultAt}
-use Rattle.metric_catalogue.specs.declared.contents.Contents.{Contents}
+use Rattle.metric_contents.specs.declared.contents.Contents.{Contents}
 use Rattle.metric_views.specs.declared.config.Setup.{Setup}
 use Rattle.metric_plan.specs.Counting.{is_counted}
 use Rattle.metric_plan.specs.Plans.{PlanValue, plan_of}

@@ -1,9 +1,9 @@
 -- How the replies to a script are written.
 use Rattle.std.specs.Prelude.{ℕ, Bool, true, false, List, [], ◌∷◌, ◌++◌, codes, count_by}
 use Rattle.metric_text.specs.Lists.{numbered}
-use Rattle.metric_catalogue.specs.Refusals.{refusal_text}
-use Rattle.metric_catalogue.specs.declared.refusal.Refusal.{Refusal}
-use Rattle.metric_catalogue.specs.declared.refusal.Refusal.TheVariants as refusals
+use Rattle.metric_contents.specs.Refusals.{refusal_text}
+use Rattle.metric_contents.specs.declared.refusal.Refusal.{Refusal}
+use Rattle.metric_contents.specs.declared.refusal.Refusal.TheVariants as refusals
 use Rattle.metric_history.specs.declared.event.Reply.{Reply}
 use Rattle.metric_history.specs.declared.event.Reply.TheVariants.{Accepted, Collected, Done}
 use Rattle.metric_history.specs.declared.event.Reply.TheVariants.{Granted, Refused}

@@ -13,7 +13,7 @@ ghost use Rattle.metric_commands.specs.WrittenRuns.{due_text};
 use crate::fault::KitFault;
 use crate::replies::write_replies;
 use metric_book::Book;
-use metric_catalogue::Refusal;
+use metric_contents::Refusal;
 use metric_core::Core;
 use metric_history::{Event, Reply};
 use metric_io::Sink;

@@ -2,14 +2,14 @@
 ghost use Rattle.std.specs.Prelude.{◌≡◌, ◌++◌, OnOk, IfErr};
 ghost use Rattle.std.specs.Io.KnownBytes.{Appends};
 ghost use Rattle.metric_io.specs.Prefix.{AppendsPrefix};
-ghost use Rattle.metric_catalogue.specs.Refusals.{refusal_text};
+ghost use Rattle.metric_contents.specs.Refusals.{refusal_text};
 ghost use Rattle.metric_export.specs.Exports.{plan_text};
 ghost use Rattle.metric_commands.specs.Replies.{accepted_count, audited_text, is_accepted, refused_text, replies_text};
 ghost use Rattle.metric_commands.specs.Written.{IsSinkFault};
 
 use crate::fault::KitFault;
 use crate::parts::{Parts, write_parts, write_text};
-use metric_catalogue::Refusal;
+use metric_contents::Refusal;
 use metric_export::{ExportFault, write_batch};
 use metric_history::{Batch, Reply};
 use metric_io::Sink;

@@ -5,7 +5,8 @@ ghost use Rattle.metric_commands.specs.Audits.{AddsSlip, AddsSlips, recorded_by,
 
 use metric_base::Items;
 use metric_book::Slip;
-use metric_catalogue::{Catalogue, OwnedAttr};
+use metric_catalogue::Catalogue;
+use metric_contents::OwnedAttr;
 use metric_history::{Event, Reply};
 use std::alloc::{AllocError, Global};
 

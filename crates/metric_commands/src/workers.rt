@@ -3,7 +3,7 @@ ghost use Rattle.std.specs.Prelude.{◌≡◌, IfOk};
 
 use crate::options::ThreadsOptions;
 use metric_book::Book;
-use metric_catalogue::{Attr, Instrument, Refusal};
+use metric_contents::{Attr, Instrument, Refusal};
 use metric_history::Batch;
 use metric_provider::{AllFault, Collector, NoGate, Provider, Recorder};
 use std::alloc::{AllocError, Global};

@@ -2,7 +2,7 @@
 use Rattle.std.specs.Prelude.{◌≡◌, map}
 use Rattle.std.specs.List.{AllZip}
 use Rattle.metric_parts.specs.declared.parts.Parts.{Parts}
-use Rattle.metric_catalogue.specs.declared.contents.Contents.{Contents}
+use Rattle.metric_contents.specs.declared.contents.Contents.{Contents}
 use Rattle.metric_views.specs.declared.config.Setup.{Setup}
 use Rattle.metric_plan.specs.Plans.{PlanValue}
 use Rattle.metric_resolve.specs.Applying.{all_instruments}

@@ -1,6 +1,6 @@
 -- Whether what a backend adds up of many processes fits 64 bits.
 use Rattle.std.specs.Prelude.{ℕ}
-use Rattle.metric_catalogue.specs.declared.contents.Instrument.{Instrument}
+use Rattle.metric_contents.specs.declared.contents.Instrument.{Instrument}
 use Rattle.metric_bounds.specs.Safe.{CountsFit, HighFits, LowFits}
 
 -- The count of so many recordings fits, and so do their sums where a stream keeps them.

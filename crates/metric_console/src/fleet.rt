@@ -5,7 +5,7 @@ ghost use Rattle.metric_console.specs.Fleets.{Fits};
 
 use metric_advice::Limit;
 use metric_bounds::{high, low};
-use metric_catalogue::Instrument;
+use metric_contents::Instrument;
 
 /// What does not fit 64 bits where a backend adds up an instrument of so many recordings, those of all processes together:
 /// their count or, where a stream keeps sums, the least or the greatest sum.

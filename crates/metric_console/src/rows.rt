@@ -5,7 +5,8 @@ ghost use Rattle.metric_console.specs.Tables.{IsWithin};
 
 use crate::declared::Declared;
 use metric_bounds::{listed, product};
-use metric_catalogue::{Catalogue, Instrument, Key, Kind};
+use metric_catalogue::Catalogue;
+use metric_contents::{Instrument, Key, Kind};
 use metric_sheet::Cell;
 use metric_views::{Stream, StreamAggregation, Temporality};
 use std::alloc::{AllocError, Global};

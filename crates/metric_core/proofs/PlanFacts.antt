@@ -5,12 +5,12 @@ use Rattle.std.proofs.lemmas.Bool.{and_parts, ltb-true}
 use Rattle.std.proofs.lemmas.List.Sums.{sum-map}
 use Rattle.metric_bounds.specs.Amounts.{total_of}
 use Rattle.metric_catalogue.specs.Budgets.{amount_of, spare_at, spare_in}
-use Rattle.metric_catalogue.specs.Attributes.{given_by_owned}
-use Rattle.metric_catalogue.specs.Encoding.{Given, allowed_set, encode_of}
-use Rattle.metric_catalogue.specs.declared.contents.Contents.{Contents}
-use Rattle.metric_catalogue.specs.declared.contents.Instrument.{Instrument}
-use Rattle.metric_catalogue.specs.declared.contents.Recorder.{Recorder}
-use Rattle.metric_catalogue.specs.declared.refusal.Refusal.{Refusal}
+use Rattle.metric_contents.specs.Attributes.{given_by_owned}
+use Rattle.metric_contents.specs.Encoding.{Given, allowed_set, encode_of}
+use Rattle.metric_contents.specs.declared.contents.Contents.{Contents}
+use Rattle.metric_contents.specs.declared.contents.Instrument.{Instrument}
+use Rattle.metric_contents.specs.declared.contents.Recorder.{Recorder}
+use Rattle.metric_contents.specs.declared.refusal.Refusal.{Refusal}
 use Rattle.metric_history.specs.Encoded.{encoded}
 use Rattle.metric_history.specs.declared.event.Event.{Event}
 use Rattle.metric_history.specs.declared.event.Event.TheVariants.{Record, Collect, Close, Grant}

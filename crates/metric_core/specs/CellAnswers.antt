@@ -2,9 +2,9 @@
 use Rattle.std.specs.Prelude.{◌≡◌, ◌<◌, ◌≤◌, ◌+◌, ◌-◌, ◌+ℤ◌, ℕ, ℤ, Bool, true, false, List, [], ◌∷◌}
 use Rattle.std.specs.Prelude.{◌++◌, Result, Ok, Err, slice_index, slice_set}
 use Rattle.metric_book.specs.Journals.{Standing, kept_of}
-use Rattle.metric_catalogue.specs.declared.refusal.Refusal.{Refusal}
-use Rattle.metric_catalogue.specs.declared.refusal.Refusal.TheVariants.{Closed, Budget, NoSpare}
-use Rattle.metric_catalogue.specs.declared.refusal.Refusal.TheVariants.{SumRange, Memory}
+use Rattle.metric_contents.specs.declared.refusal.Refusal.{Refusal}
+use Rattle.metric_contents.specs.declared.refusal.Refusal.TheVariants.{Closed, Budget, NoSpare}
+use Rattle.metric_contents.specs.declared.refusal.Refusal.TheVariants.{SumRange, Memory}
 use Rattle.metric_history.specs.declared.batch.Batch.{Batch}
 use Rattle.metric_history.specs.declared.entry.Entry.{Entry}
 use Rattle.metric_history.specs.Answers.{batch}

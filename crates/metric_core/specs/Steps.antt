@@ -2,8 +2,8 @@
 use Rattle.std.specs.Prelude.{◌≡◌, ℕ, ℤ, true, List, [], ◌∷◌, ◌++◌, Result, Ok, Err}
 use Rattle.std.specs.Result.{result_unwrap_or}
 use Rattle.metric_book.specs.Journals.{Standing}
-use Rattle.metric_catalogue.specs.declared.contents.Contents.{Contents}
-use Rattle.metric_catalogue.specs.declared.refusal.Refusal.{Refusal}
+use Rattle.metric_contents.specs.declared.contents.Contents.{Contents}
+use Rattle.metric_contents.specs.declared.refusal.Refusal.{Refusal}
 use Rattle.metric_history.specs.Encoded.{encoded}
 use Rattle.metric_history.specs.declared.entry.Entry.{Entry}
 use Rattle.metric_history.specs.declared.event.Event.{Event}

@@ -9,7 +9,7 @@ use crate::budgets::Budgets;
 use crate::room::numbers_apart;
 use metric_base::Copied;
 use metric_book::Book;
-use metric_catalogue::{Refusal, SetKey};
+use metric_contents::{Refusal, SetKey};
 use metric_facts::Facts;
 use metric_history::{Batch, Entry};
 use metric_plan::Plan;

@@ -12,7 +12,7 @@ ghost use Rattle.metric_dense.specs.Ranks.{series_of, IsRanked};
 use crate::ranks::Ranks;
 use metric_aggregate::Aggregate;
 use metric_base::{Few, Shared};
-use metric_catalogue::SetKey;
+use metric_contents::SetKey;
 use metric_facts::KeyFacts;
 use metric_history::Point;
 use metric_series::{Place, SeriesFault, Table};

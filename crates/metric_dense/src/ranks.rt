@@ -7,7 +7,7 @@ ghost use Rattle.metric_dense.specs.Ranks.{series_of, IsRanked};
 
 use crate::weights::{fill_offsets, fill_weights, sets_of, unrank_into, weighted};
 use metric_base::{Few, Items, Shared};
-use metric_catalogue::SetKey;
+use metric_contents::SetKey;
 use metric_facts::KeyFacts;
 use std::alloc::{AllocError, Global};
 use std::marker::Model;

@@ -5,7 +5,7 @@ use crate::sources::Pair;
 use crate::told::{ToldStream, instrument_of, told_stream};
 use metric_advice::{Headroom, Limit, headrooms, sets_of};
 use metric_bounds::{amount, high, low};
-use metric_catalogue::Instrument;
+use metric_contents::Instrument;
 use metric_resolve::resolve_streams;
 use metric_views::{ConfigPlace, Stream};
 use std::alloc::{AllocError, Global};

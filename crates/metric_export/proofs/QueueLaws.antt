@@ -58,25 +58,6 @@ next_refused exports a b c batches i batch fault within is p call =
 
 -- ---- tries of a list, and then of one batch more
 
-stops_more : {E : Type 0} (exports : Exporting E) (b c : E) (left more : List Batch) (answer : Result (Unit {0}) ExportFault) → IsErr answer
-    → StopsBefore exports b c left answer → StopsBefore exports b c (left ++ more) answer
-stops_more exports b c [] more (Ok done) is s = absurd cc
-stops_more exports b c [] more (Err fault) is s = let e : Err fault ≡ Ok tt = s.0 in absurd cc
-stops_more exports b c (x ∷ left) more answer is s = s
-
--- the tries of the list stopped
-pub stopped_before : {E : Type 0} (exports : Exporting E) (a c : E) (batches more : List Batch) (sent : ℕ)
-    (answer : Result (Unit {0}) ExportFault) → TriesInOrder exports a c batches sent answer → IsErr answer
-    → TriesInOrder exports a c (batches ++ more) sent answer
-stopped_before exports a c batches more sent answer tries is = record {
-  between = tries.between;
-  within = rw (length-append batches more) (omega (arith, tries.within));
-  taken = subst (TakesEach exports a tries.between) (sym (take-append-le sent batches more tries.within)) tries.taken;
-  stopped =
-      subst (λ (left : List Batch). StopsBefore exports tries.between c left answer) (sym (drop-append-le sent batches more tries.within))
-      (stops_more exports tries.between c (drop sent batches) more answer is tries.stopped);
-}
-
 -- no batch is left where the answer is Ok
 none_left : {E : Type 0} (exports : Exporting E) (b c : E) (left : List Batch) → StopsBefore exports b c left (Ok tt) → (left ≡ []) × (c ≡ b)
 none_left exports b c [] s = (refl, s.1)
@@ -108,20 +89,6 @@ all_taken_with exports a b c batches batch sent tries call =
     all_taken exports a c (batches ++ batch ∷ []) (sent + 1) (omega (arith, count)) (omega (arith, count))
     (subst (TakesEach exports a c) (sym (take_all (sent + 1) (batches ++ batch ∷ []) (omega (arith, count))))
     (takes_append exports a b c batches (batch ∷ []) all.1 (c, (call, refl))))
-
--- the list was taken, and the next batch was refused
-pub refused_after : {E : Type 0} (exports : Exporting E) (a b c : E) (batches : List Batch) (batch : Batch) (sent : ℕ) (fault : ExportFault)
-    → TriesInOrder exports a b batches sent (Ok tt) → exports b c batch (Err fault)
-    → TriesInOrder exports a c (batches ++ batch ∷ []) sent (Err fault)
-refused_after exports a b c batches batch sent fault tries call =
-    let all = all_sent exports a b batches sent tries in
-    record {
-      between = b;
-      within = rw (length-append batches (batch ∷ [])) (omega (arith, tries.within));
-      taken = subst (TakesEach exports a b) (sym (take_at batches (batch ∷ []) sent (sym all.0))) all.1;
-      stopped =
-          subst (λ (left : List Batch). StopsBefore exports b c left (Err fault)) (sym (drop_at batches (batch ∷ []) sent (sym all.0))) (refl, call);
-    }
 
 -- where the answer is Ok, all went out
 pub where_all_went_out : {E : Type 0} (exports : Exporting E) (a c : E) (batches : List Batch) (last : Batch) (sent : ℕ)

@@ -2,8 +2,8 @@
 use Rattle.std.specs.Prelude.{ℕ, Bool, true, List, [], ◌∷◌, Option, Some, None, codes, slice_get}
 use Rattle.std.specs.Option.{option_map_or}
 use Rattle.metric_names.specs.declared.value.AttrValue.TheVariants.{Flag}
-use Rattle.metric_catalogue.specs.declared.contents.Instrument.{Instrument}
-use Rattle.metric_catalogue.specs.declared.contents.Key.{Key}
+use Rattle.metric_contents.specs.declared.contents.Instrument.{Instrument}
+use Rattle.metric_contents.specs.declared.contents.Key.{Key}
 use Rattle.metric_views.specs.declared.stream.Stream.{Stream}
 use Rattle.metric_plan.specs.Plans.{PlanValue}
 use Rattle.metric_lines.specs.Keys.{Attribute, attributes_of}

@@ -1,11 +1,11 @@
 //! The attributes of a point.
 ghost use Rattle.std.specs.Prelude.{◌≡◌, ◌++◌, IfOk, OnOk, map};
 ghost use Rattle.std.specs.Option.{option_copied, option_map};
-ghost use Rattle.metric_catalogue.specs.Attributes.{given_by};
+ghost use Rattle.metric_contents.specs.Attributes.{given_by};
 ghost use Rattle.metric_lines.specs.Keys.{attribute_of, attributes_of, value_at};
 ghost use Rattle.metric_export.specs.Attributes.{declared_keys, series_attributes};
 
-use metric_catalogue::{Attr, Key, SetKey, Values};
+use metric_contents::{Attr, Key, SetKey, Values};
 use metric_history::Point;
 use metric_names::{AttrValue, ValueRef};
 use metric_plan::Plan;

@@ -11,8 +11,8 @@ use Rattle.std.proofs.lemmas.Bool.{and_parts, eqb-true, ltb-true, ltb-false, le-
 use Rattle.std.proofs.lemmas.List.{length-take}
 use Rattle.std.proofs.lemmas.Nat.{div-add-mod'}
 use Rattle.std.proofs.lemmas.Slice.Eq.{bytes_eq-Decides, slice_eq-Decides}
-use Rattle.metric_catalogue.specs.declared.contents.Kind.{Kind}
-use Rattle.metric_catalogue.specs.declared.contents.Kind.TheVariants.{Counter, UpDownCounter, Histogram, Gauge}
+use Rattle.metric_contents.specs.declared.contents.Kind.{Kind}
+use Rattle.metric_contents.specs.declared.contents.Kind.TheVariants.{Counter, UpDownCounter, Histogram, Gauge}
 use Rattle.metric_views.specs.declared.choices.Temporality.{Temporality}
 use Rattle.metric_views.specs.declared.choices.Temporality.TheVariants.{Delta, Cumulative}
 use Rattle.metric_views.specs.declared.stream.StreamAggregation.{StreamAggregation}

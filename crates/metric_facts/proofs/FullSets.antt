@@ -7,12 +7,12 @@ use Rattle.std.proofs.lemmas.Bool.Decides.{nat_tests}
 use Rattle.metric_base.specs.StepLaws.{after_ok, ok_is, require_ok}
 use Rattle.metric_names.specs.declared.value.AttrValue.{AttrValue}
 use Rattle.metric_combinations.specs.Combinations.{permits}
-use Rattle.metric_catalogue.specs.declared.contents.Key.{Key}
-use Rattle.metric_catalogue.specs.declared.refusal.Refusal.TheVariants.{DuplicateKey, UnknownKey, UnknownValue, MissingKey, Combination}
-use Rattle.metric_catalogue.specs.ByKeys.{is_allowed, values_by_keys}
-use Rattle.metric_catalogue.specs.Encoding.{Given, allowed_set, is_of, has_repeated_key, is_declared, has_declared_value, is_complete, entry_of, entry_at, set_key, set_of}
-use Rattle.metric_catalogue.specs.Places.{same_value, place}
-use Rattle.metric_catalogue.specs.PlaceLaws.{position_from-within}
+use Rattle.metric_contents.specs.declared.contents.Key.{Key}
+use Rattle.metric_contents.specs.declared.refusal.Refusal.TheVariants.{DuplicateKey, UnknownKey, UnknownValue, MissingKey, Combination}
+use Rattle.metric_contents.specs.ByKeys.{is_allowed, values_by_keys}
+use Rattle.metric_contents.specs.Encoding.{Given, allowed_set, is_of, has_repeated_key, is_declared, has_declared_value, is_complete, entry_of, entry_at, set_key, set_of}
+use Rattle.metric_contents.specs.Places.{same_value, place}
+use Rattle.metric_contents.specs.PlaceLaws.{position_from-within}
 use Rattle.metric_facts.specs.Facts.{is_entry, is_full_set, key_facts, EncodesAllowedSets}
 
 none_found : (p : Given → Bool) (attrs : List Given) → find p attrs ≡ None → list_any p attrs ≡ false

@@ -38,8 +38,8 @@ ghost use Rattle.metric_facts.specs.Flat.{
 use crate::facts::{FactsFields, KeyFacts, NumberedStream};
 use crate::full_sets::are_zero;
 use crate::instruments::is_delta;
-use metric_catalogue::{Kind, SetKey};
 use metric_combinations::Combinations;
+use metric_contents::{Kind, SetKey};
 use metric_views::{Stream, StreamAggregation};
 use std::alloc::{AllocError, Global};
 use std::collections::BTreeMap;

@@ -4,8 +4,8 @@ ghost use Rattle.std.specs.List.{list_all};
 ghost use Rattle.metric_facts.specs.Facts.{is_allowed_set, is_entry, is_full_set};
 
 use crate::facts::{FactsFields, KeyFacts};
-use metric_catalogue::SetKey;
 use metric_combinations::permits;
+use metric_contents::SetKey;
 
 /// Whether the entries are a full set of the keys: one for each key, and 0 after them.
 pub fn is_full_set(keys: &[KeyFacts], entries: &[u16]) -> bool

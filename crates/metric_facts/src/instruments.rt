@@ -5,7 +5,8 @@ ghost use Rattle.metric_facts.specs.Facts.{facts_from, facts_of, is_delta_reader
 
 use crate::facts::{Facts, FactsFields, KeyFacts, NumberedStream, is_by_product};
 use metric_base::{Copied, Items};
-use metric_catalogue::{Catalogue, Instrument, Key, Kind, Recorder};
+use metric_catalogue::Catalogue;
+use metric_contents::{Instrument, Key, Kind, Recorder};
 use metric_views::{Reader, Stream, Temporality};
 use std::alloc::{AllocError, Global};
 

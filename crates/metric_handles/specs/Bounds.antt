@@ -1,9 +1,9 @@
 -- Attributes that are bound to an instrument.
 use Rattle.std.specs.Prelude.{ℕ, List, Result, Ok}
 use Rattle.metric_base.specs.Steps.{◌>>=◌}
-use Rattle.metric_catalogue.specs.declared.contents.Contents.{Contents}
-use Rattle.metric_catalogue.specs.declared.refusal.Refusal.{Refusal}
-use Rattle.metric_catalogue.specs.Encoding.{Given, encode_of}
+use Rattle.metric_contents.specs.declared.contents.Contents.{Contents}
+use Rattle.metric_contents.specs.declared.refusal.Refusal.{Refusal}
+use Rattle.metric_contents.specs.Encoding.{Given, encode_of}
 use Rattle.metric_provider.specs.declared.keys.Measurement.{Measurement}
 
 -- the number of an instrument, and a set key

@@ -1,6 +1,6 @@
 -- What calls by a handle do, in one fact: what the seat's calls at its number do.
 use Rattle.std.specs.Prelude.{◌≡◌, ℕ, ℤ, Bool, List, Result, IfErr, OnErr, OnOk, take}
-use Rattle.metric_catalogue.specs.declared.refusal.Refusal.{Refusal}
+use Rattle.metric_contents.specs.declared.refusal.Refusal.{Refusal}
 use Rattle.metric_facts.specs.declared.facts.Facts.{Facts}
 use Rattle.metric_provider.specs.declared.fault.SetsFault.{SetsFault}
 use Rattle.metric_provider.specs.declared.keys.Measurement.{Measurement}

@@ -1,8 +1,8 @@
 -- Refusals, counted by instrument and by number.
 use Rattle.std.specs.Prelude.{ℕ, ◌+◌, ◌-◌, min, List, [], Result, Ok, Err, length, replicate}
 use Rattle.std.specs.Prelude.{slice_index_or, slice_set}
-use Rattle.metric_catalogue.specs.declared.refusal.Refusal.{Refusal}
-use Rattle.metric_catalogue.specs.Refusals.{number_of}
+use Rattle.metric_contents.specs.declared.refusal.Refusal.{Refusal}
+use Rattle.metric_contents.specs.Refusals.{number_of}
 use Rattle.metric_handles.specs.Replaced.{one_more}
 use Rattle.metric_plan.specs.Plans.{PlanValue}
 use Rattle.metric_provider.specs.Seats.{RecorderValue}

@@ -6,12 +6,12 @@ use Rattle.std.specs.Option.{option_map_or}
 use Rattle.std.specs.Str.{bytes_eq}
 use Rattle.metric_base.specs.Steps.{◌>>=◌, require, require_none, require_some}
 use Rattle.metric_names.specs.Names.{folded}
-use Rattle.metric_catalogue.specs.declared.contents.Contents.{Contents}
-use Rattle.metric_catalogue.specs.declared.contents.Instrument.{Instrument}
-use Rattle.metric_catalogue.specs.declared.contents.Key.{Key}
-use Rattle.metric_catalogue.specs.declared.contents.Kind.{Kind}
-use Rattle.metric_catalogue.specs.declared.contents.Meter.{Meter}
-use Rattle.metric_catalogue.specs.Keys.{is_key}
+use Rattle.metric_contents.specs.declared.contents.Contents.{Contents}
+use Rattle.metric_contents.specs.declared.contents.Instrument.{Instrument}
+use Rattle.metric_contents.specs.declared.contents.Key.{Key}
+use Rattle.metric_contents.specs.declared.contents.Kind.{Kind}
+use Rattle.metric_contents.specs.declared.contents.Meter.{Meter}
+use Rattle.metric_contents.specs.KeyNames.{is_key}
 use Rattle.metric_views.specs.Selection.{is_kind}
 use Rattle.metric_handles.specs.declared.fault.HandleFault.{HandleFault}
 use Rattle.metric_handles.specs.declared.fault.HandleFault.TheVariants.{

@@ -3,10 +3,10 @@ use Rattle.std.specs.Prelude.{ℕ, ◌+◌, ℤ, Bool, false, min, if◌then◌e
 use Rattle.std.specs.Prelude.{is_some, slice_get}
 use Rattle.std.specs.Option.{option_map_or}
 use Rattle.metric_names.specs.declared.value.AttrValue.{AttrValue}
-use Rattle.metric_catalogue.specs.declared.contents.Instrument.{Instrument}
-use Rattle.metric_catalogue.specs.declared.contents.Key.{Key}
-use Rattle.metric_catalogue.specs.Keys.{is_key}
-use Rattle.metric_catalogue.specs.Places.{place}
+use Rattle.metric_contents.specs.declared.contents.Instrument.{Instrument}
+use Rattle.metric_contents.specs.declared.contents.Key.{Key}
+use Rattle.metric_contents.specs.KeyNames.{is_key}
+use Rattle.metric_contents.specs.Places.{place}
 
 -- one more, up to the greatest number of 64 bits
 abbrev pub one_more : ℕ → ℕ

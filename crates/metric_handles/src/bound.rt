@@ -5,7 +5,7 @@ ghost use Rattle.metric_handles.specs.Calls.{MakesRecording};
 
 use crate::kinds::{Adds, IsCounter, IsGauge, IsHistogram, IsUpDownCounter, Records};
 use metric_book::Book;
-use metric_catalogue::{Refusal, SetKey};
+use metric_contents::{Refusal, SetKey};
 use metric_provider::{Gate, Measurement, Provider, Recorder};
 use std::marker::{Model, PhantomData};
 use std::sync::Wait;

@@ -1,14 +1,14 @@
 //! A seat that counts what it is refused.
 ghost use Rattle.std.specs.Prelude.{◌≡◌, ◌<◌, ◌≤◌, ◌+◌, [], IfErr, IfOk, length, map, replicate, slice_index_or, slice_set};
-ghost use Rattle.metric_catalogue.specs.Attributes.{given_by};
-ghost use Rattle.metric_catalogue.specs.Refusals.{number_of};
+ghost use Rattle.metric_contents.specs.Attributes.{given_by};
+ghost use Rattle.metric_contents.specs.Refusals.{number_of};
 ghost use Rattle.metric_provider.specs.KeyRecordings.{admitted_key};
 ghost use Rattle.metric_provider.specs.Recordings.{admitted};
 ghost use Rattle.metric_handles.specs.Calls.{MakesRecording};
 ghost use Rattle.metric_handles.specs.Counts.{count_in, count_of, counted_of, counts_after, no_refusals, place_of, with_refusal};
 
 use metric_book::Book;
-use metric_catalogue::{Attr, Refusal, SetKey};
+use metric_contents::{Attr, Refusal, SetKey};
 use metric_plan::Plan;
 use metric_provider::{Gate, Provider, Recorder};
 use std::alloc::{AllocError, Global};

@@ -1,5 +1,5 @@
 //! Why there is no handle.
-use metric_catalogue::Kind;
+use metric_contents::Kind;
 use thiserror::Error;
 
 /// Why a name, a kind and keys are of no instrument, in the order in which the faults are tried. Places are counted from 0.

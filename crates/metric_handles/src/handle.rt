@@ -1,6 +1,6 @@
 //! Handles of instruments.
 ghost use Rattle.std.specs.Prelude.{◌≡◌, [], map};
-ghost use Rattle.metric_catalogue.specs.Attributes.{given_by};
+ghost use Rattle.metric_contents.specs.Attributes.{given_by};
 ghost use Rattle.metric_provider.specs.Recordings.{admitted};
 ghost use Rattle.metric_handles.specs.Bounds.{bound_of};
 ghost use Rattle.metric_handles.specs.Calls.{MakesRecording};
@@ -9,7 +9,7 @@ use crate::bound::Bound;
 use crate::bound_list::BoundList;
 use crate::kinds::{Adds, IsCounter, IsGauge, IsHistogram, IsUpDownCounter, Records};
 use metric_book::Book;
-use metric_catalogue::{Attr, Refusal};
+use metric_contents::{Attr, Refusal};
 use metric_plan::Plan;
 use metric_provider::{Gate, Provider, Recorder};
 use std::alloc::Global;

@@ -1,14 +1,15 @@
 //! Handles by names.
 ghost use Rattle.std.specs.Prelude.{◌≡◌, ◌<◌, IfSome, length, map, not};
 ghost use Rattle.std.specs.List.{list_any, position_from};
-ghost use Rattle.metric_catalogue.specs.declared.contents.Kind.TheVariants as kinds;
-ghost use Rattle.metric_catalogue.specs.Keys.{is_key};
+ghost use Rattle.metric_contents.specs.declared.contents.Kind.TheVariants as kinds;
+ghost use Rattle.metric_contents.specs.KeyNames.{is_key};
 ghost use Rattle.metric_views.specs.Selection.{is_kind};
 ghost use Rattle.metric_handles.specs.Named.{checked, handle_of, is_meter_named, is_missing, is_named, is_of_meter, is_text, is_undeclared, keys_checked, number_named, repeated_from, unknown_of};
 
 use crate::fault::HandleFault;
 use crate::handle::{Counter, Gauge, Handle, Histogram, UpDownCounter};
-use metric_catalogue::{Catalogue, Instrument, Key, Kind, Meter};
+use metric_catalogue::Catalogue;
+use metric_contents::{Instrument, Key, Kind, Meter};
 use metric_plan::Plan;
 
 /// The handle of a counter of this name in a meter of that name, to which the program is going to give attributes of these keys

@@ -3,10 +3,11 @@ ghost use Rattle.std.specs.Prelude.{◌≡◌, ◌==◌, find, if◌then◌else�
 ghost use Rattle.std.specs.Ordering.{int_eq};
 ghost use Rattle.std.specs.Option.{option_copied};
 ghost use Rattle.metric_names.specs.Values.{value_of};
-ghost use Rattle.metric_catalogue.specs.Keys.{is_key};
+ghost use Rattle.metric_contents.specs.KeyNames.{is_key};
 ghost use Rattle.metric_handles.specs.Replaced.{is_known, key_declares, nearest, nearest_at, one_more};
 
-use metric_catalogue::{Catalogue, Instrument, Key};
+use metric_catalogue::Catalogue;
+use metric_contents::{Instrument, Key};
 use metric_names::ValueRef;
 
 /// How often values were replaced before they were recorded: what comes in from outside is told by a count, and no recording is

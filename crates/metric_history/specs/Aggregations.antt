@@ -2,7 +2,7 @@
 use Rattle.std.specs.Prelude.{Bool}
 use Rattle.metric_aggregate.specs.Aggregation.{Aggregation, SumAggregation, LastValueAggregation}
 use Rattle.metric_aggregate.specs.Aggregation.{HistogramAggregation}
-use Rattle.metric_catalogue.specs.Kinds.{is_monotonic}
+use Rattle.metric_contents.specs.Kinds.{is_monotonic}
 use Rattle.metric_views.specs.declared.stream.Stream.{Stream}
 use Rattle.metric_views.specs.declared.stream.StreamAggregation.{StreamAggregation}
 use Rattle.metric_views.specs.declared.stream.StreamAggregation.TheVariants.{Sum, LastValue}

@@ -1,9 +1,9 @@
 -- Which replies an event may get after a history.
 use Rattle.std.specs.Prelude.{◌≡◌, ℕ, ℤ, List, [], ◌∷◌, Result, Ok, Err, slice_get}
 use Rattle.metric_base.specs.Steps.{◌>>=◌, require_some}
-use Rattle.metric_catalogue.specs.declared.attributes.OwnedAttr.{OwnedAttr}
-use Rattle.metric_catalogue.specs.declared.refusal.Refusal.{Refusal}
-use Rattle.metric_catalogue.specs.declared.refusal.Refusal.TheVariants.{UnknownInstrument, Memory}
+use Rattle.metric_contents.specs.declared.attributes.OwnedAttr.{OwnedAttr}
+use Rattle.metric_contents.specs.declared.refusal.Refusal.{Refusal}
+use Rattle.metric_contents.specs.declared.refusal.Refusal.TheVariants.{UnknownInstrument, Memory}
 use Rattle.metric_history.specs.Encoded.{encoded}
 use Rattle.metric_history.specs.declared.entry.Entry.{Entry}
 use Rattle.metric_history.specs.declared.event.Event.{Event}

@@ -1,7 +1,7 @@
 //! What a collection reports.
 use metric_aggregate::PointValue;
 use metric_base::Items;
-use metric_catalogue::SetKey;
+use metric_contents::SetKey;
 
 /// What one collection of an instrument reports to a reader (Metrics SDK, collect).
 #[derive(Drop)]

@@ -1,5 +1,5 @@
 //! An accepted recording.
-use metric_catalogue::SetKey;
+use metric_contents::SetKey;
 
 /// A recording that was accepted.
 #[derive(Clone, Copy, Debug, PartialEq, Eq, Drop)]

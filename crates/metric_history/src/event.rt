@@ -3,7 +3,7 @@ ghost use Rattle.std.specs.Prelude.{◌≡◌};
 
 use crate::batch::Batch;
 use metric_base::Items;
-use metric_catalogue::{OwnedAttr, Refusal};
+use metric_contents::{OwnedAttr, Refusal};
 
 /// One step on the state of one instrument. Times are in nanoseconds.
 #[derive(Drop)]

@@ -2,7 +2,7 @@
 use Rattle.std.proofs.Common.{◌≡◌, ◌<◌, ℕ, zero, suc, ◌+◌, List, [], ◌∷◌, ◌++◌, Some, Ok, Err, get_or, length, take, refl, sym, ap, subst, ◌∙◌, arith}
 use Rattle.std.specs.Prelude.{slice_get}
 use Rattle.std.proofs.lemmas.Option.{same_Some, slice_get-get_or}
-use Rattle.metric_catalogue.specs.declared.refusal.Refusal.{Refusal}
+use Rattle.metric_contents.specs.declared.refusal.Refusal.{Refusal}
 use Rattle.metric_hosted.specs.Recordings.{AnswersHosted, RecordsHosted, admission_of_key}
 use Rattle.metric_plan.specs.Plans.{PlanValue}
 use Rattle.metric_provider.specs.Seats.{RecorderValue}

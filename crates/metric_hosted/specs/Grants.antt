@@ -1,7 +1,7 @@
 -- What a grant on an instrument that a host holds is answered.
 use Rattle.std.specs.Prelude.{◌≡◌, ◌<◌, ◌≤◌, ℕ, Result, Ok, Err, length}
-use Rattle.metric_catalogue.specs.declared.refusal.Refusal.{Refusal}
-use Rattle.metric_catalogue.specs.declared.refusal.Refusal.TheVariants.{UnknownRecorder}
+use Rattle.metric_contents.specs.declared.refusal.Refusal.{Refusal}
+use Rattle.metric_contents.specs.declared.refusal.Refusal.TheVariants.{UnknownRecorder}
 use Rattle.metric_core.specs.CellAnswers.{AnswersGrant, with_grant}
 use Rattle.metric_hosted.specs.Hosts.{HostedValue}
 

@@ -1,8 +1,8 @@
 -- What recordings on an instrument that a host holds are answered.
 use Rattle.std.specs.Prelude.{◌≡◌, ◌≢◌, ℕ, ℤ, IfSome, List, Result, Ok, Err, slice_get}
-use Rattle.metric_catalogue.specs.Encoding.{Given}
-use Rattle.metric_catalogue.specs.declared.refusal.Refusal.{Refusal}
-use Rattle.metric_catalogue.specs.declared.refusal.Refusal.TheVariants.{Memory}
+use Rattle.metric_contents.specs.Encoding.{Given}
+use Rattle.metric_contents.specs.declared.refusal.Refusal.{Refusal}
+use Rattle.metric_contents.specs.declared.refusal.Refusal.TheVariants.{Memory}
 use Rattle.metric_core.specs.CellAnswers.{GainsEntry, entry_of, with_entry}
 use Rattle.metric_facts.specs.declared.facts.Facts.{Facts}
 use Rattle.metric_facts.specs.Products.{AreAllByProduct}

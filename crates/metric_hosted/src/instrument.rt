@@ -15,7 +15,7 @@ ghost use Rattle.metric_slot.specs.SlotAnswers.{AnswersRecorder, RefusesReader};
 ghost use Rattle.metric_slot.specs.Tellings.{told_more};
 
 use crate::settling::{SeatTold, seated, total_as_told};
-use metric_catalogue::{Refusal, SetKey};
+use metric_contents::{Refusal, SetKey};
 use metric_core::Cell;
 use metric_facts::Facts;
 use metric_history::Batch;

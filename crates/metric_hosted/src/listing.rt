@@ -5,7 +5,7 @@ ghost use Rattle.metric_hosted.specs.Recordings.{AnswersHosted, RecordsHosted, a
 
 use crate::instrument::Hosted;
 use crate::recorder::RecorderSeat;
-use metric_catalogue::{Refusal, SetKey};
+use metric_contents::{Refusal, SetKey};
 use metric_plan::Plan;
 
 /// A recording whose set key [`RecorderSeat::prepare`] answered.

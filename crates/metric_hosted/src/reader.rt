@@ -8,7 +8,7 @@ ghost use Rattle.metric_provider.specs.Collections.{with_seen};
 ghost use Rattle.metric_provider.specs.Seats.{is_collector_of, new_collector, provider_of};
 
 use crate::instrument::Hosted;
-use metric_catalogue::Refusal;
+use metric_contents::Refusal;
 use metric_history::Batch;
 use metric_plan::Plan;
 use std::alloc::{AllocError, Global};

@@ -1,7 +1,7 @@
 //! The seat of a recorder.
 ghost use Rattle.std.specs.Prelude.{◌≡◌, ◌<◌, false, length, map, IfOk, OnOk, OnErr};
-ghost use Rattle.metric_catalogue.specs.Attributes.{given_by};
-ghost use Rattle.metric_catalogue.specs.Encoding.{encode_of};
+ghost use Rattle.metric_contents.specs.Attributes.{given_by};
+ghost use Rattle.metric_contents.specs.Encoding.{encode_of};
 ghost use Rattle.metric_hosted.specs.Hosts.{number_of, run_of};
 ghost use Rattle.metric_hosted.specs.Recordings.{AnswersHosted, IsRecorded, RecordsHosted, admission_of, admission_of_key};
 ghost use Rattle.metric_hosted.specs.Settlements.{TellsOf};
@@ -12,7 +12,7 @@ ghost use Rattle.metric_provider.specs.Seats.{is_recorder_of, new_recorder, prov
 
 use crate::instrument::Hosted;
 use crate::settling::SeatTold;
-use metric_catalogue::{Attr, Refusal, SetKey};
+use metric_contents::{Attr, Refusal, SetKey};
 use metric_facts::laws::attributes_name_allowed_sets;
 use metric_facts::same_facts;
 use metric_plan::Plan;

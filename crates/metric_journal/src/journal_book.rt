@@ -10,7 +10,7 @@ use crate::points::stream_points;
 use crate::sums::fits_stream;
 use metric_base::Copied;
 use metric_book::{Book, Window};
-use metric_catalogue::Refusal;
+use metric_contents::Refusal;
 use metric_facts::Facts;
 use metric_history::Entry;
 use metric_plan::Plan;

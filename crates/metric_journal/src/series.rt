@@ -3,8 +3,8 @@ ghost use Rattle.std.specs.Prelude.{◌≡◌, bytes_eq, ◌++◌, ◌∷◌, []
 ghost use Rattle.std.specs.List.{list_any};
 ghost use Rattle.metric_history.specs.Series.{series, all_series, has, distinct};
 
-use metric_catalogue::SetKey;
 use metric_combinations::restrict;
+use metric_contents::SetKey;
 use metric_history::Entry;
 
 /// The series of a recording in a stream that keeps these keys.

@@ -8,7 +8,7 @@ ghost use Rattle.metric_history.specs.Points.{values};
 ghost use Rattle.metric_history.specs.Windows.{fits_stream as is_in_range};
 
 use crate::series::{has_place, series_of};
-use metric_catalogue::SetKey;
+use metric_contents::SetKey;
 use metric_history::Entry;
 use metric_views::{Stream, StreamAggregation};
 

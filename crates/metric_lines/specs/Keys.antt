@@ -7,7 +7,7 @@ use Rattle.metric_names.specs.declared.value.AttrValue.{AttrValue}
 use Rattle.metric_names.specs.declared.value.AttrValue.TheVariants.{Flag}
 use Rattle.metric_text.specs.Lists.{joined}
 use Rattle.metric_text.specs.Written.{pair_text, quoted}
-use Rattle.metric_catalogue.specs.declared.contents.Key.{Key}
+use Rattle.metric_contents.specs.declared.contents.Key.{Key}
 
 -- an attribute: a key's name with its value
 abbrev pub Attribute : Type 0

@@ -4,7 +4,8 @@ ghost use Rattle.std.specs.Option.{option_map};
 ghost use Rattle.metric_lines.specs.Batches.{described_stream};
 ghost use Rattle.metric_lines.specs.Descriptions.{described_by};
 
-use metric_catalogue::{Catalogue, Instrument, Meter};
+use metric_catalogue::Catalogue;
+use metric_contents::{Instrument, Meter};
 use metric_views::{Config, Reader, Stream};
 
 /// A stream of a plan with its reader, its instrument and that one's meter.

@@ -6,7 +6,7 @@ ghost use Rattle.metric_text.specs.Written.{quoted};
 ghost use Rattle.metric_lines.specs.Keys.{attribute_of, attribute_text, attributes_of};
 ghost use Rattle.metric_lines.specs.Keys.{kept_names, names_text, series_text, value_at};
 
-use metric_catalogue::{Key, SetKey, Values};
+use metric_contents::{Key, SetKey, Values};
 use metric_names::AttrValue;
 use metric_text::{Pair, push_pair, push_quoted, push_text};
 use std::alloc::AllocError;

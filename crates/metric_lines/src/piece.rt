@@ -6,7 +6,7 @@ ghost use Rattle.metric_lines.specs.Pieces.{listed, piece_text, signed};
 
 use crate::keys::{push_names, push_series};
 use itoa::Buffer;
-use metric_catalogue::{Key, SetKey};
+use metric_contents::{Key, SetKey};
 use metric_text::{Spelled, push_labelled, push_list, push_numbered, push_signed, push_text};
 use std::alloc::AllocError;
 

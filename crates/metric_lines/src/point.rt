@@ -5,7 +5,7 @@ ghost use Rattle.metric_lines.specs.Points.{buckets_text, covered_text, point_te
 
 use crate::piece::{Piece, push_pieces};
 use metric_aggregate::PointValue;
-use metric_catalogue::{Key, SetKey};
+use metric_contents::{Key, SetKey};
 use metric_history::{Batch, Point};
 use std::alloc::AllocError;
 

@@ -5,7 +5,8 @@ ghost use Rattle.metric_lines.specs.Streams.{description_text, kind_text, shown_
 ghost use Rattle.metric_lines.specs.Streams.{collision_text, temporality_text, unfit_text, view_text, warning_text};
 
 use crate::piece::{Piece, push_pieces};
-use metric_catalogue::{Catalogue, Instrument, Kind, Meter};
+use metric_catalogue::Catalogue;
+use metric_contents::{Instrument, Kind, Meter};
 use metric_resolve::Warning;
 use metric_views::{Config, Reader, Stream, StreamAggregation, Temporality};
 use std::alloc::AllocError;

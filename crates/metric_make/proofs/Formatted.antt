@@ -7,8 +7,8 @@ use Rattle.std.proofs.lemmas.List.Elements.{All-get_or}
 use Rattle.std.proofs.lemmas.Option.{get_or_from_slice_get, slice_get_within}
 use Rattle.metric_combinations.specs.Restrictions.{restrictions}
 use Rattle.metric_catalogue.specs.Sound.{IsSound}
-use Rattle.metric_catalogue.specs.declared.contents.Contents.{Contents}
-use Rattle.metric_catalogue.specs.declared.contents.Instrument.{Instrument}
+use Rattle.metric_contents.specs.declared.contents.Contents.{Contents}
+use Rattle.metric_contents.specs.declared.contents.Instrument.{Instrument}
 use Rattle.metric_views.specs.declared.stream.Stream.{Stream}
 use Rattle.metric_bounds.specs.Amounts.{total_of}
 use Rattle.metric_bounds.specs.Sets.{list_within, listed_of, product_of}

@@ -6,9 +6,9 @@ use Rattle.std.proofs.lemmas.List.Elements.{All-weaker}
 use Rattle.metric_glob.specs.Reasons.{Confirms}
 use Rattle.metric_glob.specs.declared.reason.Reason.{Reason}
 use Rattle.metric_glob.specs.declared.reason.Reason.TheVariants.{Takes, Rows}
-use Rattle.metric_catalogue.specs.declared.contents.Contents.{Contents}
-use Rattle.metric_catalogue.specs.declared.contents.Instrument.{Instrument}
-use Rattle.metric_catalogue.specs.declared.contents.Meter.{Meter}
+use Rattle.metric_contents.specs.declared.contents.Contents.{Contents}
+use Rattle.metric_contents.specs.declared.contents.Instrument.{Instrument}
+use Rattle.metric_contents.specs.declared.contents.Meter.{Meter}
 use Rattle.metric_views.specs.declared.config.Config.{Config}
 use Rattle.metric_views.specs.declared.config.Criteria.{Criteria}
 use Rattle.metric_views.specs.declared.config.View.{View}

@@ -4,9 +4,9 @@ use Rattle.std.specs.Prelude.{◌++◌, map, nat_le, Option, Some, None, slice_g
 use Rattle.std.specs.List.{AllZip}
 use Rattle.metric_glob.specs.Reasons.{Confirms}
 use Rattle.metric_glob.specs.declared.reason.Reason.{Reason}
-use Rattle.metric_catalogue.specs.declared.contents.Contents.{Contents}
-use Rattle.metric_catalogue.specs.declared.contents.Instrument.{Instrument}
-use Rattle.metric_catalogue.specs.declared.contents.Meter.{Meter}
+use Rattle.metric_contents.specs.declared.contents.Contents.{Contents}
+use Rattle.metric_contents.specs.declared.contents.Instrument.{Instrument}
+use Rattle.metric_contents.specs.declared.contents.Meter.{Meter}
 use Rattle.metric_views.specs.declared.config.Config.{Config}
 use Rattle.metric_views.specs.declared.config.Criteria.{Criteria}
 use Rattle.metric_views.specs.declared.config.View.{View}

@@ -14,8 +14,9 @@ ghost use Rattle.metric_cert.specs.Valid.{IsBoundAt};
 use crate::fault::MakeFault;
 use metric_base::Items;
 use metric_bounds::{amount, high, low, summed, totals};
-use metric_catalogue::{Catalogue, Instrument};
+use metric_catalogue::Catalogue;
 use metric_cert::InstrumentBound;
+use metric_contents::Instrument;
 use metric_views::Stream;
 use std::alloc::Global;
 

@@ -6,8 +6,9 @@ ghost use Rattle.metric_make.specs.Making.{AddsReasons, IsEvidenceAt, IsMadeEvid
 ghost use Rattle.metric_cert.specs.Valid.{all_pairs};
 
 use metric_base::Items;
-use metric_catalogue::{Catalogue, Instrument, Meter};
+use metric_catalogue::Catalogue;
 use metric_cert::{Criterion, Evidence, SelectionReason, pattern_for};
+use metric_contents::{Instrument, Meter};
 use metric_glob::Pattern;
 use metric_views::{Config, Criteria, View};
 use std::alloc::{AllocError, Global};

@@ -13,8 +13,9 @@ ghost use Rattle.metric_cert.specs.Valid.{IsBoundAt};
 use crate::fault::MakeFault;
 use metric_base::Items;
 use metric_bounds::{listed, product};
-use metric_catalogue::{Catalogue, SetKey};
+use metric_catalogue::Catalogue;
 use metric_cert::{By, InstrumentBound, StreamSets};
+use metric_contents::SetKey;
 use metric_views::Stream;
 use std::alloc::Global;
 

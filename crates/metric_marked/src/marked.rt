@@ -8,7 +8,7 @@ use crate::stream_table::StreamTable;
 use crate::tables::{all_fit, empty, empty_tables, points_of, push_all};
 use metric_base::Items;
 use metric_book::{Book, Window};
-use metric_catalogue::Refusal;
+use metric_contents::Refusal;
 use metric_facts::Facts;
 use metric_history::Entry;
 use metric_plan::Plan;

@@ -3,7 +3,7 @@ ghost use Rattle.std.specs.Prelude.{◌≡◌, ℕ, List, true, [], IfOk, IsTrue
 ghost use Rattle.metric_facts.specs.Facts.{is_full_set};
 ghost use Rattle.metric_facts.specs.Products.{IsDense};
 
-use metric_catalogue::SetKey;
+use metric_contents::SetKey;
 use metric_dense::{DenseTable, dense_table};
 use metric_facts::{KeyFacts, NumberedStream};
 use metric_history::Point;

@@ -1,4 +1,6 @@
--- Attribute values that are borrowed.
+-- Attribute values: borrowed, and as they are printed.
+use Rattle.std.specs.Prelude.{ℕ, List, Bool, true, false, codes}
+use Rattle.std.specs.Fmt.{signed_decimal}
 use Rattle.metric_names.specs.declared.value.AttrValue.{AttrValue}
 use Rattle.metric_names.specs.declared.value.AttrValue.TheVariants as owned
 use Rattle.metric_names.specs.declared.value.ValueRef.{ValueRef}
@@ -9,3 +11,10 @@ abbrev pub value_of : ValueRef → AttrValue
 value_of (Text text) = owned.Text text.now
 value_of (Whole number) = owned.Whole number
 value_of (Flag flag) = owned.Flag flag
+
+-- a value as it is printed: a text as it stands, a number in decimal digits, a flag in its word
+pub value_text : AttrValue → List ℕ
+value_text (owned.Text text) = text
+value_text (owned.Whole number) = signed_decimal number
+value_text (owned.Flag true) = codes "true"
+value_text (owned.Flag false) = codes "false"

@@ -4,10 +4,11 @@ ghost use Rattle.metric_names.specs.Values.{value_of};
 
 use metric_base::{Copied, Exact, Text};
 use std::alloc::{AllocError, Global};
+use std::fmt;
 
 /// The value of an attribute: a text (the empty text is a value), a whole number or a flag. Values are
 /// equal where type and value are equal (Common concepts, attribute).
-#[derive(PartialEq, Eq, Drop)]
+#[derive(Debug, PartialEq, Eq, Drop)]
 pub enum AttrValue {
     /// A text.
     Text(Text),
@@ -18,7 +19,7 @@ pub enum AttrValue {
 }
 
 /// An attribute's value that is borrowed.
-#[derive(Clone, Copy)]
+#[derive(Clone, Copy, Debug)]
 pub enum ValueRef<'a> {
     /// A text.
     Text(&'a str),
@@ -68,4 +69,31 @@ impl Exact for AttrValue {
     ghost use Rattle.std.proofs.Common.{rules};
 
     ghost exact = { Prim.search rules };
+}
+
+impl fmt::Display for ValueRef<'_> {
+    ghost use Rattle.std.specs.Prelude.{Some};
+    ghost use Rattle.metric_names.specs.Values.{value_of, value_text};
+
+    ghost output = { λ value. Some (value_text (value_of value)) };
+
+    fn fmt<W: fmt::Write>(&self, f: &mut fmt::Formatter<W>) -> fmt::Result {
+        match self {
+            ValueRef::Text(text) => f.write_str(text),
+            ValueRef::Whole(number) => write!(f, "{number}"),
+            ValueRef::Flag(flag) => write!(f, "{flag}"),
+        }
+    }
+}
+
+impl fmt::Display for AttrValue {
+    ghost use Rattle.std.specs.Prelude.{Some};
+    ghost use Rattle.metric_names.specs.Values.{value_text};
+
+    ghost output = { λ value. Some (value_text value) };
+
+    fn fmt<W: fmt::Write>(&self, f: &mut fmt::Formatter<W>) -> fmt::Result {
+        let value = self.as_ref();
+        write!(f, "{value}")
+    }
 }

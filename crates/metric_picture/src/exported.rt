@@ -2,7 +2,8 @@
 use crate::diagram::{Node, Tone};
 use crate::instruments::count_one;
 use crate::slots::Slots;
-use metric_catalogue::{Catalogue, Key};
+use metric_catalogue::Catalogue;
+use metric_contents::Key;
 use metric_resolve::{Streams, Warning};
 use metric_views::{Config, Stream, StreamAggregation, Temporality};
 use std::alloc::{AllocError, Global};

@@ -1,7 +1,8 @@
 //! The boxes of instruments.
 use crate::diagram::{Node, Tone};
 use crate::slots::Slots;
-use metric_catalogue::{Catalogue, Instrument, Key, Kind};
+use metric_catalogue::Catalogue;
+use metric_contents::{Instrument, Key, Kind};
 use metric_views::Stream;
 use std::alloc::{AllocError, Global};
 

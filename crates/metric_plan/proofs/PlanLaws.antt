@@ -5,9 +5,9 @@ use Rattle.std.specs.Prelude.{FitsSigned}
 use Rattle.std.specs.Int.{w64}
 use Rattle.std.proofs.lemmas.Bool.{and_from, lt-ltb}
 use Rattle.std.proofs.lemmas.Option.{get_or_from_slice_get, slice_get_within}
-use Rattle.metric_catalogue.specs.declared.contents.Contents.{Contents}
-use Rattle.metric_catalogue.specs.declared.contents.Instrument.{Instrument}
-use Rattle.metric_catalogue.specs.declared.contents.Recorder.{Recorder}
+use Rattle.metric_contents.specs.declared.contents.Contents.{Contents}
+use Rattle.metric_contents.specs.declared.contents.Instrument.{Instrument}
+use Rattle.metric_contents.specs.declared.contents.Recorder.{Recorder}
 use Rattle.metric_views.specs.declared.config.Reader.{Reader}
 use Rattle.metric_views.specs.declared.stream.Stream.{Stream}
 use Rattle.metric_bounds.specs.Amounts.{total_of}

@@ -1,7 +1,7 @@
 -- Whether the recordings of each instrument can be counted in 64 bits.
 use Rattle.std.specs.Prelude.{ℕ, ◌+◌, ◌^◌, Bool, true, ◌&&◌, List, [], ◌∷◌, nat_lt}
-use Rattle.metric_catalogue.specs.declared.contents.Contents.{Contents}
-use Rattle.metric_catalogue.specs.declared.contents.Instrument.{Instrument}
+use Rattle.metric_contents.specs.declared.contents.Contents.{Contents}
+use Rattle.metric_contents.specs.declared.contents.Instrument.{Instrument}
 use Rattle.metric_bounds.specs.Amounts.{total_of}
 
 -- whether the budgets and the spare budget of each instrument are together a u64, where the

@@ -5,8 +5,8 @@ use Rattle.std.proofs.lemmas.Bool.{and_parts, eqb-true}
 use Rattle.std.proofs.lemmas.List.{length-map}
 use Rattle.std.proofs.lemmas.Option.{same_Some}
 use Rattle.metric_base.specs.Steps.{◌>>=◌, require, require_some}
-use Rattle.metric_catalogue.specs.declared.refusal.Refusal.TheVariants.{Stranger, UnknownInstrument}
-use Rattle.metric_catalogue.specs.declared.refusal.Refusal.{Refusal}
+use Rattle.metric_contents.specs.declared.refusal.Refusal.TheVariants.{Stranger, UnknownInstrument}
+use Rattle.metric_contents.specs.declared.refusal.Refusal.{Refusal}
 use Rattle.metric_history.specs.declared.batch.Batch.{Batch}
 use Rattle.metric_facts.specs.declared.facts.Facts.{Facts}
 use Rattle.metric_provider.specs.Collections.{AnswersCollector, AnswersEach, IsNextBatch, IsRefusedAt, collectable, with_all_seen, with_seen}

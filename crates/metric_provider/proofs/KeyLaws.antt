@@ -8,8 +8,8 @@ use Rattle.std.proofs.lemmas.Option.{get_or_from_slice_get, same_Some, slice_get
 use Rattle.metric_base.specs.StepLaws.{ok_is, require_ok}
 use Rattle.metric_base.specs.Steps.{◌>>=◌, require, require_some}
 use Rattle.metric_combinations.specs.Combinations.{permits}
-use Rattle.metric_catalogue.specs.declared.refusal.Refusal.{Refusal}
-use Rattle.metric_catalogue.specs.declared.refusal.Refusal.TheVariants.{Stranger, UnknownInstrument, UnknownValue, Combination, ValueRange}
+use Rattle.metric_contents.specs.declared.refusal.Refusal.{Refusal}
+use Rattle.metric_contents.specs.declared.refusal.Refusal.TheVariants.{Stranger, UnknownInstrument, UnknownValue, Combination, ValueRange}
 use Rattle.metric_facts.specs.declared.facts.Facts.{Facts}
 use Rattle.metric_facts.specs.Facts.{in_bounds, is_full_set}
 use Rattle.metric_plan.specs.Plans.{PlanValue}

@@ -7,11 +7,11 @@ use Rattle.std.proofs.lemmas.Option.{same_Some, slice_get_within}
 use Rattle.metric_base.specs.StepLaws.{after_ok, ok_is, require_ok}
 use Rattle.metric_base.specs.Steps.{require_some}
 use Rattle.metric_combinations.specs.Combinations.{permits}
-use Rattle.metric_catalogue.specs.Encoding.{Given, encode_of}
-use Rattle.metric_catalogue.specs.declared.refusal.Refusal.{Refusal}
-use Rattle.metric_catalogue.specs.declared.refusal.Refusal.TheVariants.{UnknownInstrument}
-use Rattle.metric_catalogue.specs.declared.refusal.Refusal.TheVariants.{UnknownValue, Combination}
-use Rattle.metric_catalogue.specs.declared.refusal.Refusal.TheVariants.{ValueRange}
+use Rattle.metric_contents.specs.Encoding.{Given, encode_of}
+use Rattle.metric_contents.specs.declared.refusal.Refusal.{Refusal}
+use Rattle.metric_contents.specs.declared.refusal.Refusal.TheVariants.{UnknownInstrument}
+use Rattle.metric_contents.specs.declared.refusal.Refusal.TheVariants.{UnknownValue, Combination}
+use Rattle.metric_contents.specs.declared.refusal.Refusal.TheVariants.{ValueRange}
 use Rattle.metric_facts.specs.declared.facts.Facts.{Facts}
 use Rattle.metric_facts.specs.Facts.{EncodesAllowedSets, in_bounds, is_allowed_set, is_full_set}
 use Rattle.metric_plan.specs.Plans.{IsPlan, PlanValue}

@@ -1,7 +1,7 @@
 -- What a provider answers a close.
 use Rattle.std.specs.Prelude.{◌≡◌, Option, Some, None, Result, Ok, Err}
-use Rattle.metric_catalogue.specs.declared.refusal.Refusal.{Refusal}
-use Rattle.metric_catalogue.specs.declared.refusal.Refusal.TheVariants.{UnknownInstrument, Closed}
+use Rattle.metric_contents.specs.declared.refusal.Refusal.{Refusal}
+use Rattle.metric_contents.specs.declared.refusal.Refusal.TheVariants.{UnknownInstrument, Closed}
 use Rattle.metric_facts.specs.declared.facts.Facts.{Facts}
 
 -- `UnknownInstrument` exactly where there are no facts of the instrument, else nothing but `Closed`

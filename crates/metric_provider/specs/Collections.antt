@@ -2,9 +2,9 @@
 use Rattle.std.specs.Prelude.{◌≡◌, ◌⊎◌, ◌<◌, ◌≤◌, ℕ, ◌++◌, List, Result, Ok, Err, Some, true, drop}
 use Rattle.std.specs.Prelude.{length, map, slice_get, slice_index, slice_set}
 use Rattle.metric_base.specs.Steps.{◌>>=◌, require, require_some}
-use Rattle.metric_catalogue.specs.declared.refusal.Refusal.{Refusal}
-use Rattle.metric_catalogue.specs.declared.refusal.Refusal.TheVariants.{Stranger, UnknownInstrument}
-use Rattle.metric_catalogue.specs.declared.refusal.Refusal.TheVariants.{Memory}
+use Rattle.metric_contents.specs.declared.refusal.Refusal.{Refusal}
+use Rattle.metric_contents.specs.declared.refusal.Refusal.TheVariants.{Stranger, UnknownInstrument}
+use Rattle.metric_contents.specs.declared.refusal.Refusal.TheVariants.{Memory}
 use Rattle.metric_history.specs.declared.batch.Batch.{Batch}
 use Rattle.metric_facts.specs.declared.facts.Facts.{Facts}
 use Rattle.metric_safety.specs.WindowBounds.{IsReportWithin}

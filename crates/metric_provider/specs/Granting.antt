@@ -1,10 +1,10 @@
 -- What a provider and a seat answer a grant.
 use Rattle.std.specs.Prelude.{◌≡◌, ◌<◌, ◌≤◌, ℕ, true, false, Option, Some, None, Result, Ok, Err}
 use Rattle.std.specs.Prelude.{length, slice_get}
-use Rattle.metric_catalogue.specs.declared.refusal.Refusal.{Refusal}
-use Rattle.metric_catalogue.specs.declared.refusal.Refusal.TheVariants.{Stranger, UnknownInstrument}
-use Rattle.metric_catalogue.specs.declared.refusal.Refusal.TheVariants.{UnknownRecorder, Closed}
-use Rattle.metric_catalogue.specs.declared.refusal.Refusal.TheVariants.{NoSpare}
+use Rattle.metric_contents.specs.declared.refusal.Refusal.{Refusal}
+use Rattle.metric_contents.specs.declared.refusal.Refusal.TheVariants.{Stranger, UnknownInstrument}
+use Rattle.metric_contents.specs.declared.refusal.Refusal.TheVariants.{UnknownRecorder, Closed}
+use Rattle.metric_contents.specs.declared.refusal.Refusal.TheVariants.{NoSpare}
 use Rattle.metric_facts.specs.declared.facts.Facts.{Facts}
 use Rattle.metric_provider.specs.Seats.{ProviderValue, RecorderValue, is_recorder_of}
 

@@ -5,10 +5,10 @@ use Rattle.std.specs.Option.{option_map_or}
 use Rattle.metric_base.specs.Steps.{◌>>=◌, require, require_some}
 use Rattle.metric_combinations.specs.Combinations.{permits}
 use Rattle.metric_book.specs.declared.slip.Slip.{Slip}
-use Rattle.metric_catalogue.specs.declared.refusal.Refusal.{Refusal}
-use Rattle.metric_catalogue.specs.declared.refusal.Refusal.TheVariants.{Stranger, UnknownInstrument}
-use Rattle.metric_catalogue.specs.declared.refusal.Refusal.TheVariants.{UnknownValue, Combination}
-use Rattle.metric_catalogue.specs.declared.refusal.Refusal.TheVariants.{ValueRange}
+use Rattle.metric_contents.specs.declared.refusal.Refusal.{Refusal}
+use Rattle.metric_contents.specs.declared.refusal.Refusal.TheVariants.{Stranger, UnknownInstrument}
+use Rattle.metric_contents.specs.declared.refusal.Refusal.TheVariants.{UnknownValue, Combination}
+use Rattle.metric_contents.specs.declared.refusal.Refusal.TheVariants.{ValueRange}
 use Rattle.metric_facts.specs.declared.facts.Facts.{Facts}
 use Rattle.metric_facts.specs.Facts.{in_bounds, is_allowed_set, is_full_set}
 use Rattle.metric_plan.specs.Plans.{PlanValue}

@@ -5,10 +5,10 @@ use Rattle.std.proofs.lemmas.Bool.{and_parts, ltb-true}
 use Rattle.std.proofs.lemmas.List.{length-map}
 use Rattle.metric_base.specs.Steps.{◌>>=◌, require_some}
 use Rattle.metric_catalogue.specs.Budgets.{amount_of}
-use Rattle.metric_catalogue.specs.Encoding.{Given, allowed_set, encode_of}
-use Rattle.metric_catalogue.specs.declared.contents.Instrument.{Instrument}
-use Rattle.metric_catalogue.specs.declared.contents.Recorder.{Recorder}
-use Rattle.metric_catalogue.specs.declared.refusal.Refusal.TheVariants.{UnknownInstrument}
+use Rattle.metric_contents.specs.Encoding.{Given, allowed_set, encode_of}
+use Rattle.metric_contents.specs.declared.contents.Instrument.{Instrument}
+use Rattle.metric_contents.specs.declared.contents.Recorder.{Recorder}
+use Rattle.metric_contents.specs.declared.refusal.Refusal.TheVariants.{UnknownInstrument}
 use Rattle.metric_facts.specs.declared.facts.Facts.{Facts}
 use Rattle.metric_facts.specs.Facts.{EncodesAllowedSets, is_allowed_set, is_delta_reader}
 use Rattle.metric_plan.specs.PlanFacts.{plan_facts_at}

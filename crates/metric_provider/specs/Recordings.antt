@@ -3,11 +3,11 @@ use Rattle.std.specs.Prelude.{◌≡◌, ◌≤◌, IfSome, ℕ, ℤ, Bool, fals
 use Rattle.std.specs.Prelude.{Err, slice_get, slice_index, slice_index_or, slice_set, if◌then◌else◌}
 use Rattle.metric_book.specs.declared.slip.Slip.{Slip}
 use Rattle.metric_base.specs.Steps.{◌>>=◌, require, require_some}
-use Rattle.metric_catalogue.specs.Encoding.{Given, encode_of}
-use Rattle.metric_catalogue.specs.declared.refusal.Refusal.{Refusal}
-use Rattle.metric_catalogue.specs.declared.refusal.Refusal.TheVariants.{Stranger, UnknownInstrument}
-use Rattle.metric_catalogue.specs.declared.refusal.Refusal.TheVariants.{ValueRange, Closed, Budget}
-use Rattle.metric_catalogue.specs.declared.refusal.Refusal.TheVariants.{Memory}
+use Rattle.metric_contents.specs.Encoding.{Given, encode_of}
+use Rattle.metric_contents.specs.declared.refusal.Refusal.{Refusal}
+use Rattle.metric_contents.specs.declared.refusal.Refusal.TheVariants.{Stranger, UnknownInstrument}
+use Rattle.metric_contents.specs.declared.refusal.Refusal.TheVariants.{ValueRange, Closed, Budget}
+use Rattle.metric_contents.specs.declared.refusal.Refusal.TheVariants.{Memory}
 use Rattle.metric_facts.specs.declared.facts.Facts.{Facts}
 use Rattle.metric_facts.specs.Facts.{in_bounds}
 use Rattle.metric_plan.specs.Plans.{PlanValue}

@@ -1,11 +1,11 @@
 //! Which recordings a plan declares: what a seat asks before it takes a lock. No call takes memory.
 ghost use Rattle.std.specs.Prelude.{◌≡◌, map};
-ghost use Rattle.metric_catalogue.specs.Attributes.{given_by};
+ghost use Rattle.metric_contents.specs.Attributes.{given_by};
 ghost use Rattle.metric_provider.specs.KeyRecordings.{declared_key, key_of};
 ghost use Rattle.metric_provider.specs.Recordings.{declared_set};
 
-use metric_catalogue::{Attr, Refusal, SetKey};
 use metric_combinations::permits;
+use metric_contents::{Attr, Refusal, SetKey};
 use metric_facts::{Facts, is_full_set};
 use metric_plan::Plan;
 

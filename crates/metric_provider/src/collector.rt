@@ -7,7 +7,7 @@ use crate::fault::AllFault;
 use crate::gate::Gate;
 use crate::provider::Provider;
 use metric_book::Book;
-use metric_catalogue::Refusal;
+use metric_contents::Refusal;
 use metric_history::Batch;
 use metric_plan::Plan;
 use std::alloc::{AllocError, Global};

@@ -2,7 +2,7 @@
 ghost use Rattle.std.specs.Prelude.{◌≡◌};
 ghost use Rattle.metric_provider.specs.Faults.{name_of, number_of};
 
-use metric_catalogue::Refusal;
+use metric_contents::Refusal;
 use metric_history::Batch;
 use std::alloc::AllocError;
 use std::fmt;

@@ -2,7 +2,7 @@
 ghost use Rattle.std.specs.Prelude.{◌≡◌};
 ghost use Rattle.metric_provider.specs.KeyRecordings.{measurement_of};
 
-use metric_catalogue::SetKey;
+use metric_contents::SetKey;
 
 /// A recording by the set key of its attributes.
 #[derive(Clone, Copy, Debug, PartialEq, Eq, Drop)]

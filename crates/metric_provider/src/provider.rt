@@ -15,7 +15,7 @@ use crate::gate::Gate;
 use crate::keys::Measurement;
 use crossbeam_utils::CachePadded;
 use metric_book::Book;
-use metric_catalogue::{Refusal, SetKey};
+use metric_contents::{Refusal, SetKey};
 use metric_facts::Facts;
 use metric_history::Batch;
 use metric_plan::Plan;

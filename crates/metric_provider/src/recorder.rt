@@ -1,6 +1,6 @@
 //! The seat of a recorder.
 ghost use Rattle.std.specs.Prelude.{◌≡◌, ◌<◌, ◌-◌, Bool, true, Some, None, length, map, take, slice_get, slice_set, IfOk, IfErr, IfSome, Ok, OnOk, OnErr};
-ghost use Rattle.metric_catalogue.specs.Attributes.{given_by};
+ghost use Rattle.metric_contents.specs.Attributes.{given_by};
 ghost use Rattle.metric_provider.specs.Granting.{AnswersAsking};
 ghost use Rattle.metric_provider.specs.KeyRecordings.{AreAccepted, AreAdmitted, IsRefusedAfter, IsUnadmittedAfter, admitted_key, noted_of_all, slip_of_one, told_of_all};
 ghost use Rattle.metric_provider.specs.Providers.{KnowsRecording};
@@ -14,7 +14,7 @@ use crate::keys::{Measurement, recording_of};
 use crate::notes::{Notes, no_notes};
 use crate::provider::Provider;
 use metric_book::{Book, Slip};
-use metric_catalogue::{Attr, Refusal, SetKey};
+use metric_contents::{Attr, Refusal, SetKey};
 use metric_facts::laws::attributes_name_allowed_sets;
 use metric_plan::Plan;
 use metric_slot::Told;

@@ -6,7 +6,7 @@ use crate::prepared::plan_of;
 use crate::replies::{push_reply, reply_to, reply_with};
 use anyhow::{Context, bail};
 use metric_book::Book;
-use metric_catalogue::OwnedAttr;
+use metric_contents::OwnedAttr;
 use metric_history::{Event, Reply};
 use metric_sdk::{Attr, Collector, NoGate, Plan, Provider, Recorder, start};
 use std::alloc::{AllocError, Global};

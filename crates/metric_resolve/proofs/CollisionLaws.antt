@@ -4,7 +4,7 @@ use Rattle.std.specs.List.{position_from, range_with_len}
 use Rattle.std.specs.Option.{option_map}
 use Rattle.std.specs.Prelude.{option_and_then, slice_get}
 use Rattle.std.proofs.lemmas.Option.{slice_get_within}
-use Rattle.metric_catalogue.specs.declared.contents.Contents.{Contents}
+use Rattle.metric_contents.specs.declared.contents.Contents.{Contents}
 use Rattle.metric_views.specs.declared.stream.Stream.{Stream}
 use Rattle.metric_resolve.specs.declared.warning.Warning.TheVariants as warnings
 use Rattle.metric_resolve.specs.Collisions.{Identity, collision_at, collisions_of, first_of, identity_of, is_identity}

@@ -3,11 +3,11 @@ use Rattle.std.proofs.Common.{◌≡◌, ℕ, ◌<◌, Bool, true, false, ◌&&�
 use Rattle.std.specs.Option.{option_map_or}
 use Rattle.std.proofs.lemmas.List.Elements.{All-contains}
 use Rattle.std.proofs.lemmas.Option.{slice_get_within}
-use Rattle.metric_catalogue.specs.declared.contents.Contents.{Contents}
-use Rattle.metric_catalogue.specs.declared.contents.Instrument.{Instrument}
-use Rattle.metric_catalogue.specs.declared.contents.Kind.{Kind}
-use Rattle.metric_catalogue.specs.declared.contents.Kind.TheVariants.{Gauge}
-use Rattle.metric_catalogue.specs.declared.contents.Meter.{Meter}
+use Rattle.metric_contents.specs.declared.contents.Contents.{Contents}
+use Rattle.metric_contents.specs.declared.contents.Instrument.{Instrument}
+use Rattle.metric_contents.specs.declared.contents.Kind.{Kind}
+use Rattle.metric_contents.specs.declared.contents.Kind.TheVariants.{Gauge}
+use Rattle.metric_contents.specs.declared.contents.Meter.{Meter}
 use Rattle.metric_views.specs.declared.choices.Aggregation.{Aggregation}
 use Rattle.metric_views.specs.declared.choices.Aggregation.TheVariants.{Sum}
 use Rattle.metric_views.specs.declared.config.Config.{Config}

@@ -1,10 +1,10 @@
 -- What the streams of a config are, in other words: which there are, and in which order.
 use Rattle.std.specs.Prelude.{◌≡◌, ◌≢◌, ℕ, ◌<◌, ◌⊎◌, Contains, List, Option, Some, None}
 use Rattle.std.specs.Prelude.{option_and_then, slice_get}
-use Rattle.metric_catalogue.specs.declared.contents.Contents.{Contents}
-use Rattle.metric_catalogue.specs.declared.contents.Instrument.{Instrument}
-use Rattle.metric_catalogue.specs.declared.contents.Kind.TheVariants.{Gauge}
-use Rattle.metric_catalogue.specs.declared.contents.Meter.{Meter}
+use Rattle.metric_contents.specs.declared.contents.Contents.{Contents}
+use Rattle.metric_contents.specs.declared.contents.Instrument.{Instrument}
+use Rattle.metric_contents.specs.declared.contents.Kind.TheVariants.{Gauge}
+use Rattle.metric_contents.specs.declared.contents.Meter.{Meter}
 use Rattle.metric_views.specs.declared.choices.Aggregation.TheVariants.{Sum}
 use Rattle.metric_views.specs.declared.config.Config.{Config}
 use Rattle.metric_views.specs.declared.config.View.{View}

@@ -1,6 +1,6 @@
 -- What a config is warned of.
 use Rattle.std.specs.Prelude.{List, ◌++◌}
-use Rattle.metric_catalogue.specs.declared.contents.Contents.{Contents}
+use Rattle.metric_contents.specs.declared.contents.Contents.{Contents}
 use Rattle.metric_views.specs.declared.config.Config.{Config}
 use Rattle.metric_views.specs.declared.stream.Stream.{Stream}
 use Rattle.metric_resolve.specs.declared.warning.Warning.{Warning}

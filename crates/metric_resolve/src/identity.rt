@@ -3,7 +3,7 @@ ghost use Rattle.std.specs.Prelude.{◌≡◌};
 ghost use Rattle.metric_resolve.specs.Collisions.{identity_with};
 ghost use Rattle.metric_resolve.specs.Identities.{identity_order, scope_order};
 
-use metric_catalogue::Meter;
+use metric_contents::Meter;
 use metric_views::Stream;
 use std::cmp::Ordering;
 

@@ -1,7 +1,7 @@
 //! What the streams and the warnings are, as laws of their definitions.
 ghost use Rattle.std.specs.Prelude.{◌≡◌, ◌↔◌, ℕ, List, AllPairs, Contains, true};
 ghost use Rattle.std.specs.Cmp.{IsTotalOrder};
-ghost use Rattle.metric_catalogue.specs.declared.contents.Contents.{Contents};
+ghost use Rattle.metric_contents.specs.declared.contents.Contents.{Contents};
 ghost use Rattle.metric_views.specs.declared.config.Config.{Config};
 ghost use Rattle.metric_views.specs.declared.stream.Stream.{Stream};
 ghost use Rattle.metric_resolve.specs.declared.warning.Warning.TheVariants.{Collision, Unfit};

@@ -6,7 +6,8 @@ ghost use Rattle.metric_resolve.specs.Offers.{AreOffers, IsOffer, view_template}
 
 use crate::selection::Selection;
 use metric_base::Items;
-use metric_catalogue::{Catalogue, Instrument, Meter};
+use metric_catalogue::Catalogue;
+use metric_contents::{Instrument, Meter};
 use metric_views::{Template, View};
 use std::alloc::{AllocError, Global};
 

@@ -1,6 +1,6 @@
 //! What tells which views select which instruments.
 ghost use Rattle.std.specs.Prelude.{◌≡◌, ◌<◌, length};
-ghost use Rattle.metric_catalogue.specs.declared.contents.Contents.{Contents};
+ghost use Rattle.metric_contents.specs.declared.contents.Contents.{Contents};
 ghost use Rattle.metric_views.specs.declared.config.Config.{Config as Setup};
 ghost use Rattle.metric_resolve.specs.Applying.{is_selected};
 

@@ -7,7 +7,8 @@ ghost use Rattle.metric_resolve.specs.Unfit.{is_unfit_at, names_unfit, unfit_of,
 use crate::offers::meter_of;
 use crate::warning::Warning;
 use metric_base::Items;
-use metric_catalogue::{Catalogue, Instrument, Kind};
+use metric_catalogue::Catalogue;
+use metric_contents::{Instrument, Kind};
 use metric_views::{Aggregation, Config, View};
 use std::alloc::AllocError;
 

@@ -12,8 +12,8 @@ use Rattle.metric_aggregate.specs.Range.{in_range}
 use Rattle.metric_aggregate.specs.Value.{sum_of, kept_sum, value_of}
 use Rattle.metric_bounds.specs.Amounts.{low_with, high_with}
 use Rattle.metric_bounds.specs.Sums.{keeps_sum_by}
-use Rattle.metric_catalogue.specs.Kinds.{is_monotonic}
-use Rattle.metric_catalogue.specs.declared.contents.Kind.{Kind}
+use Rattle.metric_contents.specs.Kinds.{is_monotonic}
+use Rattle.metric_contents.specs.declared.contents.Kind.{Kind}
 use Rattle.metric_views.specs.declared.stream.Stream.{Stream}
 use Rattle.metric_views.specs.declared.stream.StreamAggregation.{StreamAggregation}
 use Rattle.metric_views.specs.declared.stream.StreamAggregation.TheVariants as aggregations

@@ -6,13 +6,13 @@ use Rattle.std.proofs.lemmas.Bool.{true≢false, ltb-true, lt-ltb, not_from_fals
 use Rattle.std.proofs.lemmas.List.Elements.{All-nil, All-cons}
 use Rattle.metric_base.specs.Steps.{◌>>=◌, require, require_some}
 use Rattle.metric_combinations.specs.Combinations.{permits}
-use Rattle.metric_catalogue.specs.Attributes.{given_by_owned}
-use Rattle.metric_catalogue.specs.Encoding.{Given, allowed_set, encode_of, has_declared_value, has_repeated_key, is_complete, is_declared, set_key, set_of}
-use Rattle.metric_catalogue.specs.declared.attributes.OwnedAttr.{OwnedAttr}
-use Rattle.metric_catalogue.specs.declared.contents.Instrument.{Instrument}
-use Rattle.metric_catalogue.specs.declared.contents.Key.{Key}
-use Rattle.metric_catalogue.specs.declared.refusal.Refusal.{Refusal}
-use Rattle.metric_catalogue.specs.declared.refusal.Refusal.TheVariants.{UnknownInstrument, UnknownRecorder, UnknownReader, DuplicateKey, UnknownKey, UnknownValue, MissingKey, Combination, ValueRange, Closed, Budget, NoSpare, SumRange, Memory}
+use Rattle.metric_contents.specs.Attributes.{given_by_owned}
+use Rattle.metric_contents.specs.Encoding.{Given, allowed_set, encode_of, has_declared_value, has_repeated_key, is_complete, is_declared, set_key, set_of}
+use Rattle.metric_contents.specs.declared.attributes.OwnedAttr.{OwnedAttr}
+use Rattle.metric_contents.specs.declared.contents.Instrument.{Instrument}
+use Rattle.metric_contents.specs.declared.contents.Key.{Key}
+use Rattle.metric_contents.specs.declared.refusal.Refusal.{Refusal}
+use Rattle.metric_contents.specs.declared.refusal.Refusal.TheVariants.{UnknownInstrument, UnknownRecorder, UnknownReader, DuplicateKey, UnknownKey, UnknownValue, MissingKey, Combination, ValueRange, Closed, Budget, NoSpare, SumRange, Memory}
 use Rattle.metric_views.specs.declared.stream.Stream.{Stream}
 use Rattle.metric_history.specs.declared.batch.Batch.{Batch}
 use Rattle.metric_history.specs.declared.entry.Entry.{Entry}

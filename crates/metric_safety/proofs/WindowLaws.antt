@@ -18,8 +18,8 @@ use Rattle.metric_bounds.specs.Sets.{count_or}
 use Rattle.metric_bounds.specs.Sums.{keeps_sum_by}
 use Rattle.metric_combinations.specs.Combinations.{allows, permits}
 use Rattle.metric_combinations.specs.Restrictions.{restricted, restrictions}
-use Rattle.metric_catalogue.specs.Kinds.{is_monotonic}
-use Rattle.metric_catalogue.specs.declared.contents.Kind.{Kind}
+use Rattle.metric_contents.specs.Kinds.{is_monotonic}
+use Rattle.metric_contents.specs.declared.contents.Kind.{Kind}
 use Rattle.metric_views.specs.declared.stream.Stream.{Stream}
 use Rattle.metric_views.specs.declared.stream.StreamAggregation.{StreamAggregation}
 use Rattle.metric_views.specs.declared.stream.StreamAggregation.TheVariants as aggregations

@@ -1,6 +1,6 @@
 //! What a safe plan entails for each of its runs. The functions do nothing.
 ghost use Rattle.std.specs.Prelude.{ℕ, Bool, List};
-ghost use Rattle.metric_catalogue.specs.declared.contents.Contents.{Contents};
+ghost use Rattle.metric_contents.specs.declared.contents.Contents.{Contents};
 ghost use Rattle.metric_views.specs.declared.config.Config.{Config};
 ghost use Rattle.metric_history.specs.History.{History};
 ghost use Rattle.metric_history.specs.Legal.{IsLegal};

@@ -3,7 +3,7 @@ use Rattle.std.proofs.Common.{◌≡◌, ℕ, ◌<◌, ◌≤◌, zero, suc, Lis
 use Rattle.std.specs.List.{AllByRecursion, flat_map}
 use Rattle.std.specs.Prelude.{IsErrAnd}
 use Rattle.std.specs.Option.{option_map}
-use Rattle.metric_catalogue.specs.declared.attributes.OwnedAttr.{OwnedAttr}
+use Rattle.metric_contents.specs.declared.attributes.OwnedAttr.{OwnedAttr}
 use Rattle.metric_text.specs.Written.{quoted, value_text, pair_text}
 use Rattle.metric_text.specs.Reading.{◌>>=◌, Tells, after_in, text_in, value_in}
 use Rattle.metric_text.specs.declared.fault.SpellingFault.{SpellingFault}

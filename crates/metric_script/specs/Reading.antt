@@ -3,7 +3,7 @@ use Rattle.std.specs.Prelude.{ℕ, ◌^◌, if◌then◌else◌, List, [], ◌�
 use Rattle.std.specs.Prelude.{length, codes, ℤ}
 use Rattle.std.specs.Option.{option_map}
 use Rattle.std.specs.Str.{bytes_eq}
-use Rattle.metric_catalogue.specs.declared.attributes.OwnedAttr.{OwnedAttr}
+use Rattle.metric_contents.specs.declared.attributes.OwnedAttr.{OwnedAttr}
 use Rattle.metric_history.specs.declared.event.Event.{Event}
 use Rattle.metric_history.specs.declared.event.Event.TheVariants.{Record, Collect, Close, Grant}
 use Rattle.metric_text.specs.Reading.{◌>>=◌, after_in, word_in, number_of, number_in, signed_in}

@@ -3,7 +3,7 @@ use Rattle.std.specs.Prelude.{◌<◌, ℕ, ◌^◌, List, ◌∷◌, ◌++◌, 
 use Rattle.std.specs.Int.{w64}
 use Rattle.std.specs.Fmt.{decimal, signed_decimal}
 use Rattle.std.specs.List.{AllByRecursion, flat_map}
-use Rattle.metric_catalogue.specs.declared.attributes.OwnedAttr.{OwnedAttr}
+use Rattle.metric_contents.specs.declared.attributes.OwnedAttr.{OwnedAttr}
 use Rattle.metric_history.specs.declared.event.Event.{Event}
 use Rattle.metric_history.specs.declared.event.Event.TheVariants.{Record, Collect, Close, Grant}
 use Rattle.metric_text.specs.Written.{IsValue, pair_text}

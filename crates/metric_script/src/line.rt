@@ -6,7 +6,7 @@ ghost use Rattle.metric_script.specs.Scripts.{is_passed_over};
 ghost use Rattle.metric_script.specs.Reading.{all_attributes_in, amount_in, attribute_in, close_in, collect_in, event_in, grant_in, other_event_in, record_in, start_in, two_numbers_in};
 
 use metric_base::Items;
-use metric_catalogue::OwnedAttr;
+use metric_contents::OwnedAttr;
 use metric_history::Event;
 use metric_text::{
     SpellingFault, after_byte, after_keyword, i64_at, quoted_at, u32_at, u32_of, u64_of, value_at,

@@ -24,11 +24,6 @@ next_taken exports a b c batches i batch within is p q =
     let same : take i batches ++ batch ∷ [] ≡ take (i + 1) batches = rw (take_more batches i batch within, ← is) refl in
     subst (TakesEach exports a c) same more
 
--- all of a list
-pub taken_to_end : {E : Type 0} (exports : Exporting E) (a b : E) (batches : List Batch) (i : ℕ) → length batches ≤ i
-    → TakesEach exports a b (take i batches) → TakesEach exports a b batches
-taken_to_end exports a b batches i over p = subst (TakesEach exports a b) (take_all i batches over) p
-
 -- one reader more
 pub next_ended : {E : Type 0} (p : ProviderValue) (now : ℕ) (exports : Exporting E) (a b c : E) (seats : List CollectorValue) (ends : List ReaderEnd)
     (seat : CollectorValue) (end : ReaderEnd) → EndsEach p now exports a b seats ends → EndsReader p now exports b c seat end

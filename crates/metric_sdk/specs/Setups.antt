@@ -1,7 +1,7 @@
 -- The certified plan of two texts, and why they come to none.
 use Rattle.std.specs.Prelude.{◌≡◌, ℕ, Bool, true, List, map, nat_le, Some, Result, Ok, Err}
 use Rattle.metric_catalogue.specs.Catalogues.{catalogue_of}
-use Rattle.metric_catalogue.specs.declared.contents.Contents.{Contents}
+use Rattle.metric_contents.specs.declared.contents.Contents.{Contents}
 use Rattle.metric_catalogue.specs.declared.fault.CatalogueFault.{CatalogueFault}
 use Rattle.metric_views.specs.Configs.{config_of}
 use Rattle.metric_views.specs.declared.config.Setup.{Setup}

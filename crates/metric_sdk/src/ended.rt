@@ -1,6 +1,6 @@
 //! What is left of a service at its end.
 use metric_book::Book;
-use metric_catalogue::Refusal;
+use metric_contents::Refusal;
 use metric_export::ExportFault;
 use metric_history::Batch;
 use metric_provider::{Collector, FinishFault, Gate, Provider, Recorder, Totals};

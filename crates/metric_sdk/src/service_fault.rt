@@ -1,7 +1,8 @@
 //! One error for the calls of a service.
 use crate::fault::SetupFault;
 use metric_book::Book;
-use metric_catalogue::{Catalogue, Refusal};
+use metric_catalogue::Catalogue;
+use metric_contents::Refusal;
 use metric_export::ExportFault;
 use metric_plan::{CheckFault, Plan};
 use metric_provider::{

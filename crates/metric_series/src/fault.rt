@@ -1,5 +1,5 @@
 //! Why a table does not take a value.
-use metric_catalogue::Refusal;
+use metric_contents::Refusal;
 use std::alloc::AllocError;
 
 /// Why a table does not take a value. The table is then as it was.

@@ -22,7 +22,7 @@ use crate::table::Table;
 use indexmap::IndexMap;
 use metric_aggregate::Aggregate;
 use metric_base::{Few, Shared};
-use metric_catalogue::SetKey;
+use metric_contents::SetKey;
 use metric_history::Point;
 use std::alloc::{AllocError, Global};
 use std::marker::Model;

@@ -4,8 +4,8 @@ ghost use Rattle.std.specs.List.{list_all};
 ghost use Rattle.metric_combinations.specs.Restrictions.{restricted};
 
 use metric_base::{Few, Shared};
-use metric_catalogue::SetKey;
 use metric_combinations::restrict;
+use metric_contents::SetKey;
 use std::marker::Model;
 
 /// A flag for each declared key that says whether it is kept. Where all are, which is found once, sets stay as they

@@ -2,7 +2,7 @@
 ghost use Rattle.std.specs.Prelude.{◌≡◌};
 ghost use Rattle.metric_series.specs.SeriesKeys.{number_of};
 
-use metric_catalogue::SetKey;
+use metric_contents::SetKey;
 use std::hash::{Hash, Hasher};
 use std::marker::Model;
 

@@ -7,7 +7,7 @@ use crate::place::Place;
 use crate::table::Table;
 use metric_aggregate::{BucketAgg, HistogramParameters, LastAgg, SumAgg};
 use metric_base::Copied;
-use metric_catalogue::SetKey;
+use metric_contents::SetKey;
 use metric_history::Point;
 use metric_views::{Stream, StreamAggregation};
 use std::alloc::{AllocError, Global};

@@ -7,7 +7,7 @@ ghost use Rattle.metric_views.specs.declared.stream.Stream.{Stream};
 
 use crate::fault::SeriesFault;
 use crate::place::Place;
-use metric_catalogue::SetKey;
+use metric_contents::SetKey;
 use metric_history::Point;
 use std::alloc::{AllocError, Global};
 

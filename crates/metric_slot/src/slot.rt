@@ -12,7 +12,7 @@ ghost use Rattle.metric_slot.specs.Tellings.{HasRoom, told_more};
 use crate::safety::certified_facts_are_safe;
 use crate::told::Told;
 use metric_book::Book;
-use metric_catalogue::{Refusal, SetKey};
+use metric_contents::{Refusal, SetKey};
 use metric_core::Cell;
 use metric_facts::{Facts, same_facts};
 use metric_history::Batch;

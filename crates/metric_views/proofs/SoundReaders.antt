@@ -6,8 +6,8 @@ use Rattle.std.specs.Str.{chars}
 use Rattle.toml.specs.Data.{Data, Members, get_member}
 use Rattle.metric_base.specs.StepLaws.{after_ok, require_ok, ok_is}
 use Rattle.metric_table.specs.Fields.{integer_of, only, short_text, table_of, text_field}
-use Rattle.metric_catalogue.specs.declared.contents.Kind.{Kind}
-use Rattle.metric_catalogue.specs.declared.contents.Kind.TheVariants.{Counter, UpDownCounter, Histogram, Gauge}
+use Rattle.metric_contents.specs.declared.contents.Kind.{Kind}
+use Rattle.metric_contents.specs.declared.contents.Kind.TheVariants.{Counter, UpDownCounter, Histogram, Gauge}
 use Rattle.metric_views.specs.declared.choices.Aggregation.{Aggregation}
 use Rattle.metric_views.specs.declared.choices.Aggregation.TheVariants as aggregations
 use Rattle.metric_views.specs.declared.choices.ByKind.{ByKind}

@@ -2,11 +2,11 @@
 use Rattle.std.specs.Prelude.{◌≡◌, ℕ, Bool, true, false, ◌&&◌, List, Option, Some, None, IfSome}
 use Rattle.std.specs.Str.{bytes_eq}
 use Rattle.metric_glob.specs.Matching.{Matches, is_match}
-use Rattle.metric_catalogue.specs.declared.contents.Instrument.{Instrument}
-use Rattle.metric_catalogue.specs.declared.contents.Kind.{Kind}
-use Rattle.metric_catalogue.specs.declared.contents.Kind.TheVariants.{Counter, UpDownCounter}
-use Rattle.metric_catalogue.specs.declared.contents.Kind.TheVariants.{Histogram, Gauge}
-use Rattle.metric_catalogue.specs.declared.contents.Meter.{Meter}
+use Rattle.metric_contents.specs.declared.contents.Instrument.{Instrument}
+use Rattle.metric_contents.specs.declared.contents.Kind.{Kind}
+use Rattle.metric_contents.specs.declared.contents.Kind.TheVariants.{Counter, UpDownCounter}
+use Rattle.metric_contents.specs.declared.contents.Kind.TheVariants.{Histogram, Gauge}
+use Rattle.metric_contents.specs.declared.contents.Meter.{Meter}
 use Rattle.metric_views.specs.declared.config.Criteria.{Criteria}
 
 -- Every criterion that is given holds.

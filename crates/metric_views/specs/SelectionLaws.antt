@@ -5,11 +5,11 @@ use Rattle.std.proofs.lemmas.Slice.Eq.{bytes_eq-Decides}
 use Rattle.std.specs.Str.{bytes_eq}
 use Rattle.metric_glob.specs.Matching.{Matches, is_match}
 use Rattle.metric_glob.specs.MatchingLaws.{is_match-Decides}
-use Rattle.metric_catalogue.specs.declared.contents.Instrument.{Instrument}
-use Rattle.metric_catalogue.specs.declared.contents.Kind.{Kind}
-use Rattle.metric_catalogue.specs.declared.contents.Kind.TheVariants.{Counter, UpDownCounter}
-use Rattle.metric_catalogue.specs.declared.contents.Kind.TheVariants.{Histogram, Gauge}
-use Rattle.metric_catalogue.specs.declared.contents.Meter.{Meter}
+use Rattle.metric_contents.specs.declared.contents.Instrument.{Instrument}
+use Rattle.metric_contents.specs.declared.contents.Kind.{Kind}
+use Rattle.metric_contents.specs.declared.contents.Kind.TheVariants.{Counter, UpDownCounter}
+use Rattle.metric_contents.specs.declared.contents.Kind.TheVariants.{Histogram, Gauge}
+use Rattle.metric_contents.specs.declared.contents.Meter.{Meter}
 use Rattle.metric_views.specs.declared.config.Criteria.{Criteria}
 use Rattle.metric_views.specs.Selection.{Selects, passes, is_kind, is_text, selects_instrument}
 use Rattle.metric_views.specs.Selection.{selects_meter, selects}

@@ -5,9 +5,9 @@ use Rattle.metric_base.specs.Steps.{◌>>=◌, require, require_some, each, with
 use Rattle.metric_names.specs.Names.{name_of}
 use Rattle.metric_glob.specs.Patterns.{pattern_of}
 use Rattle.metric_table.specs.Fields.{integers_of, only, short_text_of, text_of, texts_of}
-use Rattle.metric_catalogue.specs.declared.contents.Kind.{Kind}
+use Rattle.metric_contents.specs.declared.contents.Kind.{Kind}
 use Rattle.metric_base.specs.Boundaries.{is_rising}
-use Rattle.metric_catalogue.specs.Kinds.{kind_named}
+use Rattle.metric_contents.specs.Kinds.{kind_named}
 use Rattle.metric_views.specs.declared.choices.Aggregation.{Aggregation}
 use Rattle.metric_views.specs.declared.config.Criteria.{Criteria}
 use Rattle.metric_views.specs.declared.config.Settings.{Settings}

@@ -2,7 +2,7 @@
 ghost use Rattle.std.specs.Prelude.{◌≡◌, codes, Result};
 ghost use Rattle.toml.specs.Data.{Data};
 ghost use Rattle.toml.specs.View.{table_view, view};
-ghost use Rattle.metric_catalogue.specs.declared.contents.Kind.{Kind};
+ghost use Rattle.metric_contents.specs.declared.contents.Kind.{Kind};
 ghost use Rattle.metric_views.specs.declared.fault.ConfigPlace.{ConfigPlace};
 ghost use Rattle.metric_views.specs.declared.fault.ViewFault.{ViewFault};
 ghost use Rattle.metric_table.specs.Fields.{Reads, now_of, only, text_of};
@@ -12,7 +12,7 @@ ghost use Rattle.metric_views.specs.Readers.{aggregation_for, aggregation_of, ch
 
 use crate::choices::{Aggregation, ByKind, Temporality, is_unfit};
 use crate::fault::{ConfigPlace, ViewDefect, ViewFault, faults_at};
-use metric_catalogue::Kind;
+use metric_contents::Kind;
 use metric_table::{integer_of, member, only, table_of, text_of};
 use toml::{Table, Value};
 

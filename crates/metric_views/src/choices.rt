@@ -2,7 +2,7 @@
 ghost use Rattle.std.specs.Prelude.{◌≡◌};
 ghost use Rattle.metric_views.specs.Choices.{choice_for, is_unfit};
 
-use metric_catalogue::Kind;
+use metric_contents::Kind;
 
 /// Whether a stream reports what was recorded since the reader's last collection, or since the start
 /// (Metrics data model, temporality).

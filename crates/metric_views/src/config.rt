@@ -8,7 +8,7 @@ use crate::choices::{Aggregation, ByKind, Temporality};
 use crate::fault::ViewFault;
 use crate::reading::setup_of;
 use metric_base::{Boundaries, Few, Shared, Text};
-use metric_catalogue::Kind;
+use metric_contents::Kind;
 use metric_glob::Pattern;
 use metric_names::Name;
 use std::alloc::Global;

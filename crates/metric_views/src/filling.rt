@@ -9,7 +9,8 @@ use crate::stream::{Fill, Stream, StreamAggregation};
 use crate::template::Template;
 use crate::texts::{Texts, copied_texts};
 use metric_base::{Boundaries, Copied, Shared};
-use metric_catalogue::{Catalogue, Kind};
+use metric_catalogue::Catalogue;
+use metric_contents::Kind;
 use std::alloc::{AllocError, Global};
 
 /// What the view of this number, or the default without one, makes of an instrument for a reader (Metrics

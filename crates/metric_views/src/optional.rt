@@ -13,7 +13,7 @@ use crate::by_kind::{aggregation_of, limit_of, text_at};
 use crate::choices::Aggregation;
 use crate::fault::{ConfigPlace, ViewDefect, ViewFault, faults_at};
 use metric_base::{Boundaries, Few, Shared, Text, is_rising};
-use metric_catalogue::Kind;
+use metric_contents::Kind;
 use metric_glob::{Pattern, PatternFault};
 use metric_names::{Name, NameFault};
 use metric_table::{integers_of, member, short_text, text_of, texts_of};

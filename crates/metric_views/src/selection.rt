@@ -5,7 +5,7 @@ ghost use Rattle.metric_views.specs.Selection.{Selects, is_kind, is_text, passes
 
 use crate::config::{Criteria, View};
 use metric_base::Text;
-use metric_catalogue::{Instrument, Kind, Meter};
+use metric_contents::{Instrument, Kind, Meter};
 use metric_glob::Pattern;
 use metric_names::Name;
 

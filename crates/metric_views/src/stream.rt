@@ -2,7 +2,7 @@
 use crate::choices::Temporality;
 use crate::texts::{Texts, copied_texts};
 use metric_base::{Boundaries, Copied, Few, Shared, Text};
-use metric_catalogue::Kind;
+use metric_contents::Kind;
 use metric_names::{Name, Unit};
 use std::alloc::{AllocError, Global};
 

@@ -6,7 +6,7 @@ use crate::choices::Aggregation;
 use crate::config::{Settings, View};
 use crate::texts::{Texts, copied_texts};
 use metric_base::{Boundaries, Copied, Few, Items, Shared, Text};
-use metric_catalogue::{Instrument, Key, Kind};
+use metric_contents::{Instrument, Key, Kind};
 use metric_names::{Name, Unit};
 use std::alloc::{AllocError, Global};
 

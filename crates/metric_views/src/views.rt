@@ -13,7 +13,7 @@ use crate::optional::{
     TextField, optional_field, shared_field,
 };
 use metric_base::{Boundaries, Few, Items, Shared, Text};
-use metric_catalogue::Kind;
+use metric_contents::Kind;
 use metric_glob::Pattern;
 use metric_names::Name;
 use metric_table::only;

@@ -4,7 +4,8 @@ use crate::equal::assert_equal;
 use metric_advice::{
     explain_refusal, explain_unsafe, headrooms, lint, locate_in_catalogue, locate_in_config,
 };
-use metric_catalogue::{Attr, Catalogue, CatalogueFault, CataloguePlace};
+use metric_catalogue::{Catalogue, CatalogueFault, CataloguePlace};
+use metric_contents::Attr;
 use metric_names::ValueRef;
 use metric_views::ConfigPlace;
 use std::alloc::{AllocError, Global};

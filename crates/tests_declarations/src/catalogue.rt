@@ -1,7 +1,8 @@
 //! A catalogue in which every field is given, and faults with their places.
 use crate::equal::assert_equal;
 use crate::words::write_joined;
-use metric_catalogue::{Catalogue, CatalogueFault, Instrument, Key, Meter, Recorder, Values};
+use metric_catalogue::{Catalogue, CatalogueFault};
+use metric_contents::{Instrument, Key, Meter, Recorder, Values};
 use metric_names::AttrValue;
 use std::alloc::{AllocError, Global};
 use std::test::Fail;

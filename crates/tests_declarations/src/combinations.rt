@@ -2,7 +2,8 @@
 use crate::encoding::are_encoded;
 use crate::equal::assert_equal;
 use crate::words::write_joined;
-use metric_catalogue::{Attr, Catalogue, CatalogueFault, Instrument, Refusal, SetKey};
+use metric_catalogue::{Catalogue, CatalogueFault};
+use metric_contents::{Attr, Instrument, Refusal, SetKey};
 use metric_names::ValueRef;
 use std::alloc::{AllocError, Global};
 use std::test::Fail;

@@ -2,7 +2,7 @@
 use crate::equal::assert_equal;
 use crate::words::{aggregation_word, temporality_word, write_joined};
 use metric_base::{Few, Text};
-use metric_catalogue::Kind;
+use metric_contents::Kind;
 use metric_views::{Config, Criteria, Reader, Settings, View};
 use std::alloc::{AllocError, Global};
 use std::test::Fail;

@@ -1,9 +1,8 @@
 //! The set keys and refusals of attributes.
 use crate::equal::assert_equal;
 use metric_base::{Items, Text};
-use metric_catalogue::{
-    Attr, Catalogue, CatalogueFault, Kind, OwnedAttr, Refusal, SetKey, encode_ignores_order,
-};
+use metric_catalogue::{Catalogue, CatalogueFault};
+use metric_contents::{Attr, Kind, OwnedAttr, Refusal, SetKey, encode_ignores_order};
 use metric_names::{AttrValue, ValueRef};
 use std::alloc::{AllocError, Global};
 use std::test::Fail;

@@ -3,7 +3,8 @@ use crate::declared::{Declared, read_both};
 use crate::equal::assert_equal;
 use crate::words::{temporality_word, write_joined};
 use metric_base::Copied;
-use metric_catalogue::{Catalogue, Meter};
+use metric_catalogue::Catalogue;
+use metric_contents::Meter;
 use metric_resolve::{
     Streams, collisions_are_of_one_identity, identity_order, resolve, streams_are_what_views_give,
     unfit_views_sum_gauges,

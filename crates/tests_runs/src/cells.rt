@@ -1,7 +1,7 @@
 //! A cell by its own calls.
 use crate::equal::assert_equal;
 use crate::plans::plan_of;
-use metric_catalogue::Refusal;
+use metric_contents::Refusal;
 use metric_core::Cell;
 use metric_facts::is_allowed_set;
 use metric_lines::push_batch;

@@ -5,7 +5,7 @@
 use crate::equal::assert_equal;
 use crate::runs::told;
 use metric_book::{Book, Window};
-use metric_catalogue::Refusal;
+use metric_contents::Refusal;
 use metric_history::Entry;
 use metric_marked::Marked;
 use metric_plan::Plan;

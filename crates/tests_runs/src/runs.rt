@@ -1,7 +1,7 @@
 //! Runs of an input's script on a core, and the text of the replies, which is what a replay writes.
 use crate::plans::{dense_plan_of, plan_of};
 use metric_book::Book;
-use metric_catalogue::Refusal;
+use metric_contents::Refusal;
 use metric_core::Core;
 use metric_history::{Event, Reply};
 use metric_lines::push_batch;

@@ -1,7 +1,7 @@
 //! A recording, or a list of them, that is held inside its lock, and a second one of another instrument or of the same.
 use crate::equal::assert_equal;
 use crate::samples::{MAIN, PAIR};
-use metric_catalogue::Refusal;
+use metric_contents::Refusal;
 use metric_marked::Marked;
 use metric_provider::{Gate, Measurement, Provider, Recorder, start};
 use metric_sdk::certified_plan;

@@ -3,7 +3,7 @@ use crate::equal::assert_equal;
 use crate::runs::write_finish;
 use crate::samples::{MAIN, SPARED};
 use crate::seats::{Seats, seats_of};
-use metric_catalogue::Refusal;
+use metric_contents::Refusal;
 use std::alloc::Global;
 use std::sync::Wait;
 use std::test::Fail;

@@ -4,7 +4,7 @@ ghost use Rattle.std.specs.Prelude.{IsTrue};
 use crate::equal::assert_equal;
 use crate::samples::{MAIN, ROUTES};
 use crate::texts::{write_batch, write_refusal, write_reply};
-use metric_catalogue::{Attr, Refusal, SetKey};
+use metric_contents::{Attr, Refusal, SetKey};
 use metric_history::Reply;
 use metric_hosted::{Hosted, Prepared, ReaderSeat, RecorderSeat};
 use metric_plan::Plan;

@@ -2,7 +2,7 @@
 use crate::samples::{BOTH, HITS};
 use crate::texts::write_reply;
 use metric_book::Book;
-use metric_catalogue::{Attr, OwnedAttr, Refusal};
+use metric_contents::{Attr, OwnedAttr, Refusal};
 use metric_history::{Event, Reply};
 use metric_marked::Marked;
 use metric_provider::{Collector, NoGate, Provider, Recorder, start};

@@ -1,6 +1,6 @@
 //! Replies and batches as texts, with all their parts.
 use metric_aggregate::PointValue;
-use metric_catalogue::Refusal;
+use metric_contents::Refusal;
 use metric_history::{Batch, Point, Reply, StreamPoints};
 use std::alloc::AllocError;
 

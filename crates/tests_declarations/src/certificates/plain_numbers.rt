@@ -1,6 +1,7 @@
 //! Whether the entries of streams and the bounds of instruments are right.
-use metric_catalogue::{Budget, Catalogue, Instrument, Key, Kind, SetKey};
+use metric_catalogue::Catalogue;
 use metric_cert::{By, InstrumentBound, StreamSets};
+use metric_contents::{Budget, Instrument, Key, Kind, SetKey};
 use metric_views::{Stream, StreamAggregation};
 
 /// Whether there is an entry for each stream, in order, with the number that it names, within the limit.

@@ -1,7 +1,8 @@
 //! Whether the orders of readers are right.
 use crate::declared::Declared;
-use metric_catalogue::{Catalogue, Meter};
+use metric_catalogue::Catalogue;
 use metric_cert::ReaderOrder;
+use metric_contents::Meter;
 use metric_views::Stream;
 use std::alloc::{AllocError, Global};
 use std::cmp::Ordering;

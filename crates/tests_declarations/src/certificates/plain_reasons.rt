@@ -1,7 +1,8 @@
 //! Whether reasons are true.
 use metric_base::{Items, Text};
-use metric_catalogue::{Catalogue, Instrument, Meter};
+use metric_catalogue::Catalogue;
 use metric_cert::{Criterion, Evidence, SelectionReason};
+use metric_contents::{Instrument, Meter};
 use metric_glob::Reason;
 use metric_views::{Config, Criteria};
 

@@ -2,9 +2,9 @@
 use Rattle.std.proofs.Common.{◌≡◌, Bool, List, Result, ℕ, ℤ, w64, map, slice_get, ap, ◌∙◌}
 use Rattle.std.proofs.lemmas.Int.{to_z-of_z}
 use Rattle.std.specs.Option.{option_map}
-use Rattle.metric_catalogue.specs.Attributes.{given_by}
-use Rattle.metric_catalogue.specs.declared.contents.Instrument.{Instrument}
-use Rattle.metric_catalogue.specs.declared.refusal.Refusal.{Refusal}
+use Rattle.metric_contents.specs.Attributes.{given_by}
+use Rattle.metric_contents.specs.declared.contents.Instrument.{Instrument}
+use Rattle.metric_contents.specs.declared.refusal.Refusal.{Refusal}
 use Rattle.metric_advice.specs.Explanations.{explained, explained_with, is_combined, refusal_of, told_of}
 use Rattle.metric_advice.proofs.Refusing.{explains}
 use Rattle.metric_advice.proofs.explanation.explain_refusal.Goals as goal

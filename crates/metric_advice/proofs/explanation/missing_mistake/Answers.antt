@@ -1,9 +1,9 @@
 -- a key that is missing, or the range
 use Rattle.std.proofs.Common.{w64, ℤ, ◌≡◌, ℕ, List, Some, None, find, map, not, sym, ap, subst, ◌∙◌}
 use Rattle.std.proofs.lemmas.Int.{to_z-of_z}
-use Rattle.metric_catalogue.specs.Attributes.{given_by}
-use Rattle.metric_catalogue.specs.Encoding.{is_complete}
-use Rattle.metric_catalogue.specs.declared.contents.Key.{Key}
+use Rattle.metric_contents.specs.Attributes.{given_by}
+use Rattle.metric_contents.specs.Encoding.{is_complete}
+use Rattle.metric_contents.specs.declared.contents.Key.{Key}
 use Rattle.metric_advice.specs.Explanations.{MissingKey, combination_mistake, missing_mistake}
 use Rattle.metric_advice.proofs.Refusing.{found_first, found_later}
 use Rattle.metric_advice.proofs.explanation.missing_mistake.Goals as goal

@@ -1,7 +1,7 @@
 -- a key that stands again, or the next mistake
 use Rattle.std.proofs.Common.{ap, w64, ℤ, map, sym, ◌∙◌}
 use Rattle.std.proofs.lemmas.Int.{to_z-of_z}
-use Rattle.metric_catalogue.specs.Attributes.{given_by}
+use Rattle.metric_contents.specs.Attributes.{given_by}
 use Rattle.metric_advice.specs.Explanations.{DuplicateKey, first_repeated, key_mistake, mistake_of}
 use Rattle.metric_advice.proofs.Refusing.{found_first, found_later}
 use Rattle.metric_advice.proofs.explanation.mistake_of.Goals as goal

@@ -1,6 +1,6 @@
 -- the first of those that are left is the first of all
 use Rattle.std.proofs.Common.{◌≡◌, length, map}
-use Rattle.metric_catalogue.specs.Attributes.{given_by}
+use Rattle.metric_contents.specs.Attributes.{given_by}
 use Rattle.metric_advice.specs.Explanations.{first_repeated}
 use Rattle.metric_advice.proofs.explanation.repeated.Given as goal
 

@@ -2,8 +2,8 @@
 use Rattle.std.proofs.Common.{w64, ℤ, find, map, not, sym, ap, ◌∙◌}
 use Rattle.std.proofs.lemmas.Int.{to_z-of_z}
 use Rattle.std.specs.Option.{option_map}
-use Rattle.metric_catalogue.specs.Attributes.{given_by}
-use Rattle.metric_catalogue.specs.Encoding.{Given, has_declared_value}
+use Rattle.metric_contents.specs.Attributes.{given_by}
+use Rattle.metric_contents.specs.Encoding.{Given, has_declared_value}
 use Rattle.metric_advice.specs.Explanations.{UnknownValue, value_mistake, missing_mistake}
 use Rattle.metric_advice.proofs.Mapped.{find-map}
 use Rattle.metric_advice.proofs.Refusing.{found_first, found_later}

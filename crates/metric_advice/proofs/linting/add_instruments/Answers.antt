@@ -2,7 +2,7 @@
 use Rattle.std.proofs.Common.{◌≡◌, ◌<◌, ℕ, Bool, ◌++◌, List, Option, length, slice_get, sym, ap, ◌∙◌, arith}
 use Rattle.std.proofs.lemmas.Option.{slice_get-get_or}
 use Rattle.std.specs.List.{flat_map, range_with_len}
-use Rattle.metric_catalogue.specs.declared.contents.Recorder.{Recorder}
+use Rattle.metric_contents.specs.declared.contents.Recorder.{Recorder}
 use Rattle.metric_advice.specs.declared.headroom.Headroom.{Headroom}
 use Rattle.metric_advice.specs.declared.remark.Remark.TheVariants.{OverBudget}
 use Rattle.metric_advice.specs.Remarks.{instrument_remarks, is_over, recorder_remarks, when}

@@ -1,7 +1,7 @@
 -- one recorder more
 use Rattle.std.proofs.Common.{ℕ, ◌++◌, ◌==◌, List, take_all, ap, ◌∙◌, arith}
 use Rattle.std.specs.List.{enumerate_from, flat_map}
-use Rattle.metric_catalogue.specs.declared.contents.Recorder.{Recorder}
+use Rattle.metric_contents.specs.declared.contents.Recorder.{Recorder}
 use Rattle.metric_advice.specs.declared.remark.Remark.TheVariants.{NoBudget}
 use Rattle.metric_advice.specs.Remarks.{recorder_remark, when}
 use Rattle.metric_advice.proofs.Lists.{numbered_turn}

@@ -1,7 +1,7 @@
 -- view and instrument are those of the numbers
 use Rattle.std.proofs.Common.{◌≡◌, get_or, List, Some, slice_get, refl, ap, ◌∙◌}
 use Rattle.std.proofs.lemmas.Option.{slice_get_read}
-use Rattle.metric_catalogue.specs.declared.contents.Instrument.{Instrument}
+use Rattle.metric_contents.specs.declared.contents.Instrument.{Instrument}
 use Rattle.metric_views.specs.declared.config.View.{View}
 use Rattle.metric_resolve.specs.Applying.{is_selected}
 use Rattle.metric_advice.proofs.selected.is_selected.Goals as goal

@@ -3,8 +3,8 @@ use Rattle.std.proofs.Common.{◌≡◌, ◌<◌, ◌+◌, ℕ, length, get_or, 
 use Rattle.std.specs.Prelude.{List, find, sum_by}
 use Rattle.std.proofs.lemmas.List.Elements.{All-get_or}
 use Rattle.std.proofs.lemmas.List.Sums.{sum_by_more}
-use Rattle.metric_catalogue.specs.declared.contents.Budget.{Budget}
-use Rattle.metric_catalogue.specs.declared.contents.Recorder.{Recorder}
+use Rattle.metric_contents.specs.declared.contents.Budget.{Budget}
+use Rattle.metric_contents.specs.declared.contents.Recorder.{Recorder}
 use Rattle.metric_catalogue.specs.Budgets.{amount_in, amount_of}
 use Rattle.metric_catalogue.specs.Recorders.{is_budget}
 use Rattle.metric_catalogue.specs.Sound.{IsSoundRecorder}

@@ -1,6 +1,6 @@
 -- the spare budgets of the instruments so far
 use Rattle.std.proofs.Common.{◌≡◌, map, take}
-use Rattle.metric_catalogue.specs.declared.contents.Instrument.{Instrument}
+use Rattle.metric_contents.specs.declared.contents.Instrument.{Instrument}
 use Rattle.metric_bounds.proofs.amounts.spares_of.Given as goal
 
 abbrev pub invariant-loop-instrument : goal.invariant-loop-instrument

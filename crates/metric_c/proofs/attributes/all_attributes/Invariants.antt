@@ -2,7 +2,7 @@
 use Rattle.std.proofs.Common.{◌≡◌, drop, map}
 use Rattle.metric_c.proofs.AttributeLaws.{read_with}
 use Rattle.metric_c.specs.Attributes.{attributes_from}
-use Rattle.metric_catalogue.specs.Attributes.{given_by}
+use Rattle.metric_contents.specs.Attributes.{given_by}
 use Rattle.metric_c.proofs.attributes.all_attributes.Given as goal
 
 abbrev pub invariant-loop-own : goal.invariant-loop-own

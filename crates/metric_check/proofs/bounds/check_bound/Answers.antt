@@ -1,7 +1,7 @@
 -- the numbers are those of the instrument at the place
 use Rattle.std.proofs.Common.{◌≡◌, ◌<◌, List, Some, length, slice_get, refl, ap, sym, ◌∙◌, arith}
 use Rattle.std.proofs.lemmas.Option.{slice_get_read}
-use Rattle.metric_catalogue.specs.declared.contents.Instrument.{Instrument}
+use Rattle.metric_contents.specs.declared.contents.Instrument.{Instrument}
 use Rattle.metric_check.proofs.Bounded.{bound_found}
 use Rattle.metric_check.proofs.bounds.check_bound.Goals as goal
 

@@ -1,7 +1,7 @@
 -- the entry of the value that is given
 use Rattle.std.proofs.Common.{◌≡◌, ℕ, List, Some, find, subst, sym, ◌∙◌}
-use Rattle.metric_catalogue.specs.Attributes.{given_by}
-use Rattle.metric_catalogue.specs.Encoding.{is_of}
+use Rattle.metric_contents.specs.Attributes.{given_by}
+use Rattle.metric_contents.specs.Encoding.{is_of}
 use Rattle.metric_handles.proofs.Mapped.{entry-found}
 use Rattle.metric_handles.proofs.found.entry_at.Goals as goal
 

@@ -1,7 +1,7 @@
 -- what the batches that are left have, else what was found
 use Rattle.std.proofs.Common.{◌≡◌, length, map}
 use Rattle.std.specs.Option.{option_copied, option_or}
-use Rattle.metric_catalogue.specs.Attributes.{given_by}
+use Rattle.metric_contents.specs.Attributes.{given_by}
 use Rattle.metric_handles.specs.Found.{value_of}
 use Rattle.metric_handles.proofs.found.value_of.Given as goal
 

@@ -1,6 +1,6 @@
 -- what the parts say of the end
 use Rattle.std.proofs.Common.{◌≡◌, length, ap, ◌∙◌, sym}
-use Rattle.metric_catalogue.specs.declared.contents.Contents.{Contents}
+use Rattle.metric_contents.specs.declared.contents.Contents.{Contents}
 use Rattle.metric_provider.proofs.JournalLaws.{finishes}
 use Rattle.metric_provider.proofs.finish.totals_of.Goals as goal
 

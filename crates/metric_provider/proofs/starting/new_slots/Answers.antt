@@ -1,7 +1,7 @@
 -- each number is that of an instrument, and each slot stands at its place
 use Rattle.std.proofs.Common.{◌≡◌, ℕ, List, length, sym, ap, subst, ◌∙◌, arith}
 use Rattle.std.proofs.lemmas.List.{length_push}
-use Rattle.metric_catalogue.specs.declared.contents.Instrument.{Instrument}
+use Rattle.metric_contents.specs.declared.contents.Instrument.{Instrument}
 use Rattle.metric_core.specs.Cells.{CellValue}
 use Rattle.metric_provider.specs.NewSlots.{AreNewSlots, IsNewSlot}
 use Rattle.metric_provider.proofs.CollectLaws.{at_each_push}

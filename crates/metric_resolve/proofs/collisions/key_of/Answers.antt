@@ -1,7 +1,7 @@
 -- the key is of the stream's reader, its instrument's meter and its name
 use Rattle.std.proofs.Common.{◌≡◌, get_or, List, Some, slice_get, refl, ap, ◌∙◌}
 use Rattle.std.proofs.lemmas.Option.{slice_get_read}
-use Rattle.metric_catalogue.specs.declared.contents.Instrument.{Instrument}
+use Rattle.metric_contents.specs.declared.contents.Instrument.{Instrument}
 use Rattle.metric_resolve.proofs.StreamKeyLaws.{key_made}
 use Rattle.metric_resolve.proofs.collisions.key_of.Goals as goal
 

@@ -1,7 +1,7 @@
 -- the instrument is the one of the number
 use Rattle.std.proofs.Common.{◌≡◌, get_or, List, Some, slice_get, refl, sym, ap, ◌∙◌}
 use Rattle.std.proofs.lemmas.Option.{slice_get_read}
-use Rattle.metric_catalogue.specs.declared.contents.Instrument.{Instrument}
+use Rattle.metric_contents.specs.declared.contents.Instrument.{Instrument}
 use Rattle.metric_resolve.specs.Unfit.{is_unfit_at}
 use Rattle.metric_resolve.proofs.unfit.is_unfit_at.Goals as goal
 

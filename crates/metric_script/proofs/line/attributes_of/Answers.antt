@@ -1,6 +1,6 @@
 -- an attribute after the other, up to the line's end
 use Rattle.std.proofs.Common.{◌≡◌, ℕ, ◌<◌, List, length, Bor, arith}
-use Rattle.metric_catalogue.specs.declared.attributes.OwnedAttr.{OwnedAttr}
+use Rattle.metric_contents.specs.declared.attributes.OwnedAttr.{OwnedAttr}
 use Rattle.std.proofs.lemmas.Bool.Decides.{nat_tests}
 use Rattle.metric_script.proofs.AttributeLaws.{attribute_in-shorter, attributes_more, attributes_refused, attributes_all}
 use Rattle.metric_script.proofs.line.attributes_of.Goals as goal

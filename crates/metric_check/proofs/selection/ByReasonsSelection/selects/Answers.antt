@@ -1,7 +1,7 @@
 -- the reason of the pair stands at its place, and shows whether the view selects the instrument
 use Rattle.std.proofs.Common.{◌≡◌, ℕ, ◌+◌, ◌*◌, ◌<◌, List, Some, length, slice_get, ap, refl, subst, sym, ◌∙◌}
 use Rattle.std.proofs.lemmas.Option.{slice_get_read}
-use Rattle.metric_catalogue.specs.declared.contents.Instrument.{Instrument}
+use Rattle.metric_contents.specs.declared.contents.Instrument.{Instrument}
 use Rattle.metric_cert.specs.declared.reason.SelectionReason.{SelectionReason}
 use Rattle.metric_check.specs.Known.{selects_by}
 use Rattle.metric_check.proofs.EvidenceLaws.{shown_at, shown_there}

@@ -1,6 +1,6 @@
 -- an admitted recording is known to be declared
 use Rattle.std.proofs.Common.{map, sym, ◌∙◌}
-use Rattle.metric_catalogue.specs.Attributes.{given_by}
+use Rattle.metric_contents.specs.Attributes.{given_by}
 use Rattle.metric_provider.specs.Seats.{provider_of}
 use Rattle.metric_provider.specs.AdmitLaws.{knows_of, long_of}
 use Rattle.metric_provider.proofs.recorder.Recorder.admit.Goals as goal

@@ -1,6 +1,6 @@
 -- no series yet, of the stream's aggregation
 use Rattle.std.proofs.Common.{refl, sym, ap}
-use Rattle.metric_catalogue.specs.Kinds.{is_monotonic}
+use Rattle.metric_contents.specs.Kinds.{is_monotonic}
 use Rattle.metric_history.specs.Aggregations.{aggregation_of}
 use Rattle.metric_series.proofs.series_table.SeriesTable.with_seed.Goals as goal
 

@@ -3,7 +3,7 @@ use mir.Val.{SFits}
 use Rattle.std.proofs.Common.{◌≡◌, List, Err, ap, sym, subst, refl, ◌∙◌, true, rules, w64}
 use Rattle.std.specs.Prelude.{slice_index}
 use Rattle.metric_book.specs.Journals.{MayAnswer}
-use Rattle.metric_catalogue.specs.declared.refusal.Refusal.TheVariants.{Memory}
+use Rattle.metric_contents.specs.declared.refusal.Refusal.TheVariants.{Memory}
 use Rattle.metric_history.specs.declared.entry.Entry.{Entry}
 use Rattle.metric_history.specs.Windows.{fits_all}
 use Rattle.tests_runs.specs.Refusing.{RefusingValue}

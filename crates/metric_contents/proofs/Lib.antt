@@ -1,0 +1,4 @@
+mod Words
+mod Numbered
+mod OrderLaws
+mod InOrderLaws

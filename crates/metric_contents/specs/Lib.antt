@@ -1,0 +1,16 @@
+pub mod Refusals
+pub mod Places
+pub mod PlaceLaws
+pub mod SameValues
+pub mod Differing
+pub mod Numbering
+pub mod Packed
+pub mod Shortcuts
+pub mod Kinds
+pub mod KeyNames
+pub mod KeySets
+pub mod Encoding
+pub mod ByKeys
+pub mod InOrder
+pub mod Attributes
+pub mod Mapped

@@ -1,0 +1,93 @@
+//! The values that a key declares.
+ghost use Rattle.std.specs.Prelude.{◌≡◌, ◌≤◌, ◌<◌, None, Some, false, length, IfOk, IfSome, if◌then◌else◌, ◌==◌};
+ghost use Rattle.metric_names.specs.Values.{value_of};
+ghost use Rattle.metric_contents.specs.Places.{has_repeat, place};
+
+use crate::numbering::Numbering;
+use crate::shortcuts::Shortcuts;
+use metric_base::{Few, Items};
+use metric_names::{AttrValue, ValueRef};
+use std::alloc::{AllocError, Global};
+use std::marker::Model;
+
+/// Distinct values, at most 1,000, numbered from 0 in declared order. A clause sees the list.
+#[derive(Drop)]
+pub struct Values {
+    list: Few<AttrValue, 1000>,
+    numbering: Numbering,
+    shortcuts: Shortcuts,
+}
+
+impl Model for Values {
+    ghost use Rattle.std.specs.Prelude.{All, List};
+    ghost use Rattle.metric_names.specs.declared.value.AttrValue.{AttrValue};
+    ghost use Rattle.metric_contents.specs.Numbering.{IsNumbered};
+    ghost use Rattle.metric_contents.specs.Shortcuts.{IsRight};
+
+    ghost Value = { List AttrValue };
+
+    ghost view = { λ v. v.list };
+
+    ghost invariant = { λ v. IsNumbered v.numbering v.list
+        × All (IsRight v.list) v.shortcuts.slots.items };
+}
+
+impl Values {
+    /// The values of a list, or nothing where a value stands twice. Fails only where memory is refused.
+    pub fn from_items(alloc: Global, values: Items<AttrValue>) -> Result<Option<Values>, AllocError>
+        requires { length values ≤ 1000 }
+        ensures { IfOk result
+            (λ made. made ≡ (if has_repeat values then None else Some values)) }
+    {
+        let mut numbering = Numbering::new(alloc);
+        if !numbering.number_all(alloc, values.as_slice())? {
+            return Ok(None);
+        }
+        let shortcuts = Shortcuts::new(alloc, values.as_slice(), &numbering)?;
+        let list = Few::from_items(values);
+        Ok(Some(Values {
+            list,
+            numbering,
+            shortcuts,
+        }))
+    }
+
+    /// The values in declared order.
+    pub fn as_slice(&self) -> &[AttrValue]
+        ensures values { result.now ≡ self.now }
+        ensures few { length self.now ≤ 1000 }
+        ensures distinct { has_repeat self.now ≡ false }
+    {
+        self.list.as_slice()
+    }
+
+    /// How many values there are.
+    pub fn len(&self) -> usize
+        ensures length { result ≡ length self.now }
+        ensures few { length self.now ≤ 1000 }
+    {
+        self.list.len()
+    }
+
+    /// Whether there is no value.
+    pub fn is_empty(&self) -> bool
+        ensures { result ≡ (length self.now == 0) }
+    {
+        self.as_slice().is_empty()
+    }
+
+    /// The number of a value: its place in the list. Found by hash, and takes no memory.
+    #[inline(always)]
+    pub fn number_of(&self, value: ValueRef<'_>) -> Option<u16>
+        ensures exact { result ≡ place self.now (value_of value.entry) }
+        ensures within { IfSome result (λ number. number < length self.now) }
+        ensures few { length self.now ≤ 1000 }
+    {
+        if let ValueRef::Text(text) = value {
+            if let Some(number) = self.shortcuts.number_of(text) {
+                return Some(number);
+            }
+        }
+        self.numbering.number_of(value)
+    }
+}
