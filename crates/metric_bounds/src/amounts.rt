@@ -1,5 +1,6 @@
 //! The numbers that budgets, a spare budget and a range bound.
-ghost use Rattle.std.specs.Prelude.{◌≡◌, ◌<◌, ◌≤◌, ◌+◌, ◌^◌, ◌*◌, ℕ, pos, ◌≤ℤ◌, All, AllPairs, IfOk, find, length, map, slice_index, sum_by, ◌≢◌};
+ghost use Rattle.std.specs.Prelude.{◌≡◌, ◌<◌, ◌≤◌, ◌+◌, ◌^◌, ◌*◌, ℕ, pos, ◌≤ℤ◌, All, AllPairs, IfOk, find, length, map, slice_index, sum_by, ◌≢◌, ◌↔◌, FitsSigned, IsTrue};
+ghost use Rattle.std.specs.Int.{w64};
 ghost use Rattle.metric_catalogue.specs.Sound.{IsSoundBudget, IsSoundRecorder};
 ghost use Rattle.metric_resolve.specs.Applying.{all_instruments};
 ghost use Rattle.metric_catalogue.specs.Budgets.{amount_in, amount_of};
@@ -95,4 +96,11 @@ pub fn high(total: u64, hi: i64) -> i128
     ensures { result ≡ high_with total hi }
 {
     i128::from(total) * i128::from(hi.max(0))
+}
+
+/// Whether a sum is a 64-bit number.
+pub fn is_i64(sum: i128) -> bool
+    ensures { IsTrue result ↔ FitsSigned w64 sum }
+{
+    i64::try_from(sum).is_ok()
 }

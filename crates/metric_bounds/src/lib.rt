@@ -9,6 +9,6 @@ pub mod laws;
 mod products;
 mod sums;
 
-pub use amounts::{amount, high, low, total, totals};
+pub use amounts::{amount, high, is_i64, low, total, totals};
 pub use products::{listed, product};
 pub use sums::summed;

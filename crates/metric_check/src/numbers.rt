@@ -1,10 +1,9 @@
 //! Whether the bounds of one instrument are its own, and within 64 bits.
-ghost use Rattle.std.specs.Prelude.{◌≡◌, ◌↔◌, ◌≤ℤ◌, IsTrue, FitsSigned};
-ghost use Rattle.std.specs.Int.{w64};
+ghost use Rattle.std.specs.Prelude.{◌≡◌, ◌↔◌, ◌≤ℤ◌, IsTrue};
 ghost use Rattle.std.specs.Result.{result_err};
 ghost use Rattle.metric_check.specs.Findings.{IsAmountOf, IsCountOf, IsHighOf, IsLowOf, NumbersFind};
 
-use metric_bounds::{amount, high, low};
+use metric_bounds::{amount, high, is_i64, low};
 use metric_cert::InstrumentBound;
 use metric_contents::Instrument;
 use metric_plan::CheckFault;
@@ -58,7 +57,7 @@ fn is_low(instrument: &Instrument, summed: bool, bound: &InstrumentBound) -> boo
         ↔ IsLowOf bound.now.total instrument.now (IsTrue summed) bound.now }
 {
     let least = low(bound.total, instrument.lo);
-    bound.low == least && (!summed || fits(least))
+    bound.low == least && (!summed || is_i64(least))
 }
 
 // Whether the bound has the greatest sum, for its own total, and that is an i64 where it is kept.
@@ -67,12 +66,5 @@ fn is_high(instrument: &Instrument, summed: bool, bound: &InstrumentBound) -> bo
         ↔ IsHighOf bound.now.total instrument.now (IsTrue summed) bound.now }
 {
     let greatest = high(bound.total, instrument.hi);
-    bound.high == greatest && (!summed || fits(greatest))
-}
-
-// Whether a sum is an i64.
-fn fits(sum: i128) -> bool
-    ensures { IsTrue result ↔ FitsSigned w64 sum }
-{
-    i64::try_from(sum).is_ok()
+    bound.high == greatest && (!summed || is_i64(greatest))
 }

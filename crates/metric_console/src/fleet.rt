@@ -1,10 +1,9 @@
 //! What a backend adds up of many processes.
-ghost use Rattle.std.specs.Prelude.{◌≡◌, ◌↔◌, FitsSigned, IfSome, IsTrue, None};
-ghost use Rattle.std.specs.Int.{w64};
+ghost use Rattle.std.specs.Prelude.{◌≡◌, IfSome, IsTrue, None};
 ghost use Rattle.metric_console.specs.Fleets.{Fits};
 
 use metric_advice::Limit;
-use metric_bounds::{high, low};
+use metric_bounds::{high, is_i64, low};
 use metric_contents::Instrument;
 
 /// What does not fit 64 bits where a backend adds up an instrument of so many recordings, those of all processes together:
@@ -16,18 +15,11 @@ pub(crate) fn fleet_limit(count: u128, instrument: &Instrument, is_summed: bool)
     let Ok(count) = u64::try_from(count) else {
         return Some(Limit::Count);
     };
-    if is_summed && !fits(low(count, instrument.lo)) {
+    if is_summed && !is_i64(low(count, instrument.lo)) {
         return Some(Limit::SumLow);
     }
-    if is_summed && !fits(high(count, instrument.hi)) {
+    if is_summed && !is_i64(high(count, instrument.hi)) {
         return Some(Limit::SumHigh);
     }
     None
-}
-
-// Whether a sum is an i64.
-fn fits(sum: i128) -> bool
-    ensures { IsTrue result ↔ FitsSigned w64 sum }
-{
-    i64::try_from(sum).is_ok()
 }

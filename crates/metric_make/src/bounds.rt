@@ -1,6 +1,5 @@
 //! The bounds of all instruments.
-ghost use Rattle.std.specs.Prelude.{◌≡◌, ◌↔◌, ◌≤ℤ◌, pos, FitsSigned, IfOk, IsTrue, map};
-ghost use Rattle.std.specs.Int.{w64};
+ghost use Rattle.std.specs.Prelude.{◌≡◌, ◌≤ℤ◌, pos, IfOk, IsTrue, map};
 ghost use Rattle.std.specs.List.{AllZip};
 ghost use Rattle.std.specs.Result.{result_err};
 ghost use Rattle.metric_resolve.specs.Applying.{all_instruments};
@@ -13,7 +12,7 @@ ghost use Rattle.metric_cert.specs.Valid.{IsBoundAt};
 
 use crate::fault::MakeFault;
 use metric_base::Items;
-use metric_bounds::{amount, high, low, summed, totals};
+use metric_bounds::{amount, high, is_i64, low, summed, totals};
 use metric_catalogue::Catalogue;
 use metric_cert::InstrumentBound;
 use metric_contents::Instrument;
@@ -116,7 +115,7 @@ fn low_of(total: u64, instrument: &Instrument, summed: bool) -> Result<i128, Mak
         (result_err result) }
 {
     let low = low(total, instrument.lo);
-    if summed && !fits(low) {
+    if summed && !is_i64(low) {
         Err(MakeFault::SumLow)
     } else {
         Ok(low)
@@ -129,16 +128,9 @@ fn high_of(total: u64, instrument: &Instrument, summed: bool) -> Result<i128, Ma
         (result_err result) }
 {
     let high = high(total, instrument.hi);
-    if summed && !fits(high) {
+    if summed && !is_i64(high) {
         Err(MakeFault::SumHigh)
     } else {
         Ok(high)
     }
-}
-
-// Whether a sum is a 64-bit number.
-fn fits(sum: i128) -> bool
-    ensures { IsTrue result ↔ FitsSigned w64 sum }
-{
-    (i128::from(i64::MIN)..=i128::from(i64::MAX)).contains(&sum)
 }

@@ -1,5 +1,5 @@
 -- Attribute values: borrowed, and as they are printed.
-use Rattle.std.specs.Prelude.{ℕ, List, Bool, true, false, codes}
+use Rattle.std.specs.Prelude.{ℕ, List, codes}
 use Rattle.std.specs.Fmt.{signed_decimal}
 use Rattle.metric_names.specs.declared.value.AttrValue.{AttrValue}
 use Rattle.metric_names.specs.declared.value.AttrValue.TheVariants as owned
@@ -13,8 +13,7 @@ value_of (Whole number) = owned.Whole number
 value_of (Flag flag) = owned.Flag flag
 
 -- a value as it is printed: a text as it stands, a number in decimal digits, a flag in its word
-pub value_text : AttrValue → List ℕ
+abbrev pub value_text : AttrValue → List ℕ
 value_text (owned.Text text) = text
 value_text (owned.Whole number) = signed_decimal number
-value_text (owned.Flag true) = codes "true"
-value_text (owned.Flag false) = codes "false"
+value_text (owned.Flag flag) = if flag then codes "true" else codes "false"
