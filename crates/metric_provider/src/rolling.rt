@@ -58,7 +58,7 @@ impl<B: Book, G: Gate> Provider<B, G> {
         let next = NextRun { start, run };
         match rolled(alloc, &plan, ended, &mut slots, recorders.as_slice(), next) {
             Ok(parts) => {
-                let Parts {
+                let RolledParts {
                     totals,
                     slots,
                     recorders,
@@ -88,7 +88,7 @@ struct NextRun {
 }
 
 // What a provider comes to, and what the next one is made of.
-struct Parts<B: Book> {
+struct RolledParts<B: Book> {
     totals: Totals,
     slots: Vec<Locked<B>>,
     recorders: Vec<Recorder>,
@@ -104,7 +104,7 @@ fn rolled<B: Book>(
     locked: &mut Vec<Locked<B>>,
     recorders: &[Recorder],
     next: NextRun,
-) -> Result<Parts<B>, RollFault>
+) -> Result<RolledParts<B>, RollFault>
     requires slots { vec_len locked.old ≡ length plan.now.facts.instruments }
     requires certified { IsTrue plan.now.is_certified }
     ensures totals { IfOk result (λ parts. let end = parts.totals in
@@ -146,7 +146,7 @@ fn seated_parts<B: Book>(
     locked: &mut Vec<Locked<B>>,
     recorders: &[Recorder],
     next: NextRun,
-) -> Result<Parts<B>, FinishFault>
+) -> Result<RolledParts<B>, FinishFault>
     requires slots { vec_len locked.old ≡ length plan.now.facts.instruments }
     requires certified { IsTrue plan.now.is_certified }
     ensures totals { IfOk result (λ parts. let end = parts.totals in
@@ -177,7 +177,7 @@ fn parts_of<B: Book>(
     locked: &mut Vec<Locked<B>>,
     recorders: &[Recorder],
     next: NextRun,
-) -> Result<Parts<B>, FinishFault>
+) -> Result<RolledParts<B>, FinishFault>
     requires slots { vec_len locked.old ≡ length plan.now.facts.instruments }
     requires recorders { AreAllSeats plan.now recorders.now }
     requires certified { IsTrue plan.now.is_certified }
@@ -195,7 +195,7 @@ fn parts_of<B: Book>(
 {
     let (slots, seats, collectors) = new_parts(alloc, plan, next.start, next.run)?;
     let totals = settle_locked(alloc, plan, locked, recorders)?;
-    Ok(Parts {
+    Ok(RolledParts {
         totals,
         slots,
         recorders: seats,
