@@ -8,8 +8,8 @@ use Rattle.std.proofs.Math.ListN.{set}
 use Rattle.std.proofs.Math.Dec.{eqb}
 use Rattle.std.proofs.lemmas.List.Folds.{find-append}
 use Rattle.metric_contents.specs.declared.contents.Budget.{Budget}
-use Rattle.metric_catalogue.specs.Budgets.{amount_in}
-use Rattle.metric_catalogue.specs.Recorders.{is_budget}
+use Rattle.metric_contents.specs.Budgets.{amount_in}
+use Rattle.metric_contents.specs.Budgets.{is_budget}
 use Rattle.metric_catalogue.specs.Sound.{IsSoundBudget}
 use Rattle.std.proofs.lemmas.List.Elements.{All-head, All-tail}
 use Rattle.std.specs.Prelude.{◌^◌}

@@ -2,7 +2,7 @@
 use Rattle.std.proofs.Common.{◌≡◌, ◌<◌, ◌^◌, ℕ, zero, suc, List, [], ◌∷◌, get_or, map, refl, All, arith}
 use Rattle.std.proofs.lemmas.List.Elements.{All-head, All-tail}
 use Rattle.metric_contents.specs.declared.contents.Instrument.{Instrument}
-use Rattle.metric_catalogue.specs.Budgets.{spare_at}
+use Rattle.metric_contents.specs.Budgets.{spare_at}
 use Rattle.metric_catalogue.specs.Sound.{IsSoundInstrument}
 
 -- each spare budget

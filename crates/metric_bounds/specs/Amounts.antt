@@ -3,7 +3,7 @@
 use Rattle.std.specs.Prelude.{ℕ, ℤ, pos, ◌+◌, ◌*ℤ◌, ◌-ℤ◌, sum_by}
 use Rattle.std.specs.Int.{int_min, int_max}
 use Rattle.metric_contents.specs.declared.contents.Contents.{Contents}
-use Rattle.metric_catalogue.specs.Budgets.{amount_of, spare_at}
+use Rattle.metric_contents.specs.Budgets.{amount_of, spare_at}
 
 -- the budgets of all recorders for the instrument of a number, and its spare budget
 unfoldable pub total_of : Contents → ℕ → ℕ

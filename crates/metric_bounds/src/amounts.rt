@@ -3,8 +3,8 @@ ghost use Rattle.std.specs.Prelude.{◌≡◌, ◌<◌, ◌≤◌, ◌+◌, ◌^
 ghost use Rattle.std.specs.Int.{w64};
 ghost use Rattle.metric_catalogue.specs.Sound.{IsSoundBudget, IsSoundRecorder};
 ghost use Rattle.metric_resolve.specs.Applying.{all_instruments};
-ghost use Rattle.metric_catalogue.specs.Budgets.{amount_in, amount_of};
-ghost use Rattle.metric_catalogue.specs.Recorders.{is_budget};
+ghost use Rattle.metric_contents.specs.Budgets.{amount_in, amount_of};
+ghost use Rattle.metric_contents.specs.Budgets.{is_budget};
 ghost use Rattle.metric_bounds.specs.Amounts.{amount_with, high_with, low_with, total_of};
 
 use metric_base::Items;

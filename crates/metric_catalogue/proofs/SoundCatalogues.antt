@@ -23,7 +23,8 @@ use Rattle.metric_catalogue.specs.Catalogues.{contents_declared, contents_of, fo
 use Rattle.metric_catalogue.specs.Faults.{faults_at}
 use Rattle.metric_catalogue.specs.Instruments.{instrument_of}
 use Rattle.metric_catalogue.specs.Meters.{is_meter, meter_of, only_meter_fields, with_meter}
-use Rattle.metric_catalogue.specs.Recorders.{amount_field, amount_from, budget_fields, budget_of, budgeted, budgets_field, is_budget, is_recorder, number_below, number_field, recorder_fields, recorder_name, recorder_of}
+use Rattle.metric_catalogue.specs.Recorders.{amount_field, amount_from, budget_fields, budget_of, budgeted, budgets_field, is_recorder, number_below, number_field, recorder_fields, recorder_name, recorder_of}
+use Rattle.metric_contents.specs.Budgets.{is_budget}
 use Rattle.metric_catalogue.specs.Sound.{AreInstrumentsApart, IsLabel, IsSound, IsSoundBudget, IsSoundInstrument, IsSoundList, IsSoundMeter, IsSoundRecorder}
 use Rattle.metric_catalogue.specs.Texts.{free_text, needed_text}
 use Rattle.metric_catalogue.proofs.PlainFiles.{format_made, meters_plain, some_made}

@@ -9,4 +9,3 @@ pub mod Meters
 pub mod Recorders
 pub mod Catalogues
 pub mod Sound
-pub mod Budgets

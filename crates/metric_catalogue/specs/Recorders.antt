@@ -6,6 +6,7 @@ use Rattle.std.specs.Str.{bytes_eq}
 use Rattle.toml.specs.Data.{Members}
 use Rattle.metric_base.specs.Steps.{◌>>=◌, require, require_some, each}
 use Rattle.metric_table.specs.Fields.{only, field, integer_of, tables_field}
+use Rattle.metric_contents.specs.Budgets.{is_budget}
 use Rattle.metric_contents.specs.declared.contents.Budget.{Budget}
 use Rattle.metric_contents.specs.declared.contents.Recorder.{Recorder}
 use Rattle.metric_catalogue.specs.declared.fault.CatalogueFault.{CatalogueFault}
@@ -56,10 +57,6 @@ unfoldable pub amount_field : CataloguePlace → Members → Result ℕ Catalogu
 amount_field at table = do
   number ← number_field at (codes "amount") table
   require_some (amount_from number) (At BadRange at)
-
--- the budget is for this instrument
-abbrev pub is_budget : ℕ → Budget → Bool
-is_budget instrument budget = budget.instrument == instrument
 
 -- one more budget of a recorder, after those before it
 unfoldable pub budget_of : CataloguePlace → ℕ → List Budget → Members → Result Budget CatalogueFault

@@ -1,13 +1,11 @@
 //! Reading a catalogue from TOML.
-ghost use Rattle.std.specs.Prelude.{◌≡◌, ◌≤◌, length, map, find, IfOk, vec_capacity};
+ghost use Rattle.std.specs.Prelude.{◌≡◌, ◌≤◌, length, map, IfOk, vec_capacity};
 ghost use Rattle.toml.specs.View.{table_view};
 ghost use Rattle.metric_base.specs.Steps.{Gives, GivesBy, in_turn};
-ghost use Rattle.std.specs.Option.{option_copied};
 ghost use Rattle.metric_contents.specs.Attributes.{given_by, given_by_owned};
-ghost use Rattle.metric_catalogue.specs.Budgets.{amount_of, budget_at, spare_at};
+ghost use Rattle.metric_contents.specs.Budgets.{budget_at, spare_at};
 ghost use Rattle.metric_contents.specs.Encoding.{encode_of};
 ghost use Rattle.metric_catalogue.specs.Meters.{with_meter};
-ghost use Rattle.metric_catalogue.specs.Recorders.{is_budget};
 ghost use Rattle.metric_catalogue.specs.Sound.{IsSound};
 ghost use Rattle.metric_catalogue.specs.Catalogues.{catalogue_of, contents_declared, contents_of, document_of, format_of_top, nothing_metered};
 
@@ -17,7 +15,7 @@ use crate::recorders::recorders_of;
 use crate::texts::faults_at;
 use metric_base::{Few, Items};
 use metric_contents::{
-    Attr, Budget, Contents, Instrument, Meter, OwnedAttr, Recorder, Refusal, SetKey, encode_of,
+    Attr, Contents, Instrument, Meter, OwnedAttr, Recorder, Refusal, SetKey, encode_of,
     encode_with_room,
 };
 use metric_table::{format_up_to, only, tables_field};
@@ -150,26 +148,6 @@ impl Catalogue {
     {
         encode_with_room(self.instruments(), instrument, attrs, room)
     }
-}
-
-impl Recorder {
-    /// How many recordings the recorder may make on an instrument: 0 where it declares no budget.
-    pub fn budget(&self, instrument: u32) -> u64
-        ensures { result ≡ amount_of self.now instrument }
-    {
-        match budget_for(self.budgets.as_slice(), instrument) {
-            Some(budget) => budget.amount,
-            None => 0,
-        }
-    }
-}
-
-fn budget_for(budgets: &[Budget], instrument: u32) -> Option<&Budget>
-    ensures { option_copied result ≡ find (is_budget instrument) budgets.now }
-{
-    budgets
-        .iter()
-        .find(|budget| budget.instrument == instrument)
 }
 
 // The table that a text in TOML is.

@@ -5,7 +5,8 @@ ghost use Rattle.toml.specs.View.{table_view};
 ghost use Rattle.metric_base.specs.Steps.{Gives, each};
 ghost use Rattle.metric_table.specs.Fields.{only};
 ghost use Rattle.metric_catalogue.specs.Faults.{faults_at};
-ghost use Rattle.metric_catalogue.specs.Recorders.{amount_field, amount_from, budget_of, budgeted, budgets_field, is_budget, is_recorder, number_below, number_field, recorder_fields, recorder_name, recorder_of};
+ghost use Rattle.metric_catalogue.specs.Recorders.{amount_field, amount_from, budget_of, budgeted, budgets_field, is_recorder, number_below, number_field, recorder_fields, recorder_name, recorder_of};
+ghost use Rattle.metric_contents.specs.Budgets.{is_budget};
 
 use crate::fault::{CatalogueDefect, CatalogueFault, CataloguePlace};
 use crate::texts::{faults_at, label_field};

@@ -19,7 +19,7 @@ use Rattle.metric_base.specs.Steps.{◌>>=◌, require, require_some}
 use Rattle.metric_book.specs.Slips.{is_by, slip_of, slips_of}
 use Rattle.metric_book.specs.declared.slip.Slip.{Slip}
 use Rattle.metric_contents.specs.Attributes.{given_by_owned}
-use Rattle.metric_catalogue.specs.Budgets.{amount_of}
+use Rattle.metric_contents.specs.Budgets.{amount_of}
 use Rattle.metric_combinations.specs.Combinations.{permits}
 use Rattle.metric_contents.specs.Encoding.{encode_of}
 use Rattle.metric_contents.specs.declared.attributes.OwnedAttr.{OwnedAttr}

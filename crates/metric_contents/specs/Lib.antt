@@ -14,3 +14,4 @@ pub mod ByKeys
 pub mod InOrder
 pub mod Attributes
 pub mod Mapped
+pub mod Budgets

@@ -5,6 +5,7 @@
 #![tactic(auto)]
 
 mod attributes;
+mod budgets;
 mod contents;
 mod encode;
 mod kinds;

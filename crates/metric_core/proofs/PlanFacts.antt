@@ -4,7 +4,7 @@ use Rattle.std.specs.Prelude.{nat_lt, slice_get, sum, sum_by}
 use Rattle.std.proofs.lemmas.Bool.{and_parts, ltb-true}
 use Rattle.std.proofs.lemmas.List.Sums.{sum-map}
 use Rattle.metric_bounds.specs.Amounts.{total_of}
-use Rattle.metric_catalogue.specs.Budgets.{amount_of, spare_at, spare_in}
+use Rattle.metric_contents.specs.Budgets.{amount_of, spare_at, spare_in}
 use Rattle.metric_contents.specs.Attributes.{given_by_owned}
 use Rattle.metric_contents.specs.Encoding.{Given, allowed_set, encode_of}
 use Rattle.metric_contents.specs.declared.contents.Contents.{Contents}

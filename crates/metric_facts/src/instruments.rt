@@ -1,6 +1,6 @@
 //! Makes the facts of each instrument.
 ghost use Rattle.std.specs.Prelude.{◌≡◌, ◌≤◌, ◌<◌, ◌^◌, [], map, length, IfOk, OnOk};
-ghost use Rattle.metric_catalogue.specs.Budgets.{amount_of};
+ghost use Rattle.metric_contents.specs.Budgets.{amount_of};
 ghost use Rattle.metric_facts.specs.Facts.{facts_from, facts_of, is_delta_reader, is_delta_temporality, key_facts, with_stream};
 
 use crate::facts::{Facts, FactsFields, KeyFacts, NumberedStream, is_by_product};

@@ -4,7 +4,7 @@ use Rattle.std.specs.Prelude.{slice_get, ◌==◌, nat_lt}
 use Rattle.std.proofs.lemmas.Bool.{and_parts, ltb-true}
 use Rattle.std.proofs.lemmas.List.{length-map}
 use Rattle.metric_base.specs.Steps.{◌>>=◌, require_some}
-use Rattle.metric_catalogue.specs.Budgets.{amount_of}
+use Rattle.metric_contents.specs.Budgets.{amount_of}
 use Rattle.metric_contents.specs.Encoding.{Given, allowed_set, encode_of}
 use Rattle.metric_contents.specs.declared.contents.Instrument.{Instrument}
 use Rattle.metric_contents.specs.declared.contents.Recorder.{Recorder}

@@ -10,7 +10,7 @@ use Rattle.std.proofs.lemmas.List.Folds.{list_any_at}
 use Rattle.std.proofs.lemmas.List.Sums.{sum-map}
 use Rattle.std.proofs.lemmas.Option.{slice_get_within, get_or_from_slice_get}
 use Rattle.metric_combinations.specs.Restrictions.{restrictions}
-use Rattle.metric_catalogue.specs.Budgets.{amount_of, spare_in}
+use Rattle.metric_contents.specs.Budgets.{amount_of, spare_in}
 use Rattle.metric_catalogue.specs.Sound.{IsSound}
 use Rattle.metric_contents.specs.declared.contents.Contents.{Contents}
 use Rattle.metric_contents.specs.declared.contents.Instrument.{Instrument}

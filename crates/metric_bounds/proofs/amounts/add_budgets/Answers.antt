@@ -2,7 +2,7 @@
 use Rattle.std.proofs.Common.{◌<◌, length, get_or, ap, arith}
 use Rattle.std.proofs.Math.ListN.{length-set}
 use Rattle.std.proofs.lemmas.List.Elements.{All-get_or}
-use Rattle.metric_catalogue.specs.Budgets.{amount_in}
+use Rattle.metric_contents.specs.Budgets.{amount_in}
 use Rattle.metric_catalogue.specs.Sound.{IsSoundBudget}
 use Rattle.metric_bounds.proofs.Budgets.{absent, added_more}
 use Rattle.metric_bounds.proofs.amounts.add_budgets.Goals as goal

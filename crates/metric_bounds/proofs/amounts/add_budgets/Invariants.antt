@@ -1,8 +1,8 @@
 -- the amounts of the budgets so far are added
 use Rattle.std.proofs.Common.{◌≡◌, ◌<◌, ◌+◌, ℕ, length, get_or, take}
 use Rattle.std.specs.Prelude.{find}
-use Rattle.metric_catalogue.specs.Budgets.{amount_in}
-use Rattle.metric_catalogue.specs.Recorders.{is_budget}
+use Rattle.metric_contents.specs.Budgets.{amount_in}
+use Rattle.metric_contents.specs.Budgets.{is_budget}
 use Rattle.metric_bounds.proofs.amounts.add_budgets.Given as goal
 
 abbrev pub invariant-loop-budget : goal.invariant-loop-budget

@@ -5,8 +5,8 @@ use Rattle.std.proofs.lemmas.List.Elements.{All-get_or}
 use Rattle.std.proofs.lemmas.List.Sums.{sum_by_more}
 use Rattle.metric_contents.specs.declared.contents.Budget.{Budget}
 use Rattle.metric_contents.specs.declared.contents.Recorder.{Recorder}
-use Rattle.metric_catalogue.specs.Budgets.{amount_in, amount_of}
-use Rattle.metric_catalogue.specs.Recorders.{is_budget}
+use Rattle.metric_contents.specs.Budgets.{amount_in, amount_of}
+use Rattle.metric_contents.specs.Budgets.{is_budget}
 use Rattle.metric_catalogue.specs.Sound.{IsSoundRecorder}
 use Rattle.metric_bounds.proofs.Budgets.{amount_limited}
 use Rattle.metric_bounds.proofs.amounts.add_recorders.Goals as goal

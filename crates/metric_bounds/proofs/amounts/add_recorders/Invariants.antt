@@ -1,7 +1,7 @@
 -- the totals of the recorders so far
 use Rattle.std.proofs.Common.{◌≡◌, ◌<◌, ◌+◌, ◌≤◌, ◌*◌, ◌^◌, ℕ, length, get_or, take}
 use Rattle.std.specs.Prelude.{sum_by}
-use Rattle.metric_catalogue.specs.Budgets.{amount_of}
+use Rattle.metric_contents.specs.Budgets.{amount_of}
 use Rattle.metric_bounds.proofs.amounts.add_recorders.Given as goal
 
 abbrev pub invariant-loop-recorder : goal.invariant-loop-recorder

@@ -2,7 +2,7 @@
 use Rattle.std.proofs.Common.{◌+◌, List, take_all, ap, ◌∙◌, arith}
 use Rattle.std.specs.Prelude.{sum_by}
 use Rattle.metric_contents.specs.declared.contents.Recorder.{Recorder}
-use Rattle.metric_catalogue.specs.Budgets.{amount_of, spare_at}
+use Rattle.metric_contents.specs.Budgets.{amount_of, spare_at}
 use Rattle.metric_bounds.specs.Amounts.{total_of}
 use Rattle.metric_bounds.proofs.amounts.total.Goals as goal
 

@@ -1,6 +1,6 @@
 use Rattle.std.proofs.Common.{◌≡◌, ◌≤◌, ◌+◌, ◌*◌, ◌^◌, take}
 use Rattle.std.specs.Prelude.{sum_by}
-use Rattle.metric_catalogue.specs.Budgets.{amount_of, spare_at}
+use Rattle.metric_contents.specs.Budgets.{amount_of, spare_at}
 use Rattle.metric_bounds.proofs.amounts.total.Given as goal
 
 abbrev pub invariant-loop-recorder : goal.invariant-loop-recorder

@@ -4,7 +4,7 @@ use Rattle.std.specs.Prelude.{sum_by}
 use Rattle.std.proofs.lemmas.List.{length-map}
 use Rattle.metric_contents.specs.declared.contents.Instrument.{Instrument}
 use Rattle.metric_contents.specs.declared.contents.Recorder.{Recorder}
-use Rattle.metric_catalogue.specs.Budgets.{amount_of}
+use Rattle.metric_contents.specs.Budgets.{amount_of}
 use Rattle.metric_catalogue.specs.Sound.{IsSoundRecorder}
 use Rattle.metric_bounds.specs.Amounts.{total_of}
 use Rattle.metric_bounds.proofs.Spares.{spare_limited, spare_listed, spares}

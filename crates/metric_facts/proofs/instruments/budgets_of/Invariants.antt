@@ -1,6 +1,6 @@
 -- the budgets of the recorders so far
 use Rattle.std.proofs.Common.{◌≡◌, map, take}
-use Rattle.metric_catalogue.specs.Budgets.{amount_of}
+use Rattle.metric_contents.specs.Budgets.{amount_of}
 use Rattle.metric_facts.proofs.instruments.budgets_of.Given as goal
 
 abbrev pub invariant-loop-recorder : goal.invariant-loop-recorder

@@ -1,9 +1,12 @@
 -- The budgets of recorders, and the spare budgets of instruments.
-use Rattle.std.specs.Prelude.{ℕ, List, Option, Some, None, slice_get, find}
+use Rattle.std.specs.Prelude.{ℕ, Bool, ◌==◌, List, Option, Some, None, slice_get, find}
 use Rattle.metric_contents.specs.declared.contents.Budget.{Budget}
 use Rattle.metric_contents.specs.declared.contents.Instrument.{Instrument}
 use Rattle.metric_contents.specs.declared.contents.Recorder.{Recorder}
-use Rattle.metric_catalogue.specs.Recorders.{is_budget}
+
+-- the budget is for this instrument
+abbrev pub is_budget : ℕ → Budget → Bool
+is_budget instrument budget = budget.instrument == instrument
 
 -- the amount of a budget, or 0 where there is none
 abbrev pub amount_in : Option Budget → ℕ
