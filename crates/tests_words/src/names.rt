@@ -191,3 +191,33 @@ fn values_are_copied(rt: HostRuntime) -> Result<(), Fail> {
     assert!(rt; are_copied(rt.alloc(), &values)?);
     Ok(())
 }
+
+// Values, each as it is printed for users and for programmers.
+const PRINTED: [(ValueRef<'static>, &str, &str); 4] = [
+    (ValueRef::Text("a\"b"), "a\"b", "Text(\"a\\\"b\")"),
+    (ValueRef::Text(""), "", "Text(\"\")"),
+    (ValueRef::Whole(-7), "-7", "Whole(-7)"),
+    (ValueRef::Flag(true), "true", "Flag(true)"),
+];
+
+// A value as it is printed in both ways, borrowed or owned.
+fn printed(alloc: Global, value: ValueRef<'_>, is_owned: bool) -> Result<String, AllocError> {
+    if is_owned {
+        let own = owned(alloc, value)?;
+        format!(in alloc; "{own} {own:?}")
+    } else {
+        format!(in alloc; "{value} {value:?}")
+    }
+}
+
+#[test]
+fn values_print_as_in_rust(rt: HostRuntime) -> Result<(), Fail> {
+    for (value, shown, told) in &PRINTED {
+        let due = format!(in rt.alloc(); "{shown} {told}")?;
+        for is_owned in [false, true] {
+            let text = printed(rt.alloc(), *value, is_owned)?;
+            assert_equal(&rt, text.as_str(), due.as_str());
+        }
+    }
+    Ok(())
+}

@@ -170,7 +170,7 @@ const OF_VALUES: &[(&str, OfValue, &str)] = &[
     (
         "texts",
         OfValue::Texts(2),
-        "Ok(Items { items: [Text { string: \"a\" }, Text { string: \"\" }] })",
+        "Ok(Items { items: [\"a\", \"\"] })",
     ),
     ("texts", OfValue::Texts(1), "Err(TooMany)"),
     ("numbers", OfValue::Texts(2), "Err(WrongKind)"),
