@@ -6,9 +6,9 @@ use Rattle.metric_core.specs.Cells.{CellStands, new_cell}
 use Rattle.metric_marked.specs.Marks.{StandsMarked}
 use Rattle.metric_plan.specs.Plans.{PlanValue}
 use Rattle.metric_provider.specs.Seats.{new_collector, new_recorder}
-use Rattle.metric_sdk.specs.Setups.{IsFirstFault}
-use Rattle.metric_sdk.specs.declared.fault.SetupFault.{SetupFault}
-use Rattle.metric_sdk.specs.declared.fault.SetupFault.TheVariants.{Memory}
+use Rattle.metric_setup.specs.Setups.{IsFirstFault}
+use Rattle.metric_setup.specs.declared.fault.SetupFault.{SetupFault}
+use Rattle.metric_setup.specs.declared.fault.SetupFault.TheVariants.{Memory}
 use Rattle.metric_hosted.specs.Hosts.{HostedValue}
 use Rattle.metric_hosted.specs.declared.planned.HostedReader.{HostedReader}
 use Rattle.metric_hosted.specs.declared.planned.HostedRecorder.{HostedRecorder}

@@ -9,8 +9,8 @@ use crate::batches::{boundaries_of, point_at, stream_at};
 use crate::codes::{NOT_OPEN, UNKNOWN};
 use crate::reader_handle::ReaderHandle;
 use crate::texts::copy_all;
+use metric_aggregate::PointValue;
 use metric_hosted::HostedReader;
-use metric_sdk::PointValue;
 use std::alloc::Global;
 
 /// Writes the boundaries of the stream at a place, if there is room for all of them; how many there are, the stream says.

@@ -6,10 +6,10 @@ ghost use Rattle.metric_c.specs.Walking.{IsWritten, aggregation_number, batch_ou
 
 use crate::codes::{DONE, NOT_OPEN, UNKNOWN};
 use crate::reader_handle::ReaderHandle;
+use metric_aggregate::PointValue;
 use metric_contents::{Kind, SetKey};
 use metric_history::{Point, StreamPoints};
 use metric_hosted::HostedReader;
-use metric_sdk::PointValue;
 use metric_views::{Stream, StreamAggregation, Temporality};
 use std::alloc::Global;
 

@@ -4,15 +4,16 @@ ghost use Rattle.std.specs.Str.{is_utf8};
 ghost use Rattle.metric_c.specs.Opening.{Counted, IsOpenCode, Opens, held_by, lacks_handles};
 ghost use Rattle.metric_c.specs.Refusing.{IsWhy};
 ghost use Rattle.metric_c.specs.Texts.{HasFront};
-ghost use Rattle.metric_c.specs.Vouching.{HasVouchFault, IsVouchedPlan};
+ghost use Rattle.metric_c.specs.Vouching.{HasVouchFault};
+ghost use Rattle.metric_setup.specs.Setups.{IsVouchedPlan};
 
 use crate::instrument_handle::InstrumentHandle;
 use crate::no_plan::{NoPlan, tell, told};
 use crate::opening::{Counts, open_plan};
 use crate::reader_handle::ReaderHandle;
 use crate::recorder_handle::RecorderHandle;
-use crate::vouching::{VouchFault, vouched_plan};
 use metric_plan::Plan;
+use metric_setup::{SetupFault, vouched_plan};
 use std::alloc::Global;
 use std::str::from_utf8;
 
@@ -103,7 +104,7 @@ fn plan_of(alloc: Global, catalogue: &str, config: &str, certificate: &str) -> R
 {
     match vouched_plan(alloc, catalogue, config, certificate) {
         Ok(plan) => Ok(plan),
-        Err(VouchFault::Memory) => Err(NoPlan::Memory),
+        Err(SetupFault::Memory) => Err(NoPlan::Memory),
         Err(found) => Err(told(format!(in alloc; "{found}"), alloc)),
     }
 }

@@ -38,7 +38,6 @@ mod recorder_handle;
 mod recordings;
 mod settlements;
 mod texts;
-mod vouching;
 mod warnings;
 
 pub use attributes::Attribute;
@@ -62,7 +61,6 @@ pub use reader_handle::ReaderHandle;
 pub use recorder_handle::RecorderHandle;
 pub use recordings::wormweekly_record;
 pub use settlements::{TotalOut, wormweekly_settle};
-pub use vouching::VouchFault;
 pub use warnings::wormweekly_warnings;
 
 #[cfg(test)]

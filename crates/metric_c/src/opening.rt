@@ -4,7 +4,7 @@ ghost use Rattle.std.specs.Str.{is_utf8};
 ghost use Rattle.metric_c.specs.Opening.{AreNewInstruments, Begins, Counted, HasFault, IsOpenCode, Opens, counts_of, held_by, instruments_in, lacks_handles, new_readers, new_recorders, readers_in, recorders_in};
 ghost use Rattle.metric_c.specs.Refusing.{IsWhy};
 ghost use Rattle.metric_c.specs.Texts.{AreFirst, HasFront};
-ghost use Rattle.metric_sdk.specs.Setups.{IsCertifiedPlan};
+ghost use Rattle.metric_setup.specs.Setups.{IsCertifiedPlan};
 
 use crate::codes::{DONE, MEMORY, TOO_SHORT};
 use crate::instrument_handle::InstrumentHandle;
@@ -14,7 +14,7 @@ use crate::recorder_handle::RecorderHandle;
 use metric_base::{Copied, Shared};
 use metric_hosted::{Hosted, HostedReader, HostedRecorder, ReaderSeat, RecorderSeat};
 use metric_plan::Plan;
-use metric_sdk::{SetupFault, certified_plan};
+use metric_setup::{SetupFault, certified_plan};
 use std::alloc::{AllocError, Global};
 use std::str::from_utf8;
 

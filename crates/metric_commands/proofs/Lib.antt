@@ -8,6 +8,7 @@ mod PartLaws
 mod PieceLaws
 mod PlanLaws
 mod ScriptFaults
+mod SetupFaults
 mod StopLaws
 mod RunLaws
 mod TellingLaws

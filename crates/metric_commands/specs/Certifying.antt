@@ -1,18 +1,15 @@
 -- What making a certificate makes of the bytes of its input.
-use Rattle.std.specs.Prelude.{◌≡◌, ℕ, List, Some, Result, Ok, Err}
+use Rattle.std.specs.Prelude.{◌≡◌, ℕ, List, Ok}
 use Rattle.metric_text.specs.Lines.{lines_of}
 use Rattle.metric_parts.specs.Input.{IsFirstFault as IsFaultyLine}
 use Rattle.metric_parts.specs.Kept.{IsRead}
 use Rattle.metric_parts.specs.declared.parts.Parts.{Parts}
 use Rattle.metric_contents.specs.declared.contents.Contents.{Contents}
 use Rattle.metric_views.specs.declared.config.Setup.{Setup}
-use Rattle.metric_resolve.specs.Resolved.{streams_of}
-use Rattle.metric_bounds.specs.Finding.{SafetyFinds}
 use Rattle.metric_cert.specs.declared.claims.Claims.{Claims as Certificate}
 use Rattle.metric_make.specs.declared.fault.MakeFault.{MakeFault}
 use Rattle.metric_cert.specs.Certificates.{certificate_from}
-use Rattle.metric_make.specs.Making.{IsMade, make_faults}
-use Rattle.metric_cert.specs.Valid.{IsValid}
+use Rattle.metric_setup.specs.Setups.{Certifies, IsUnsafe, IsUnsafeSetup}
 use Rattle.metric_commands.specs.declared.fault.KitFault.{KitFault}
 use Rattle.metric_commands.specs.declared.fault.KitFault.TheVariants.{
   Read,
@@ -30,33 +27,16 @@ use Rattle.metric_commands.specs.declared.fault.KitFault.TheVariants.{
 use Rattle.metric_commands.specs.Declarations.{IsDeclared, IsDeclaredFault, IsMisdeclared}
 use Rattle.metric_commands.specs.Showing.{show_needs}
 
--- The certificate is the one that is made for a catalogue and a config, and shows that they are
--- safe.
-pub record IsCertificateFor (contents : Contents) (config : Setup) (certificate : Certificate)
-    : Type 0 where
-  pub made : IsMade contents config certificate
-  pub valid : IsValid contents config certificate
-
--- This is the first part of safety that fails.
-abbrev pub IsUnsafe : Contents → Setup → MakeFault → Type 0
-IsUnsafe contents config fault =
-    SafetyFinds make_faults contents (streams_of contents config) (Some fault)
-
 -- The fault is the first part of safety that fails, unless memory was refused.
 abbrev pub FailsToMake : KitFault → Contents → Setup → Type 0
 FailsToMake (Make fault) contents config = IsUnsafe contents config fault
 FailsToMake Memory contents config = Unit {0}
 FailsToMake _ contents config = ⊥
 
--- a certificate, or why there is none
-abbrev pub Makes : Result Certificate KitFault → Contents → Setup → Type 0
-Makes (Ok certificate) contents config = IsCertificateFor contents config certificate
-Makes (Err fault) contents config = FailsToMake fault contents config
-
 -- A text that is read as the certificate for a catalogue and a config.
 pub record IsTextFor (contents : Contents) (config : Setup) (text : List ℕ) : Type 0 where
   pub certificate : Certificate
-  pub made : IsCertificateFor contents config certificate
+  pub made : Certifies contents config certificate
   pub reads : certificate_from text ≡ Ok certificate
 
 -- A text that is read as the certificate for what the parts declare.
@@ -73,11 +53,8 @@ pub record IsCertificateText (input text : List ℕ) : Type 0 where
   pub certified : IsCertified read text
 
 -- What the parts declare is right, and not safe.
-pub record IsRefusedMake (read : Parts) (fault : MakeFault) : Type 0 where
-  pub contents : Contents
-  pub config : Setup
-  pub declared : IsDeclared read contents config
-  pub found : IsUnsafe contents config fault
+abbrev pub IsRefusedMake : Parts → MakeFault → Type 0
+IsRefusedMake read = IsUnsafeSetup read.catalogue read.config
 
 -- The fault is the first of the catalogue, the config and their safety.
 abbrev pub IsMakeFault : KitFault → Parts → Type 0

@@ -1,28 +1,25 @@
 -- What the parts of an input declare.
-use Rattle.std.specs.Prelude.{◌≡◌, ℕ, List, Ok, Err}
+use Rattle.std.specs.Prelude.{◌≡◌, ℕ, List, Err}
 use Rattle.metric_text.specs.Lines.{lines_of}
 use Rattle.metric_parts.specs.Kept.{IsRead}
 use Rattle.metric_parts.specs.declared.needs.Needs.{Needs}
 use Rattle.metric_parts.specs.declared.parts.Parts.{Parts}
 use Rattle.metric_catalogue.specs.Catalogues.{catalogue_of}
 use Rattle.metric_contents.specs.declared.contents.Contents.{Contents}
-use Rattle.metric_views.specs.Configs.{config_of}
 use Rattle.metric_views.specs.declared.config.Setup.{Setup}
 use Rattle.metric_views.specs.declared.fault.ViewFault.{ViewFault}
+use Rattle.metric_setup.specs.Setups as texts
 use Rattle.metric_commands.specs.declared.fault.KitFault.{KitFault}
 use Rattle.metric_commands.specs.declared.fault.KitFault.TheVariants.{Catalogue}
 use Rattle.metric_commands.specs.declared.fault.KitFault.TheVariants.{Config as BadConfig, Memory}
 
 -- The catalogue and the config that the parts are.
-pub record IsDeclared (read : Parts) (contents : Contents) (config : Setup) : Type 0 where
-  pub is_catalogue : catalogue_of read.catalogue ≡ Ok contents
-  pub is_config : config_of read.config ≡ Ok config
+abbrev pub IsDeclared : Parts → Contents → Setup → Type 0
+IsDeclared read = texts.IsDeclared read.catalogue read.config
 
 -- The catalogue is right, and the config has this first fault.
-pub record IsFaultyConfig (read : Parts) (fault : ViewFault) : Type 0 where
-  pub contents : Contents
-  pub is_catalogue : catalogue_of read.catalogue ≡ Ok contents
-  pub first : config_of read.config ≡ Err fault
+abbrev pub IsFaultyConfig : Parts → ViewFault → Type 0
+IsFaultyConfig read = texts.IsFaultyConfig read.catalogue read.config
 
 -- The fault is the first of the catalogue and the config.
 abbrev pub IsDeclaredFault : KitFault → Parts → Type 0

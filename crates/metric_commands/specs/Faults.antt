@@ -6,6 +6,8 @@ use Rattle.metric_io.specs.declared.whole.ReadFault.{ReadFault}
 use Rattle.metric_io.specs.declared.whole.ReadFault.TheVariants as read
 use Rattle.metric_parts.specs.declared.fault.InputFault.{InputFault}
 use Rattle.metric_parts.specs.declared.fault.InputFault.TheVariants as input
+use Rattle.metric_setup.specs.declared.fault.SetupFault.{SetupFault}
+use Rattle.metric_setup.specs.declared.fault.SetupFault.TheVariants as setups
 use Rattle.metric_commands.specs.declared.fault.KitFault.{KitFault}
 use Rattle.metric_commands.specs.declared.fault.KitFault.TheVariants.{
   Read,
@@ -28,6 +30,14 @@ from_read read.Memory = Memory
 abbrev pub from_input : InputFault → KitFault
 from_input (input.Input line) = Input line
 from_input input.Memory = Memory
+
+abbrev pub from_setup : SetupFault → KitFault
+from_setup (setups.Catalogue fault) = Catalogue fault
+from_setup (setups.Config fault) = Config fault
+from_setup (setups.Certificate fault) = Certificate fault
+from_setup (setups.Check fault) = Check fault
+from_setup (setups.Unsafe fault) = Make fault
+from_setup setups.Memory = Memory
 
 abbrev pub from_audit : AuditFault → KitFault
 from_audit (audits.Slips recorder) = Audit (audits.Slips recorder)

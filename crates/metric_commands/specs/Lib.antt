@@ -5,7 +5,6 @@ pub mod Faults
 pub mod Commands
 pub mod Written
 pub mod Replies
-pub mod Planned
 pub mod Runs
 pub mod Audits
 pub mod Accounts

@@ -10,6 +10,7 @@ use metric_make::MakeFault;
 use metric_parts::InputFault;
 use metric_plan::CheckFault;
 use metric_provider::FinishFault;
+use metric_setup::SetupFault;
 use metric_views::ViewFault;
 use std::alloc::{AllocError, Global};
 use thiserror::Error;
@@ -125,6 +126,23 @@ impl From<InputFault> for KitFault {
         match fault {
             InputFault::Input { line } => KitFault::Input { line },
             InputFault::Memory => KitFault::Memory,
+        }
+    }
+}
+
+impl From<SetupFault> for KitFault {
+    ghost use Rattle.metric_commands.specs.Faults.{from_setup};
+
+    ghost from_gives = { λ fault kit. kit ≡ from_setup fault };
+
+    fn from(fault: SetupFault) -> KitFault {
+        match fault {
+            SetupFault::Catalogue(fault) => KitFault::Catalogue(fault),
+            SetupFault::Config(fault) => KitFault::Config(fault),
+            SetupFault::Certificate(fault) => KitFault::Certificate(fault),
+            SetupFault::Check(fault) => KitFault::Check(fault),
+            SetupFault::Unsafe(fault) => KitFault::Make(fault),
+            SetupFault::Memory => KitFault::Memory,
         }
     }
 }

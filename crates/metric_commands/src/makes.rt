@@ -1,6 +1,6 @@
 //! A certificate made for a catalogue and a config.
 ghost use Rattle.std.specs.Prelude.{IfErr, IfOk, string_bytes};
-ghost use Rattle.metric_commands.specs.Certifying.{FailsToMake, IsCertificateText, IsCertified, IsFirstMakeFault, IsMakeFault, IsTextFor, Makes};
+ghost use Rattle.metric_commands.specs.Certifying.{FailsToMake, IsCertificateText, IsCertified, IsFirstMakeFault, IsMakeFault, IsTextFor};
 ghost use Rattle.metric_commands.specs.Commands.{RunsCommand, sink_run, source_run};
 ghost use Rattle.metric_commands.specs.Faults.{IsOfInput};
 
@@ -9,10 +9,9 @@ use crate::fault::KitFault;
 use crate::parts::write_text;
 use crate::planning::declared_of;
 use metric_catalogue::Catalogue;
-use metric_cert::Certificate;
 use metric_io::{Sink, Source};
-use metric_make::{MakeFault, make};
-use metric_parts::{Needs, Parts as InputParts};
+use metric_parts::{Needs, Parts};
+use metric_setup::certificate_for;
 use metric_views::Config;
 use std::alloc::Global;
 
@@ -64,8 +63,8 @@ impl Command for Make {
         }
     }
 
-    fn answer(&self, alloc: Global, parts: &InputParts<'_>) -> Result<String, KitFault> {
-        certified(alloc, parts)
+    fn answer(&self, alloc: Global, parts: &Parts<'_>) -> Result<String, KitFault> {
+        certificate_text(alloc, parts)
     }
 
     fn write<W: Sink>(&self, _alloc: Global, sink: &mut W, text: String) -> Result<(), KitFault> {
@@ -81,8 +80,14 @@ impl Command for Make {
     ghost unremembered = { λ _ _. tt };
 }
 
-// The text of the certificate for what the parts declare.
-fn certified(alloc: Global, parts: &InputParts<'_>) -> Result<String, KitFault>
+/// The text of the certificate for what the parts declare, which `Certificate::read` answers with the certificate that `make`
+/// gives.
+///
+/// # Errors
+///
+/// The first fault, in this order: those of [`declared_of`]; [`KitFault::Make`]. [`KitFault::Memory`] may stand in the place of
+/// any.
+pub fn certificate_text(alloc: Global, parts: &Parts<'_>) -> Result<String, KitFault>
     ensures ok { IfOk result (λ text. IsCertified parts.now (string_bytes text)) }
     ensures first { IfErr result (λ fault. IsMakeFault fault parts.now) }
     ensures own { IfErr result IsOfInput }
@@ -92,6 +97,7 @@ fn certified(alloc: Global, parts: &InputParts<'_>) -> Result<String, KitFault>
 }
 
 // The text of the certificate for a catalogue and a config.
+#[tactic(auto, using(crate::proofs::SetupFaults::setup_faults))]
 fn text_for(alloc: Global, catalogue: &Catalogue, config: &Config) -> Result<String, KitFault>
     ensures ok { IfOk result (λ text. IsTextFor catalogue.now config.now (string_bytes text)) }
     ensures err { IfErr result (λ fault. FailsToMake fault catalogue.now config.now) }
@@ -99,19 +105,4 @@ fn text_for(alloc: Global, catalogue: &Catalogue, config: &Config) -> Result<Str
     let certificate = certificate_for(alloc, catalogue, config)?;
     let text = certificate.write(alloc)?;
     Ok(text)
-}
-
-// The certificate for a catalogue and a config.
-fn certificate_for(
-    alloc: Global,
-    catalogue: &Catalogue,
-    config: &Config,
-) -> Result<Certificate, KitFault>
-    ensures { Makes result catalogue.now config.now }
-{
-    match make(alloc, catalogue, config) {
-        Ok(certificate) => Ok(certificate),
-        Err(MakeFault::Memory) => Err(KitFault::Memory),
-        Err(fault) => Err(KitFault::Make(fault)),
-    }
 }

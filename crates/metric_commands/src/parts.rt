@@ -9,7 +9,7 @@ use metric_io::{Sink, write_all};
 use std::alloc::Global;
 
 /// How the parts of a text are written, each with its number, counted from 0.
-pub(crate) trait Parts<T> {
+pub(crate) trait PartWriter<T> {
     ghost use Rattle.std.specs.Prelude.{ℕ, List};
 
     ghost text: { Self → ℕ → T → List ℕ };
@@ -32,7 +32,7 @@ pub(crate) trait Parts<T> {
 }
 
 /// Writes each part to a sink.
-pub(crate) fn write_parts<T, P: Parts<T>, W: Sink>(
+pub(crate) fn write_parts<T, P: PartWriter<T>, W: Sink>(
     alloc: Global,
     sink: &mut W,
     writer: &P,

@@ -1,54 +1,35 @@
 //! The plan of what an input declares.
 ghost use Rattle.std.specs.Prelude.{IfErr, IfOk, IsSome};
-ghost use Rattle.metric_catalogue.specs.Catalogues.{catalogue_of};
-ghost use Rattle.metric_views.specs.Configs.{config_of};
-ghost use Rattle.metric_cert.specs.Certificates.{certificate_from};
 ghost use Rattle.metric_commands.specs.Claims.{IsCertifiedPlan, IsClaimFault};
 ghost use Rattle.metric_commands.specs.Declarations.{IsDeclared, IsDeclaredFault};
 ghost use Rattle.metric_commands.specs.Faults.{IsOfInput};
 ghost use Rattle.metric_commands.specs.Replaying.{IsTrialFault, IsTrialPlan};
-ghost use Rattle.metric_commands.specs.Planned.{Certifies, ReadsCatalogue, ReadsCertificate, ReadsConfig, Tries};
 
 use crate::fault::KitFault;
-use metric_catalogue::{Catalogue, CatalogueFault};
-use metric_cert::{CertFault, Certificate};
-use metric_check::check;
+use metric_catalogue::Catalogue;
 use metric_parts::Parts;
-use metric_plan::{CheckFault, Plan};
-use metric_views::{Config, ViewFault};
+use metric_plan::Plan;
+use metric_setup::{catalogue_of, certificate_of, config_of, plan_by, trial_of};
+use metric_views::Config;
 use std::alloc::Global;
-
-// The catalogue that a text is, or its first fault.
-fn catalogue_of(alloc: Global, text: &str) -> Result<Catalogue, KitFault>
-    ensures { ReadsCatalogue result (catalogue_of text.now) }
-{
-    match Catalogue::read(alloc, text) {
-        Ok(catalogue) => Ok(catalogue),
-        Err(CatalogueFault::Memory) => Err(KitFault::Memory),
-        Err(fault) => Err(KitFault::Catalogue(fault)),
-    }
-}
-
-// The config that a text is, or its first fault.
-fn config_of(alloc: Global, text: &str) -> Result<Config, KitFault>
-    ensures { ReadsConfig result (config_of text.now) }
-{
-    match Config::read(alloc, text) {
-        Ok(config) => Ok(config),
-        Err(ViewFault::Memory) => Err(KitFault::Memory),
-        Err(fault) => Err(KitFault::Config(fault)),
-    }
-}
 
 /// The catalogue and the config of an input.
 #[derive(Drop)]
-pub(crate) struct Declared {
+pub struct Declared {
+    /// What may be recorded.
     pub catalogue: Catalogue,
+    /// What is to come of it.
     pub config: Config,
 }
 
-/// What the parts of an input declare, or its first fault.
-pub(crate) fn declared_of(alloc: Global, parts: &Parts<'_>) -> Result<Declared, KitFault>
+/// What the parts of an input declare.
+///
+/// # Errors
+///
+/// The first fault, in this order: [`KitFault::Catalogue`]; [`KitFault::Config`]. [`KitFault::Memory`] may stand in the place of
+/// both.
+#[tactic(auto, using(crate::proofs::SetupFaults::setup_faults))]
+pub fn declared_of(alloc: Global, parts: &Parts<'_>) -> Result<Declared, KitFault>
     ensures ok { IfOk result (λ declared.
         IsDeclared parts.now declared.catalogue declared.config) }
     ensures first { IfErr result (λ fault. IsDeclaredFault fault parts.now) }
@@ -59,35 +40,14 @@ pub(crate) fn declared_of(alloc: Global, parts: &Parts<'_>) -> Result<Declared, 
     Ok(Declared { catalogue, config })
 }
 
-// The certificate that a text is, or its first fault.
-fn certificate_of(alloc: Global, text: &str) -> Result<Certificate, KitFault>
-    ensures { ReadsCertificate result (certificate_from text.now) }
-{
-    match Certificate::read(alloc, text) {
-        Ok(certificate) => Ok(certificate),
-        Err(CertFault::Memory) => Err(KitFault::Memory),
-        Err(fault) => Err(KitFault::Certificate(fault)),
-    }
-}
-
-// The plan that a certificate shows to be safe.
-fn checked_plan(
-    alloc: Global,
-    declared: Declared,
-    certificate: &Certificate,
-) -> Result<Plan, KitFault>
-    ensures { Certifies result declared.catalogue declared.config certificate.now }
-{
-    let Declared { catalogue, config } = declared;
-    match check(alloc, catalogue, config, certificate) {
-        Ok(plan) => Ok(plan),
-        Err((_, _, CheckFault::Memory)) => Err(KitFault::Memory),
-        Err((_, _, fault)) => Err(KitFault::Check(fault)),
-    }
-}
-
 /// The plan that the certificate of an input shows to be safe, for a command that needs a certificate.
-pub(crate) fn certified_plan(alloc: Global, parts: &Parts<'_>) -> Result<Plan, KitFault>
+///
+/// # Errors
+///
+/// The first fault, in this order: those of [`declared_of`]; [`KitFault::Certificate`]; [`KitFault::Check`].
+/// [`KitFault::Memory`] may stand in the place of any.
+#[tactic(auto, using(crate::proofs::SetupFaults::setup_faults))]
+pub fn certified_plan(alloc: Global, parts: &Parts<'_>) -> Result<Plan, KitFault>
     requires { IsSome parts.now.certificate }
     ensures ok { IfOk result (IsCertifiedPlan parts.now) }
     ensures first { IfErr result (λ fault. IsClaimFault fault parts.now) }
@@ -96,27 +56,19 @@ pub(crate) fn certified_plan(alloc: Global, parts: &Parts<'_>) -> Result<Plan, K
     let declared = declared_of(alloc, parts)?;
     let text = parts.certificate.as_ref().unwrap();
     let certificate = certificate_of(alloc, text.as_str())?;
-    checked_plan(alloc, declared, &certificate)
+    let Declared { catalogue, config } = declared;
+    let plan = plan_by(alloc, catalogue, config, &certificate)?;
+    Ok(plan)
 }
 
 /// The plan of a trial, for which the certificate of an input is not read.
+#[tactic(auto, using(crate::proofs::SetupFaults::setup_faults))]
 pub(crate) fn trial_plan(alloc: Global, parts: &Parts<'_>) -> Result<Plan, KitFault>
     ensures ok { IfOk result (IsTrialPlan parts.now) }
     ensures first { IfErr result (λ fault. IsTrialFault fault parts.now) }
     ensures own { IfErr result IsOfInput }
 {
-    let declared = declared_of(alloc, parts)?;
-    tried_plan(alloc, declared)
-}
-
-// The plan of a catalogue and a config that no certificate is asked for.
-fn tried_plan(alloc: Global, declared: Declared) -> Result<Plan, KitFault>
-    ensures { Tries result declared.catalogue declared.config }
-{
-    let Declared { catalogue, config } = declared;
-    match Plan::trial(alloc, catalogue, config) {
-        Ok(plan) => Ok(plan),
-        Err((_, _, CheckFault::CountRange)) => Err(KitFault::Check(CheckFault::CountRange)),
-        Err(_) => Err(KitFault::Memory),
-    }
+    let Declared { catalogue, config } = declared_of(alloc, parts)?;
+    let plan = trial_of(alloc, catalogue, config)?;
+    Ok(plan)
 }

@@ -8,7 +8,7 @@ ghost use Rattle.metric_commands.specs.Replies.{accepted_count, audited_text, is
 ghost use Rattle.metric_commands.specs.Written.{IsSinkFault};
 
 use crate::fault::KitFault;
-use crate::parts::{Parts, write_parts, write_text};
+use crate::parts::{PartWriter, write_parts, write_text};
 use metric_contents::Refusal;
 use metric_export::{ExportFault, write_batch};
 use metric_history::{Batch, Reply};
@@ -139,7 +139,7 @@ struct UnderPlan<'a> {
     plan: &'a Plan,
 }
 
-impl Parts<Reply> for UnderPlan<'_> {
+impl PartWriter<Reply> for UnderPlan<'_> {
     ghost use Rattle.metric_commands.specs.Replies.{reply_text};
 
     ghost text = { λ u _ reply. reply_text u.plan.now reply };

@@ -10,11 +10,11 @@ ghost use Rattle.metric_commands.specs.Written.{IsSinkFault};
 
 use crate::command::{Command, run_whole};
 use crate::fault::KitFault;
-use crate::parts::{Parts, write_parts, write_text};
+use crate::parts::{PartWriter, write_parts, write_text};
 use crate::planning::{Declared, declared_of};
 use metric_io::{Sink, Source};
 use metric_lines::{push_shown, push_warning};
-use metric_parts::{Needs, Parts as InputParts};
+use metric_parts::{Needs, Parts};
 use metric_resolve::{Streams, Warning, resolve};
 use metric_views::Stream;
 use std::alloc::Global;
@@ -67,7 +67,7 @@ impl Command for Show {
         }
     }
 
-    fn answer(&self, alloc: Global, parts: &InputParts<'_>) -> Result<Listing, KitFault> {
+    fn answer(&self, alloc: Global, parts: &Parts<'_>) -> Result<Listing, KitFault> {
         listed(alloc, parts)
     }
 
@@ -96,7 +96,7 @@ struct Listing {
     streams: Streams,
 }
 
-impl Parts<Stream> for Listing {
+impl PartWriter<Stream> for Listing {
     ghost use Rattle.metric_lines.specs.Streams.{shown_text};
 
     ghost text = { λ l number stream. shown_text l.declared.catalogue l.declared.config number stream };
@@ -121,7 +121,7 @@ impl Parts<Stream> for Listing {
     }
 }
 
-impl Parts<Warning> for Listing {
+impl PartWriter<Warning> for Listing {
     ghost use Rattle.metric_lines.specs.Streams.{warning_text};
 
     ghost text = { λ _ _ warning. warning_text warning };
@@ -158,7 +158,7 @@ fn write_lines<W: Sink>(alloc: Global, sink: &mut W, listing: &Listing) -> Resul
 }
 
 // What the parts declare, with its streams.
-fn listed(alloc: Global, parts: &InputParts<'_>) -> Result<Listing, KitFault>
+fn listed(alloc: Global, parts: &Parts<'_>) -> Result<Listing, KitFault>
     ensures ok { IfOk result (λ l. IsListed parts.now
         (listing_text l.declared.catalogue l.declared.config l.streams.list l.streams.warnings)) }
     ensures first { IfErr result (λ fault. IsDeclaredFault fault parts.now) }

@@ -6,7 +6,7 @@ ghost use Rattle.metric_commands.specs.Threading.{sum_text, total_text, totals_t
 ghost use Rattle.metric_commands.specs.Written.{IsSinkFault};
 
 use crate::fault::KitFault;
-use crate::parts::{Parts, write_parts, write_text};
+use crate::parts::{PartWriter, write_parts, write_text};
 use itoa::Buffer;
 use metric_io::Sink;
 use metric_provider::Total;
@@ -53,7 +53,7 @@ pub(crate) fn write_totals<W: Sink>(
 // How the totals of instruments are written.
 struct TotalLines;
 
-impl Parts<Total> for TotalLines {
+impl PartWriter<Total> for TotalLines {
     ghost use Rattle.metric_commands.specs.Threading.{total_text as text_of};
 
     ghost text = { λ _. text_of };

@@ -5,13 +5,11 @@ ghost use Rattle.metric_commands.specs.Certifying.{IsMakeFault};
 ghost use Rattle.metric_commands.specs.Declarations.{IsDeclaredFault};
 ghost use Rattle.metric_console.specs.Answers.{IsAnswer, IsAnswerFault};
 
-use crate::declared::{certified_plan, declared_of};
 use crate::listing::{Listing, listing_of};
-use crate::making::certified;
 use crate::notes::{Notes, notes_of};
 use crate::rooms::{Rooms, rooms_of};
 use metric_base::Text;
-use metric_commands::KitFault;
+use metric_commands::{KitFault, certificate_text, certified_plan, declared_of};
 use metric_parts::Parts;
 use metric_picture::draw;
 use metric_request::Task;
@@ -56,7 +54,8 @@ fn made(alloc: Global, parts: &Parts<'_>) -> Result<Answer, KitFault>
     ensures ok { IfOk result (IsAnswer Task.Make parts.now) }
     ensures first { IfErr result (λ fault. IsMakeFault fault parts.now) }
 {
-    Ok(Answer::Certificate(certified(alloc, parts)?))
+    let text = certificate_text(alloc, parts)?;
+    Ok(Answer::Certificate(Text::from_string(text)))
 }
 
 fn checked(alloc: Global, parts: &Parts<'_>) -> Result<Answer, KitFault>

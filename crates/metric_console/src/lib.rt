@@ -1,19 +1,16 @@
 //! The commands of `wormweekly`, over any folder of files and any sinks, so that a test runs them in memory.
 //!
 //! [`run_request`] is the whole program but for its devices. Each command first reads its files, and then makes its answer or
-//! stops with the first fault, before it writes anything; only a replay writes while it runs, as `metric_commands` does. What is
-//! read, made and checked is what the commands of `metric_kit` read, make and check of the same parts, and the contracts cite
-//! the definitions of these.
+//! stops with the first fault, before it writes anything; only a replay writes while it runs, as `metric_commands` does. Its parts
+//! are read, made and checked by the calls of the commands of `metric_kit`, and the contracts cite the definitions of these.
 #![tactic(auto)]
 
 mod answer;
-mod declared;
 mod delivering;
 mod fault;
 mod fleet;
 mod folder;
 mod listing;
-mod making;
 mod notes;
 mod parts;
 mod program;

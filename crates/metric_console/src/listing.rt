@@ -3,11 +3,10 @@ ghost use Rattle.std.specs.Prelude.{IfErr, IfOk};
 ghost use Rattle.metric_commands.specs.Declarations.{IsDeclaredFault};
 ghost use Rattle.metric_console.specs.Answers.{IsListing};
 
-use crate::declared::{Declared, declared_of};
 use crate::rows::stream_row;
 use metric_base::Items;
 use metric_bounds::totals;
-use metric_commands::KitFault;
+use metric_commands::{Declared, KitFault, declared_of};
 use metric_parts::Parts;
 use metric_resolve::{StreamList, resolve_streams};
 use metric_sheet::{Cell, Sheet};

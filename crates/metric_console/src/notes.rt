@@ -3,10 +3,9 @@ ghost use Rattle.std.specs.Prelude.{IfErr, IfOk};
 ghost use Rattle.metric_commands.specs.Declarations.{IsDeclaredFault};
 ghost use Rattle.metric_console.specs.Answers.{AreNotes};
 
-use crate::declared::{Declared, declared_of};
 use metric_advice::{Remark, lint};
 use metric_base::Items;
-use metric_commands::KitFault;
+use metric_commands::{Declared, KitFault, declared_of};
 use metric_parts::Parts;
 use std::alloc::Global;
 

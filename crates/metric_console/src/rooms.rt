@@ -3,14 +3,13 @@ ghost use Rattle.std.specs.Prelude.{IfErr, IfOk};
 ghost use Rattle.metric_commands.specs.Declarations.{IsDeclaredFault};
 ghost use Rattle.metric_console.specs.Answers.{AreRooms};
 
-use crate::declared::{Declared, declared_of};
 use crate::fleet::fleet_limit;
 use crate::rows::instrument_word;
 use crate::time::lasting;
 use metric_advice::{Headroom, Limit, headrooms};
 use metric_base::Items;
 use metric_bounds::summed;
-use metric_commands::KitFault;
+use metric_commands::{Declared, KitFault, declared_of};
 use metric_contents::Instrument;
 use metric_parts::Parts;
 use metric_request::Options;

@@ -3,9 +3,9 @@ ghost use Rattle.std.specs.Prelude.{◌≡◌, IfOk};
 ghost use Rattle.metric_bounds.specs.Sets.{sets_of};
 ghost use Rattle.metric_console.specs.Tables.{IsWithin};
 
-use crate::declared::Declared;
 use metric_bounds::{listed, product};
 use metric_catalogue::Catalogue;
+use metric_commands::Declared;
 use metric_contents::{Instrument, Key, Kind};
 use metric_sheet::Cell;
 use metric_views::{Stream, StreamAggregation, Temporality};

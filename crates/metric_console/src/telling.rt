@@ -3,7 +3,6 @@ ghost use Rattle.std.specs.Prelude.{◌≡◌};
 ghost use Rattle.metric_console.specs.Faults.{status_of};
 ghost use Rattle.metric_console.specs.Told.{IsLineEnd};
 
-use crate::declared::{Declared, declared_of};
 use crate::delivering::print;
 use crate::fault::{ConsoleFault, Role};
 use crate::folder::Unread;
@@ -12,7 +11,7 @@ use crate::parts::Texts;
 use crate::replaying::lines_before;
 use metric_advice::Remark;
 use metric_base::Text;
-use metric_commands::KitFault;
+use metric_commands::{Declared, KitFault, declared_of};
 use metric_diagnosis::{
     Diagnosis, NamedText, Pair, diagnose_catalogue, diagnose_certificate, diagnose_check,
     diagnose_config, diagnose_make, diagnose_remark,

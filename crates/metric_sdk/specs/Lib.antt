@@ -1,9 +1,9 @@
 pub mod Endings
-pub mod Setups
 pub mod Tables
 pub use Rattle.metric_bounds.specs.Safe
 pub use Rattle.metric_catalogue.specs.Catalogues
 pub use Rattle.metric_plan.specs.Plans
+pub use Rattle.metric_setup.specs.Setups
 pub use Rattle.metric_views.specs.Configs
 pub use Rattle.metric_io.specs.Counts
 pub use Rattle.metric_export.specs.ExporterCalls

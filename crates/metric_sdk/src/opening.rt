@@ -2,15 +2,13 @@
 ghost use Rattle.std.specs.Prelude.{◌≡◌, IfErr, IfOk, IsTrue, false};
 ghost use Rattle.metric_provider.specs.Rolling.{new_collectors, new_recorders};
 ghost use Rattle.metric_provider.specs.Seats.{provider_of};
-ghost use Rattle.metric_sdk.specs.Setups.{IsCertifiedPlan, IsFirstClaimFault, IsFirstFault, IsVouchedPlan};
+ghost use Rattle.metric_setup.specs.Setups.{IsCertifiedPlan, IsFirstClaimFault, IsFirstFault, IsVouchedPlan};
 
-use crate::fault::SetupFault;
 use crate::provider::MeterProvider;
-use crate::setup::certified_plan;
-use crate::vouching::vouched_plan;
 use metric_marked::Marked;
 use metric_plan::Plan;
 use metric_provider::{Collector, NoGate, Recorder, start};
+use metric_setup::{SetupFault, certified_plan, vouched_plan};
 use std::alloc::Global;
 use std::sync::Wait;
 

@@ -1,5 +1,4 @@
 //! One error for the calls of a service.
-use crate::fault::SetupFault;
 use metric_book::Book;
 use metric_catalogue::Catalogue;
 use metric_contents::Refusal;
@@ -8,6 +7,7 @@ use metric_plan::{CheckFault, Plan};
 use metric_provider::{
     AllFault, Collector, FinishFault, Gate, Provider, Recorder, RollFault, SetsFault,
 };
+use metric_setup::SetupFault;
 use metric_views::Config;
 use std::alloc::AllocError;
 use thiserror::Error;

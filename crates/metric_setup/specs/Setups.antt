@@ -1,5 +1,6 @@
--- The certified plan of two texts, and why they come to none.
-use Rattle.std.specs.Prelude.{◌≡◌, ℕ, Bool, true, List, map, nat_le, Some, Result, Ok, Err}
+-- What texts come to: a certified plan, or why none.
+use Rattle.std.specs.Prelude.{◌≡◌, ℕ, Bool, true, false, List, [], map, nat_le}
+use Rattle.std.specs.Prelude.{Some, Result, Ok, Err}
 use Rattle.metric_catalogue.specs.Catalogues.{catalogue_of}
 use Rattle.metric_contents.specs.declared.contents.Contents.{Contents}
 use Rattle.metric_catalogue.specs.declared.fault.CatalogueFault.{CatalogueFault}
@@ -12,19 +13,21 @@ use Rattle.metric_bounds.specs.Finding.{SafetyFinds}
 use Rattle.metric_bounds.specs.Safe.{IsSafe}
 use Rattle.metric_bounds.specs.Sets.{product_of}
 use Rattle.metric_cert.specs.Certificates.{certificate_from}
-use Rattle.metric_make.specs.Making.{entry_of, make_faults}
+use Rattle.metric_make.specs.Making.{IsMade, make_faults}
 use Rattle.metric_cert.specs.Valid.{IsValid}
 use Rattle.metric_cert.specs.declared.claims.Claims.{Claims as Certificate}
 use Rattle.metric_cert.specs.declared.fault.CertFault.{CertFault}
 use Rattle.metric_make.specs.declared.fault.MakeFault.{MakeFault}
 use Rattle.metric_check.specs.Findings.{CheckFinds}
 use Rattle.metric_check.specs.Products.{by_product_of}
+use Rattle.metric_plan.specs.Counting.{is_counted}
 use Rattle.metric_plan.specs.Plans.{PlanValue, plan_of}
 use Rattle.metric_plan.specs.declared.fault.CheckFault.{CheckFault}
-use Rattle.metric_sdk.specs.declared.fault.SetupFault.{SetupFault}
-use Rattle.metric_sdk.specs.declared.fault.SetupFault.TheVariants.{Catalogue, Config, Unsafe}
-use Rattle.metric_sdk.specs.declared.fault.SetupFault.TheVariants.{Certificate as BadCertificate}
-use Rattle.metric_sdk.specs.declared.fault.SetupFault.TheVariants.{Check, Memory}
+use Rattle.metric_plan.specs.declared.fault.CheckFault.TheVariants.{CountRange}
+use Rattle.metric_setup.specs.declared.fault.SetupFault.{SetupFault}
+use Rattle.metric_setup.specs.declared.fault.SetupFault.TheVariants.{Catalogue, Config, Unsafe}
+use Rattle.metric_setup.specs.declared.fault.SetupFault.TheVariants.{Certificate as BadCertificate}
+use Rattle.metric_setup.specs.declared.fault.SetupFault.TheVariants.{Check, Memory}
 
 -- The texts are this catalogue and this config.
 pub record IsDeclared (catalogue config : List ℕ) (contents : Contents) (setup : Setup)
@@ -86,13 +89,13 @@ ReadsConfig (Err (Config fault)) read = read ≡ Err fault
 ReadsConfig (Err Memory) read = Unit {0}
 ReadsConfig (Err _) read = ⊥
 
--- The certificate shows that a catalogue and a config are safe, which they
--- are, by product wherever it can.
+-- The certificate is the one that is made for a catalogue and a config, and shows that they are
+-- safe, which they are.
 pub record Certifies (contents : Contents) (setup : Setup) (certificate : Certificate)
     : Type 0 where
   pub safe : IsSafe contents setup
   pub valid : IsValid contents setup certificate
-  pub entries : certificate.streams ≡ map (entry_of contents) (streams_of contents setup)
+  pub made : IsMade contents setup certificate
 
 -- a certificate, or the first part of safety that fails, unless memory was refused
 abbrev pub Makes : Result Certificate SetupFault → Contents → Setup → Type 0
@@ -173,3 +176,13 @@ Vouches (Err (Check fault)) contents setup certificate =
     CheckFinds contents setup certificate (Some fault)
 Vouches (Err Memory) contents setup certificate = Unit {0}
 Vouches (Err _) contents setup certificate = ⊥
+
+-- ---- no certificate
+
+-- the plan of a trial, or that its budgets cannot be counted, unless memory was refused
+abbrev pub Tries : Result PlanValue SetupFault → Contents → Setup → Type 0
+Tries (Ok plan) contents setup =
+    (is_counted contents ≡ true) × (plan ≡ plan_of false [] contents setup)
+Tries (Err (Check CountRange)) contents setup = is_counted contents ≡ false
+Tries (Err Memory) contents setup = Unit {0}
+Tries (Err _) contents setup = ⊥

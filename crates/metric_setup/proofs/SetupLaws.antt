@@ -13,8 +13,8 @@ use Rattle.metric_cert.specs.declared.stream.By.TheVariants as by
 use Rattle.metric_cert.specs.declared.stream.StreamSets.{StreamSets}
 use Rattle.metric_check.specs.Products.{entry_flags, is_product}
 use Rattle.metric_plan.specs.Plans.{PlanValue, plan_of}
-use Rattle.metric_sdk.specs.declared.fault.SetupFault.{SetupFault}
-use Rattle.metric_sdk.specs.Setups.{Certifies, IsCertifiedPlan, IsDeclared, Plans, bounded_flags}
+use Rattle.metric_setup.specs.declared.fault.SetupFault.{SetupFault}
+use Rattle.metric_setup.specs.Setups.{Certifies, IsCertifiedPlan, IsDeclared, Plans, bounded_flags}
 
 -- no stream past its product is by it
 past_flag : (contents : Contents) (s : Stream) → is_product (entry_past contents s).by ≡ false
@@ -52,6 +52,6 @@ made_plan catalogue config contents setup certificate (Ok plan) declared made p 
   setup = setup;
   declared = declared;
   safe = made.safe;
-  planned = p ∙ ap (λ (flags : List Bool). plan_of true flags contents setup) (ap entry_flags made.entries ∙ made_flags contents (streams_of contents setup));
+  planned = p ∙ ap (λ (flags : List Bool). plan_of true flags contents setup) (ap entry_flags made.made.entries ∙ made_flags contents (streams_of contents setup));
 }
 made_plan catalogue config contents setup certificate (Err fault) declared made p = tt

@@ -1,15 +1,11 @@
 //! The plan of a catalogue and a config that somebody else's certificate shows to be safe.
 ghost use Rattle.std.specs.Prelude.{IfErr, IfOk, IsTrue};
-ghost use Rattle.metric_cert.specs.Certificates.{certificate_from};
-ghost use Rattle.metric_sdk.specs.Setups.{IsFirstClaimFault, IsVouchedPlan, ReadsCertificate, Vouches};
+ghost use Rattle.metric_setup.specs.Setups.{IsFirstClaimFault, IsVouchedPlan};
 
 use crate::fault::SetupFault;
-use crate::setup::{catalogue_of, config_of};
-use metric_catalogue::Catalogue;
-use metric_cert::{CertFault, Certificate};
-use metric_check::check;
-use metric_plan::{CheckFault, Plan};
-use metric_views::Config;
+use crate::planning::plan_by;
+use crate::reading::{catalogue_of, certificate_of, config_of};
+use metric_plan::Plan;
 use std::alloc::Global;
 
 /// The plan of a catalogue and a config that are given as TOML, with a certificate that somebody else made, whom nobody trusts:
@@ -37,32 +33,4 @@ pub fn vouched_plan(
     let config = config_of(alloc, config_text)?;
     let certificate = certificate_of(alloc, certificate_text)?;
     plan_by(alloc, catalogue, config, &certificate)
-}
-
-// The certificate that a text is, or its first fault.
-fn certificate_of(alloc: Global, text: &str) -> Result<Certificate, SetupFault>
-    ensures { ReadsCertificate result (certificate_from text.now) }
-{
-    match Certificate::read(alloc, text) {
-        Ok(certificate) => Ok(certificate),
-        Err(CertFault::Memory) => Err(SetupFault::Memory),
-        Err(fault) => Err(SetupFault::Certificate(fault)),
-    }
-}
-
-// The plan that a certificate shows to be safe, or the first fault that its check finds.
-fn plan_by(
-    alloc: Global,
-    catalogue: Catalogue,
-    config: Config,
-    certificate: &Certificate,
-) -> Result<Plan, SetupFault>
-    ensures certified { IfOk result (λ plan. IsTrue plan.is_certified) }
-    ensures plan { Vouches result catalogue config certificate.now }
-{
-    match check(alloc, catalogue, config, certificate) {
-        Ok(plan) => Ok(plan),
-        Err((_, _, CheckFault::Memory)) => Err(SetupFault::Memory),
-        Err((_, _, fault)) => Err(SetupFault::Check(fault)),
-    }
 }

@@ -1,6 +1,6 @@
 use Rattle.std.proofs.Common.{rules}
-use Rattle.metric_sdk.proofs.SetupLaws.{made_plan}
-use Rattle.metric_sdk.proofs.setup.certified_plan.Goals as goal
+use Rattle.metric_setup.proofs.SetupLaws.{made_plan}
+use Rattle.metric_setup.proofs.setup.certified_plan.Goals as goal
 
 pub returns-in_err-config-clause-first : goal.returns-in_err-config-clause-first
 returns-in_err-config-clause-first c = search rules

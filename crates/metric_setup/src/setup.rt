@@ -1,17 +1,16 @@
 //! The certified plan of a catalogue and a config.
 ghost use Rattle.std.specs.Prelude.{IfErr, IfOk, IsTrue};
-ghost use Rattle.metric_catalogue.specs.Catalogues.{catalogue_of};
 ghost use Rattle.metric_cert.specs.Valid.{IsValid};
-ghost use Rattle.metric_views.specs.Configs.{config_of};
-ghost use Rattle.metric_sdk.specs.Setups.{IsCertifiedPlan, IsFirstFault, Makes, Plans, ReadsCatalogue, ReadsConfig};
+ghost use Rattle.metric_setup.specs.Setups.{IsCertifiedPlan, IsFirstFault, Plans};
 
 use crate::fault::SetupFault;
-use metric_catalogue::{Catalogue, CatalogueFault};
+use crate::making::certificate_for;
+use crate::reading::{catalogue_of, config_of};
+use metric_catalogue::Catalogue;
 use metric_cert::Certificate;
 use metric_check::check;
-use metric_make::{MakeFault, make};
 use metric_plan::Plan;
-use metric_views::{Config, ViewFault};
+use metric_views::Config;
 use std::alloc::Global;
 
 /// The certified plan of a catalogue and a config that are given as TOML: both are read, a certificate is made, and the
@@ -36,43 +35,6 @@ pub fn certified_plan(
     let config = config_of(alloc, config_text)?;
     let certificate = certificate_for(alloc, &catalogue, &config)?;
     checked_plan(alloc, catalogue, config, &certificate)
-}
-
-/// The catalogue that a text is, or its first fault.
-pub(crate) fn catalogue_of(alloc: Global, text: &str) -> Result<Catalogue, SetupFault>
-    ensures { ReadsCatalogue result (catalogue_of text.now) }
-{
-    match Catalogue::read(alloc, text) {
-        Ok(catalogue) => Ok(catalogue),
-        Err(CatalogueFault::Memory) => Err(SetupFault::Memory),
-        Err(fault) => Err(SetupFault::Catalogue(fault)),
-    }
-}
-
-/// The config that a text is, or its first fault.
-pub(crate) fn config_of(alloc: Global, text: &str) -> Result<Config, SetupFault>
-    ensures { ReadsConfig result (config_of text.now) }
-{
-    match Config::read(alloc, text) {
-        Ok(config) => Ok(config),
-        Err(ViewFault::Memory) => Err(SetupFault::Memory),
-        Err(fault) => Err(SetupFault::Config(fault)),
-    }
-}
-
-// The certificate for a catalogue and a config, or the first part of safety that fails.
-fn certificate_for(
-    alloc: Global,
-    catalogue: &Catalogue,
-    config: &Config,
-) -> Result<Certificate, SetupFault>
-    ensures { Makes result catalogue.now config.now }
-{
-    match make(alloc, catalogue, config) {
-        Ok(certificate) => Ok(certificate),
-        Err(MakeFault::Memory) => Err(SetupFault::Memory),
-        Err(fault) => Err(SetupFault::Unsafe(fault)),
-    }
 }
 
 // The plan that a valid certificate shows to be safe. Only want of memory refuses it.

@@ -1,6 +1,0 @@
--- a refused catalogue is told by its own fault
-use Rattle.std.proofs.Common.{rules}
-use Rattle.metric_commands.proofs.planning.catalogue_of.Goals as goal
-
-pub returns-in-Err : goal.returns-in-Err
-returns-in-Err c = search rules

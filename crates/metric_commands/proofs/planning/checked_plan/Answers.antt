@@ -1,9 +1,0 @@
--- a plan is that of the certificate's check
-use Rattle.std.proofs.Common.{rules}
-use Rattle.metric_commands.proofs.planning.checked_plan.Goals as goal
-
-pub returns-in-Ok : goal.returns-in-Ok
-returns-in-Ok c = search rules
-
-pub returns : goal.returns
-returns c = search rules

@@ -1,0 +1,48 @@
+//! Plans of a catalogue and a config.
+ghost use Rattle.std.specs.Prelude.{IfOk, IsTrue};
+ghost use Rattle.metric_setup.specs.Setups.{Tries, Vouches};
+
+use crate::fault::SetupFault;
+use metric_catalogue::Catalogue;
+use metric_cert::Certificate;
+use metric_check::check;
+use metric_plan::{CheckFault, Plan};
+use metric_views::Config;
+use std::alloc::Global;
+
+/// The plan that a certificate, whoever made it, shows to be safe.
+///
+/// # Errors
+///
+/// [`SetupFault::Check`] with the first fault that its check finds. [`SetupFault::Memory`] may stand in its place.
+pub fn plan_by(
+    alloc: Global,
+    catalogue: Catalogue,
+    config: Config,
+    certificate: &Certificate,
+) -> Result<Plan, SetupFault>
+    ensures certified { IfOk result (λ plan. IsTrue plan.is_certified) }
+    ensures plan { Vouches result catalogue config certificate.now }
+{
+    match check(alloc, catalogue, config, certificate) {
+        Ok(plan) => Ok(plan),
+        Err((_, _, CheckFault::Memory)) => Err(SetupFault::Memory),
+        Err((_, _, fault)) => Err(SetupFault::Check(fault)),
+    }
+}
+
+/// The plan of a trial, for which nobody asks a certificate.
+///
+/// # Errors
+///
+/// [`SetupFault::Check`] of [`CheckFault::CountRange`] where its budgets cannot be counted. [`SetupFault::Memory`] may stand in
+/// its place.
+pub fn trial_of(alloc: Global, catalogue: Catalogue, config: Config) -> Result<Plan, SetupFault>
+    ensures { Tries result catalogue config }
+{
+    match Plan::trial(alloc, catalogue, config) {
+        Ok(plan) => Ok(plan),
+        Err((_, _, CheckFault::CountRange)) => Err(SetupFault::Check(CheckFault::CountRange)),
+        Err(_) => Err(SetupFault::Memory),
+    }
+}
