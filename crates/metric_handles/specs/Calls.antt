@@ -1,5 +1,5 @@
 -- What calls by a handle do, in one fact: what the seat's calls at its number do.
-use Rattle.std.specs.Prelude.{◌≡◌, ℕ, ℤ, Bool, List, Result, IfErr, OnErr, OnOk, take}
+use Rattle.std.specs.Prelude.{◌≡◌, ℕ, ℤ, Bool, List, Result, Ok, Err, IfErr, OnErr, OnOk, take}
 use Rattle.metric_contents.specs.declared.refusal.Refusal.{Refusal}
 use Rattle.metric_facts.specs.declared.facts.Facts.{Facts}
 use Rattle.metric_provider.specs.declared.fault.SetsFault.{SetsFault}
@@ -27,3 +27,8 @@ pub record MakesRecordings (keeps : Bool) (spares_memory : Facts → Type 0) (p 
   pub refused : IfErr result (IsRefusedAfter (SeatSpares keeps spares_memory) p old instrument all)
   pub told_before : IfErr result
       (λ fault. new ≡ noted_of_all keeps p.plan old instrument (take fault.place all))
+
+-- what recordings are answered together: nothing is refused, or the one after the last that is made
+abbrev pub answer_of : Result (Unit {0}) SetsFault → Result (Unit {0}) Refusal
+answer_of (Ok done) = Ok done
+answer_of (Err fault) = Err fault.refusal

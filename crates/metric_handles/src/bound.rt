@@ -4,9 +4,10 @@ ghost use Rattle.metric_provider.specs.KeyRecordings.{admitted_key, measurement_
 ghost use Rattle.metric_handles.specs.Calls.{MakesRecording};
 
 use crate::kinds::{Adds, IsCounter, IsGauge, IsHistogram, IsUpDownCounter, Records};
+use crate::seat::Seat;
 use metric_book::Book;
 use metric_contents::{Refusal, SetKey};
-use metric_provider::{Gate, Measurement, Provider, Recorder};
+use metric_provider::{Gate, Measurement, Provider};
 use std::marker::{Model, PhantomData};
 use std::sync::Wait;
 
@@ -79,41 +80,43 @@ impl<K> Bound<K> {
 }
 
 impl<K: Adds> Bound<K> {
-    /// Adds a value to the series of the attributes (Metrics API, Add): [`Recorder::record_set`] at the instrument's number
+    /// Adds a value to the series of the attributes (Metrics API, Add): [`Seat::record_set`] at the instrument's number
     /// with the set key, with its refusals.
     #[inline(always)]
-    pub fn add<R: Wait, B: Book, G: Gate>(
+    pub fn add<R: Wait, S: Seat, B: Book, G: Gate>(
         &self,
         rt: &R,
         provider: &Provider<B, G>,
-        recorder: &mut Recorder,
+        seat: &mut S,
         value: i64,
     ) -> Result<(), Refusal>
-        ensures { let at = self.now.instrument in
-            let admission = admitted_key provider.now recorder.old at self.now.set value in
-            MakesRecording B.KEEPS_ENTRIES B.spares_memory provider.now recorder.old recorder.new
-            at value admission result }
+        ensures made { let at = self.now.instrument in let old = S.seat seat.old in
+            let admission = admitted_key provider.now old at self.now.set value in
+            MakesRecording B.KEEPS_ENTRIES B.spares_memory provider.now
+            old (S.seat seat.new) at value admission result }
+        ensures noted { S.notes seat.old seat.new self.now.instrument result }
     {
-        recorder.record_set(rt, provider, self.instrument, self.set, value)
+        seat.record_set(rt, provider, self.instrument, self.set, value)
     }
 }
 
 impl<K: Records> Bound<K> {
-    /// Records a value with the attributes (Metrics API, Record): [`Recorder::record_set`] at the instrument's number with the
+    /// Records a value with the attributes (Metrics API, Record): [`Seat::record_set`] at the instrument's number with the
     /// set key, with its refusals.
     #[inline(always)]
-    pub fn record<R: Wait, B: Book, G: Gate>(
+    pub fn record<R: Wait, S: Seat, B: Book, G: Gate>(
         &self,
         rt: &R,
         provider: &Provider<B, G>,
-        recorder: &mut Recorder,
+        seat: &mut S,
         value: i64,
     ) -> Result<(), Refusal>
-        ensures { let at = self.now.instrument in
-            let admission = admitted_key provider.now recorder.old at self.now.set value in
-            MakesRecording B.KEEPS_ENTRIES B.spares_memory provider.now recorder.old recorder.new
-            at value admission result }
+        ensures made { let at = self.now.instrument in let old = S.seat seat.old in
+            let admission = admitted_key provider.now old at self.now.set value in
+            MakesRecording B.KEEPS_ENTRIES B.spares_memory provider.now
+            old (S.seat seat.new) at value admission result }
+        ensures noted { S.notes seat.old seat.new self.now.instrument result }
     {
-        recorder.record_set(rt, provider, self.instrument, self.set, value)
+        seat.record_set(rt, provider, self.instrument, self.set, value)
     }
 }

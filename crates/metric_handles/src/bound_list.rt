@@ -1,12 +1,13 @@
 //! Lists of bound recordings.
 ghost use Rattle.std.specs.Prelude.{◌≡◌, ◌≢◌, ◌↔◌, [], ◌∷◌, ◌++◌, length, IsErrOf, OnErr, OnOk};
 ghost use Rattle.metric_provider.specs.KeyRecordings.{measurement_of};
-ghost use Rattle.metric_handles.specs.Calls.{MakesRecordings};
+ghost use Rattle.metric_handles.specs.Calls.{MakesRecordings, answer_of};
 
 use crate::bound::Bound;
 use crate::kinds::{Adds, Records};
+use crate::seat::Seat;
 use metric_book::Book;
-use metric_provider::{Gate, Measurement, Provider, Recorder, SetsFault};
+use metric_provider::{Gate, Measurement, Provider, SetsFault};
 use std::alloc::Global;
 use std::marker::{Model, PhantomData};
 use std::sync::Wait;
@@ -92,32 +93,34 @@ impl<K> BoundList<K> {
 
 impl<K: Adds> BoundList<K> {
     /// Adds the values in order and under one lock, up to the first that is refused (Metrics API, Add):
-    /// [`Recorder::record_sets`] at the instrument's number, with its fault. The list stays as it is.
-    pub fn add<R: Wait, B: Book, G: Gate>(
+    /// [`Seat::record_sets`] at the instrument's number, with its fault. The list stays as it is.
+    pub fn add<R: Wait, S: Seat, B: Book, G: Gate>(
         &self,
         rt: &R,
         provider: &Provider<B, G>,
-        recorder: &mut Recorder,
+        seat: &mut S,
     ) -> Result<(), SetsFault>
-        ensures { MakesRecordings B.KEEPS_ENTRIES B.spares_memory provider.now
-            recorder.old recorder.new self.now.instrument self.now.all result }
+        ensures made { MakesRecordings B.KEEPS_ENTRIES B.spares_memory provider.now
+            (S.seat seat.old) (S.seat seat.new) self.now.instrument self.now.all result }
+        ensures noted { S.notes seat.old seat.new self.now.instrument (answer_of result) }
     {
-        recorder.record_sets(rt, provider, self.instrument, self.all.as_slice())
+        seat.record_sets(rt, provider, self.instrument, self.all.as_slice())
     }
 }
 
 impl<K: Records> BoundList<K> {
     /// Records the values in order and under one lock, up to the first that is refused (Metrics API, Record):
-    /// [`Recorder::record_sets`] at the instrument's number, with its fault. The list stays as it is.
-    pub fn record<R: Wait, B: Book, G: Gate>(
+    /// [`Seat::record_sets`] at the instrument's number, with its fault. The list stays as it is.
+    pub fn record<R: Wait, S: Seat, B: Book, G: Gate>(
         &self,
         rt: &R,
         provider: &Provider<B, G>,
-        recorder: &mut Recorder,
+        seat: &mut S,
     ) -> Result<(), SetsFault>
-        ensures { MakesRecordings B.KEEPS_ENTRIES B.spares_memory provider.now
-            recorder.old recorder.new self.now.instrument self.now.all result }
+        ensures made { MakesRecordings B.KEEPS_ENTRIES B.spares_memory provider.now
+            (S.seat seat.old) (S.seat seat.new) self.now.instrument self.now.all result }
+        ensures noted { S.notes seat.old seat.new self.now.instrument (answer_of result) }
     {
-        recorder.record_sets(rt, provider, self.instrument, self.all.as_slice())
+        seat.record_sets(rt, provider, self.instrument, self.all.as_slice())
     }
 }

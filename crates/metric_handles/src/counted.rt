@@ -4,13 +4,14 @@ ghost use Rattle.metric_contents.specs.Attributes.{given_by};
 ghost use Rattle.metric_contents.specs.Refusals.{number_of};
 ghost use Rattle.metric_provider.specs.KeyRecordings.{admitted_key};
 ghost use Rattle.metric_provider.specs.Recordings.{admitted};
-ghost use Rattle.metric_handles.specs.Calls.{MakesRecording};
+ghost use Rattle.metric_handles.specs.Calls.{MakesRecording, MakesRecordings, answer_of};
 ghost use Rattle.metric_handles.specs.Counts.{count_in, count_of, counted_of, counts_after, no_refusals, place_of, with_refusal};
 
+use crate::seat::Seat;
 use metric_book::Book;
 use metric_contents::{Attr, Refusal, SetKey};
 use metric_plan::Plan;
-use metric_provider::{Gate, Provider, Recorder};
+use metric_provider::{Gate, Measurement, Provider, Recorder, SetsFault};
 use std::alloc::{AllocError, Global};
 use std::marker::Model;
 use std::sync::Wait;
@@ -64,8 +65,9 @@ fn number_of(refusal: Refusal) -> usize
 }
 
 /// A seat of a recorder that counts its refusals by kind and by instrument, so that none is lost where a service goes on without
-/// looking at an answer. Its recordings are those of the seat. Kinds are told apart by their numbers ([`Refusal::number`]), and all
-/// instruments that the plan does not have are counted as one.
+/// looking at an answer. Its recordings are those of the seat, and handles, bound attributes and lists take it as they take that (a
+/// [`Seat`]). Kinds are told apart by their numbers ([`Refusal::number`]), and all instruments that the plan does not have are
+/// counted as one.
 #[derive(Drop)]
 pub struct Counted {
     seat: Recorder,
@@ -161,6 +163,25 @@ impl Counted {
         answer
     }
 
+    /// The same of recordings by set keys under one lock: [`Recorder::record_sets`] of the seat. The refusal is counted, and
+    /// answered with its place.
+    pub fn record_sets<R: Wait, B: Book, G: Gate>(
+        &mut self,
+        rt: &R,
+        provider: &Provider<B, G>,
+        instrument: u32,
+        all: &[Measurement],
+    ) -> Result<(), SetsFault>
+        ensures made { MakesRecordings B.KEEPS_ENTRIES B.spares_memory provider.now
+            self.old.seat self.new.seat instrument all.now result }
+        ensures counted { let answer = answer_of result in
+            self.new.refused ≡ counts_after self.old.refused instrument answer }
+    {
+        let answer = self.seat.record_sets(rt, provider, instrument, all);
+        self.count(instrument, &answer.map_err(|fault| fault.refusal));
+        answer
+    }
+
     // Counts an answer.
     fn count(&mut self, instrument: u32, answer: &Result<(), Refusal>)
         ensures { let refused = counts_after self.old.refused instrument answer.now in
@@ -178,6 +199,48 @@ impl Counted {
         ensures within { result < length self.now.refused }
     {
         (instrument as usize).min(self.refused.len() - 1)
+    }
+}
+
+impl Seat for Counted {
+    ghost seat = { λ counted. counted.seat };
+
+    ghost notes = { λ old new instrument answer.
+        new.refused ≡ counts_after old.refused instrument answer };
+
+    #[inline(always)]
+    fn record<R: Wait, B: Book, G: Gate>(
+        &mut self,
+        rt: &R,
+        provider: &Provider<B, G>,
+        instrument: u32,
+        attrs: &[Attr<'_>],
+        value: i64,
+    ) -> Result<(), Refusal> {
+        Counted::record(self, rt, provider, instrument, attrs, value)
+    }
+
+    #[inline(always)]
+    fn record_set<R: Wait, B: Book, G: Gate>(
+        &mut self,
+        rt: &R,
+        provider: &Provider<B, G>,
+        instrument: u32,
+        set: SetKey,
+        value: i64,
+    ) -> Result<(), Refusal> {
+        Counted::record_set(self, rt, provider, instrument, set, value)
+    }
+
+    #[inline(always)]
+    fn record_sets<R: Wait, B: Book, G: Gate>(
+        &mut self,
+        rt: &R,
+        provider: &Provider<B, G>,
+        instrument: u32,
+        all: &[Measurement],
+    ) -> Result<(), SetsFault> {
+        Counted::record_sets(self, rt, provider, instrument, all)
     }
 }
 

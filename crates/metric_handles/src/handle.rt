@@ -8,10 +8,11 @@ ghost use Rattle.metric_handles.specs.Calls.{MakesRecording};
 use crate::bound::Bound;
 use crate::bound_list::BoundList;
 use crate::kinds::{Adds, IsCounter, IsGauge, IsHistogram, IsUpDownCounter, Records};
+use crate::seat::Seat;
 use metric_book::Book;
 use metric_contents::{Attr, Refusal};
 use metric_plan::Plan;
-use metric_provider::{Gate, Provider, Recorder};
+use metric_provider::{Gate, Provider};
 use std::alloc::Global;
 use std::marker::{Model, PhantomData};
 use std::sync::Wait;
@@ -88,43 +89,45 @@ impl<K> Handle<K> {
 }
 
 impl<K: Adds> Handle<K> {
-    /// Adds a value to the series of these attributes (Metrics API, Add): [`Recorder::record`] at the handle's number, with its
+    /// Adds a value to the series of these attributes (Metrics API, Add): [`Seat::record`] at the handle's number, with its
     /// refusals.
     #[inline(always)]
-    pub fn add<R: Wait, B: Book, G: Gate>(
+    pub fn add<R: Wait, S: Seat, B: Book, G: Gate>(
         &self,
         rt: &R,
         provider: &Provider<B, G>,
-        recorder: &mut Recorder,
+        seat: &mut S,
         attrs: &[Attr<'_>],
         value: i64,
     ) -> Result<(), Refusal>
-        ensures { let given = map given_by attrs.now in
-            let admission = admitted provider.now recorder.old self.now given value in
-            MakesRecording B.KEEPS_ENTRIES B.spares_memory provider.now recorder.old recorder.new
-            self.now value admission result }
+        ensures made { let given = map given_by attrs.now in
+            let admission = admitted provider.now (S.seat seat.old) self.now given value in
+            MakesRecording B.KEEPS_ENTRIES B.spares_memory provider.now
+            (S.seat seat.old) (S.seat seat.new) self.now value admission result }
+        ensures noted { S.notes seat.old seat.new self.now result }
     {
-        recorder.record(rt, provider, self.number, attrs, value)
+        seat.record(rt, provider, self.number, attrs, value)
     }
 }
 
 impl<K: Records> Handle<K> {
-    /// Records a value with these attributes (Metrics API, Record): [`Recorder::record`] at the handle's number, with its
+    /// Records a value with these attributes (Metrics API, Record): [`Seat::record`] at the handle's number, with its
     /// refusals.
     #[inline(always)]
-    pub fn record<R: Wait, B: Book, G: Gate>(
+    pub fn record<R: Wait, S: Seat, B: Book, G: Gate>(
         &self,
         rt: &R,
         provider: &Provider<B, G>,
-        recorder: &mut Recorder,
+        seat: &mut S,
         attrs: &[Attr<'_>],
         value: i64,
     ) -> Result<(), Refusal>
-        ensures { let given = map given_by attrs.now in
-            let admission = admitted provider.now recorder.old self.now given value in
-            MakesRecording B.KEEPS_ENTRIES B.spares_memory provider.now recorder.old recorder.new
-            self.now value admission result }
+        ensures made { let given = map given_by attrs.now in
+            let admission = admitted provider.now (S.seat seat.old) self.now given value in
+            MakesRecording B.KEEPS_ENTRIES B.spares_memory provider.now
+            (S.seat seat.old) (S.seat seat.new) self.now value admission result }
+        ensures noted { S.notes seat.old seat.new self.now result }
     {
-        recorder.record(rt, provider, self.number, attrs, value)
+        seat.record(rt, provider, self.number, attrs, value)
     }
 }

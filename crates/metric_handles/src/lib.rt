@@ -3,7 +3,8 @@
 //! A number in place of a name is wrong without a word once a file is put in another order. Here names, kinds and keys are
 //! compared with the plan's catalogue once, at the start, and a handle is kept: [`counter`], [`up_down_counter`],
 //! [`histogram`] and [`gauge`] give one, or the first [`HandleFault`]. What a call by a handle does is what the seat's call at
-//! the handle's number does. `specs/Named.antt` says which instrument a name is of, `specs/Calls.antt` what a call does.
+//! the handle's number does, of a recorder's seat or of another [`Seat`], as a [`Counted`] one. `specs/Named.antt` says which
+//! instrument a name is of, `specs/Calls.antt` what a call does.
 #![tactic(auto)]
 
 mod bound;
@@ -16,6 +17,7 @@ mod handle;
 mod kinds;
 mod named;
 mod replaced;
+mod seat;
 mod seats;
 
 pub use bound::{Bound, BoundCounter, BoundGauge, BoundHistogram, BoundUpDownCounter};
@@ -28,4 +30,5 @@ pub use handle::{Counter, Gauge, Handle, Histogram, UpDownCounter};
 pub use kinds::{Adds, IsCounter, IsGauge, IsHistogram, IsUpDownCounter, Records};
 pub use named::{counter, gauge, histogram, up_down_counter};
 pub use replaced::Replaced;
+pub use seat::Seat;
 pub use seats::{take_reader, take_recorder};
