@@ -162,6 +162,7 @@ pub use metric_handles::IsUpDownCounter;
 pub use metric_handles::ListFault;
 pub use metric_handles::Records;
 pub use metric_handles::Replaced;
+pub use metric_handles::Seat;
 pub use metric_handles::UpDownCounter;
 pub use metric_handles::counter;
 pub use metric_handles::gauge;

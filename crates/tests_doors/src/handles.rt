@@ -1,7 +1,7 @@
 //! Tests of instruments and seats by name.
 use metric_handles::{
-    BoundCounter, BoundList, Counted, Counter, HandleFault, Replaced, counter, gauge, histogram,
-    left, take_reader, take_recorder, up_down_counter, value_of,
+    BoundCounter, BoundList, Counted, Counter, HandleFault, Replaced, Seat, counter, gauge,
+    histogram, left, take_reader, take_recorder, up_down_counter, value_of,
 };
 use metric_sdk::{
     Attr, Batch, Collector, Kind, MeterProvider, NoGate, Plan, Recorder, Refusal, ValueRef,
@@ -270,12 +270,12 @@ fn write_answer<E: Debug + Drop>(
 }
 
 // Orders with attributes at the call, with bound ones, and as lists.
-fn sell<R: Wait>(
+fn sell<R: Wait, S: Seat>(
     out: &mut String,
     rt: &R,
     alloc: Global,
     provider: &MeterProvider,
-    seat: &mut Recorder,
+    seat: &mut S,
 ) -> Result<(), Fail> {
     let orders = counter(provider.plan(), "shop", "orders", &["country"])?;
     write_answer(out, orders.add(rt, provider, seat, &[country("de")], 2))?;
@@ -287,12 +287,12 @@ fn sell<R: Wait>(
 }
 
 // Two lists, of which the second meets the end of the budget, and a list of another instrument.
-fn sell_all<R: Wait>(
+fn sell_all<R: Wait, S: Seat>(
     out: &mut String,
     rt: &R,
     alloc: Global,
     provider: &MeterProvider,
-    seat: &mut Recorder,
+    seat: &mut S,
     orders: &Counter,
     french: &BoundCounter,
 ) -> Result<(), Fail> {
@@ -306,6 +306,46 @@ fn sell_all<R: Wait>(
     }
     write_answer(out, list.add(rt, provider, seat))?;
     write!(out, "{}\n", list.len())?;
+    Ok(())
+}
+
+// What is answered to these calls by a seat of either kind.
+const ANSWERED: &str = "Ok(())
+Err(UnknownValue)
+Ok(())
+Err(ValueRange)
+Ok(())
+Err(SetsFault { place: 2, refusal: Budget })
+3
+";
+
+// How often a seat that counts was refused by these calls: each recording once, a list once with its first refusal.
+const REFUSED_BY_HANDLES: &[(u32, Refusal, u64)] = &[
+    (0, Refusal::UnknownValue, 1),
+    (0, Refusal::ValueRange, 1),
+    (0, Refusal::Budget, 1),
+    (0, Refusal::Combination, 0),
+    (3, Refusal::Budget, 0),
+];
+
+#[test]
+fn handles_record_with_a_seat_that_counts(rt: HostRuntime) -> Result<(), Fail> {
+    let mut service = make_service(&rt, rt.alloc())?;
+    let provider = &service.provider;
+    let Some(seat) = take_recorder(provider.plan(), &mut service.recorders, "till") else {
+        return Err(Fail::from("no till"));
+    };
+    let Ok(mut counted) = Counted::new(rt.alloc(), provider.plan(), seat) else {
+        return Err(Fail::from("no memory"));
+    };
+    let mut out = String::new(rt.alloc());
+    sell(&mut out, &rt, rt.alloc(), provider, &mut counted)?;
+    assert_equal(&rt, out.as_str(), ANSWERED);
+    for (instrument, refusal, times) in REFUSED_BY_HANDLES {
+        assert_equal(&rt, counted.refused(*instrument, *refusal), *times);
+    }
+    let told = counted.into_seat().accepted(0).map(|told| told.count);
+    assert_equal(&rt, told, Some(6));
     Ok(())
 }
 
