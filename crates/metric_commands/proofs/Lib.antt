@@ -8,7 +8,6 @@ mod PartLaws
 mod PieceLaws
 mod PlanLaws
 mod ScriptFaults
-mod SetupFaults
 mod StopLaws
 mod RunLaws
 mod TellingLaws

@@ -97,7 +97,6 @@ pub fn certificate_text(alloc: Global, parts: &Parts<'_>) -> Result<String, KitF
 }
 
 // The text of the certificate for a catalogue and a config.
-#[tactic(auto, using(crate::proofs::SetupFaults::setup_faults))]
 fn text_for(alloc: Global, catalogue: &Catalogue, config: &Config) -> Result<String, KitFault>
     ensures ok { IfOk result (λ text. IsTextFor catalogue.now config.now (string_bytes text)) }
     ensures err { IfErr result (λ fault. FailsToMake fault catalogue.now config.now) }

@@ -28,7 +28,6 @@ pub struct Declared {
 ///
 /// The first fault, in this order: [`KitFault::Catalogue`]; [`KitFault::Config`]. [`KitFault::Memory`] may stand in the place of
 /// both.
-#[tactic(auto, using(crate::proofs::SetupFaults::setup_faults))]
 pub fn declared_of(alloc: Global, parts: &Parts<'_>) -> Result<Declared, KitFault>
     ensures ok { IfOk result (λ declared.
         IsDeclared parts.now declared.catalogue declared.config) }
@@ -46,7 +45,6 @@ pub fn declared_of(alloc: Global, parts: &Parts<'_>) -> Result<Declared, KitFaul
 ///
 /// The first fault, in this order: those of [`declared_of`]; [`KitFault::Certificate`]; [`KitFault::Check`].
 /// [`KitFault::Memory`] may stand in the place of any.
-#[tactic(auto, using(crate::proofs::SetupFaults::setup_faults))]
 pub fn certified_plan(alloc: Global, parts: &Parts<'_>) -> Result<Plan, KitFault>
     requires { IsSome parts.now.certificate }
     ensures ok { IfOk result (IsCertifiedPlan parts.now) }
@@ -62,7 +60,6 @@ pub fn certified_plan(alloc: Global, parts: &Parts<'_>) -> Result<Plan, KitFault
 }
 
 /// The plan of a trial, for which the certificate of an input is not read.
-#[tactic(auto, using(crate::proofs::SetupFaults::setup_faults))]
 pub(crate) fn trial_plan(alloc: Global, parts: &Parts<'_>) -> Result<Plan, KitFault>
     ensures ok { IfOk result (IsTrialPlan parts.now) }
     ensures first { IfErr result (λ fault. IsTrialFault fault parts.now) }
