@@ -1,13 +1,12 @@
 //! A soak of running threads: recorders and readers that never rest, and at the end every number compared.
 //!
-//! `metric_soak --seconds N` makes rounds over [`Marked`] and over [`Audited`] in turn until N seconds have passed, and prints
-//! what they did in numbers; without words it makes one short round over each. In a round each recorder, of which there are two
+//! Rounds are made over [`Marked`] and over [`Audited`] in turn, and what they did is printed in numbers. In a round each
+//! recorder, of which there are two
 //! more than processors, records in a thread of its own on instruments whose streams are bounded by product, by list and by budget.
 //! It asks for more where a budget is spent, and one of them closes an instrument midway. Two readers, one delta and one
 //! cumulative, collect all instruments again and again. Then it is compared: the totals with what each recorder was told, each
 //! batch of a reader with the one before it, the last ones with the totals; over [`Audited`] all batches are audited.
 //! Where anything is off, it says what, and ends with a status other than 0.
-#![tactic(auto)]
 
 mod ends;
 mod figures;
@@ -18,14 +17,13 @@ mod rounds;
 mod seen;
 mod words;
 
-use crate::figures::Figures;
-use crate::inputs::catalogue;
-use crate::rounds::{Length, Setup, round};
+use crate::soak::figures::Figures;
+use crate::soak::inputs::catalogue;
+use crate::soak::rounds::{Length, Setup, round};
 use anyhow::bail;
 use metric_book::Book;
 use metric_sdk::{Audited, Marked};
 use std::alloc::Global;
-use std::env;
 use std::sync::Wait;
 use std::thread::{Threads, available_parallelism};
 use std::time::{Clock, Instant};
@@ -45,18 +43,13 @@ const AUDITED: Length = Length { events: 12_000 };
 
 const SHORT: Length = Length { events: 600 };
 
-fn main(rt: HostRuntime) -> anyhow::Result<()> {
-    let owned: Vec<String> = env::args(&rt)?.collect(rt.alloc())?;
-    let seconds = words::seconds_of(owned.as_slice())?;
-    let recorders = recorders_of(&rt)?;
-    let setup = Setup {
-        catalogue: catalogue(rt.alloc(), recorders)?,
+// What all rounds have.
+fn setup_of<R: Threads>(rt: &R, alloc: Global) -> anyhow::Result<Setup> {
+    let recorders = recorders_of(rt)?;
+    Ok(Setup {
+        catalogue: catalogue(alloc, recorders)?,
         recorders,
-    };
-    match seconds {
-        Some(seconds) => soak(&rt, rt.alloc(), &setup, seconds),
-        None => try_once(&rt, rt.alloc(), &setup),
-    }
+    })
 }
 
 // How many recorders there are.
@@ -66,18 +59,28 @@ fn recorders_of<R: Threads>(rt: &R) -> anyhow::Result<u32> {
     Ok(u32::try_from(recorders).unwrap_or(1))
 }
 
-// Makes a short round over each book.
-fn try_once<R: Threads + Wait + Clock + Print + Sync>(
+/// Makes a short round over each book.
+pub(crate) fn try_once<R: Threads + Wait + Clock + Print + Sync>(
     rt: &R,
     alloc: Global,
-    setup: &Setup,
 ) -> anyhow::Result<()> {
+    let setup = setup_of(rt, alloc)?;
     let mut figures = Figures::new();
-    add_round::<R, Marked>(rt, alloc, setup, SHORT, &mut figures)?;
+    add_round::<R, Marked>(rt, alloc, &setup, SHORT, &mut figures)?;
     println!(rt; "marked: nothing is off")?;
-    add_round::<R, Audited>(rt, alloc, setup, SHORT, &mut figures)?;
+    add_round::<R, Audited>(rt, alloc, &setup, SHORT, &mut figures)?;
     println!(rt; "audited: nothing is off")?;
     Ok(())
+}
+
+/// Soaks for as long as the words say.
+pub(crate) fn run<R: Threads + Wait + Clock + Print + Sync>(
+    rt: &R,
+    alloc: Global,
+    words: &[String],
+) -> anyhow::Result<()> {
+    let seconds = words::seconds_of(words)?;
+    soak(rt, alloc, &setup_of(rt, alloc)?, seconds)
 }
 
 // Makes rounds over each book in turn until so many seconds have passed, and prints what they did.

@@ -1,9 +1,9 @@
 //! The end of a provider, and the audit of what it comes to.
-use crate::answers::Answers;
-use crate::inputs::Data;
-use crate::mark::mark;
-use crate::prepared::{events_but, plan_of};
-use crate::seats::{START, Seats, played, seats_of};
+use crate::refusals::answers::Answers;
+use crate::refusals::inputs::Data;
+use crate::refusals::mark::mark;
+use crate::refusals::prepared::{events_but, plan_of};
+use crate::refusals::seats::{START, Seats, played, seats_of};
 use anyhow::{Context, bail};
 use metric_book::Book;
 use metric_history::Reply;

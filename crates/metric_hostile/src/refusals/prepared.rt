@@ -1,7 +1,7 @@
 //! What a data declares, made ready for a call.
 ghost use Rattle.std.specs.Prelude.{IfOk, IsTrue};
 
-use crate::inputs::Data;
+use crate::refusals::inputs::Data;
 use anyhow::{Context, bail};
 use metric_base::Items;
 use metric_history::Event;

@@ -1,8 +1,8 @@
 //! The calls that lead to a plan.
-use crate::answers::Answers;
-use crate::inputs::Data;
-use crate::mark::mark;
-use crate::prepared::{Declared, certificate_of, declared_of};
+use crate::refusals::answers::Answers;
+use crate::refusals::inputs::Data;
+use crate::refusals::mark::mark;
+use crate::refusals::prepared::{Declared, certificate_of, declared_of};
 use metric_sdk::{
     Catalogue, CertFault, Certificate, CheckFault, Config, MakeFault, Plan, check, make,
 };

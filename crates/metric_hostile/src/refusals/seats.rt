@@ -1,9 +1,9 @@
 //! A provider with its seats, and events that they play.
 ghost use Rattle.std.specs.Prelude.{IsTrue};
 
-use crate::inputs::Data;
-use crate::prepared::plan_of;
-use crate::replies::{push_reply, reply_to, reply_with};
+use crate::refusals::inputs::Data;
+use crate::refusals::prepared::plan_of;
+use crate::refusals::replies::{push_reply, reply_to, reply_with};
 use anyhow::{Context, bail};
 use metric_book::Book;
 use metric_contents::OwnedAttr;

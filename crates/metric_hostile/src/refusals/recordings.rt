@@ -1,11 +1,13 @@
 //! The start of a provider, and a recording by a seat.
-use crate::answers::Answers;
-use crate::inputs::Data;
-use crate::mark::mark;
-use crate::prepared::{events_but, plan_of};
-use crate::replies::{push_replies, push_reply, reply_to};
-use crate::seats::{Seats, attributes, played, push_state, recorder_of, seats_of, started};
-use crate::words::Words;
+use crate::refusals::answers::Answers;
+use crate::refusals::inputs::Data;
+use crate::refusals::mark::mark;
+use crate::refusals::prepared::{events_but, plan_of};
+use crate::refusals::replies::{push_replies, push_reply, reply_to};
+use crate::refusals::seats::{
+    Seats, attributes, played, push_state, recorder_of, seats_of, started,
+};
+use crate::refusals::words::Words;
 use anyhow::{Context, bail};
 use metric_book::Book;
 use metric_history::{Event, Reply};

@@ -1,6 +1,6 @@
 //! What the thread of a recorder does, and what it was told.
-use crate::figures::{Figures, add};
-use crate::inputs::{ASKED, CLOSED, FIRST, INSTRUMENTS, LEAST, MORE, SECOND, VALUES};
+use crate::soak::figures::{Figures, add};
+use crate::soak::inputs::{ASKED, CLOSED, FIRST, INSTRUMENTS, LEAST, MORE, SECOND, VALUES};
 use metric_book::Book;
 use metric_sdk::{Attr, NoGate, Provider, Recorder, Refusal, ValueRef};
 use std::sync::Wait;

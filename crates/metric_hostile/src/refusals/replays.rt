@@ -1,8 +1,8 @@
 //! A script replayed.
-use crate::answers::Answers;
-use crate::inputs::Data;
-use crate::mark::mark;
-use crate::prepared::input_of;
+use crate::refusals::answers::Answers;
+use crate::refusals::inputs::Data;
+use crate::refusals::mark::mark;
+use crate::refusals::prepared::input_of;
 use anyhow::bail;
 use metric_commands::{KitFault, ReplayOptions, replay};
 use metric_sdk::{CutSource, StdSink};

@@ -1,10 +1,10 @@
 //! Collections by a reader's seat.
-use crate::answers::Answers;
-use crate::mark::mark;
-use crate::prepared::events_but;
-use crate::replies::{push_batches, push_reply, reply_with};
-use crate::seats::{Seats, collect, played, push_state, seats_of};
-use crate::words::Words;
+use crate::refusals::answers::Answers;
+use crate::refusals::mark::mark;
+use crate::refusals::prepared::events_but;
+use crate::refusals::replies::{push_batches, push_reply, reply_with};
+use crate::refusals::seats::{Seats, collect, played, push_state, seats_of};
+use crate::refusals::words::Words;
 use anyhow::{Context, bail};
 use metric_book::Book;
 use metric_history::Event;

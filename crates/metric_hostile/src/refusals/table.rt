@@ -1,8 +1,8 @@
 //! Each call over each book and each data, with memory enough.
-use crate::answers::Answers;
-use crate::calls::answers_of;
-use crate::inputs::{DATA, Data};
-use crate::words::{BOOKS, BookName, Booked, CALLS, Call, Plain, Words};
+use crate::refusals::answers::Answers;
+use crate::refusals::calls::answers_of;
+use crate::refusals::inputs::{DATA, Data};
+use crate::refusals::words::{BOOKS, BookName, Booked, CALLS, Call, Plain, Words};
 use std::alloc::Global;
 use std::sync::Wait;
 

@@ -1,5 +1,5 @@
 //! The words of the command line.
-use crate::inputs::{DATA, Data};
+use crate::refusals::inputs::{DATA, Data};
 use anyhow::{Context, bail};
 
 /// A call that needs no book.
@@ -82,16 +82,12 @@ pub(crate) struct Words {
     pub is_once: bool,
 }
 
-/// What the words ask for, the first of which is the program's name; nothing where there is no other.
-pub(crate) fn words_of(owned: &[String]) -> anyhow::Result<Option<Words>> {
+/// What the words ask for.
+pub(crate) fn words_of(owned: &[String]) -> anyhow::Result<Words> {
     match owned {
-        [] | [_] => Ok(None),
-        [_, call, book, of] => Ok(Some(asked(call, book, of)?)),
-        [_, call, book, of, how] => {
-            let words = asked(call, book, of)?;
-            Ok(Some(made(words, how)?))
-        }
-        _ => bail!("usage: metric_refusals [CALL BOOK DATA [once|N]]"),
+        [call, book, of] => asked(call, book, of),
+        [call, book, of, how] => made(asked(call, book, of)?, how),
+        _ => bail!("usage: metric_hostile [CALL BOOK DATA [once|N]]"),
     }
 }
 

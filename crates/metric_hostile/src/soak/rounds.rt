@@ -1,11 +1,11 @@
 //! A round: all threads at once, and what they come to.
 ghost use Rattle.std.specs.Prelude.{IfOk, IsTrue};
 
-use crate::ends::{Ended, settle};
-use crate::figures::{Figures, add};
-use crate::inputs::CONFIG;
-use crate::reading::{Off, Signs, Watcher};
-use crate::recording::Worker;
+use crate::soak::ends::{Ended, settle};
+use crate::soak::figures::{Figures, add};
+use crate::soak::inputs::CONFIG;
+use crate::soak::reading::{Off, Signs, Watcher};
+use crate::soak::recording::Worker;
 use anyhow::bail;
 use metric_book::Book;
 use metric_sdk::{Collector, NoGate, Plan, Provider, Recorder, certified_plan, start};

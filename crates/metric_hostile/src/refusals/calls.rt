@@ -1,7 +1,7 @@
 //! The calls, by their words.
-use crate::answers::Answers;
-use crate::words::{BookName, Booked, Call, Plain, Words};
-use crate::{certificates, collections, cores, ends, recordings, replays};
+use crate::refusals::answers::Answers;
+use crate::refusals::words::{BookName, Booked, Call, Plain, Words};
+use crate::refusals::{certificates, collections, cores, ends, recordings, replays};
 use metric_book::Book;
 use metric_journal::JournalBook;
 use metric_sdk::{Audited, Marked};

@@ -1,11 +1,11 @@
 //! The calls of a core and of the cell of an instrument.
-use crate::answers::Answers;
-use crate::inputs::Data;
-use crate::mark::mark;
-use crate::prepared::{events_but, plan_of};
-use crate::replies::{push_replies, push_reply, reply_to};
-use crate::seats::START;
-use crate::words::Words;
+use crate::refusals::answers::Answers;
+use crate::refusals::inputs::Data;
+use crate::refusals::mark::mark;
+use crate::refusals::prepared::{events_but, plan_of};
+use crate::refusals::replies::{push_replies, push_reply, reply_to};
+use crate::refusals::seats::START;
+use crate::refusals::words::Words;
 use anyhow::bail;
 use metric_book::Book;
 use metric_core::{Cell, Core};

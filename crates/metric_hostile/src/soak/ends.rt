@@ -1,9 +1,9 @@
 //! What a round came to, compared.
-use crate::figures::{Figures, add};
-use crate::inputs::INSTRUMENTS;
-use crate::reading::Watcher;
-use crate::recording::{Tally, Worker};
-use crate::rounds::START;
+use crate::soak::figures::{Figures, add};
+use crate::soak::inputs::INSTRUMENTS;
+use crate::soak::reading::Watcher;
+use crate::soak::recording::{Tally, Worker};
+use crate::soak::rounds::START;
 use anyhow::{Context, bail};
 use metric_book::Book;
 use metric_sdk::{Batch, Kind, NoGate, Plan, Provider, Recorder, Totals, audit};

@@ -1,7 +1,7 @@
 //! What the thread of a reader does, and what it saw.
-use crate::figures::{Figures, add};
-use crate::inputs::INSTRUMENTS;
-use crate::seen::{Asked, follows, points_of, rises, sum_of};
+use crate::soak::figures::{Figures, add};
+use crate::soak::inputs::INSTRUMENTS;
+use crate::soak::seen::{Asked, follows, points_of, rises, sum_of};
 use metric_book::Book;
 use metric_sdk::{Batch, Collector, Kind, NoGate, Provider, Refusal};
 use std::alloc::{AllocError, Global};
