@@ -13,8 +13,13 @@ use Rattle.metric_advice.specs.declared.remark.Remark.{Remark}
 use Rattle.metric_advice.specs.declared.remark.Remark.TheVariants as remarks
 use Rattle.metric_advice.specs.declared.unsafe_part.UnsafePart.{UnsafePart}
 use Rattle.metric_advice.specs.declared.unsafe_part.UnsafePart.TheVariants.{Collision, TooOften}
+use Rattle.metric_advice.specs.Positions.{Place as TablePlace}
 use Rattle.metric_advice.specs.Positions.{catalogue_place, config_place, located}
 use Rattle.metric_diagnosis.specs.declared.places.Place.{Place}
+use Rattle.metric_diagnosis.specs.declared.spot.Spot.{Spot}
+use Rattle.metric_diagnosis.specs.declared.spot.Spot.TheVariants as spots
+use Rattle.metric_diagnosis.specs.declared.spot.TableFault.{TableFault}
+use Rattle.metric_diagnosis.specs.declared.spot.TableFault.TheVariants as tables
 use Rattle.metric_diagnosis.specs.declared.places.Place.TheVariants.{Catalogue, Config}
 
 -- A table's fault stands where the table does. Of a text that is no TOML nothing is said here.
@@ -28,6 +33,17 @@ abbrev pub StandsInConfig : List ℕ → ViewFault → Option Position → Type 
 StandsInConfig text config.NotToml position = Unit {0}
 StandsInConfig text (config.At defect place) position = position ≡ located text (config_place place)
 StandsInConfig text config.Memory position = position ≡ None
+
+-- the table of a fault
+abbrev pub place_of : TableFault → TablePlace
+place_of (tables.Catalogue defect place) = catalogue_place place
+place_of (tables.Config defect place) = config_place place
+
+-- A spot of a text stands where its table does. Of a text that is no TOML nothing is said here.
+abbrev pub StandsAt : List ℕ → Spot → Option Position → Type 0
+StandsAt text spots.Text position = Unit {0}
+StandsAt text (spots.Table fault) position = position ≡ located text (place_of fault)
+StandsAt text (spots.Nowhere words) position = position ≡ None
 
 -- where the table of a place stands in the texts of a catalogue and a config
 abbrev pub standing : List ℕ → List ℕ → Place → Option Position

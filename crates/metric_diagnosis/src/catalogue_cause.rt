@@ -6,7 +6,7 @@ use crate::fields::{
 };
 use crate::mistake::{Mistake, Wrong};
 use crate::rows::row_mistake;
-use crate::tables::{first_with, list_in, name_in, table_at, text_in};
+use crate::tables::{first_with, list_in, name_at, name_in, table_at, text_in};
 use crate::walk::{field_mistake, first_mistake, unknown_field};
 use metric_catalogue::{CatalogueDefect, CataloguePlace};
 use std::alloc::Global;
@@ -46,21 +46,17 @@ fn meter_cause<'v>(
     otherwise: &'static str,
 ) -> Cause<'v> {
     let meters = list_in(top, "meter");
-    let Some(table) = table_at(meters, number) else {
-        return Cause::of(Some(Named::new("meter", number, None)), None, otherwise);
-    };
-    let subject = Named::new("meter", number, name_in(table));
-    let mistake = meter_mistake(alloc, meters, number, table);
-    Cause::of(Some(subject), mistake, otherwise)
+    let subject = Named::new("meter", number, name_at(meters, number));
+    Cause::of(
+        Some(subject),
+        meter_mistake(alloc, meters, number),
+        otherwise,
+    )
 }
 
 // The mistake of a meter's table: of its own fields, of the number of instruments, of their list, or of its name.
-fn meter_mistake<'v>(
-    alloc: Global,
-    meters: &'v [Value],
-    number: usize,
-    table: &'v Table,
-) -> Option<Mistake<'v>> {
+fn meter_mistake<'v>(alloc: Global, meters: &'v [Value], number: usize) -> Option<Mistake<'v>> {
+    let table = table_at(meters, number)?;
     if let Some(mistake) = unknown_field(table, METER_FIELDS) {
         return Some(mistake);
     }
@@ -88,14 +84,13 @@ fn own_meter_fields() -> &'static [Field] {
 
 // The first meter, before this one, with the same name, version and schema URL.
 fn same_meter<'v>(meters: &[Value], number: usize, table: &Table) -> Option<Mistake<'v>> {
-    let mut before = meters.iter().take(number);
-    match before.position(|other| is_same_meter(other, table)) {
-        Some(first) => {
+    for (first, other) in meters.iter().take(number).enumerate() {
+        if is_same_meter(other, table) {
             let wrong = Wrong::Taken("meter", first, ", as are version and schema_url");
-            Some(Mistake::of("name", wrong))
+            return Some(Mistake::of("name", wrong));
         }
-        None => None,
     }
+    None
 }
 
 fn is_same_meter(other: &Value, table: &Table) -> bool {
@@ -150,14 +145,10 @@ fn instrument_cause<'v>(
     otherwise: &'static str,
 ) -> Cause<'v> {
     let (instruments, place) = instrument_at(list_in(top, "meter"), number);
+    let subject = Named::new("instrument", number, name_at(instruments, place));
     let Some(table) = table_at(instruments, place) else {
-        return Cause::of(
-            Some(Named::new("instrument", number, None)),
-            None,
-            otherwise,
-        );
+        return Cause::of(Some(subject), None, otherwise);
     };
-    let subject = Named::new("instrument", number, name_in(table));
     match own_mistake(alloc, top, instruments, place, number, table) {
         Some(mistake) => Cause::of(Some(subject), Some(mistake), otherwise),
         None => key_cause(alloc, table, subject, otherwise),
@@ -220,14 +211,14 @@ fn same_name<'v>(
     table: &Table,
 ) -> Option<Mistake<'v>> {
     let name = name_in(table)?;
-    let first = instruments
-        .iter()
-        .take(place)
-        .position(|other| is_named(other, name))?;
-    let before = number.saturating_sub(place);
-    let first = before.saturating_add(first);
-    let wrong = Wrong::Taken("instrument", first, " of the meter, without ASCII case");
-    Some(Mistake::of("name", wrong))
+    for (first, other) in instruments.iter().take(place).enumerate() {
+        if is_named(other, name) {
+            let first = number.saturating_sub(place).saturating_add(first);
+            let wrong = Wrong::Taken("instrument", first, " of the meter, without ASCII case");
+            return Some(Mistake::of("name", wrong));
+        }
+    }
+    None
 }
 
 fn is_named(other: &Value, name: &str) -> bool {
@@ -245,23 +236,17 @@ fn key_cause<'v>(
     otherwise: &'static str,
 ) -> Cause<'v> {
     let keys = list_in(table, "key");
-    for (number, key) in keys.iter().enumerate() {
-        if let Some(key) = key.as_table() {
-            if let Some(mistake) = key_mistake(alloc, keys, number, key) {
-                let inner = Named::new("key", number, name_in(key));
-                return Cause::of(Some(subject), Some(mistake), otherwise).inside(inner);
-            }
+    for number in 0..keys.len() {
+        if let Some(mistake) = key_mistake(alloc, keys, number) {
+            let inner = Named::new("key", number, name_at(keys, number));
+            return Cause::of(Some(subject), Some(mistake), otherwise).inside(inner);
         }
     }
     Cause::of(Some(subject), row_mistake(table, keys), otherwise)
 }
 
-fn key_mistake<'v>(
-    alloc: Global,
-    keys: &'v [Value],
-    number: usize,
-    key: &'v Table,
-) -> Option<Mistake<'v>> {
+fn key_mistake<'v>(alloc: Global, keys: &'v [Value], number: usize) -> Option<Mistake<'v>> {
+    let key = table_at(keys, number)?;
     match first_mistake(alloc, key, KEY_FIELDS, 0) {
         Some(mistake) => Some(mistake),
         None => taken_name("key", keys, number, key),
@@ -290,13 +275,16 @@ fn recorder_cause<'v>(
     otherwise: &'static str,
 ) -> Cause<'v> {
     let recorders = list_in(top, "recorder");
-    let Some(table) = table_at(recorders, number) else {
-        return Cause::of(Some(Named::new("recorder", number, None)), None, otherwise);
-    };
-    let subject = Named::new("recorder", number, name_in(table));
-    match recorder_mistake(alloc, recorders, number, table) {
+    let subject = Named::new("recorder", number, name_at(recorders, number));
+    match recorder_mistake(alloc, recorders, number) {
         Some(mistake) => Cause::of(Some(subject), Some(mistake), otherwise),
-        None => budget_cause(alloc, top, table, subject, otherwise),
+        None => budget_cause(
+            alloc,
+            top,
+            budgets_at(recorders, number),
+            subject,
+            otherwise,
+        ),
     }
 }
 
@@ -304,11 +292,19 @@ fn recorder_mistake<'v>(
     alloc: Global,
     recorders: &'v [Value],
     number: usize,
-    table: &'v Table,
 ) -> Option<Mistake<'v>> {
+    let table = table_at(recorders, number)?;
     match first_mistake(alloc, table, RECORDER_FIELDS, 0) {
         Some(mistake) => Some(mistake),
         None => taken_name("recorder", recorders, number, table),
+    }
+}
+
+// The budgets of the recorder of a number.
+fn budgets_at(recorders: &[Value], number: usize) -> &[Value] {
+    match table_at(recorders, number) {
+        Some(table) => list_in(table, "budget"),
+        None => &[],
     }
 }
 
@@ -316,18 +312,15 @@ fn recorder_mistake<'v>(
 fn budget_cause<'v>(
     alloc: Global,
     top: &'v Table,
-    table: &'v Table,
+    budgets: &'v [Value],
     subject: Named<'v>,
     otherwise: &'static str,
 ) -> Cause<'v> {
     let count = instruments_in(list_in(top, "meter"), usize::MAX);
-    let budgets = list_in(table, "budget");
-    for (number, budget) in budgets.iter().enumerate() {
-        if let Some(budget) = budget.as_table() {
-            if let Some(mistake) = budget_mistake(alloc, budgets, number, budget, count) {
-                let inner = Named::new("budget", number, None);
-                return Cause::of(Some(subject), Some(mistake), otherwise).inside(inner);
-            }
+    for number in 0..budgets.len() {
+        if let Some(mistake) = budget_mistake(alloc, budgets, number, count) {
+            let inner = Named::new("budget", number, None);
+            return Cause::of(Some(subject), Some(mistake), otherwise).inside(inner);
         }
     }
     Cause::of(Some(subject), None, otherwise)
@@ -337,9 +330,9 @@ fn budget_mistake<'v>(
     alloc: Global,
     budgets: &'v [Value],
     number: usize,
-    budget: &'v Table,
     count: usize,
 ) -> Option<Mistake<'v>> {
+    let budget = table_at(budgets, number)?;
     match first_mistake(alloc, budget, BUDGET_FIELDS, count) {
         Some(mistake) => Some(mistake),
         None => same_budget(budgets, number, budget),
@@ -349,14 +342,13 @@ fn budget_mistake<'v>(
 // The first budget of the recorder, before this one, for the same instrument.
 fn same_budget<'v>(budgets: &[Value], number: usize, budget: &Table) -> Option<Mistake<'v>> {
     let instrument = budget.get("instrument")?.as_integer()?;
-    let first = budgets
-        .iter()
-        .take(number)
-        .position(|other| is_for(other, instrument))?;
-    Some(Mistake::of(
-        "instrument",
-        Wrong::Taken("budget", first, " of the recorder"),
-    ))
+    for (first, other) in budgets.iter().take(number).enumerate() {
+        if is_for(other, instrument) {
+            let wrong = Wrong::Taken("budget", first, " of the recorder");
+            return Some(Mistake::of("instrument", wrong));
+        }
+    }
+    None
 }
 
 fn is_for(budget: &Value, instrument: i64) -> bool {

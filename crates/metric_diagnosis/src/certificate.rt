@@ -3,13 +3,14 @@ ghost use Rattle.std.specs.Prelude.{◌≡◌, IfOk, None};
 
 use crate::diagnosis::Diagnosis;
 use crate::sources::NamedText;
-use crate::toml_fault::{told_of_toml, want_of_memory};
-use metric_advice::Position;
+use crate::spot::{Spot, diagnose};
+use crate::toml_fault::{MEMORY, want_of_memory};
 use metric_cert::CertFault;
 use metric_plan::CheckFault;
 use std::alloc::{AllocError, Global};
 
-/// What a person is told of a fault of a certificate's text. Fails only where memory is refused.
+/// What a person is told of a fault of a certificate's text. It has a position only where the text is no TOML: where that breaks
+/// off. Fails only where memory is refused.
 pub fn diagnose_certificate<'t>(
     alloc: Global,
     source: NamedText<'t>,
@@ -18,20 +19,12 @@ pub fn diagnose_certificate<'t>(
     ensures fault { IfOk result (λ told. told.fault ≡ fault) }
     ensures file { IfOk result (λ told. told.file.now ≡ source.entry.name.now) }
 {
-    let (position, words) = told_of(alloc, source.text, fault)?;
-    Ok(Diagnosis::new(source, fault, position, words))
-}
-
-fn told_of(
-    alloc: Global,
-    text: &str,
-    fault: CertFault,
-) -> Result<(Option<Position>, String), AllocError> {
-    match fault {
-        CertFault::NotToml => told_of_toml(alloc, text),
-        CertFault::Shape => Ok((None, String::from_str(alloc, SHAPE)?)),
-        CertFault::Memory => Ok((None, want_of_memory(alloc)?)),
-    }
+    let spot = match fault {
+        CertFault::NotToml => Spot::Text,
+        CertFault::Shape => Spot::Nowhere(SHAPE),
+        CertFault::Memory => Spot::Nowhere(MEMORY),
+    };
+    diagnose(alloc, source, fault, spot)
 }
 
 const SHAPE: &str =

@@ -3,7 +3,7 @@ use crate::catalogue_cause::taken_name;
 use crate::cause::{Cause, Named};
 use crate::fields::{CONFIG_FIELDS, READER_FIELDS, VIEW_FIELDS};
 use crate::mistake::Mistake;
-use crate::tables::{list_in, name_in, table_at};
+use crate::tables::{list_in, name_at, table_at};
 use crate::walk::{field_mistake, first_mistake, unknown_field};
 use metric_views::{ConfigPlace, ViewDefect};
 use std::alloc::Global;
@@ -33,21 +33,17 @@ fn reader_cause<'v>(
     otherwise: &'static str,
 ) -> Cause<'v> {
     let readers = list_in(top, "reader");
-    let Some(table) = table_at(readers, number) else {
-        return Cause::of(Some(Named::new("reader", number, None)), None, otherwise);
-    };
-    let subject = Named::new("reader", number, name_in(table));
-    let mistake = reader_mistake(alloc, readers, number, table);
-    Cause::of(Some(subject), mistake, otherwise)
+    let subject = Named::new("reader", number, name_at(readers, number));
+    Cause::of(
+        Some(subject),
+        reader_mistake(alloc, readers, number),
+        otherwise,
+    )
 }
 
 // The mistake of a reader's table: that its name is taken is told after its name and before its choices.
-fn reader_mistake<'v>(
-    alloc: Global,
-    readers: &'v [Value],
-    number: usize,
-    table: &'v Table,
-) -> Option<Mistake<'v>> {
+fn reader_mistake<'v>(alloc: Global, readers: &'v [Value], number: usize) -> Option<Mistake<'v>> {
+    let table = table_at(readers, number)?;
     if let Some(mistake) = unknown_field(table, READER_FIELDS) {
         return Some(mistake);
     }

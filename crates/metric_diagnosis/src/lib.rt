@@ -1,7 +1,24 @@
 //! What a person is told of a fault: where it stands, and its cause in words.
 //!
-//! Each call takes the fault that a library answered, with the texts that it is of, and gives a `Diagnosis` of it, which keeps the
-//! fault itself. `specs/Places.antt` says where a fault stands; what the words say, no contract does.
+//! | What answered | What tells it |
+//! |---|---|
+//! | `Catalogue::read` | `diagnose_catalogue` |
+//! | `Config::read` | `diagnose_config` |
+//! | the reader of a certificate | `diagnose_certificate` |
+//! | the check of a certificate that was read | `diagnose_check` |
+//! | `make`, of a catalogue and a config that are not safe | `diagnose_make` |
+//! | `lint`, each remark | `diagnose_remark` |
+//!
+//! Each call takes the fault with the texts that it is of, and gives a `Diagnosis` of it, which keeps the fault itself. Printed, it is
+//! one line, and its `excerpt` shows the place:
+//!
+//! ```text
+//! catalogue.toml:8:1: instrument 1 "jobs": field "kind": "guage" is none of counter, up_down_counter, histogram, gauge
+//!     8 | [[meter.instrument]]
+//!       | ^
+//! ```
+//!
+//! `specs/Places.antt` and `specs/Unsafe.antt` say where a fault stands; what the words say, no contract does.
 #![tactic(auto)]
 
 mod catalogue;
@@ -20,6 +37,7 @@ mod room;
 mod rows;
 mod shown;
 mod sources;
+mod spot;
 mod tables;
 mod told;
 mod toml_fault;

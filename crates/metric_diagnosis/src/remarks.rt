@@ -14,8 +14,9 @@ use metric_views::{ConfigPlace, View};
 use std::alloc::{AllocError, Global};
 
 /// What a person is told of a remark of `lint`: the place of the view, the recorder or the instrument that it is about, and what
-/// looks like a mistake. Of a remark that `lint` does not give on this pair the words may be less exact. Fails only where memory is
-/// refused.
+/// looks like a mistake. The file is the catalogue for budgets, else the config. Two streams of one identity stand at the view of the
+/// later one, else of the first; that there is no reader, at the top. Of a remark that `lint` does not give on this pair the words may
+/// be less exact. Fails only where memory is refused.
 pub fn diagnose_remark<'t>(
     alloc: Global,
     pair: Pair<'t>,

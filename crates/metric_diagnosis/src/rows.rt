@@ -1,6 +1,6 @@
 //! What is wrong with the rows of combinations that an instrument allows.
 use crate::mistake::{Mistake, Wrong, WrongRow};
-use crate::tables::{list_in, list_of};
+use crate::tables::{first_of_no_number, first_same, list_in, list_of};
 use toml::{Table, Value};
 
 // The first mistake of an instrument's rows, whose keys are right.
@@ -23,7 +23,7 @@ fn wrong_row<'v>(
     let Some(entries) = list_of(row) else {
         return Some(WrongRow::NotA(row, "list"));
     };
-    if let Some(entry) = entries.iter().find(|entry| entry.as_integer().is_none()) {
+    if let Some(entry) = first_of_no_number(entries) {
         return Some(WrongRow::NotA(entry, "whole number"));
     }
     if entries.len() != keys.len() {
@@ -31,21 +31,29 @@ fn wrong_row<'v>(
     }
     match wrong_entry(entries, keys) {
         Some(wrong) => Some(wrong),
-        None => same_row(rows, number, row),
+        None => Some(WrongRow::Repeated(first_same(rows, number, row)?)),
     }
 }
 
 // The first entry that its key does not have.
 fn wrong_entry<'v>(entries: &[Value], keys: &[Value]) -> Option<WrongRow<'v>> {
     for (place, (entry, key)) in entries.iter().zip(keys).enumerate() {
-        if let (Some(entry), Some(key)) = (entry.as_integer(), key.as_table()) {
-            if !is_entry(key, entry) {
-                let values = list_in(key, "values").len();
-                return Some(WrongRow::Entry(place, entry, values));
-            }
+        let wrong = wrong_at(place, entry, key);
+        if wrong.is_some() {
+            return wrong;
         }
     }
     None
+}
+
+// That the key of a number does not have an entry.
+fn wrong_at<'v>(place: usize, entry: &Value, key: &Value) -> Option<WrongRow<'v>> {
+    let entry = entry.as_integer()?;
+    let key = key.as_table()?;
+    if is_entry(key, entry) {
+        return None;
+    }
+    Some(WrongRow::Entry(place, entry, list_in(key, "values").len()))
 }
 
 // Whether a number is one plus the place of a value of the key, or 0 where the key may be left out.
@@ -60,13 +68,5 @@ fn is_optional(key: &Table) -> bool {
     match key.get("optional") {
         Some(value) => value.as_bool() == Some(true),
         None => false,
-    }
-}
-
-// The first row before this one that is the same.
-fn same_row<'v>(rows: &[Value], number: usize, row: &Value) -> Option<WrongRow<'v>> {
-    match rows.iter().take(number).position(|other| other == row) {
-        Some(first) => Some(WrongRow::Repeated(first)),
-        None => None,
     }
 }

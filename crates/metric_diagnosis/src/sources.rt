@@ -11,7 +11,7 @@ pub struct NamedText<'t> {
     pub text: &'t str,
 }
 
-/// A catalogue and a config that were read, with the texts that they are of.
+/// A catalogue and a config that were read, with the texts that they were read from: places are looked for in these.
 #[derive(Clone, Copy)]
 pub struct Pair<'t> {
     /// The catalogue that was read.

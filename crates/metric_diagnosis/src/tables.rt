@@ -33,6 +33,11 @@ pub(crate) fn text_in<'v>(table: &'v Table, name: &str) -> Option<&'v str> {
     }
 }
 
+// The name of the table of a number in a list.
+pub(crate) fn name_at(values: &[Value], number: usize) -> Option<&str> {
+    name_in(table_at(values, number)?)
+}
+
 // The name that a table gives itself.
 pub(crate) fn name_in(table: &Table) -> Option<&str> {
     text_in(table, "name")
@@ -40,7 +45,12 @@ pub(crate) fn name_in(table: &Table) -> Option<&str> {
 
 // The number of the first of these tables whose text of a field is this one.
 pub(crate) fn first_with(values: &[Value], name: &str, text: &str) -> Option<usize> {
-    values.iter().position(|value| has_text(value, name, text))
+    for (first, value) in values.iter().enumerate() {
+        if has_text(value, name, text) {
+            return Some(first);
+        }
+    }
+    None
 }
 
 fn has_text(value: &Value, name: &str, text: &str) -> bool {
@@ -48,4 +58,24 @@ fn has_text(value: &Value, name: &str, text: &str) -> bool {
         Some(table) => text_in(table, name) == Some(text),
         None => false,
     }
+}
+
+// The number of the first of these values that is the same as one, before that one's number.
+pub(crate) fn first_same(values: &[Value], number: usize, value: &Value) -> Option<usize> {
+    for (first, other) in values.iter().take(number).enumerate() {
+        if other == value {
+            return Some(first);
+        }
+    }
+    None
+}
+
+// The first of these values that is no whole number.
+pub(crate) fn first_of_no_number(values: &[Value]) -> Option<&Value> {
+    for value in values {
+        if value.as_integer().is_none() {
+            return Some(value);
+        }
+    }
+    None
 }

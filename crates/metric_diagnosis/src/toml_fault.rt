@@ -28,8 +28,10 @@ pub(crate) fn told_of_error(alloc: Global, error: Error) -> Result<String, Alloc
 }
 
 // What is told where memory was refused.
+pub(crate) const MEMORY: &str = "memory was refused";
+
 pub(crate) fn want_of_memory(alloc: Global) -> Result<String, AllocError> {
-    String::from_str(alloc, "memory was refused")
+    String::from_str(alloc, MEMORY)
 }
 
 // Where a reader of TOML stopped.

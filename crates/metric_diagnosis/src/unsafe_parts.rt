@@ -18,8 +18,9 @@ use std::alloc::{AllocError, Global};
 
 /// What a person is told of a catalogue and a config that get no certificate: the first part of safety that fails, with the
 /// streams or the instrument that it is about, and the greatest total of budgets that would do. The file is the config for two
-/// streams of one identity and for too many series, else the catalogue. Of another fault than `make` answers the words may be less
-/// exact. Fails only where memory is refused.
+/// streams of one identity, at the view of the later one, else of the first, and for too many series, at the view of the stream, else
+/// at its reader. Else it is the catalogue, at the instrument. Which part fails is found anew, and a pair that is safe is told to be.
+/// Fails only where memory is refused.
 pub fn diagnose_make<'t>(
     alloc: Global,
     pair: Pair<'t>,

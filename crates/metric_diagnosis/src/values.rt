@@ -1,7 +1,7 @@
 //! What is wrong with a value of a field.
 use crate::fields::Holds;
 use crate::mistake::Wrong;
-use crate::tables::{list_of, text_in};
+use crate::tables::{first_same, list_of, text_in};
 use metric_glob::{Pattern, PatternFault};
 use metric_names::{Name, NameFault, Unit, UnitFault};
 use std::alloc::Global;
@@ -95,11 +95,40 @@ fn wrong_list(value: &Value, holds: Holds) -> Option<Wrong<'_>> {
     if values.len() > most {
         return Some(Wrong::TooMany(values.len(), most, what));
     }
+    match first_wrong(values, holds) {
+        Some(wrong) => Some(wrong),
+        None => wrong_together(values, holds),
+    }
+}
+
+// What is wrong with the first element of a list that is wrong by itself.
+fn first_wrong(values: &[Value], holds: Holds) -> Option<Wrong<'_>> {
+    for value in values {
+        let wrong = wrong_element(value, holds);
+        if wrong.is_some() {
+            return wrong;
+        }
+    }
+    None
+}
+
+// What is wrong with an element of a list. A row is looked at later.
+fn wrong_element(value: &Value, holds: Holds) -> Option<Wrong<'_>> {
     match holds {
-        Holds::Tables(_) => values.iter().find_map(|value| wrong_table(value)),
-        Holds::Boundaries => wrong_boundaries(values),
-        Holds::Values => wrong_values(values),
-        Holds::Keys => values.iter().find_map(|value| wrong_key(value)),
+        Holds::Tables(_) => wrong_table(value),
+        Holds::Boundaries => wrong_number(value, i64::MIN, i64::MAX, "whole number"),
+        Holds::Values => wrong_value(value),
+        Holds::Keys => wrong_key(value),
+        _ => None,
+    }
+}
+
+// What is wrong with elements that are right by themselves.
+fn wrong_together(values: &[Value], holds: Holds) -> Option<Wrong<'_>> {
+    match holds {
+        Holds::Boundaries => first_fall(values),
+        Holds::Values if values.is_empty() => Some(Wrong::Plain(" is an empty list")),
+        Holds::Values => first_repeated(values),
         _ => None,
     }
 }
@@ -122,38 +151,19 @@ fn wrong_table(value: &Value) -> Option<Wrong<'_>> {
     }
 }
 
-fn wrong_boundaries(values: &[Value]) -> Option<Wrong<'_>> {
-    match values.iter().find(|value| value.as_integer().is_none()) {
-        Some(value) => Some(Wrong::NotA(value, "whole number")),
-        None => first_fall(values),
-    }
-}
-
 // The first two neighbours that do not rise.
-fn first_fall(values: &[Value]) -> Option<Wrong<'_>> {
-    values.windows(2).find_map(|two| fall_of(two))
-}
-
-fn fall_of<'v>(two: &[Value]) -> Option<Wrong<'v>> {
-    match two {
-        [first, second] => match (first.as_integer(), second.as_integer()) {
-            (Some(first), Some(second)) if second <= first => {
-                Some(Wrong::Order(first, second, "boundaries must rise"))
+fn first_fall<'v>(values: &[Value]) -> Option<Wrong<'v>> {
+    let mut before = None;
+    for value in values {
+        let number = value.as_integer();
+        if let (Some(first), Some(second)) = (before, number) {
+            if second <= first {
+                return Some(Wrong::Order(first, second, "boundaries must rise"));
             }
-            _ => None,
-        },
-        _ => None,
+        }
+        before = number;
     }
-}
-
-fn wrong_values(values: &[Value]) -> Option<Wrong<'_>> {
-    if values.is_empty() {
-        return Some(Wrong::Plain(" is an empty list"));
-    }
-    match values.iter().find_map(|value| wrong_value(value)) {
-        Some(wrong) => Some(wrong),
-        None => first_repeated(values),
-    }
+    None
 }
 
 // An attribute value that is none.
@@ -168,7 +178,7 @@ fn wrong_value(value: &Value) -> Option<Wrong<'_>> {
 // The first value that stands before, too.
 fn first_repeated(values: &[Value]) -> Option<Wrong<'_>> {
     for (place, value) in values.iter().enumerate() {
-        if values.iter().take(place).any(|other| other == value) {
+        if first_same(values, place, value).is_some() {
             return Some(Wrong::Repeated(value));
         }
     }
@@ -210,11 +220,12 @@ fn wrong_text<'v>(
 }
 
 fn wrong_word<'v>(text: &'v str, names: &'static [&'static str]) -> Option<Wrong<'v>> {
-    if names.iter().any(|name| *name == text) {
-        None
-    } else {
-        Some(Wrong::NoneOf(text, names))
+    for name in names {
+        if *name == text {
+            return None;
+        }
     }
+    Some(Wrong::NoneOf(text, names))
 }
 
 // A name is tried before it takes memory, so where that is refused it is one.

@@ -30,7 +30,12 @@ pub(crate) fn unknown_field<'v>(table: &'v Table, fields: &'static [Field]) -> O
 }
 
 fn is_among(fields: &[Field], name: &str) -> bool {
-    fields.iter().any(|field| field.0 == name)
+    for field in fields {
+        if field.0 == name {
+            return true;
+        }
+    }
+    false
 }
 
 // The first mistake of these fields.
