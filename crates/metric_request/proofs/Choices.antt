@@ -1,5 +1,5 @@
 -- Which of two files is the certificate.
-use Rattle.std.proofs.Common.{◌≡◌, Option, Some, None, cond, refl}
+use Rattle.std.proofs.Common.{◌≡◌, Option, Some, None, refl}
 use Rattle.std.specs.Prelude.{is_some, if◌then◌else◌}
 
 pub some_chosen : {A : Type 0} (last : Option A) (value : A) (first other : Option A) → last ≡ Some value

@@ -1,3 +1,4 @@
 mod Choices
 mod CommandLemmas
+mod FaultLemmas
 mod NumberLaws

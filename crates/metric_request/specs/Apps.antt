@@ -1,5 +1,5 @@
 -- The commands and options of `wormweekly`, as clap is told of them.
-use Rattle.std.specs.Prelude.{ℕ, List, [], ◌∷◌, Bool, true, false, Some, codes}
+use Rattle.std.specs.Prelude.{ℕ, [], ◌∷◌, Bool, true, false, Some, codes}
 use Rattle.clap.specs.Words.{App, Rule, Text, new_app, new_rule, with_rule, with_subcommand}
 use Rattle.clap.specs.declared.builder.ArgAction.TheVariants.{Set, SetTrue}
 use Rattle.clap.specs.declared.builder.ValueParser.TheVariants.{Unsigned}

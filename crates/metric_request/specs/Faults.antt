@@ -1,7 +1,11 @@
--- What clap's refusal of a command line is told as.
+-- Why a command line asks for nothing, and what clap's refusal of one is told as.
+use Rattle.std.specs.Prelude.{◌≡◌, true, false, List, [], Option, None, IsSomeAnd}
+use Rattle.clap.specs.Words.{IsAmong, Row, Text, fault_of, subcommand_of}
 use Rattle.clap.specs.declared.error.ErrorKind.{ErrorKind}
 use Rattle.clap.specs.declared.error.ErrorKind.TheVariants.{DisplayHelp, DisplayVersion}
 use Rattle.clap.specs.declared.error.ErrorKind.TheVariants.{OutOfMemory}
+use Rattle.metric_request.specs.Apps.{program_app}
+use Rattle.metric_request.specs.Requests.{denies_else}
 use Rattle.metric_request.specs.declared.fault.LineFault.{LineFault}
 use Rattle.metric_request.specs.declared.fault.LineFault.TheVariants.{Told, Usage, Nothing, Deny}
 use Rattle.metric_request.specs.declared.fault.LineFault.TheVariants.{Memory}
@@ -36,3 +40,38 @@ TellsKind DisplayHelp = IsToldOrMemory
 TellsKind DisplayVersion = IsToldOrMemory
 TellsKind OutOfMemory = IsMemory
 TellsKind _ = IsUsageOrMemory
+
+-- Clap has faults of the words to tell, and this tells one of them.
+pub record IsRefused (fault : LineFault) (words : List Text) : Type 0 where
+  pub kind : ErrorKind
+  pub among : IsAmong kind (fault_of program_app words)
+  pub told : TellsKind kind fault
+
+-- The command that words name, with its arguments, is one that may be asked for.
+abbrev pub IsAllowed : Option (Text × List Row) → Type 0
+IsAllowed named = IsSomeAnd named (λ n. denies_else n.1 ≡ false)
+
+-- No command is named; or its `--deny` has another word; or memory was refused.
+abbrev pub IsNotAsked : LineFault → Option (Text × List Row) → Type 0
+IsNotAsked (Told text) named = ⊥
+IsNotAsked (Usage text) named = ⊥
+IsNotAsked Nothing named = named ≡ None
+IsNotAsked Deny named = IsSomeAnd named (λ n. denies_else n.1 ≡ true)
+IsNotAsked Memory named = Unit {0}
+
+-- The fault says why the words ask for nothing: clap refuses them, or it takes them and they name
+-- no command, or deny something else; or memory was refused.
+abbrev pub IsNoRequest : LineFault → List Text → Type 0
+IsNoRequest (Told text) words = IsRefused (Told text) words
+IsNoRequest (Usage text) words = IsRefused (Usage text) words
+IsNoRequest Nothing words =
+    (fault_of program_app words ≡ []) × IsNotAsked Nothing (subcommand_of program_app words)
+IsNoRequest Deny words =
+    (fault_of program_app words ≡ []) × IsNotAsked Deny (subcommand_of program_app words)
+IsNoRequest Memory words = Unit {0}
+
+-- The fault is none of clap's.
+abbrev pub IsOwn : LineFault → Type 0
+IsOwn (Told text) = ⊥
+IsOwn (Usage text) = ⊥
+IsOwn fault = Unit {0}

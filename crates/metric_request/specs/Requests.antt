@@ -1,5 +1,5 @@
 -- What the words of a command line mean.
-use Rattle.std.specs.Prelude.{Bool, false, List, [], Option, codes, is_some, if◌then◌else◌}
+use Rattle.std.specs.Prelude.{Bool, false, not, List, [], Option, codes, is_some, if◌then◌else◌}
 use Rattle.std.specs.Prelude.{unwrap_or}
 use Rattle.std.specs.Option.{option_map_or}
 use Rattle.std.specs.Str.{bytes_eq}
@@ -26,6 +26,11 @@ task_of name =
 -- an argument was given this word
 abbrev pub has_word : Text → Text → List Row → Bool
 has_word id word rows = option_map_or (λ text. bytes_eq text word) (first_of id rows) false
+
+-- `--deny` was given another word than `remarks`
+abbrev pub denies_else : List Row → Bool
+denies_else rows = option_map_or (λ text. not (bytes_eq text (codes "remarks")))
+    (first_of (codes "deny") rows) false
 
 -- the text of an argument that has to be given
 abbrev pub text_in : Text → List Row → Text

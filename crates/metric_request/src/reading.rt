@@ -1,9 +1,10 @@
 //! The reading of a command line.
-ghost use Rattle.std.specs.Prelude.{◌≡◌, IfOk, IsSomeAnd, map};
-ghost use Rattle.clap.specs.Words.{first_of, found_of, rows_of, subcommand_of, subcommand_rows_of};
+ghost use Rattle.std.specs.Prelude.{◌≡◌, [], IfErr, IfOk, IsSomeAnd, OnOk, Some, false, map, true};
+ghost use Rattle.clap.specs.Words.{fault_of, first_of, found_of, rows_of, subcommand_of, subcommand_rows_of, takes};
 ghost use Rattle.metric_request.specs.Apps.{program_app};
+ghost use Rattle.metric_request.specs.Faults.{IsAllowed, IsNoRequest, IsNotAsked, IsOwn};
 ghost use Rattle.metric_request.specs.Numbers.{number_in, number_of};
-ghost use Rattle.metric_request.specs.Requests.{certificate_in, files_in, has_word, options_in, request_in, script_in, task_of, text_in};
+ghost use Rattle.metric_request.specs.Requests.{certificate_in, denies_else, files_in, has_word, options_in, request_in, script_in, task_of, text_in};
 
 use crate::commands::program;
 use crate::fault::{LineFault, fault_of};
@@ -23,6 +24,16 @@ pub fn request_of<'a>(alloc: Global, words: &'a [&'a str]) -> Result<Request, Li
     ensures answers { IfOk result (λ request. IsSomeAnd
         (subcommand_of program_app (map (λ w. w.now) words.entry.now))
         (λ named. request ≡ request_in named)) }
+
+    // Clap has a fault to tell of what it refuses, and none of the other words.
+    ensures accepted { OnOk result
+        (fault_of program_app (map (λ w. w.now) words.entry.now) ≡ []) }
+    ensures allowed { OnOk result
+        (IsAllowed (subcommand_of program_app (map (λ w. w.now) words.entry.now))) }
+    ensures refused { IfErr result (λ fault.
+        IsNoRequest fault (map (λ w. w.now) words.entry.now)) }
+    ensures taken { takes program_app (map (λ w. w.now) words.entry.now) ≡ true →
+        IfErr result IsOwn }
 {
     let command = program(alloc)?;
     match command.try_get_matches_from(words) {
@@ -33,8 +44,10 @@ pub fn request_of<'a>(alloc: Global, words: &'a [&'a str]) -> Result<Request, Li
 
 // What the matches ask for.
 fn request_from(alloc: Global, matches: &ArgMatches<'_>) -> Result<Request, LineFault>
-    ensures { IfOk result (λ request. IsSomeAnd (subcommand_rows_of matches.now)
+    ensures answers { IfOk result (λ request. IsSomeAnd (subcommand_rows_of matches.now)
         (λ named. request ≡ request_in named)) }
+    ensures allowed { OnOk result (IsAllowed (subcommand_rows_of matches.now)) }
+    ensures refused { IfErr result (λ fault. IsNotAsked fault (subcommand_rows_of matches.now)) }
 {
     match matches.subcommand() {
         Some((command, arguments)) => named_request(alloc, command, arguments),
@@ -48,10 +61,13 @@ fn named_request(
     command: &str,
     arguments: &ArgMatches<'_>,
 ) -> Result<Request, LineFault>
-    ensures { IfOk result (λ request.
+    ensures answers { IfOk result (λ request.
         request ≡ request_in (command.now, rows_of (found_of arguments.now))) }
+    ensures allowed { OnOk result (denies_else (rows_of (found_of arguments.now)) ≡ false) }
+    ensures refused { IfErr result (λ fault.
+        IsNotAsked fault (Some (command.now, rows_of (found_of arguments.now)))) }
 {
-    if arguments.contains_id("deny") && !has_word(arguments, "deny", "remarks") {
+    if denies_else(arguments) {
         return Err(LineFault::Deny);
     }
     let files = files_of(alloc, arguments)?;
@@ -151,6 +167,16 @@ fn has_word(arguments: &ArgMatches<'_>, id: &str, word: &str) -> bool
     ensures { result ≡ has_word id.now word.now (rows_of (found_of arguments.now)) }
 {
     arguments.get_str(id) == Some(word)
+}
+
+// Whether `--deny` was given another word than `remarks`.
+fn denies_else(arguments: &ArgMatches<'_>) -> bool
+    ensures { result ≡ denies_else (rows_of (found_of arguments.now)) }
+{
+    match arguments.get_str("deny") {
+        Some(word) => word != "remarks",
+        None => false,
+    }
 }
 
 // The number that an option has, and 0 without one.
