@@ -6,11 +6,12 @@ use metric_views::{Stream, StreamAggregation};
 
 /// Whether there is an entry for each stream, in order, with the number that it names, within the limit.
 pub fn are_entries(catalogue: &Catalogue, streams: &[Stream], entries: &[StreamSets]) -> bool {
+    for (stream, entry) in streams.iter().zip(entries) {
+        if !is_entry(catalogue, stream, entry) {
+            return false;
+        }
+    }
     entries.len() == streams.len()
-        && streams
-            .iter()
-            .zip(entries)
-            .all(|(stream, entry)| is_entry(catalogue, stream, entry))
 }
 
 fn is_entry(catalogue: &Catalogue, stream: &Stream, entry: &StreamSets) -> bool {
@@ -47,8 +48,10 @@ fn sets_by(kept: &[bool], keys: &[Key]) -> i128 {
 
 // How long the list of a stream is, or less than any where it is another list.
 fn list_length(catalogue: &Catalogue, stream: &Stream, list: &[SetKey]) -> i128 {
-    let instrument = catalogue.instruments().get(stream.instrument as usize);
-    match instrument.and_then(|instrument| instrument.allowed.as_ref()) {
+    let Some(instrument) = catalogue.instruments().get(stream.instrument as usize) else {
+        return -1;
+    };
+    match &instrument.allowed {
         Some(allowed) if is_list_of(stream.kept.get().as_slice(), allowed.rows(), list) => {
             list.len() as i128
         }
@@ -58,18 +61,55 @@ fn list_length(catalogue: &Catalogue, stream: &Stream, list: &[SetKey]) -> i128 
 
 // Whether a list rises, each row with its kept keys alone is in it, and each of it is of some row.
 fn is_list_of(kept: &[bool], rows: &[SetKey], list: &[SetKey]) -> bool {
-    rises(list)
-        && rows
-            .iter()
-            .all(|row| list.iter().any(|set| is_left(kept, row, set)))
-        && list
-            .iter()
-            .all(|set| rows.iter().any(|row| is_left(kept, row, set)))
+    rises(list) && are_all_listed(kept, rows, list) && are_all_left(kept, rows, list)
 }
 
 fn rises(list: &[SetKey]) -> bool {
     let later = list.get(1..list.len()).unwrap_or(&[]);
-    list.iter().zip(later).all(|(set, next)| set < next)
+    for (set, next) in list.iter().zip(later) {
+        if set >= next {
+            return false;
+        }
+    }
+    true
+}
+
+// Whether what is left of each row is in the list.
+fn are_all_listed(kept: &[bool], rows: &[SetKey], list: &[SetKey]) -> bool {
+    for row in rows {
+        if !is_listed(kept, row, list) {
+            return false;
+        }
+    }
+    true
+}
+
+fn is_listed(kept: &[bool], row: &SetKey, list: &[SetKey]) -> bool {
+    for set in list {
+        if is_left(kept, row, set) {
+            return true;
+        }
+    }
+    false
+}
+
+// Whether each set of the list is left of some row.
+fn are_all_left(kept: &[bool], rows: &[SetKey], list: &[SetKey]) -> bool {
+    for set in list {
+        if !is_left_of_some(kept, rows, set) {
+            return false;
+        }
+    }
+    true
+}
+
+fn is_left_of_some(kept: &[bool], rows: &[SetKey], set: &SetKey) -> bool {
+    for row in rows {
+        if is_left(kept, row, set) {
+            return true;
+        }
+    }
+    false
 }
 
 // Whether a set is what is left of a row where only some keys are kept.
