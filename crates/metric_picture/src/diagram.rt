@@ -2,7 +2,7 @@
 use std::alloc::{AllocError, Global};
 
 /// How a box or a link looks.
-#[derive(Clone, Copy, Debug, PartialEq, Eq, Drop)]
+#[derive(Clone, Copy, PartialEq)]
 pub(crate) enum Tone {
     /// As it comes.
     Plain,
@@ -45,7 +45,7 @@ impl Node {
 }
 
 /// A link from a box of a column to one of a later column, by their numbers.
-#[derive(Clone, Copy, Debug, PartialEq, Eq, Drop)]
+#[derive(Clone, Copy)]
 pub(crate) struct Link {
     /// The number of the first column.
     pub from_column: usize,

@@ -17,7 +17,7 @@ const BETWEEN_BOXES: usize = 10;
 const AROUND: usize = 12;
 
 /// Where a box stands.
-#[derive(Clone, Copy, Debug, PartialEq, Eq, Drop)]
+#[derive(Clone, Copy)]
 pub(crate) struct Place {
     pub x: usize,
     pub y: usize,

@@ -2,13 +2,14 @@
 use crate::diagram::{Link, Tone};
 use std::alloc::{AllocError, Global};
 
-/// The links from one column to another, with what was linked already.
+/// The links from one column to another, with what was linked already, and which of it is red.
 #[derive(Drop)]
 pub(crate) struct Links {
     from_column: usize,
     to_column: usize,
     width: usize,
     linked: Vec<bool>,
+    red: Vec<bool>,
     links: Vec<Link>,
 }
 
@@ -21,19 +22,24 @@ impl Links {
         height: usize,
         width: usize,
     ) -> Result<Links, AllocError> {
+        let pairs = height.saturating_mul(width);
         Ok(Links {
             from_column,
             to_column,
             width,
-            linked: vec![in alloc; false; height.saturating_mul(width)]?,
+            linked: vec![in alloc; false; pairs]?,
+            red: vec![in alloc; false; pairs]?,
             links: Vec::new(alloc),
         })
     }
 
-    /// Adds a link, unless both boxes are linked already.
+    /// Adds a link, unless both boxes are linked already. One that is red makes the link of these boxes red.
     pub(crate) fn add(&mut self, from: usize, to: usize, tone: Tone) -> Result<(), AllocError> {
-        let place = from.saturating_mul(self.width).saturating_add(to);
-        if self.note(place) {
+        let place = self.place_of(from, to);
+        if tone == Tone::Red {
+            raise(self.red.as_mut_slice(), place);
+        }
+        if raise(self.linked.as_mut_slice(), place) {
             self.links.push(Link {
                 from_column: self.from_column,
                 from,
@@ -45,20 +51,40 @@ impl Links {
         Ok(())
     }
 
-    // Notes that two boxes are linked, and says whether they were not.
-    fn note(&mut self, place: usize) -> bool {
-        match self.linked.get_mut(place) {
-            Some(linked) => {
-                let is_new = !*linked;
-                *linked = true;
-                is_new
-            }
-            None => false,
+    /// Puts the links last.
+    pub(crate) fn push_to(&self, all: &mut Vec<Link>) -> Result<(), AllocError> {
+        for link in self.links.iter() {
+            all.push(self.toned(*link))?;
+        }
+        Ok(())
+    }
+
+    // A link, red where one of those that it stands for is.
+    fn toned(&self, link: Link) -> Link {
+        let place = self.place_of(link.from, link.to);
+        match self.red.get(place) {
+            Some(true) => Link {
+                tone: Tone::Red,
+                ..link
+            },
+            _ => link,
         }
     }
 
-    /// Puts the links last.
-    pub(crate) fn push_to(&self, all: &mut Vec<Link>) -> Result<(), AllocError> {
-        all.extend_from_slice(&self.links)
+    // The place of two boxes among all pairs.
+    fn place_of(&self, from: usize, to: usize) -> usize {
+        from.saturating_mul(self.width).saturating_add(to)
+    }
+}
+
+/// Raises the flag at a place, and says whether it was there and not raised.
+pub(crate) fn raise(flags: &mut [bool], place: usize) -> bool {
+    match flags.get_mut(place) {
+        Some(flag) => {
+            let is_new = !*flag;
+            *flag = true;
+            is_new
+        }
+        None => false,
     }
 }
