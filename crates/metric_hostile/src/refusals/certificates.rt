@@ -15,9 +15,9 @@ type Checked = Result<Plan, (Catalogue, Config, CheckFault)>;
 pub(crate) fn made(alloc: Global, data: &Data) -> anyhow::Result<Answers> {
     let mut answers = Answers::new(alloc);
     let declared = declared_of(alloc, data)?;
-    mark(alloc)?;
+    mark(alloc);
     let first = make(alloc, &declared.catalogue, &declared.config);
-    mark(alloc)?;
+    mark(alloc);
     push_made(&mut answers.first, alloc, first)?;
     let second = make(alloc, &declared.catalogue, &declared.config);
     push_made(&mut answers.second, alloc, second)?;
@@ -39,9 +39,9 @@ fn push_made(
 pub(crate) fn written(alloc: Global, data: &Data) -> anyhow::Result<Answers> {
     let mut answers = Answers::new(alloc);
     let certificate = certificate_of(alloc, data)?;
-    mark(alloc)?;
+    mark(alloc);
     let first = certificate.write(alloc);
-    mark(alloc)?;
+    mark(alloc);
     push_written(&mut answers.first, first)?;
     push_written(&mut answers.second, certificate.write(alloc))?;
     Ok(answers)
@@ -58,9 +58,9 @@ fn push_written(out: &mut String, answer: Result<String, AllocError>) -> Result<
 pub(crate) fn read(alloc: Global, data: &Data) -> anyhow::Result<Answers> {
     let mut answers = Answers::new(alloc);
     let text = certificate_of(alloc, data)?.write(alloc)?;
-    mark(alloc)?;
+    mark(alloc);
     let first = Certificate::read(alloc, &text);
-    mark(alloc)?;
+    mark(alloc);
     push_read(&mut answers.first, alloc, first)?;
     push_read(&mut answers.second, alloc, Certificate::read(alloc, &text))?;
     Ok(answers)
@@ -82,9 +82,9 @@ pub(crate) fn checked(alloc: Global, data: &Data) -> anyhow::Result<Answers> {
     let mut answers = Answers::new(alloc);
     let certificate = certificate_of(alloc, data)?;
     let Declared { catalogue, config } = declared_of(alloc, data)?;
-    mark(alloc)?;
+    mark(alloc);
     let first = check(alloc, catalogue, config, &certificate);
-    mark(alloc)?;
+    mark(alloc);
     if let Some(back) = push_plan(&mut answers.first, first)? {
         let second = check(alloc, back.catalogue, back.config, &certificate);
         push_plan(&mut answers.second, second)?;
@@ -96,9 +96,9 @@ pub(crate) fn checked(alloc: Global, data: &Data) -> anyhow::Result<Answers> {
 pub(crate) fn tried(alloc: Global, data: &Data) -> anyhow::Result<Answers> {
     let mut answers = Answers::new(alloc);
     let Declared { catalogue, config } = declared_of(alloc, data)?;
-    mark(alloc)?;
+    mark(alloc);
     let first = Plan::trial(alloc, catalogue, config);
-    mark(alloc)?;
+    mark(alloc);
     if let Some(back) = push_plan(&mut answers.first, first)? {
         let second = Plan::trial(alloc, back.catalogue, back.config);
         push_plan(&mut answers.second, second)?;

@@ -46,9 +46,9 @@ fn collect_last<R: Wait, B: Book>(
         bail!("no collection");
     };
     let mut answers = Answers::new(alloc);
-    mark(alloc)?;
+    mark(alloc);
     let first = collect(rt, alloc, seats, *reader, *instrument, *now);
-    mark(alloc)?;
+    mark(alloc);
     push_reply(&mut answers.first, alloc, seats.provider.plan(), &first?)?;
     if !words.is_once {
         let second = collect(rt, alloc, seats, *reader, *instrument, *now)?;
@@ -90,9 +90,9 @@ pub(crate) fn all_collected<R: Wait, B: Book>(
 ) -> anyhow::Result<Answers> {
     let mut answers = Answers::new(alloc);
     let (mut seats, mut seat) = seats_with_last::<R, B>(rt, alloc, words)?;
-    mark(alloc)?;
+    mark(alloc);
     let first = seat.collect_all(rt, alloc, &seats.provider, LATE);
-    mark(alloc)?;
+    mark(alloc);
     let done = push_all(&mut answers.first, alloc, seats.provider.plan(), first)?;
     push_left(
         &mut answers.second,
@@ -115,9 +115,9 @@ pub(crate) fn shut_down<R: Wait, B: Book>(
 ) -> anyhow::Result<Answers> {
     let mut answers = Answers::new(alloc);
     let (mut seats, seat) = seats_with_last::<R, B>(rt, alloc, words)?;
-    mark(alloc)?;
+    mark(alloc);
     let first = seat.shutdown(rt, alloc, &seats.provider, LATE);
-    mark(alloc)?;
+    mark(alloc);
     match first {
         Ok(batches) => push_batches(&mut answers.first, alloc, seats.provider.plan(), &batches)?,
         Err((mut seat, fault)) => {

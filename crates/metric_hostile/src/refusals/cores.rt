@@ -17,9 +17,9 @@ use std::alloc::{AllocError, Global};
 pub(crate) fn begun<B: Book>(alloc: Global, data: &Data) -> anyhow::Result<Answers> {
     let mut answers = Answers::new(alloc);
     let plan = plan_of(alloc, data)?;
-    mark(alloc)?;
+    mark(alloc);
     let first: Result<Core<B>, (Plan, AllocError)> = Core::new(alloc, plan, START);
-    mark(alloc)?;
+    mark(alloc);
     match first {
         Ok(mut core) => {
             answers.first.push_str("a core\n")?;
@@ -68,9 +68,9 @@ pub(crate) fn ran<B: Book>(alloc: Global, words: &Words) -> anyhow::Result<Answe
     let mut answers = Answers::new(alloc);
     let mut core = core_of::<B>(alloc, plan_of(alloc, words.data)?)?;
     let events = events_but(alloc, words.data, words.left)?;
-    mark(alloc)?;
+    mark(alloc);
     let first = core.run(alloc, events.as_slice());
-    mark(alloc)?;
+    mark(alloc);
     push_ran(&mut answers.first, alloc, core.plan(), first)?;
     if !words.is_once {
         push_run(&mut answers.second, alloc, words.data, &mut core)?;
@@ -98,9 +98,9 @@ pub(crate) fn granted<B: Book>(alloc: Global, words: &Words) -> anyhow::Result<A
     if cell.facts().budgets.len() == 0 {
         bail!("no recorder");
     }
-    mark(alloc)?;
+    mark(alloc);
     let first = cell.grant(0, 1);
-    mark(alloc)?;
+    mark(alloc);
     push_reply(
         &mut answers.first,
         alloc,

@@ -31,9 +31,9 @@ pub(crate) fn finished<R: Wait, B: Book>(
 fn finish<R: Wait, B: Book>(rt: &R, alloc: Global, seats: Seats<B>) -> anyhow::Result<Answers> {
     let mut answers = Answers::new(alloc);
     let (provider, recorders) = seats.into_parts();
-    mark(alloc)?;
+    mark(alloc);
     let first: Finished<B> = provider.finish(rt, alloc, recorders);
-    mark(alloc)?;
+    mark(alloc);
     match first {
         Ok(totals) => push_totals(&mut answers.first, &totals)?,
         Err((provider, recorders, fault)) => {
@@ -110,9 +110,9 @@ fn audit_first(
     if plan.all_facts().is_empty() || slips.len() != plan.catalogue().recorders().len() {
         bail!("no instrument, or not one list of slips for each recorder");
     }
-    mark(alloc)?;
+    mark(alloc);
     let first = audit(alloc, plan, 0, START, entries, slips, batches);
-    mark(alloc)?;
+    mark(alloc);
     push_audit(&mut answers.first, first)?;
     let second = audit(alloc, plan, 0, START, entries, slips, batches);
     push_audit(&mut answers.second, second)?;

@@ -10,8 +10,12 @@ pub(crate) struct Data {
     pub script: &'static str,
 }
 
-/// The inputs.
-pub(crate) const DATA: &[Data] = &[GROWING, HISTOGRAM, DELTA, SEVERAL, COMBINED];
+const DATA: &[Data] = &[GROWING, HISTOGRAM, DELTA, SEVERAL, COMBINED];
+
+/// The inputs. One function names their texts, so that each is read once where this is checked.
+pub(crate) fn all_data() -> &'static [Data] {
+    DATA
+}
 
 // A counter whose limit is below the product over its keys, so that its budget bounds its series. Its table is by hash,
 // and grows as new series come; at the last recording, the 33rd and of the 19th series, tables and lists both grow.

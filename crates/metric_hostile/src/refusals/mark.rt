@@ -4,9 +4,10 @@ use std::alloc::{AllocError, Global};
 // The bytes of an allocation that marks, which nothing else asks for.
 const MARK: usize = 12_345_677;
 
-/// Makes an allocation that marks, and drops it.
-pub(crate) fn mark(alloc: Global) -> Result<(), AllocError> {
-    let mut mark: Vec<u8> = Vec::with_capacity(alloc, MARK)?;
-    mark.push(0)?;
-    Ok(())
+/// Makes an allocation that marks, and drops it. Where there is no memory for it, who watches misses a mark.
+pub(crate) fn mark(alloc: Global) {
+    let made: Result<Vec<u8>, AllocError> = Vec::with_capacity(alloc, MARK);
+    if let Ok(mut mark) = made {
+        let _ = mark.push(0);
+    }
 }

@@ -79,13 +79,25 @@ fn input_but(
     certificate: &str,
     left: Option<usize>,
 ) -> Result<String, AllocError> {
-    let (catalogue, config) = (data.catalogue, data.config);
-    let mut input = format!(in alloc; "%% catalogue\n{catalogue}%% config\n{config}")?;
-    write!(input, "{certificate}%% script\nstart 0\n")?;
-    for (place, line) in data.script.lines().enumerate() {
-        if left != Some(place.saturating_add(1)) {
-            writeln!(input, "{line}")?;
+    let mut input = String::from_str(alloc, "%% catalogue\n")?;
+    input.push_str(data.catalogue)?;
+    input.push_str("%% config\n")?;
+    input.push_str(data.config)?;
+    input.push_str(certificate)?;
+    input.push_str("%% script\nstart 0\n")?;
+    push_script(&mut input, data.script, left.unwrap_or(0))?;
+    Ok(input)
+}
+
+// Adds the lines of a script, but the one of a number, from 1.
+fn push_script(out: &mut String, script: &str, left: usize) -> Result<(), AllocError> {
+    let mut number: usize = 0;
+    for line in script.lines() {
+        number = number.wrapping_add(1);
+        if number != left {
+            out.push_str(line)?;
+            out.push('\n')?;
         }
     }
-    Ok(input)
+    Ok(())
 }

@@ -23,9 +23,9 @@ pub(crate) fn begun<R: Wait, B: Book>(
 ) -> anyhow::Result<Answers> {
     let mut answers = Answers::new(alloc);
     let plan = plan_of(alloc, data)?;
-    mark(alloc)?;
+    mark(alloc);
     let first: Result<Seats<B>, Plan> = started(rt, alloc, plan);
-    mark(alloc)?;
+    mark(alloc);
     match first {
         Ok(mut seats) => {
             push_seats(&mut answers.first, &seats)?;
@@ -123,9 +123,9 @@ fn record_last<R: Wait, B: Book>(
 ) -> anyhow::Result<Answers> {
     let mut answers = Answers::new(alloc);
     let seat = recorder_of(&mut seats.recorders, recording.recorder)?;
-    mark(alloc)?;
+    mark(alloc);
     let first = recording.make(rt, &seats.provider, seat);
-    mark(alloc)?;
+    mark(alloc);
     let plan = seats.provider.plan();
     push_reply(
         &mut answers.first,

@@ -26,9 +26,9 @@ pub(crate) fn replayed(alloc: Global, data: &Data) -> anyhow::Result<Answers> {
     let input = input_of(alloc, data)?;
     let mut sink = sink_with_room(alloc)?;
     let mut source = CutSource::new(input.as_bytes(), None);
-    mark(alloc)?;
+    mark(alloc);
     let first = replay(alloc, OPTIONS, &mut source, &mut sink);
-    mark(alloc)?;
+    mark(alloc);
     push_replayed(&mut answers.first, first, sink)?;
     let mut sink = sink_with_room(alloc)?;
     let mut source = CutSource::new(input.as_bytes(), None);

@@ -1,7 +1,7 @@
 //! Each call over each book and each data, with memory enough.
 use crate::refusals::answers::Answers;
 use crate::refusals::calls::answers_of;
-use crate::refusals::inputs::{DATA, Data};
+use crate::refusals::inputs::{Data, all_data};
 use crate::refusals::words::{BOOKS, BookName, Booked, CALLS, Call, Plain, Words};
 use std::alloc::Global;
 use std::sync::Wait;
@@ -9,7 +9,7 @@ use std::sync::Wait;
 /// Prints a line for each call and each data: whether it answers as is due over each book, or what else it answers.
 pub(crate) fn print<R: Wait + Print>(rt: &R, alloc: Global) -> anyhow::Result<()> {
     for (name, call) in CALLS {
-        for data in DATA {
+        for data in all_data() {
             let line = line_of(rt, alloc, *call, data)?;
             println!(rt; "{} {}{line}", *name, data.name)?;
         }

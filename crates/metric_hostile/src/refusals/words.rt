@@ -1,5 +1,5 @@
 //! The words of the command line.
-use crate::refusals::inputs::{DATA, Data};
+use crate::refusals::inputs::{Data, all_data};
 use anyhow::{Context, bail};
 
 /// A call that needs no book.
@@ -137,7 +137,7 @@ fn book_of(word: &str) -> Option<BookName> {
 }
 
 fn data_of(word: &str) -> Option<&'static Data> {
-    for data in DATA {
+    for data in all_data() {
         if data.name == word {
             return Some(data);
         }
