@@ -1,13 +1,14 @@
-//! A recording, or a list of them, that is held inside its lock, and a second one of another instrument or of the same.
+//! What is done inside a lock: a recording, or a list of them, that is held there, and a second one of another instrument or
+//! of the same; and that each step of a provider is told there.
 use crate::equal::assert_equal;
 use crate::samples::{MAIN, PAIR};
 use metric_contents::Refusal;
 use metric_marked::Marked;
-use metric_provider::{Gate, Measurement, Provider, Recorder, start};
+use metric_provider::{Collector, Gate, Measurement, Provider, Recorder, start};
 use metric_sdk::certified_plan;
 use std::alloc::Global;
 use std::sync::Wait;
-use std::sync::atomic::{AtomicBool, Ordering};
+use std::sync::atomic::{AtomicBool, AtomicU64, Ordering};
 use std::test::Fail;
 use std::thread;
 use std::thread::{Threads, join};
@@ -152,5 +153,70 @@ fn a_held_instrument_keeps_its_own_recordings(rt: HostRuntime) -> Result<(), Fai
         let is_seen = flags.is_seen.load(Ordering::SeqCst);
         assert_equal(&rt, (answers, is_seen), ((Ok(()), Ok(())), *wanted));
     }
+    Ok(())
+}
+
+// Keeps which instruments were stepped on, in order: a digit each, one above the instrument's number.
+#[derive(Clone, Copy, Drop)]
+struct Listing<'a> {
+    steps: &'a AtomicU64,
+}
+
+impl Gate for Listing<'_> {
+    fn inside<R: Wait>(&self, _rt: &R, instrument: u32) {
+        let step = u64::from(instrument) + 1;
+        let so_far = self.steps.load(Ordering::SeqCst);
+        self.steps.store(so_far.wrapping_mul(10).wrapping_add(step), Ordering::SeqCst);
+    }
+}
+
+type Listed<'a> = Provider<Marked, Listing<'a>>;
+
+// Records on the second instrument, and a list of two on the first.
+fn record_all<R: Wait>(rt: &R, provider: &Listed<'_>, seat: &mut Recorder) -> Result<(), Fail> {
+    seat.record(rt, provider, 1, &[], 1)?;
+    let one = Measurement {
+        set: [0; 8],
+        value: 1,
+    };
+    match seat.record_sets(rt, provider, 0, &[one, one]) {
+        Ok(()) => Ok(()),
+        Err(fault) => Err(Fail::from(fault.refusal)),
+    }
+}
+
+// Makes a step of each kind: recordings, a collection of the second instrument, the end of the first, and a grant on the second.
+fn make_steps<R: Wait>(
+    rt: &R,
+    alloc: Global,
+    provider: &Listed<'_>,
+    recorders: &mut [Recorder],
+    readers: &mut [Collector],
+) -> Result<(), Fail> {
+    for seat in recorders.iter_mut() {
+        record_all(rt, provider, seat)?;
+    }
+    for seat in readers.iter_mut() {
+        seat.collect(rt, alloc, provider, 1, 10)?;
+    }
+    provider.close(rt, 0)?;
+    Ok(provider.grant(rt, 0, 1, 0)?)
+}
+
+fn steps_into<R: Wait>(rt: &R, alloc: Global, steps: &AtomicU64) -> Result<(), Fail> {
+    let plan = certified_plan(alloc, PAIR, MAIN)?;
+    match start(rt, alloc, plan, 0, 0, Listing { steps }) {
+        Ok((provider, mut recorders, mut readers)) => {
+            make_steps(rt, alloc, &provider, &mut recorders, &mut readers)
+        }
+        Err((_, _, refused)) => Err(Fail::from(refused)),
+    }
+}
+
+#[test]
+fn each_step_is_told_inside(rt: HostRuntime) -> Result<(), Fail> {
+    let steps = AtomicU64::new(0);
+    steps_into(&rt, rt.alloc(), &steps)?;
+    assert_equal(&rt, steps.load(Ordering::SeqCst), 211_211_212);
     Ok(())
 }
