@@ -21,7 +21,7 @@ use Rattle.metric_contents.specs.SameValues.{same_value-Decides}
 use Rattle.metric_contents.specs.Places.{has_repeat, place, repeats_after, same_value}
 use Rattle.metric_catalogue.specs.Sound.{IsFreeText, IsLabel, IsSoundKey, IsSoundList, IsSoundValue}
 use Rattle.metric_catalogue.specs.Texts.{free_text, label_field, needed_text}
-use Rattle.metric_contents.specs.Differing.{neither}
+use Rattle.std.proofs.lemmas.Bool.{or_parts}
 use Rattle.metric_catalogue.proofs.SoundLists.{IsNext, apart_by, each_length, list_few, made_sound, not_true, texts_apart}
 
 -- a short text is the text, and is a free text
@@ -83,7 +83,7 @@ no_place value i (other ∷ values) e = by (same_value value other) refl e (no_p
 differ_after : (before left : List AttrValue) → AllPairs (λ value other. value ≢ other) before → repeats_after before left ≡ false → AllPairs (λ value other. value ≢ other) (before ++ left)
 differ_after before [] all e = subst (AllPairs (λ (value other : AttrValue). value ≢ other)) (sym (append-nil before)) all
 differ_after before (value ∷ left) all e =
-    let (fresh, rest) = neither (is_some (place before value)) (repeats_after (before ++ value ∷ []) left) e in
+    let (fresh, rest) = or_parts (is_some (place before value)) (repeats_after (before ++ value ∷ []) left) e in
     let apart = All-from_recursion (λ other. other ≢ value) before (no_place value 0 before fresh) in
     let more = all_pairs_push (λ v w. v ≢ w) before value all (λ k d within. apart k d within) in
     subst (AllPairs (λ (v w : AttrValue). v ≢ w)) (append_assoc before (value ∷ []) left) (differ_after (before ++ value ∷ []) left more rest)

@@ -12,7 +12,7 @@ use Rattle.metric_contents.specs.ByKeys.{is_allowed, values_by_keys}
 use Rattle.metric_contents.specs.Encoding.{Given, entry_at, entry_of, entry_with, has_repeated_key, is_complete, is_declared, is_of, set_of}
 use Rattle.metric_contents.specs.InOrder.{AreKeysApart, entries_after, entry_in_order, entry_left_out, set_in_order}
 use Rattle.metric_contents.specs.KeyNames.{is_key}
-use Rattle.metric_contents.specs.Differing.{neither}
+use Rattle.std.proofs.lemmas.Bool.{or_parts}
 use Rattle.metric_contents.proofs.OrderLaws.{steps}
 
 -- the entry of a key, 0 where there is none
@@ -64,7 +64,7 @@ still_declared key keys (given ∷ attrs) declared =
 not_found : (key : Key) (attrs : List Given) → list_any (is_of key.name) attrs ≡ false → entry_at attrs key ≡ Some 0
 not_found key [] e = refl
 not_found key (given ∷ attrs) e =
-    let (other, rest) = neither (is_of key.name given) (list_any (is_of key.name) attrs) e in
+    let (other, rest) = or_parts (is_of key.name given) (list_any (is_of key.name) attrs) e in
     ap (λ (b : Bool). entry_of key (cond b (Some given) (find (is_of key.name) attrs))) other ∙ not_found key attrs rest
 
 -- an attribute of another key than these makes no difference to them
@@ -76,7 +76,7 @@ record IsPassedOver (given : Given) (attrs : List Given) (keys : List Key) : Typ
 passed_over : (given : Given) (attrs : List Given) (keys : List Key) → list_any (is_key given.0) keys ≡ false → IsPassedOver given attrs keys
 passed_over given attrs [] new = record { allowed = refl; complete = refl; entries = refl }
 passed_over given attrs (key ∷ keys) new =
-    let (head, rest) = neither (is_key given.0 key) (list_any (is_key given.0) keys) new in
+    let (head, rest) = or_parts (is_key given.0 key) (list_any (is_key given.0) keys) new in
     let other : is_of key.name given ≡ false = nat_list_eq_equiv.symm given.0 key.name ∙ head in
     let past = passed_over given attrs keys rest in
     let entry : entry_at (given ∷ attrs) key ≡ entry_at attrs key = ap (λ (b : Bool). entry_of key (cond b (Some given) (find (is_of key.name) attrs))) other in

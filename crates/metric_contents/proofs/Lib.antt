@@ -2,3 +2,5 @@ mod Words
 mod Numbered
 mod OrderLaws
 mod InOrderLaws
+mod Differing
+mod Mapped

@@ -1,4 +1,5 @@
 -- Attributes in another order name the same set key.
+use Rattle.std.proofs.lemmas.Bool.{or_parts}
 use Rattle.std.proofs.Common.{◌≡◌, ℕ, ◌+◌, ◌≤◌, Bool, true, false, cond, not, ◌&&◌, ◌||◌, List, [], ◌∷◌, ◌++◌, ◌-◌, length, map, replicate, find, Option, Some, None, unwrap_or, Result, Ok, refl, sym, ap, subst, ◌∙◌, arith, slice_get, true≢false}
 use Rattle.std.proofs.lemmas.Slice.Eq.{bytes_eq-Decides}
 use Rattle.std.proofs.lemmas.List.Sorted.{list_any-IsPermutation, sum_by-IsPermutation}
@@ -15,7 +16,7 @@ use Rattle.metric_contents.specs.declared.refusal.Refusal.{Refusal}
 use Rattle.metric_contents.specs.declared.refusal.Refusal.TheVariants.{UnknownInstrument, DuplicateKey, UnknownKey, UnknownValue, MissingKey}
 use Rattle.metric_contents.specs.Encoding.{Given, allowed_set, encode_of, entry_at, entry_of, has_declared_value, has_repeated_key, is_complete, is_declared, is_of, permitted, set_of}
 use Rattle.metric_contents.specs.Places.{place, same_value}
-use Rattle.metric_contents.specs.Differing.{neither, repeated_same}
+use Rattle.metric_contents.proofs.Differing.{repeated_same}
 use Rattle.metric_contents.specs.SameValues.{same_value-Decides}
 
 -- how many of one more element
@@ -87,14 +88,14 @@ all_none p (x ∷ xs) = by (p x) (all_none p xs)
 none_counted : {X : Type 0} (p : X → Bool) (xs : List X) → list_any p xs ≡ false → count_by p xs ≡ 0
 none_counted p [] e = refl
 none_counted p (x ∷ xs) e =
-    let (none, later) = neither (p x) (list_any p xs) e in
+    let (none, later) = or_parts (p x) (list_any p xs) e in
     count_by-no p x xs none ∙ ap (λ (n : ℕ). 0 + n) (none_counted p xs later) ∙ omega arith
 
 -- where no key stands twice, at most one attribute is of a key
 few_of : (attrs : List Given) (name : List ℕ) → has_repeated_key attrs ≡ false → count_by (is_of name) attrs ≤ 1
 few_of [] name e = omega arith
 few_of (given ∷ attrs) name e =
-    let (alone, later) = neither (list_any (is_of given.0) attrs) (has_repeated_key attrs) e in
+    let (alone, later) = or_parts (list_any (is_of given.0) attrs) (has_repeated_key attrs) e in
     by (bytes_eq given.0 name) refl alone (few_of attrs name later)
   where
     by : (here : Bool) → bytes_eq given.0 name ≡ here → list_any (is_of given.0) attrs ≡ false → count_by (is_of name) attrs ≤ 1 → count_by (is_of name) (given ∷ attrs) ≤ 1

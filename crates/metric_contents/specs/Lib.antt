@@ -2,7 +2,6 @@ pub mod Refusals
 pub mod Places
 pub mod PlaceLaws
 pub mod SameValues
-pub mod Differing
 pub mod Numbering
 pub mod Packed
 pub mod Shortcuts
@@ -13,5 +12,5 @@ pub mod Encoding
 pub mod ByKeys
 pub mod InOrder
 pub mod Attributes
-pub mod Mapped
+pub mod EntryLaws
 pub mod Budgets

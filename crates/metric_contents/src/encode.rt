@@ -171,7 +171,7 @@ fn set_of_declared<A: Attribute>(keys: &[Key], attrs: &[A]) -> Result<SetKey, Re
 }
 
 // Whether each key is declared.
-#[tactic(auto, using(crate::specs::Mapped::maps))]
+#[tactic(auto, using(crate::proofs::Mapped::maps))]
 fn are_declared<A: Attribute>(keys: &[Key], attrs: &[A]) -> bool
     ensures { result ≡ list_all (is_declared keys.now) (map A.given attrs.now) }
 {
@@ -233,7 +233,7 @@ fn entries_of<A: Attribute>(keys: &[Key], attrs: &[A]) -> Option<SetKey>
 }
 
 // The entry of a key, or nothing where it does not declare the value that it is given.
-#[tactic(auto, using(crate::specs::Mapped::maps))]
+#[tactic(auto, using(crate::proofs::Mapped::maps))]
 fn entry_at<A: Attribute>(key: &Key, attrs: &[A]) -> Option<u16>
     ensures { result ≡ entry_at (map A.given attrs.now) key.now }
 {

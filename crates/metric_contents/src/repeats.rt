@@ -21,7 +21,7 @@ pub(crate) fn has_repeated_key<A: Attribute>(attrs: &[A]) -> bool
 }
 
 // Whether an attribute is of the key of this name.
-#[tactic(auto, using(crate::specs::Mapped::maps))]
+#[tactic(auto, using(crate::proofs::Mapped::maps))]
 pub(crate) fn is_given<A: Attribute>(attrs: &[A], name: &str) -> bool
     ensures { result ≡ list_any (is_of name.now) (map A.given attrs.now) }
 {

@@ -4,7 +4,7 @@ use Rattle.std.proofs.lemmas.List.{length-map}
 use Rattle.toml.specs.View.{view}
 use Rattle.metric_table.specs.Fields.{whole_in}
 use Rattle.metric_catalogue.specs.Allowed.{is_entry_of, is_row}
-use Rattle.metric_contents.specs.Mapped.{entry_more}
+use Rattle.metric_contents.specs.EntryLaws.{entry_more}
 use Rattle.metric_catalogue.proofs.Rows.{entries_end, entry_is, row_at, row_end, unlike}
 use Rattle.metric_catalogue.proofs.allowed.row_set.Goals as goal
 

@@ -3,7 +3,7 @@ use Rattle.std.proofs.Common.{◌≡◌, List, true, ◌&&◌, sym, ◌∙◌, a
 use Rattle.std.proofs.lemmas.List.Folds.{list_all_more}
 use Rattle.metric_contents.specs.Encoding.{Given, entry_at}
 use Rattle.metric_contents.specs.ByKeys.{is_allowed}
-use Rattle.metric_contents.specs.Mapped.{entry_more}
+use Rattle.metric_contents.specs.EntryLaws.{entry_more}
 use Rattle.metric_contents.proofs.encode.entries_of.Goals as goal
 
 pub loop-place-preserved : goal.loop-place-preserved

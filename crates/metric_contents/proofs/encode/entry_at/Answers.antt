@@ -2,7 +2,7 @@
 use Rattle.std.proofs.Common.{◌≡◌, ℕ, List, Some, find, ap, subst, sym, ◌∙◌}
 use Rattle.metric_names.specs.declared.value.AttrValue.{AttrValue}
 use Rattle.metric_contents.specs.Encoding.{entry_with, is_of}
-use Rattle.metric_contents.specs.Mapped.{entry-found}
+use Rattle.metric_contents.proofs.Mapped.{entry-found}
 use Rattle.metric_contents.proofs.encode.entry_at.Goals as goal
 
 pub returns-in-Some : goal.returns-in-Some

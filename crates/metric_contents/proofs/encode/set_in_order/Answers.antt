@@ -5,7 +5,8 @@ use Rattle.std.specs.Option.{option_and_then}
 use Rattle.metric_contents.specs.declared.contents.Key.{Key}
 use Rattle.metric_contents.specs.Encoding.{Given}
 use Rattle.metric_contents.specs.InOrder.{entries_after}
-use Rattle.metric_contents.specs.Mapped.{entries_before, entry_put}
+use Rattle.metric_contents.proofs.Mapped.{entries_before}
+use Rattle.metric_contents.specs.EntryLaws.{entry_put}
 use Rattle.metric_contents.proofs.encode.set_in_order.Goals as goal
 
 pub loop-place-preserved : goal.loop-place-preserved

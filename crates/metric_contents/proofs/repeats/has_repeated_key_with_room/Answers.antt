@@ -4,7 +4,7 @@ use Rattle.std.specs.Ordering.{is_lt}
 use Rattle.std.proofs.lemmas.List.Sorted.{answers_always}
 use Rattle.metric_contents.specs.Attributes.{given_by_owned}
 use Rattle.metric_contents.specs.declared.attributes.OwnedAttr.{OwnedAttr}
-use Rattle.metric_contents.specs.Differing.{names_of, repeated_where_falling, text_cmp}
+use Rattle.metric_contents.proofs.Differing.{names_of, repeated_where_falling, text_cmp}
 use Rattle.metric_contents.proofs.repeats.has_repeated_key_with_room.Goals as goal
 
 keys_given : (attrs : List OwnedAttr) → map (λ attr. attr.key) attrs ≡ names_of (map given_by_owned attrs)

@@ -1,4 +1,5 @@
 -- Whether a key stands twice, by keys that all differ.
+use Rattle.std.proofs.lemmas.Bool.{or_parts}
 use Rattle.std.proofs.Common.{◌≡◌, ℕ, ◌+◌, Bool, true, false, not, ◌||◌, List, [], ◌∷◌, map, get_or}
 use Rattle.std.proofs.Common.{MatchBool, Bor, true≢false, refl, sym, subst, ◌∙◌, arith}
 use Rattle.std.specs.Cmp.{IsTotalOrder}
@@ -26,16 +27,11 @@ AllDiffer texts = IsDistinct (eq_by_cmp (slice_cmp nat_cmp)) texts
 same_text : (x y : List ℕ) → eq_by_cmp (slice_cmp nat_cmp) x y ≡ bytes_eq y x
 same_text x y = is_eq-slice_cmp x y ∙ nat_list_eq_equiv.symm x y
 
--- the two parts of a choice that is false
-pub neither : (a b : Bool) → (a || b) ≡ false → (a ≡ false) × (b ≡ false)
-neither true b e = absurd cc
-neither false b e = (refl, e)
-
 none_given : (name : List ℕ) (attrs : List Given) → list_any (is_of name) attrs ≡ false
     → AllByRecursion (λ other. eq_by_cmp (slice_cmp nat_cmp) name other ≡ false) (names_of attrs)
 none_given name [] e = tt
 none_given name (given ∷ attrs) e =
-    let (head, rest) = neither (bytes_eq given.0 name) (list_any (is_of name) attrs) e in
+    let (head, rest) = or_parts (bytes_eq given.0 name) (list_any (is_of name) attrs) e in
     (same_text name given.0 ∙ head, none_given name attrs rest)
 
 given_none : (name : List ℕ) (attrs : List Given)
@@ -51,7 +47,7 @@ pub differ : (attrs : List Given) → has_repeated_key attrs ≡ false → AllDi
 unfolding IsDistinct
 differ [] e = tt
 differ (given ∷ attrs) e =
-    let (head, rest) = neither (list_any (is_of given.0) attrs) (has_repeated_key attrs) e in
+    let (head, rest) = or_parts (list_any (is_of given.0) attrs) (has_repeated_key attrs) e in
     (none_given given.0 attrs head, differ attrs rest)
 
 -- where all differ, no key stands twice

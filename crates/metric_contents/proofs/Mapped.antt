@@ -1,9 +1,7 @@
 -- A test over the attributes is the same test over what they give.
-use Rattle.std.proofs.lemmas.List.{length-append, length-map, length-replicate, length-take}
-use Rattle.std.proofs.lemmas.List.{length-take-le, map-append, take_more}
-use Rattle.std.proofs.Math.Seq.{set-append_seam}
-use Rattle.std.proofs.Common.{◌≡◌, ℕ, suc, ◌+◌, ◌-◌, ◌<◌, ◌≤◌, ◌++◌, length, min, take, get_or}
-use Rattle.std.proofs.Common.{replicate, slice_set, append_assoc, subst, arith, Bool, true, false}
+use Rattle.std.proofs.lemmas.List.{length-append, length-replicate, length-take}
+use Rattle.std.proofs.Common.{◌≡◌, ℕ, ◌+◌, ◌-◌, ◌<◌, ◌++◌, length, min, take}
+use Rattle.std.proofs.Common.{replicate, arith, Bool, true, false}
 use Rattle.std.proofs.Common.{cond, ◌||◌, List, [], ◌∷◌, map, Option, Some, find, refl, sym, ap}
 use Rattle.std.proofs.Common.{◌∙◌}
 use Rattle.std.proofs.lemmas.List.Folds.{list_all-map}
@@ -38,37 +36,6 @@ pub entry-found : {Y : Type 0} (h : Y → Given) (ys : List Y) (key : Key) (y : 
     → entry_at (map h ys) key ≡ entry_with key (h y).1
 entry-found h ys key y e = entry-map h ys key ∙
     ap (λ (o : Option _). entry_of key (option_map h o)) e
-
--- one more entry after those of a set key
-pub entry_put : (front : List ℕ) (p entry : ℕ) → length front ≡ p → p < 8
-    → slice_set (front ++ replicate (8 - p) 0) p entry ≡ (front ++ entry ∷ []) ++ replicate
-    (8 - (p + 1)) 0
-entry_put front p entry len within =
-    let one : 8 - p ≡ suc (8 - (p + 1)) = omega arith in
-    let left : replicate (8 - p) 0 ≡ 0 ∷ replicate (8 - (p + 1)) 0 = ap (λ (n : ℕ). replicate n 0)
-    one in
-    let seam : slice_set (front ++ 0 ∷ replicate (8 - (p + 1)) 0) p entry ≡ front ++ entry ∷
-    replicate (8 - (p + 1)) 0
-    = subst (λ (n : ℕ). slice_set (front ++ 0 ∷ replicate (8 - (p + 1)) 0) n entry ≡ front ++ entry
-    ∷ replicate (8 - (p + 1)) 0) len (set-append_seam front 0 (replicate (8 - (p + 1)) 0) entry)
-    in
-    ap (λ (zeros : List ℕ). slice_set (front ++ zeros) p entry) left ∙ seam ∙
-    sym (append_assoc front (entry ∷ []) (replicate (8 - (p + 1)) 0))
-
--- one more entry of a set key
-pub entry_more : {X : Type 0} (f : X → ℕ) (keys : List X) (p : ℕ) (key : X) → p < length keys
-    → length keys ≤ 8 → key ≡ get_or keys p key
-    → slice_set (map f (take p keys) ++ replicate (8 - p) 0) p (f key) ≡ map f (take (p + 1) keys)
-    ++ replicate (8 - (p + 1)) 0
-entry_more {X} f keys p key within few is =
-    let len : length (map f (take p keys)) ≡ p = length-map (take p keys) f ∙
-    length-take-le p keys (omega arith) in
-    let more : take (p + 1) keys ≡ take p keys ++ key ∷ [] = take_more keys p key within ∙
-    ap (λ (k : X). take p keys ++ k ∷ []) (sym is) in
-    let mapped : map f (take (p + 1) keys) ≡ map f (take p keys) ++ f key ∷ [] = ap (map f) more ∙
-    map-append f (take p keys) (key ∷ []) in
-    entry_put (map f (take p keys)) p (f key) len (omega arith) ∙
-    ap (λ (front : List ℕ). front ++ replicate (8 - (p + 1)) 0) (sym mapped)
 
 -- as many entries as there are places before those that are left
 pub entries_before : (set : List ℕ) (p : ℕ) → p < 8 → set ≡ take p set ++ replicate (8 - p) 0
