@@ -7,6 +7,8 @@
 #[cfg(test)]
 mod exports;
 #[cfg(test)]
+mod faults;
+#[cfg(test)]
 mod handles;
 #[cfg(test)]
 mod life;
