@@ -39,7 +39,7 @@ use Rattle.std.specs.Prelude.{nat_eq, nat_le, slice_get}
 use Rattle.std.specs.List.{list_all, list_any, range_with_len}
 use Rattle.std.specs.Option.{option_map}
 use Rattle.std.specs.Str.{bytes_eq}
-use Rattle.std.proofs.lemmas.Bool.{and_parts, eq-eqb, eqb-true, leb-true}
+use Rattle.std.proofs.lemmas.Bool.{and_parts, eq-eqb, eqb-true, leb-true, or_left, or_right}
 use Rattle.std.proofs.lemmas.List.{length-map}
 use Rattle.std.proofs.lemmas.List.Elements.{All-get_or, All-head, All-tail}
 use Rattle.std.proofs.lemmas.List.Folds.{list_any-append, list_any_at}
@@ -177,14 +177,6 @@ before_each entry other (first ∷ sets) set same there =
         → allows (map (λ s. entry ∷ s) (first ∷ sets)) (other ∷ set) ≡ true
     by true e there later = rw (same, e) refl
     by false e there later = rw (same, e) (later there)
-
-or_right : (a b : Bool) → b ≡ true → (a || b) ≡ true
-or_right true b e = refl
-or_right false b e = e
-
-or_left : (a b : Bool) → a ≡ true → (a || b) ≡ true
-or_left true b e = refl
-or_left false b e = absurd cc
 
 among_each : (entries : List ℕ) (sets : List (List ℕ)) (entry : ℕ) (set : List ℕ)
     → list_any (λ c. nat_eq c entry) entries ≡ true → allows sets set ≡ true

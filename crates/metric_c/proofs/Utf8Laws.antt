@@ -2,6 +2,7 @@
 use Rattle.std.proofs.Common.{◌≡◌, ◌≤◌, ℕ, Bool, true, false, ◌&&◌, List, Option, Some, None, length, take, drop, refl, sym, ap, ◌∙◌, arith}
 use Rattle.std.specs.Prelude.{nat_le, if◌then◌else◌}
 use Rattle.std.specs.Str.{is_utf8, IsUtf8}
+use Rattle.std.proofs.lemmas.Bool.{and_from, and_left, and_right}
 use Rattle.std.proofs.lemmas.Bool.Decides.{nat_tests}
 use Rattle.std.proofs.lemmas.Str.{IsUtf8-from_is_utf8, is_utf8-from_IsUtf8}
 use Rattle.metric_c.specs.Attributes.{text_first}
@@ -13,16 +14,6 @@ not_utf8 bytes none = flag (is_utf8 bytes) refl
     flag true is = absurd (none (IsUtf8-from_is_utf8 bytes is))
     flag false is = is
 
-pub and_first : (a b : Bool) → a ≡ false → (a && b) ≡ false
-and_first a b none = ap (λ (x : Bool). x && b) none
-
-pub and_second : (a b : Bool) → b ≡ false → (a && b) ≡ false
-and_second true b none = none
-and_second false b none = refl
-
-pub and_both : (a b : Bool) → a ≡ true → b ≡ true → (a && b) ≡ true
-and_both a b first second = ap (λ (x : Bool). x && b) first ∙ second
-
 -- where both tests pass
 abbrev chosen : (count : ℕ) (texts : List ℕ) (flag : Bool) → Option (List ℕ × List ℕ)
 chosen count texts flag = if flag then Some (take count texts, drop count texts) else None
@@ -33,9 +24,9 @@ text_there count texts text rest front below front_is rest_is text_is utf8 =
     let there : nat_le count (length texts) ≡ true = grind (arith, nat_tests, below) in
     let flag : is_utf8 (take count texts) ≡ true = ap (λ (bytes : List ℕ). is_utf8 bytes) (sym front_is) ∙ is_utf8-from_IsUtf8 front utf8 in
     (λ i. Some ((text_is ∙ front_is) i, rest_is i))
-    ∙ ap (chosen count texts) (sym (and_both (nat_le count (length texts)) (is_utf8 (take count texts)) there flag))
+    ∙ ap (chosen count texts) (sym (and_from (nat_le count (length texts)) (is_utf8 (take count texts)) there flag))
 
 pub text_none : (count : ℕ) (texts front : List ℕ) → front ≡ take count texts → (IsUtf8 front → ⊥) → None ≡ text_first count texts
 text_none count texts front front_is none =
     let flag : is_utf8 (take count texts) ≡ false = ap (λ (bytes : List ℕ). is_utf8 bytes) (sym front_is) ∙ not_utf8 front none in
-    ap (chosen count texts) (sym (and_second (nat_le count (length texts)) (is_utf8 (take count texts)) flag))
+    ap (chosen count texts) (sym (and_right (nat_le count (length texts)) (is_utf8 (take count texts)) flag))

@@ -21,8 +21,8 @@ use Rattle.metric_contents.specs.SameValues.{same_value-Decides}
 use Rattle.metric_contents.specs.Places.{has_repeat, place, repeats_after, same_value}
 use Rattle.metric_catalogue.specs.Sound.{IsFreeText, IsLabel, IsSoundKey, IsSoundList, IsSoundValue}
 use Rattle.metric_catalogue.specs.Texts.{free_text, label_field, needed_text}
-use Rattle.std.proofs.lemmas.Bool.{or_parts}
-use Rattle.metric_catalogue.proofs.SoundLists.{IsNext, apart_by, each_length, list_few, made_sound, not_true, texts_apart}
+use Rattle.std.proofs.lemmas.Bool.{not-true, or_parts}
+use Rattle.metric_catalogue.proofs.SoundLists.{IsNext, apart_by, each_length, list_few, made_sound, texts_apart}
 
 -- a short text is the text, and is a free text
 short_made : (at : CataloguePlace) (text name : List ℕ) → short_text (faults_at at) text ≡ Ok name → (text ≡ name) × IsFreeText name
@@ -59,7 +59,7 @@ name_made at table name e0 =
     after_ok (only_key_fields at table) _ name e0 (λ _ _ e1.
     after_ok (label_field at table) _ name e1 (λ text made e2.
     let (other, e3) = require_ok (not (bytes_eq text (codes "otel.metric.overflow"))) (At ReservedKey at) _ name e2 in
-    let apart = texts_apart text (codes "otel.metric.overflow") (not_true (bytes_eq text (codes "otel.metric.overflow")) other) in
+    let apart = texts_apart text (codes "otel.metric.overflow") (not-true (bytes_eq text (codes "otel.metric.overflow")) other) in
     (label_made at table name (made ∙ e3), subst (λ (t : List ℕ). t ≢ codes "otel.metric.overflow") (ok_is text name (Ok text) refl e3) apart)))
 
 value_made : (at : CataloguePlace) (d : Data) (value : AttrValue) → value_at at d ≡ Ok value → IsSoundValue value
@@ -109,7 +109,7 @@ values_made at table values e0 =
     let (distinct, e2) = require_ok (not (has_repeat vs)) (At DuplicateValue at) _ values e1 in
     let same = ok_is vs values (Ok vs) refl e2 in
     let (some, sound) = some_made at table values (made ∙ e2) in
-    let differ = differ_after [] vs (λ i j d before within. absurd (omega arith)) (not_true (has_repeat vs) distinct) in
+    let differ = differ_after [] vs (λ i j d before within. absurd (omega arith)) (not-true (has_repeat vs) distinct) in
     (some, record { few = sound.few; each = sound.each; apart = subst (AllPairs (λ (v w : AttrValue). v ≢ w)) same differ }))
 
 pub key_made : (at : CataloguePlace) (before : List Key) (table : Members) (key : Key) → key_of at before table ≡ Ok key → IsNext IsSoundKey (λ other k. other.name ≢ k.name) before key

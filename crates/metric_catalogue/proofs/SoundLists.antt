@@ -2,6 +2,7 @@
 use Rattle.std.proofs.Common.{◌≡◌, ◌≢◌, ℕ, ◌+◌, ◌≤◌, Bool, true, false, not, List, [], ◌∷◌, ◌++◌, length, get_or, Option, Some, None, Result, Ok, true≢false, refl, sym, ap, subst, ◌∙◌, arith, nat_le}
 use Rattle.std.specs.List.{All, AllPairs, list_any}
 use Rattle.std.specs.Str.{bytes_eq}
+use Rattle.std.proofs.lemmas.Bool.{not-true}
 use Rattle.std.proofs.lemmas.Bool.Decides.{nat_tests}
 use Rattle.std.proofs.lemmas.List.{length-append}
 use Rattle.std.proofs.lemmas.List.Elements.{All-push}
@@ -16,10 +17,6 @@ use Rattle.metric_table.specs.Fields.{as_list, list_of, table_of, tables_field, 
 use Rattle.metric_catalogue.specs.Sound.{IsSoundList}
 
 -- a test that did not hold
-pub not_true : (b : Bool) → not b ≡ true → b ≡ false
-not_true true e = absurd cc
-not_true false e = refl
-
 -- none of a list passes
 none_pass : {X : Type 0} (test : X → Bool) (xs : List X) → list_any test xs ≡ false → All (λ x. test x ≡ false) xs
 none_pass test xs e k d within = by (test (get_or xs k d)) refl
@@ -40,7 +37,7 @@ pub record IsNext {Y : Type 0} (P : Y → Type 0) (R : Y → Y → Type 0) (befo
 -- no element before is alike, by a test
 pub apart_by : {Y : Type 0} (R : Y → Y → Type 0) (alike : Y → Bool) (before : List Y) (y : Y) → ((other : Y) → alike other ≡ false → R other y)
     → not (list_any alike before) ≡ true → All (λ other. R other y) before
-apart_by R alike before y tells e k d within = tells (get_or before k d) (none_pass alike before (not_true (list_any alike before) e) k d within)
+apart_by R alike before y tells e k d within = tells (get_or before k d) (none_pass alike before (not-true (list_any alike before) e) k d within)
 
 -- the fact holds of each, and any two are apart
 pub record AreSound {Y : Type 0} (P : Y → Type 0) (R : Y → Y → Type 0) (ys : List Y) : Type 0 where

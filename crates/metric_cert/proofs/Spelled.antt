@@ -7,6 +7,7 @@ use Rattle.std.specs.Int.{w128}
 use Rattle.std.specs.Int.{IsInRange}
 use Rattle.std.specs.Str.{bytes_eq}
 use Rattle.std.specs.Str.Parse.{digits_value, signed_digits_value, AllDigits}
+use Rattle.std.proofs.lemmas.Bool.{and_parts}
 use Rattle.std.proofs.lemmas.Bool.Decides.{eqb_tells, nat_tests}
 use Rattle.std.proofs.lemmas.Int.{to_z-of_z}
 use Rattle.std.proofs.lemmas.Fmt.{decimal_is_IsNumeral_wide}
@@ -14,10 +15,6 @@ use Rattle.std.proofs.lemmas.Slice.Eq.{bytes_eq-Decides}
 use Rattle.std.proofs.lemmas.Str.Parse.{digit_from_value}
 use Rattle.metric_text.specs.ReadingLaws.{none_from, some_when}
 use Rattle.metric_cert.specs.Decimals.{wide_of}
-
-both_true : (a b : Bool) → (a && b) ≡ true → (a ≡ true) × (b ≡ true)
-both_true true b e = (refl, e)
-both_true false b e = absurd cc
 
 -- the first of some digits is no sign
 no_sign : (ds : List ℕ) → (0 < length ds) × AllDigits 10 ds → signed_digits_value 10 ds ≡ pos (digits_value 10 ds)
@@ -60,7 +57,7 @@ unfolding wide_of
 wide_of-some z text e =
     let value = signed_digits_value 10 text in
     let held = some_when (nat_lt (mag value) (2 ^ 127) && bytes_eq (signed_decimal value) text) value z e in
-    let tests = both_true (nat_lt (mag value) (2 ^ 127)) (bytes_eq (signed_decimal value) text) held.0 in
+    let tests = and_parts (nat_lt (mag value) (2 ^ 127)) (bytes_eq (signed_decimal value) text) held.0 in
     let same : signed_decimal value ≡ text = (bytes_eq-Decides (signed_decimal value) text).0 tests.1 in
     (subst (FitsSigned w128) held.1 (fits_from_test value tests.0), sym same ∙ ap signed_decimal held.1)
 

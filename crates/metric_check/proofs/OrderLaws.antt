@@ -3,7 +3,7 @@ use Rattle.std.proofs.Common.{◌≡◌, ◌≢◌, ℕ, zero, suc, ◌+◌, ◌
 use Rattle.std.specs.List.{AllByRecursion, AllZip, IsDistinct, list_any, range_with_len}
 use Rattle.std.specs.declared.cmp.Ordering.TheVariants.{Equal, Less}
 use Rattle.std.proofs.Math.Dec.{eqb}
-use Rattle.std.proofs.lemmas.Bool.{or_cases}
+use Rattle.std.proofs.lemmas.Bool.{or_cases, or_parts}
 use Rattle.std.proofs.lemmas.Bool.Decides.{eqb_tells}
 use Rattle.std.proofs.lemmas.Cmp.{nat_eq_equiv, tied_itself}
 use Rattle.std.proofs.lemmas.List.Elements.{All-contains, Contains-append_cases, Contains-append_left, Contains-append_right, Contains-get_or, at_from_Contains}
@@ -105,13 +105,9 @@ distinct_append (x ∷ xs) ys p q apart =
     (all_append (λ y. eqb x y ≡ false) xs ys (IsDistinct-head eqb x xs p) (apart_from x ys (λ y h. apart x y (Contains-get_or (x ∷ xs) 0 x (omega arith)) h)))
     (distinct_append xs ys (IsDistinct-tail eqb x xs p) q (λ u v hu hv. apart u v (Contains-append_right (x ∷ []) xs u hu) hv))
 
-neither : (x y : Bool) → (x || y) ≡ false → (x ≡ false) × (y ≡ false)
-neither false y e = (refl, e)
-neither true y e = absurd cc
-
 none_is : (q : ℕ) (ys : List ℕ) → list_any (eqb q) ys ≡ false → AllByRecursion (λ y. eqb q y ≡ false) ys
 none_is q [] e = tt
-none_is q (y ∷ ys) e = let parts = neither (eqb q y) (list_any (eqb q) ys) e in (parts.0, none_is q ys parts.1)
+none_is q (y ∷ ys) e = let parts = or_parts (eqb q y) (list_any (eqb q) ys) e in (parts.0, none_is q ys parts.1)
 
 -- n distinct numbers below n are all numbers below n
 covers : (xs : List ℕ) (n : ℕ) → IsDistinct eqb xs → ((q : ℕ) → list_any (eqb q) xs ≡ true → q < n) → length xs ≡ n

@@ -7,18 +7,15 @@ use Rattle.std.specs.List.{list_any, slice_get}
 use Rattle.std.specs.Option.{option_and_then}
 use Rattle.std.specs.Ordering.{nat_cmp, is_eq}
 use Rattle.std.specs.Str.{bytes_eq}
+use Rattle.std.proofs.lemmas.Bool.{or_right}
 use Rattle.metric_combinations.specs.Combinations.{allows}
 use Rattle.metric_combinations.specs.RestrictionLaws.{sets_tied}
 use Rattle.metric_combinations.specs.Tries.{end_of, is_set, is_set_at}
 
-or_true : (a b : Bool) → b ≡ true → (a || b) ≡ true
-or_true true b e = refl
-or_true false b e = e
-
 at_place : (rows : List (List ℕ)) (set : List ℕ) (place : ℕ) → is_set set (slice_get rows place) ≡ true → allows rows set ≡ true
 at_place [] set place e = absurd cc
 at_place (row ∷ rows) set zero e = rw e refl
-at_place (row ∷ rows) set (suc place) e = or_true (bytes_eq row set) (allows rows set) (at_place rows set place e)
+at_place (row ∷ rows) set (suc place) e = or_right (bytes_eq row set) (allows rows set) (at_place rows set place e)
 
 -- what stands at a place is among the rows
 pub found_is_row : (rows : List (List ℕ)) (set : List ℕ) (place : Option ℕ) → is_set_at rows set place ≡ true → allows rows set ≡ true

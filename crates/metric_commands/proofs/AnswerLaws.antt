@@ -1,6 +1,7 @@
 -- An event has one legal reply beside want of memory.
 use Rattle.std.proofs.Common.{◌≡◌, Bool, true, false, ◌||◌, List, [], ◌∷◌, Result, Ok, Err, refl, sym, ap, ◌∙◌, ℕ}
 use Rattle.std.specs.List.{list_any}
+use Rattle.std.proofs.lemmas.Bool.{or_parts}
 use Rattle.metric_contents.specs.declared.refusal.Refusal.{Refusal}
 use Rattle.metric_contents.specs.declared.refusal.Refusal.TheVariants as refusals
 use Rattle.metric_history.specs.declared.batch.Batch.{Batch}
@@ -105,18 +106,14 @@ one_reply facts start h (Collect reader instrument now) r s a b m n = one_collec
 one_reply facts start h (Close instrument) r s a b m n = one_close _ r s a b
 one_reply facts start h (Grant recorder instrument amount) r s a b m n = one_grant _ r s a b
 
-neither : (a b : Bool) → (a || b) ≡ false → (a ≡ false) × (b ≡ false)
-neither true b e = absurd cc
-neither false b e = (refl, e)
-
 -- so a run has one list of replies beside want of memory
 pub one_run : (facts : RunFacts) (start : ℕ) (h : History) (es : List Event) (rs ss : List Reply)
     → AllLegal facts start h es rs → AllLegal facts start h es ss
     → list_any is_want_of_memory rs ≡ false → list_any is_want_of_memory ss ≡ false → rs ≡ ss
 one_run facts start h [] [] [] a b m n = refl
 one_run facts start h (e ∷ es) (r ∷ rs) (s ∷ ss) a b m n =
-    let p = neither (is_want_of_memory r) (list_any is_want_of_memory rs) m in
-    let q = neither (is_want_of_memory s) (list_any is_want_of_memory ss) n in
+    let p = or_parts (is_want_of_memory r) (list_any is_want_of_memory rs) m in
+    let q = or_parts (is_want_of_memory s) (list_any is_want_of_memory ss) n in
     let same : r ≡ s = one_reply facts start h e r s a.0 b.0 p.0 q.0 in
     let others : rs ≡ ss = one_run facts start (record { event = e; reply = r } ∷ h) es rs ss a.1
     (rw same b.1) p.1 q.1 in

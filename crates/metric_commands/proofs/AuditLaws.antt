@@ -3,7 +3,7 @@ use Rattle.std.proofs.Common.{◌≡◌, ℕ, zero, suc, ◌+◌, ◌-◌, ◌<�
 use Rattle.std.specs.Prelude.{filter, slice_get, slice_index, slice_range, nat_le, nat_lt, ◌==◌, if◌then◌else◌}
 use Rattle.std.specs.List.{list_all}
 use Rattle.std.specs.Result.{result_unwrap_or}
-use Rattle.std.proofs.lemmas.Bool.{and_from, eq-eqb, eqb-true, ne_eqb, ltb-true, cases_lt, false≢true}
+use Rattle.std.proofs.lemmas.Bool.{and_from, and_parts, cases_lt, eq-eqb, eqb-true, false≢true, ltb-true, ne_eqb}
 use Rattle.std.proofs.lemmas.Bool.Decides.{nat_tests}
 use Rattle.std.proofs.lemmas.Grind.{fold-append}
 use Rattle.std.proofs.lemmas.List.{append-nil, get_or_past, length-append, length-drop, length-map, take-append-le, drop-append-le, take-append-drop, take_all, drop_all, map-append}
@@ -53,10 +53,6 @@ use Rattle.metric_commands.specs.declared.fault.KitFault.{KitFault}
 use Rattle.metric_commands.specs.declared.fault.KitFault.TheVariants as kit
 
 -- ---- lists
-
-both_true : (a b : Bool) → (a && b) ≡ true → (a ≡ true) × (b ≡ true)
-both_true true b e = (refl, e)
-both_true false b e = absurd (false≢true e)
 
 -- where one test of six holds for more
 fifth_for_more : (a b c d e f g : Bool) → (a && (b && (c && (d && (e && f))))) ≡ true → (e ≡ true → g ≡ true) → (a && (b && (c && (d && (g && f))))) ≡ true
@@ -340,7 +336,7 @@ follows_more : (own : Facts) (reader mark : ℕ) (before entries : List Entry) (
 follows_more own reader mark before [] entry each may =
     and_from (may_follow own reader mark before entry) true (subst (λ (l : List Entry). may_follow own reader mark l entry ≡ true) (append-nil before) may) refl
 follows_more own reader mark before (e ∷ entries) entry each may =
-    let parts = both_true (may_follow own reader mark before e) (each_may_follow own reader mark (before ++ e ∷ []) entries) each in
+    let parts = and_parts (may_follow own reader mark before e) (each_may_follow own reader mark (before ++ e ∷ []) entries) each in
     and_from (may_follow own reader mark before e) _ parts.0
     (follows_more own reader mark (before ++ e ∷ []) entries entry parts.1
     (subst (λ (l : List Entry). may_follow own reader mark l entry ≡ true) (sym (append_assoc before (e ∷ []) entries)) may))
@@ -351,7 +347,7 @@ fits_own : (own : Facts) (mark : ℕ → ℕ) (journal : List Entry) (entry : En
     → list_all (λ (s : NumberedStream). fits_stream s.stream (window (is_delta own reader) (mark reader) journal) entry) (filter (is_of_reader reader) streams) ≡ true
 fits_own own mark journal entry reader [] all = refl
 fits_own own mark journal entry reader (s ∷ streams) all =
-    let parts = both_true (fits_stream s.stream (window (is_delta own s.stream.reader) (mark s.stream.reader) journal) entry) _ all in
+    let parts = and_parts (fits_stream s.stream (window (is_delta own s.stream.reader) (mark s.stream.reader) journal) entry) _ all in
     at (is_of_reader reader s) refl parts.0 (fits_own own mark journal entry reader streams parts.1)
   where
     at : (b : Bool) → is_of_reader reader s ≡ b → fits_stream s.stream (window (is_delta own s.stream.reader) (mark s.stream.reader) journal) entry ≡ true
@@ -383,15 +379,15 @@ right_longer own i start entries entry before b r = record {
 
     after_start : ((nat_le mark b.mark && (nat_le b.mark (length entries) && nat_le time b.time))) ≡ true
     after_start =
-        (both_true (b.start == (if is_delta own b.reader then time else start)) _
-        ((both_true (b.from == (if is_delta own b.reader then mark else 0)) _
-        ((both_true (b.instrument == i) _ r.follows.headed).1)).1)).1
+        (and_parts (b.start == (if is_delta own b.reader then time else start)) _
+        ((and_parts (b.from == (if is_delta own b.reader then mark else 0)) _
+        ((and_parts (b.instrument == i) _ r.follows.headed).1)).1)).1
 
     up : mark ≤ b.mark
-    up = let e = (both_true (nat_le mark b.mark) _ after_start).0 in grind (arith, nat_tests)
+    up = let e = (and_parts (nat_le mark b.mark) _ after_start).0 in grind (arith, nat_tests)
 
     within_is : nat_le b.mark (length entries) ≡ true
-    within_is = (both_true (nat_le b.mark (length entries)) _ ((both_true (nat_le mark b.mark) _ after_start).1)).0
+    within_is = (and_parts (nat_le b.mark (length entries)) _ ((and_parts (nat_le mark b.mark) _ after_start).1)).0
 
     within : b.mark ≤ length entries
     within = let e = within_is in grind (arith, nat_tests)

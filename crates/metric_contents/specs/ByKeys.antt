@@ -1,6 +1,7 @@
 -- Whether the values of attributes are declared, told key by key.
 use Rattle.std.proofs.Common.{◌≡◌, ◌+◌, Bool, true, false, not, ◌&&◌, ◌||◌, List, [], ◌∷◌, find}
 use Rattle.std.proofs.Common.{Option, Some, None, cond, is_some, refl, sym, ap, subst, ◌∙◌}
+use Rattle.std.proofs.lemmas.Bool.{or_parts}
 use Rattle.std.proofs.lemmas.Slice.Eq.{bytes_eq-Decides}
 use Rattle.std.specs.List.{list_any, list_all}
 use Rattle.std.specs.Option.{option_map}
@@ -12,10 +13,6 @@ use Rattle.metric_contents.specs.Places.{place}
 -- the key declares the value that it is given, where it is given one
 abbrev pub is_allowed : List Given → Key → Bool
 is_allowed attrs key = is_some (entry_at attrs key)
-
-neither : (a b : Bool) → (a || b) ≡ false → (a ≡ false) × (b ≡ false)
-neither true b e = absurd cc
-neither false b e = (refl, e)
 
 all_true : {X : Type 0} (xs : List X) → list_all (λ (x : X). true) xs ≡ true
 all_true [] = refl
@@ -47,7 +44,7 @@ none_own : (key : Key) (attrs : List Given) → list_any (is_of key.name) attrs 
     → list_all (λ given. declares given key) attrs ≡ true
 none_own key [] e = refl
 none_own key (given ∷ attrs) e =
-    let (other, rest) = neither (is_of key.name given) (list_any (is_of key.name) attrs) e in
+    let (other, rest) = or_parts (is_of key.name given) (list_any (is_of key.name) attrs) e in
     rw other (none_own key attrs rest)
 
 -- where no key stands twice, the first attribute of a key is its only one
@@ -55,7 +52,7 @@ by_key : (key : Key) (attrs : List Given) → has_repeated_key attrs ≡ false
     → list_all (λ given. declares given key) attrs ≡ is_allowed attrs key
 by_key key [] e = refl
 by_key key (given ∷ attrs) e =
-    let (alone, later) = neither (list_any (is_of given.0) attrs) (has_repeated_key attrs) e in
+    let (alone, later) = or_parts (list_any (is_of given.0) attrs) (has_repeated_key attrs) e in
     at (is_of key.name given) refl alone (by_key key attrs later)
   where
     is_some-map : {X Y : Type 0} (f : X → Y) (o : Option X) → is_some o ≡ is_some (option_map f o)

@@ -4,7 +4,7 @@ use Rattle.std.specs.Prelude.{fold}
 use Rattle.std.specs.Cmp.Lexicographic.{nat_list_eq_equiv}
 use Rattle.std.specs.List.{IsDistinct, list_any}
 use Rattle.std.specs.Str.{bytes_eq}
-use Rattle.std.proofs.lemmas.Bool.{true≢false}
+use Rattle.std.proofs.lemmas.Bool.{or_right, true≢false}
 use Rattle.std.proofs.lemmas.List.{take_all}
 use Rattle.std.proofs.lemmas.List.Elements.{All-head, All-tail}
 use Rattle.std.proofs.lemmas.List.Folds.{list_any_none}
@@ -41,10 +41,6 @@ pub distinct_once : (keys : List (List ℕ)) → IsDistinct bytes_eq (distinct k
 unfolding IsDistinct
 distinct_once keys = once_found keys [] tt
 
-pub or_later : (a b : Bool) → b ≡ true → (a || b) ≡ true
-or_later true b e = refl
-or_later false b e = e
-
 -- ---- the series of ranks
 
 module _ (kept : List Bool) (keys : List KeyFacts) where
@@ -72,7 +68,7 @@ module _ (kept : List Bool) (keys : List KeyFacts) where
       (ap (λ (q : ℕ). bytes_eq (series_of kept keys q) (series_of kept keys r)) here ∙ key_is_same (series_of kept keys r))
   series_there r (suc n) (suc i) below =
       let next : suc r + i ≡ r + suc i = omega arith in
-      or_later (bytes_eq (series_of kept keys (r + suc i)) (series_of kept keys r)) (list_any (bytes_eq (series_of kept keys (r + suc i))) (series_from (suc r) n))
+      or_right (bytes_eq (series_of kept keys (r + suc i)) (series_of kept keys r)) (list_any (bytes_eq (series_of kept keys (r + suc i))) (series_from (suc r) n))
       (ap (λ (q : ℕ). list_any (bytes_eq (series_of kept keys q)) (series_from (suc r) n)) (sym next) ∙ series_there (suc r) n i (omega arith))
 
   module _ (ranked : IsRanked kept keys) where

@@ -8,7 +8,7 @@ use Rattle.std.specs.List.{AllByRecursion, IsDistinct, list_any}
 use Rattle.std.specs.List.Sorted.{IsStrictlySortedBy}
 use Rattle.std.specs.Ordering.{is_eq, is_lt, nat_cmp, ordering_reverse}
 use Rattle.std.specs.Str.{bytes_eq}
-use Rattle.std.proofs.lemmas.Bool.{ne_eqb, true≢false}
+use Rattle.std.proofs.lemmas.Bool.{ne_eqb, or_right, true≢false}
 use Rattle.std.proofs.lemmas.Cmp.{nat_list_cmp_total}
 use Rattle.std.proofs.lemmas.List.{append-nil, length-map, length-take, map_push, take_all, take_more}
 use Rattle.std.proofs.lemmas.List.Sorted.{list_any-IsPermutation}
@@ -31,7 +31,7 @@ use Rattle.metric_facts.specs.Products.{product_of}
 use Rattle.metric_facts.specs.Ranks.{rank}
 use Rattle.metric_dense.specs.Ranks.{series_of}
 use Rattle.metric_dense.specs.DenseTables.{DenseValue, StandsDense}
-use Rattle.metric_dense.proofs.Holding.{all_held, all_placed, distinct_once, has_held, none_over, or_later, IsPlaced}
+use Rattle.metric_dense.proofs.Holding.{all_held, all_placed, distinct_once, has_held, none_over, IsPlaced}
 use Rattle.metric_dense.proofs.Ranking.{list_itself, unrank_ordered}
 
 -- ---- distinct keys in ascending order rise strictly
@@ -173,7 +173,7 @@ module _ {A P : Type 0} (by : aggregate.Ghosts A P) (kept : List Bool) (keys : L
       at : (b : Bool) → has (used_from (suc r) list) (series_of kept keys (r + suc i)) ≡ true
           → has (cond b (used_from (suc r) list) (series_of kept keys r ∷ used_from (suc r) list)) (series_of kept keys (r + suc i)) ≡ true
       at true rest = rest
-      at false rest = or_later (bytes_eq (series_of kept keys r) (series_of kept keys (r + suc i))) (has (used_from (suc r) list) (series_of kept keys (r + suc i))) rest
+      at false rest = or_right (bytes_eq (series_of kept keys r) (series_of kept keys (r + suc i))) (has (used_from (suc r) list) (series_of kept keys (r + suc i))) rest
 
   -- where it comes from
   record IsUsed (r : ℕ) (list : List A) (key : List ℕ) : Type 0 where

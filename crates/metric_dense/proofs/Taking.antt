@@ -3,7 +3,7 @@ use Rattle.std.proofs.Common.{◌≡◌, ℕ, ◌<◌, ℤ, Bool, true, false, �
 use Rattle.std.specs.Prelude.{◌==◌}
 use Rattle.std.specs.Str.{bytes_eq}
 use Rattle.std.proofs.Math.ListN.{set, length-set}
-use Rattle.std.proofs.lemmas.Bool.{true≢false, eqb-true}
+use Rattle.std.proofs.lemmas.Bool.{eqb-true, or_right, true≢false}
 use Rattle.std.proofs.lemmas.List.{map_push}
 use Rattle.std.proofs.lemmas.List.Elements.{All-append, All-cons, All-nil}
 use Rattle.std.proofs.lemmas.List.Folds.{list_any-append}
@@ -27,13 +27,13 @@ use Rattle.metric_facts.specs.Products.{product_of}
 use Rattle.metric_facts.specs.Ranks.{rank, rank_below}
 use Rattle.metric_dense.specs.Ranks.{series_of, IsTaken}
 use Rattle.metric_dense.specs.DenseTables.{AddsAt, DenseValue, IsReadyDense, JudgesAt, StandsDense}
-use Rattle.metric_dense.proofs.Holding.{has_held, or_later, own_rank, own_series}
+use Rattle.metric_dense.proofs.Holding.{has_held, own_rank, own_series}
 
 has_last : (keys : List (List ℕ)) (key : List ℕ) → has (keys ++ key ∷ []) key ≡ true
 has_last keys key =
     list_any-append (λ (other : List ℕ). bytes_eq other key) keys (key ∷ [])
     ∙ ap (λ (b : Bool). has keys key || (b || false)) (key_is_same key)
-    ∙ or_later (has keys key) true refl
+    ∙ or_right (has keys key) true refl
 
 module _ {A P : Type 0} (by : aggregate.Ghosts A P) (t : DenseValue A) (s : Stream) (window : List Entry) (known : StandsDense by t s window) (recorder : ℕ) (set' : List ℕ) (value : ℤ) (full : IsTaken t.keys set') where
   abbrev entry : Entry

@@ -4,7 +4,7 @@ use Rattle.std.proofs.Common.{◌≡◌, ◌&&◌, ◌||◌, ℕ, zero, suc, ◌
 use Rattle.std.specs.Option.{is_some, IfSome}
 use Rattle.std.specs.List.{Contains, slice_get}
 use Rattle.std.specs.List.Sorted.{IsStrictlyIncreasing}
-use Rattle.std.proofs.lemmas.Bool.{or_cases, or_left, or_right, and_parts, and_from, true≢false, cases_lt, eqb-true, ltb-true, lt-ltb, not_from_false, cases_Bool}
+use Rattle.std.proofs.lemmas.Bool.{and_from, and_parts, cases_Bool, cases_lt, eqb-true, lt-ltb, ltb-true, not-true, not_from_false, or_cases, or_left, or_right, true≢false}
 use Rattle.std.proofs.lemmas.List.{get_or_append_left, get_or_push, length_push, drop_all}
 use Rattle.std.proofs.lemmas.List.Elements.{Contains-get_or, Contains-append_left, Contains-push, Contains-push_cases, All-from_get_or}
 use Rattle.std.proofs.lemmas.Option.{slice_get-get_or, slice_get_past}
@@ -25,16 +25,12 @@ star_at-from : (pattern : List ℕ) (place : ℕ) → IsStarAt pattern place →
 star_at-from pattern place star =
     and_from (ltb place (length pattern)) (takes_any (get_or pattern place 0)) (lt-ltb place (length pattern) star.within) star.any
 
-not_true : (b : Bool) → not b ≡ true → b ≡ false
-not_true true fails = sym fails
-not_true false passes = refl
-
 StandsAt-from : (pattern : List ℕ) (place x : ℕ) → stands_at pattern place x ≡ true → StandsAt pattern place x
 StandsAt-from pattern place x passes =
     let c : ℕ = get_or pattern place 0 in
     let both = and_parts (ltb place (length pattern)) (not (takes_any c) && stands_for c x) passes in
     let inner = and_parts (not (takes_any c)) (stands_for c x) both.1 in
-    record { within = ltb-true place (length pattern) both.0; one = not_true (takes_any c) inner.0; stands = inner.1 }
+    record { within = ltb-true place (length pattern) both.0; one = not-true (takes_any c) inner.0; stands = inner.1 }
 
 stands_at-from : (pattern : List ℕ) (place x : ℕ) → StandsAt pattern place x → stands_at pattern place x ≡ true
 stands_at-from pattern place x stands =

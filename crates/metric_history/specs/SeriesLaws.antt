@@ -5,7 +5,7 @@ use Rattle.std.proofs.Common.{◌∙◌, append_assoc, arith}
 use Rattle.std.specs.Prelude.{fold, nat_lt}
 use Rattle.std.specs.Str.{bytes_eq}
 use Rattle.std.specs.List.{list_any}
-use Rattle.std.proofs.lemmas.Bool.{true≢false}
+use Rattle.std.proofs.lemmas.Bool.{or_parts, true≢false}
 use Rattle.std.proofs.lemmas.Bool.Decides.{nat_tests}
 use Rattle.std.proofs.lemmas.List.{append-nil, take_all, length_push, take-append-drop, map-append}
 use Rattle.std.proofs.lemmas.List.{map_more, drop_more, length-map, take-append-le}
@@ -29,10 +29,6 @@ or_nothing false = refl
 or_regroup : (a b c : Bool) → ((a || b) || c) ≡ (a || (b || c))
 or_regroup true b c = refl
 or_regroup false b c = refl
-
-or_parts : (a b : Bool) → (a || b) ≡ false → (a ≡ false) × (b ≡ false)
-or_parts true b e = absurd cc
-or_parts false b e = (refl, e)
 
 or_same : (a b : Bool) → (b ≡ true → a ≡ true) → a ≡ (a || b)
 or_same true b h = refl

@@ -2,6 +2,7 @@
 -- faulty one on.
 use Rattle.std.proofs.Common.{◌≡◌, ℕ, ◌+◌, suc, Bool, true, false, cond, ◌&&◌, List, [], ◌∷◌, ◌++◌, take, drop, Option, None, Some, Result, Ok, Err, refl, sym, ap, ◌∙◌, arith}
 use Rattle.std.specs.List.{list_all}
+use Rattle.std.proofs.lemmas.Bool.{and_parts}
 use Rattle.metric_parts.specs.Input.{is_content}
 use Rattle.metric_parts.specs.Reading.{contents_len}
 
@@ -47,10 +48,6 @@ pub record Reads {Y : Type 0} (L : Lines → Y → Type 0) (read : Lines → Res
   pub ended : (lines : Lines) (y : Y) → L lines y → IsEnded lines
   pub begun : GoesOn L []
 
-pub both_true : (a b : Bool) → (a && b) ≡ true → (a ≡ true) × (b ≡ true)
-both_true true b e = (refl, e)
-both_true false b e = absurd cc
-
 true_false : (b : Bool) → b ≡ true → b ≡ false → ⊥
 true_false b p q = cc
 
@@ -61,12 +58,12 @@ consed x y xs ys p q = cc
 pub same_cut : (a b s t : Lines) → list_all is_content a ≡ true → list_all is_content b ≡ true → IsEnded s → IsEnded t
     → a ++ s ≡ b ++ t → (a ≡ b) × (s ≡ t)
 same_cut [] [] s t ca cb es et e = (refl, e)
-same_cut [] (y ∷ b) s t ca cb es et e = absurd (true_false (is_content y) (both_true (is_content y) _ cb).0 (es y (ap first e)))
-same_cut (x ∷ a) [] s t ca cb es et e = absurd (true_false (is_content x) (both_true (is_content x) _ ca).0 (et x (ap first (sym e))))
+same_cut [] (y ∷ b) s t ca cb es et e = absurd (true_false (is_content y) (and_parts (is_content y) _ cb).0 (es y (ap first e)))
+same_cut (x ∷ a) [] s t ca cb es et e = absurd (true_false (is_content x) (and_parts (is_content x) _ ca).0 (et x (ap first (sym e))))
 same_cut (x ∷ a) (y ∷ b) s t ca cb es et e =
     let heads : x ≡ y = cc in
     let tails : a ++ s ≡ b ++ t = cc in
-    let rest = same_cut a b s t (both_true (is_content x) _ ca).1 (both_true (is_content y) _ cb).1 es et tails in
+    let rest = same_cut a b s t (and_parts (is_content x) _ ca).1 (and_parts (is_content y) _ cb).1 es et tails in
     (consed x y a b heads rest.0, rest.1)
 
 one_more : (n : ℕ) → 1 + n ≡ suc n

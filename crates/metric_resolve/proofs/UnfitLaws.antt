@@ -1,6 +1,7 @@
 -- Views are warned of exactly where they sum gauges, by view and instrument.
 use Rattle.std.proofs.Common.{◌≡◌, ℕ, ◌<◌, Bool, true, false, ◌&&◌, All, AllPairs, Contains, Option, Some, None, slice_get, length, refl, sym, subst, ap, inl, inr, if◌then◌else◌}
 use Rattle.std.specs.Option.{option_map_or}
+use Rattle.std.proofs.lemmas.Bool.{and_from, and_parts}
 use Rattle.std.proofs.lemmas.List.Elements.{All-contains}
 use Rattle.std.proofs.lemmas.Option.{slice_get_within}
 use Rattle.metric_contents.specs.declared.contents.Contents.{Contents}
@@ -36,13 +37,6 @@ named_is kind None e = absurd cc
 named_back : (kind : Kind) (o : Option Aggregation) → kind ≡ Gauge → o ≡ Some Sum → option_map_or (is_unfit kind) o false ≡ true
 named_back kind o p q = rw (p, q) refl
 
-both_true : (a b : Bool) → a ≡ true → b ≡ true → (a && b) ≡ true
-both_true a b p q = rw (p, q) refl
-
-and_true : (a b : Bool) → (a && b) ≡ true → (a ≡ true) × (b ≡ true)
-and_true true b e = (refl, e)
-and_true false b e = absurd cc
-
 -- what is warned of is a sum of a gauge
 sums_gauge : (contents : Contents) (config : Config) (view instrument : ℕ) → is_unfit_with contents (slice_get config.views view) instrument ≡ true → SumsGauge contents config view instrument
 sums_gauge contents config view instrument e = by (slice_get config.views view) (slice_get contents.instruments instrument) (meter_at contents instrument) refl refl refl e
@@ -50,7 +44,7 @@ sums_gauge contents config view instrument e = by (slice_get config.views view) 
     by : (v : Option View) (i : Option Instrument) (m : Option Meter) → slice_get config.views view ≡ v → slice_get contents.instruments instrument ≡ i → meter_at contents instrument ≡ m
         → (names_unfit_with v i && selects_with v m i) ≡ true → SumsGauge contents config view instrument
     by (Some v) (Some i) (Some m) p q r e =
-        let parts = and_true (names_unfit v i) (selects v.criteria m i) e in
+        let parts = and_parts (names_unfit v i) (selects v.criteria m i) e in
         let named = named_is i.kind v.settings.aggregation parts.0 in
         record {
           own_view = v;
@@ -63,14 +57,14 @@ sums_gauge contents config view instrument e = by (slice_get config.views view) 
           is_gauge = named.0;
           selects = (selects-Decides v.criteria m i).0 parts.1;
         }
-    by (Some v) (Some i) None p q r e = absurd (let parts = and_true (names_unfit v i) false e in let wrong = parts.1 in cc)
+    by (Some v) (Some i) None p q r e = absurd (let parts = and_parts (names_unfit v i) false e in let wrong = parts.1 in cc)
     by (Some v) None m p q r e = absurd cc
     by None i m p q r e = absurd cc
 
 gauge_summed : (contents : Contents) (config : Config) (view instrument : ℕ) → SumsGauge contents config view instrument → is_unfit_with contents (slice_get config.views view) instrument ≡ true
 gauge_summed contents config view instrument s =
     let named : names_unfit s.own_view s.own_instrument ≡ true = named_back s.own_instrument.kind s.own_view.settings.aggregation s.is_gauge s.sums in
-    rw (s.view_at, s.of_meter, s.instrument_at) (both_true _ _ named ((selects-Decides s.own_view.criteria s.own_meter s.own_instrument).1 s.selects))
+    rw (s.view_at, s.of_meter, s.instrument_at) (and_from _ _ named ((selects-Decides s.own_view.criteria s.own_meter s.own_instrument).1 s.selects))
 
 -- what holds of each warning
 abbrev IsWarned : Contents → Config → Warning → Type 0

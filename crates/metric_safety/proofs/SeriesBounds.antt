@@ -4,7 +4,7 @@ use Rattle.std.proofs.Common.{◌≡◌, ◌≢◌, ℕ, zero, suc, ◌+◌, ◌
 use Rattle.std.specs.Prelude.{eqb}
 use Rattle.std.specs.List.{AllByRecursion, IsDistinct, list_any}
 use Rattle.std.specs.Str.{bytes_eq}
-use Rattle.std.proofs.lemmas.Bool.{true≢false, eqb-true, ne_eqb}
+use Rattle.std.proofs.lemmas.Bool.{eqb-true, ne_eqb, or_right, true≢false}
 use Rattle.std.proofs.lemmas.List.{length-map}
 use Rattle.std.proofs.lemmas.List.Elements.{All-nil, All-cons, All-head, All-tail, All-map, All-weaker, All-filter, filter_passes}
 use Rattle.std.proofs.lemmas.List.Kept.{AllPairs-cons, AllPairs-filter}
@@ -123,10 +123,6 @@ series_bounded kept keys all flags each = few_ranks kept keys (distinct all) fla
 
 -- ---- listed combinations
 
-or_true : (a b : Bool) → b ≡ true → (a || b) ≡ true
-or_true true b e = refl
-or_true false b e = e
-
 -- the restriction of a combination is one of the restrictions
 allows-restricted : (kept : List Bool) (rows : List (List ℕ)) (set : List ℕ) → allows rows set ≡ true → allows (map (restricted kept) rows) (restricted kept set) ≡ true
 allows-restricted kept [] set e = absurd (true≢false (sym e))
@@ -137,7 +133,7 @@ allows-restricted kept (row ∷ rows) set e = at (bytes_eq row set) refl e (allo
     at true same some rest =
         ap (λ (r : List ℕ). allows (restricted kept r ∷ map (restricted kept) rows) (restricted kept set)) (same_key row set same)
         ∙ ap (λ (b : Bool). b || allows (map (restricted kept) rows) (restricted kept set)) (key_is_same (restricted kept set))
-    at false same some rest = or_true (bytes_eq (restricted kept row) (restricted kept set)) (allows (map (restricted kept) rows) (restricted kept set)) (rest some)
+    at false same some rest = or_right (bytes_eq (restricted kept row) (restricted kept set)) (allows (map (restricted kept) rows) (restricted kept set)) (rest some)
 
 -- a series of listed combinations is one of their restrictions
 allows-each : (rows keys : List (List ℕ)) → All (λ key. allows rows key ≡ true) keys → (set : List ℕ) → allows keys set ≡ true → allows rows set ≡ true

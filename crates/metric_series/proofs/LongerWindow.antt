@@ -4,7 +4,7 @@ use Rattle.std.specs.Prelude.{filter, nat_le}
 use Rattle.std.specs.List.{list_any}
 use Rattle.std.specs.Str.{bytes_eq}
 use Rattle.std.proofs.Math.Seq.{take-append_seam}
-use Rattle.std.proofs.lemmas.Bool.{true≢false}
+use Rattle.std.proofs.lemmas.Bool.{or_right, true≢false}
 use Rattle.std.proofs.lemmas.Bool.Decides.{nat_tests}
 use Rattle.std.proofs.lemmas.List.{append-nil, get_or_push, length_push, length-take, map_push, take_all}
 use Rattle.std.proofs.lemmas.List.Elements.{filter-append}
@@ -91,17 +91,13 @@ rest-known s window entry known =
     ∙ ap (λ (b : Bool). filter (belongs s window None) window ++ cond (not b) (entry ∷ []) []) known
     ∙ append-nil (filter (belongs s window None) window)
 
-or_later : (a b : Bool) → b ≡ true → (a || b) ≡ true
-or_later true b e = refl
-or_later false b e = e
-
 none_left : (kept : List Bool) (found : List (List ℕ)) (entries : List Entry) → ((key : List ℕ) → has (all_series kept entries) key ≡ true → has found key ≡ true)
     → filter (λ (e : Entry). not (has found (series kept e))) entries ≡ []
 none_left kept found [] all = refl
 none_left kept found (e ∷ entries) all =
     let own : has (all_series kept (e ∷ entries)) (series kept e) ≡ true = ap (λ (b : Bool). b || has (all_series kept entries) (series kept e)) (key_is_same (series kept e)) in
     ap (λ (b : Bool). cond (not b) (e ∷ filter (λ (x : Entry). not (has found (series kept x))) entries) (filter (λ (x : Entry). not (has found (series kept x))) entries)) (all (series kept e) own)
-    ∙ none_left kept found entries (λ key known. all key (or_later (bytes_eq (series kept e) key) (has (all_series kept entries) key) known))
+    ∙ none_left kept found entries (λ key known. all key (or_right (bytes_eq (series kept e) key) (has (all_series kept entries) key) known))
 
 -- few distinct series are all held
 rest-few : (s : Stream) (window : List Entry) → length (distinct (all_series s.kept window)) ≤ s.limit → rows s window None ≡ []

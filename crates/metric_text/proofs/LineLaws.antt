@@ -1,6 +1,7 @@
 -- The lines of an input, one after the other.
 use Rattle.std.proofs.Common.{◌≡◌, ◌≤◌, ℕ, Bool, true, false, ◌&&◌, ◌==◌, List, [], ◌∷◌, length, refl, sym, ap, ◌∙◌, ◌⊎◌, inl, inr, arith}
 use Rattle.std.specs.List.{onto_first}
+use Rattle.std.proofs.lemmas.Bool.{and_parts, and_right}
 use Rattle.metric_text.specs.Lines.{is_feed, begins_with_feed, lines_of, line_in, without_return}
 use Rattle.metric_text.specs.Reading.{split_before}
 
@@ -58,14 +59,6 @@ cut-feed : (b : ℕ) (bytes : List ℕ) → is_feed b ≡ true
     → ((split_before is_feed (b ∷ bytes)).0 ≡ []) × ((split_before is_feed (b ∷ bytes)).1 ≡ b ∷ bytes)
 cut-feed b bytes feed = rw feed (refl, refl)
 
-and_false : (a b : Bool) → b ≡ false → (a && b) ≡ false
-and_false true b e = e
-and_false false b e = refl
-
-and_both : (a b : Bool) → (a && b) ≡ true → (a ≡ true) × (b ≡ true)
-and_both true b e = (refl, e)
-and_both false b e = absurd cc
-
 and_first : (a b : Bool) → (a && b) ≡ false → b ≡ true → a ≡ false
 and_first true b e yes_b = absurd cc
 and_first false b e yes_b = refl
@@ -108,7 +101,7 @@ line_in-open (b ∷ bytes) e =
       | inr other ↦
           let cut = cut-plain b bytes other in
           let left : (split_before is_feed bytes).1 ≡ [] = sym cut.1 ∙ e in
-          let first = line_in-plain b bytes other (and_false (b == 13) (begins_with_feed bytes) (no_feed_first bytes left)) in
+          let first = line_in-plain b bytes other (and_right (b == 13) (begins_with_feed bytes) (no_feed_first bytes left)) in
           let rest = line_in-open bytes left in
           (first.0 ∙ ap (λ xs. b ∷ xs) rest.0 ∙ sym cut.0, first.1 ∙ rest.1)
     ]
@@ -129,7 +122,7 @@ line_in-ended (b ∷ bytes) feed rest e =
           let below = line_in-ended bytes feed rest left in
           elim (true_or_false ((b == 13) && begins_with_feed bytes)) [
             | inl returns ↦
-                let both = and_both (b == 13) (begins_with_feed bytes) returns in
+                let both = and_parts (b == 13) (begins_with_feed bytes) returns in
                 let first = line_in-return b bytes other returns in
                 let none = feed_first bytes both.1 in (
                   first.0 ∙ below.0 ∙ ap without_return none ∙ sym (return_dropped b both.0) ∙ ap without_return (ap (λ xs. b ∷ xs) (sym none) ∙ sym cut.0),

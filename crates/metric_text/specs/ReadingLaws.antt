@@ -44,6 +44,7 @@ use Rattle.std.specs.Int.{IsInRange}
 use Rattle.std.specs.Option.{option_map_or}
 use Rattle.std.specs.Str.{bytes_eq}
 use Rattle.std.specs.Str.Parse.{digits_value, signed_digits_value, AllDigits}
+use Rattle.std.proofs.lemmas.Bool.{and_parts}
 use Rattle.std.proofs.lemmas.Bool.Decides.{eqb_tells, nat_tests}
 use Rattle.std.proofs.lemmas.Fmt.{decimal_is_IsNumeral}
 use Rattle.std.proofs.lemmas.Slice.Eq.{bytes_eq-Decides}
@@ -56,10 +57,6 @@ pub some_when : {A : Type 0} (test : Bool) (x y : A) → (if test then Some x el
     → (test ≡ true) × (x ≡ y)
 some_when true x y e = (refl, cc)
 some_when false x y e = absurd cc
-
-both_true : (a b : Bool) → (a && b) ≡ true → (a ≡ true) × (b ≡ true)
-both_true true b e = (refl, e)
-both_true false b e = absurd cc
 
 pub pair_is : {A B : Type 0} (a c : A) (b d : B)
     → ◌≡◌ {A = Option (A × B)} (Some (a, b)) (Some (c, d)) → (a ≡ c) × (b ≡ d)
@@ -191,7 +188,7 @@ unfolding number_of
 number_of-some limit n word e =
     let value = digits_value 10 word in
     let held = some_when (nat_lt value limit && bytes_eq (decimal value) word) value n e in
-    let tests = both_true (nat_lt value limit) (bytes_eq (decimal value) word) held.0 in
+    let tests = and_parts (nat_lt value limit) (bytes_eq (decimal value) word) held.0 in
     let same : decimal value ≡ word = (bytes_eq-Decides (decimal value) word).0 tests.1 in
     let below : value < limit = (let t = tests.0 in grind (arith, nat_tests)) in
     (let e2 = held.1 in omega arith, sym same ∙ ap decimal held.1)
@@ -248,7 +245,7 @@ signed_of-some z word e =
     let held =
     some_when (nat_lt (mag value) (2 ^ 63) && bytes_eq (signed_decimal value) word) value z e in
     let tests =
-    both_true (nat_lt (mag value) (2 ^ 63)) (bytes_eq (signed_decimal value) word) held.0 in
+    and_parts (nat_lt (mag value) (2 ^ 63)) (bytes_eq (signed_decimal value) word) held.0 in
     let same : signed_decimal value ≡ word =
     (bytes_eq-Decides (signed_decimal value) word).0 tests.1 in (
       subst (FitsSigned w64) held.1 (fits_from_test value tests.0),

@@ -6,6 +6,7 @@ use Rattle.std.specs.Prelude.{FitsSigned, if◌then◌else◌, is_some}
 use Rattle.std.specs.Fmt.{signed_decimal}
 use Rattle.std.specs.Option.{option_map}
 use Rattle.std.specs.Str.{bytes_eq}
+use Rattle.std.proofs.lemmas.Bool.{false_from_ne_true}
 use Rattle.std.proofs.lemmas.Bool.Decides.{eqb_tells}
 use Rattle.std.proofs.lemmas.Slice.Eq.{bytes_eq-Decides}
 use Rattle.metric_names.specs.declared.value.AttrValue.{AttrValue}
@@ -23,10 +24,6 @@ by_test : {A P : Type 0} (test : Bool) (x y r : A) → (if test then x else y) �
 by_test true x y r e yes_case no_case = yes_case refl e
 by_test false x y r e yes_case no_case = no_case e
 
-not_equal : (test : Bool) → (test ≡ true → ⊥) → test ≡ false
-not_equal true differs = absurd (differs refl)
-not_equal false differs = refl
-
 whole_of : {P : Type 0} (read : Option ℤ) (value : AttrValue) → option_map
     (λ number. Whole number) read ≡ Some value → ((z : ℤ) → read ≡ Some z → Whole z ≡ value → P) → P
 whole_of None value e next = absurd cc
@@ -36,7 +33,7 @@ whole_of (Some z) value e next = next z refl cc
 other_word : (z : ℤ) (letter : ℕ) (word : List ℕ) → FitsSigned w64 z → 57 < letter
     → bytes_eq (signed_decimal z) (letter ∷ word) ≡ false
 other_word z letter word fits above =
-    not_equal (bytes_eq (signed_decimal z) (letter ∷ word)) (λ test.
+    false_from_ne_true (bytes_eq (signed_decimal z) (letter ∷ word)) (λ test.
     let same : signed_decimal z ≡ letter ∷ word =
     (bytes_eq-Decides (signed_decimal z) (letter ∷ word)).0 test in
     let begins = signed_decimal-begins z fits in

@@ -3,6 +3,7 @@ use Rattle.std.proofs.Common.{◌≡◌, ℕ, ℤ, ◌<◌, Bool, true, false, n
 use Rattle.std.proofs.lemmas.Int.{ints}
 use Rattle.std.proofs.lemmas.Bool.Decides.{nat_tests}
 use Rattle.std.specs.Str.{chars}
+use Rattle.std.proofs.lemmas.Bool.{not-true}
 use Rattle.toml.specs.Data.{Data, Members, get_member}
 use Rattle.metric_base.specs.StepLaws.{after_ok, require_ok, ok_is}
 use Rattle.metric_table.specs.Fields.{integer_of, only, short_text, table_of, text_field}
@@ -25,10 +26,6 @@ use Rattle.metric_catalogue.specs.Sound.{IsFreeText}
 use Rattle.metric_views.specs.Sound.{IsLimit, IsSoundReader}
 
 -- a test that did not hold
-not_true : (b : Bool) → not b ≡ true → b ≡ false
-not_true true e = absurd cc
-not_true false e = refl
-
 -- a short text is the text, and is short
 pub short_made : (at : ConfigPlace) (text name : List ℕ) → short_text (faults_at at) text ≡ Ok name → (text ≡ name) × IsFreeText name
 unfolding short_text
@@ -55,7 +52,7 @@ unfolding aggregation_for
 fit_made at kind d aggregation e0 =
     after_ok (aggregation_of at d) _ aggregation e0 (λ named _ e1.
     let (fits, e2) = require_ok (not (is_unfit kind named)) (At WrongKind at) _ aggregation e1 in
-    subst (λ (a : Aggregation). is_unfit kind a ≡ false) (ok_is named aggregation (Ok named) refl e2) (not_true (is_unfit kind named) fits))
+    subst (λ (a : Aggregation). is_unfit kind a ≡ false) (ok_is named aggregation (Ok named) refl e2) (not-true (is_unfit kind named) fits))
 
 -- What holds of the usual choice and of each that is read, holds of the choices for all kinds.
 choice_made : {T : Type 0} (P : T → Type 0) (usual : T) (read : Data → Result T ViewFault) → P usual → ((d : Data) (t : T) → read d ≡ Ok t → P t)
@@ -129,7 +126,7 @@ name_made before at table name e0 =
     let (new, e4) = require_ok (not (has_reader before held)) (At DuplicateReader at) _ name e3 in
     let (same, short) = short_made at text held made in
     let some : 0 < length text = grind (arith, nat_tests) in
-    let sound : IsSoundName before held = record { named = subst (λ (t : List ℕ). 0 < length t) same some; short = short; new = not_true (has_reader before held) new } in
+    let sound : IsSoundName before held = record { named = subst (λ (t : List ℕ). 0 < length t) same some; short = short; new = not-true (has_reader before held) new } in
     subst (IsSoundName before) (ok_is held name (Ok held) refl e4) sound))
 
 pub reader_made : (before : List Reader) (table : Members) (reader : Reader) → reader_of before table ≡ Ok reader → IsSoundReader before reader
