@@ -104,6 +104,7 @@ impl Book for Marked {
         Marked::with_facts(alloc, plan.facts(instrument), seed)
     }
 
+    #[inline(always)]
     fn push(&mut self, entry: Entry) -> Result<(), Refusal> {
         push_all(&mut self.tables, &mut self.places, &entry)?;
         self.count += 1;

@@ -19,6 +19,11 @@ pub struct AllFault {
 }
 
 impl fmt::Display for AllFault {
+    ghost use Rattle.std.specs.Prelude.{Some, codes};
+    ghost use Rattle.metric_provider.specs.Faults.{refused_text};
+
+    ghost output = { λ fault. Some (refused_text (codes "instrument ") fault.instrument fault.refusal) };
+
     fn fmt<W: fmt::Write>(&self, f: &mut fmt::Formatter<W>) -> fmt::Result {
         let instrument = self.instrument;
         let refusal = self.refusal;
@@ -44,6 +49,11 @@ pub struct SetsFault {
 }
 
 impl fmt::Display for SetsFault {
+    ghost use Rattle.std.specs.Prelude.{Some, codes};
+    ghost use Rattle.metric_provider.specs.Faults.{refused_text};
+
+    ghost output = { λ fault. Some (refused_text (codes "recording ") fault.place fault.refusal) };
+
     fn fmt<W: fmt::Write>(&self, f: &mut fmt::Formatter<W>) -> fmt::Result {
         let place = self.place;
         let refusal = self.refusal;
@@ -127,6 +137,11 @@ pub enum RollFault {
 }
 
 impl fmt::Display for RollFault {
+    ghost use Rattle.std.specs.Prelude.{Some};
+    ghost use Rattle.metric_provider.specs.Faults.{roll_fault_text};
+
+    ghost output = { λ fault. Some (roll_fault_text fault) };
+
     fn fmt<W: fmt::Write>(&self, f: &mut fmt::Formatter<W>) -> fmt::Result {
         match self {
             RollFault::SameRun => f.write_str("the next run has the number of this one"),

@@ -1,6 +1,6 @@
 //! The key under which a table finds a series.
 ghost use Rattle.std.specs.Prelude.{◌≡◌};
-ghost use Rattle.metric_series.specs.SeriesKeys.{number_of};
+ghost use Rattle.metric_series.specs.SeriesKeys.{number_of, word_of};
 
 use metric_contents::SetKey;
 use std::hash::{Hash, Hasher};
@@ -37,16 +37,22 @@ impl SeriesKey {
         self.set
     }
 
-    // The entries as the digits of one number.
+    // The entries in the order of memory, the first the lowest, so that a set is taken as it lies there.
     fn number(&self) -> u128
         ensures { result ≡ number_of self.now }
     {
-        let mut number: u128 = 0;
-        for entry in &self.set {
-            number = number << 16 | u128::from(*entry);
-        }
-        number
+        let set = &self.set;
+        let low = word(set[0], set[1], set[2], set[3]);
+        let high = word(set[4], set[5], set[6], set[7]);
+        u128::from(high) << 64 | u128::from(low)
     }
+}
+
+// Four entries as one number, the first the lowest.
+fn word(first: u16, second: u16, third: u16, fourth: u16) -> u64
+    ensures { result ≡ word_of first second third fourth }
+{
+    u64::from(fourth) << 48 | u64::from(third) << 32 | u64::from(second) << 16 | u64::from(first)
 }
 
 impl Hash for SeriesKey {
