@@ -2,61 +2,9 @@
 ghost use Rattle.std.specs.Prelude.{◌≡◌, ◌++◌, IfOk, OnOk, slice_get};
 ghost use Rattle.metric_commands.specs.Accounts.{batch_at, batch_in, batches_at};
 
-use metric_base::{Copied, Items};
-use metric_history::{Batch, Point, Reply, StreamPoints};
+use metric_export::copy_batch;
+use metric_history::{Batch, Reply};
 use std::alloc::{AllocError, Global};
-
-fn copy_point(alloc: Global, point: &Point) -> Result<Point, AllocError>
-    ensures { IfOk result (λ copied. copied ≡ point.now) }
-{
-    Ok(Point {
-        set: point.set,
-        value: point.value.copy(alloc)?,
-    })
-}
-
-fn copy_points(alloc: Global, points: &[Point]) -> Result<Items<Point>, AllocError>
-    ensures { IfOk result (λ copies. copies ≡ points.now) }
-{
-    let mut copies = Items::new(alloc);
-    for point in points {
-        copies.push(copy_point(alloc, point)?)?;
-    }
-    Ok(copies)
-}
-
-fn copy_stream(alloc: Global, stream: &StreamPoints) -> Result<StreamPoints, AllocError>
-    ensures { IfOk result (λ copied. copied ≡ stream.now) }
-{
-    Ok(StreamPoints {
-        stream: stream.stream,
-        points: copy_points(alloc, stream.points.as_slice())?,
-    })
-}
-
-fn copy_streams(alloc: Global, streams: &[StreamPoints]) -> Result<Items<StreamPoints>, AllocError>
-    ensures { IfOk result (λ copies. copies ≡ streams.now) }
-{
-    let mut copies = Items::new(alloc);
-    for stream in streams {
-        copies.push(copy_stream(alloc, stream)?)?;
-    }
-    Ok(copies)
-}
-
-fn copy_batch(alloc: Global, batch: &Batch) -> Result<Batch, AllocError>
-    ensures { IfOk result (λ copied. copied ≡ batch.now) }
-{
-    Ok(Batch {
-        reader: batch.reader,
-        instrument: batch.instrument,
-        from: batch.from,
-        mark: batch.mark,
-        start: batch.start,
-        time: batch.time,
-        streams: copy_streams(alloc, batch.streams.as_slice())?,
-    })
-}
 
 // Puts a copy of a reply's batch last, where it has one.
 fn add_batch(batches: &mut Vec<Batch>, alloc: Global, reply: &Reply) -> Result<(), AllocError>

@@ -6,19 +6,8 @@ use metric_base::{Copied, Items};
 use metric_history::{Batch, Point, StreamPoints};
 use std::alloc::{AllocError, Global};
 
-/// Puts a copy of a batch last. Whether there was memory for it.
-pub(crate) fn push_copy(alloc: Global, kept: &mut Vec<Batch>, batch: &Batch) -> bool
-    ensures items { kept.new.items ≡ kept.old.items ++ entered result batch.now }
-    ensures grows { vec_len kept.old ≤ vec_len kept.new }
-{
-    match copy_batch(alloc, batch) {
-        Ok(copy) => kept.push(copy).is_ok(),
-        Err(_) => false,
-    }
-}
-
-// A copy of a batch. Fails only where memory is refused.
-fn copy_batch(alloc: Global, batch: &Batch) -> Result<Batch, AllocError>
+/// A copy of a batch, equal to it. Fails only where memory is refused.
+pub fn copy_batch(alloc: Global, batch: &Batch) -> Result<Batch, AllocError>
     ensures { IfOk result (λ copied. copied ≡ batch.now) }
 {
     Ok(Batch {
@@ -30,6 +19,17 @@ fn copy_batch(alloc: Global, batch: &Batch) -> Result<Batch, AllocError>
         time: batch.time,
         streams: copy_streams(alloc, batch.streams.as_slice())?,
     })
+}
+
+/// Puts a copy of a batch last. Whether there was memory for it.
+pub(crate) fn push_copy(alloc: Global, kept: &mut Vec<Batch>, batch: &Batch) -> bool
+    ensures items { kept.new.items ≡ kept.old.items ++ entered result batch.now }
+    ensures grows { vec_len kept.old ≤ vec_len kept.new }
+{
+    match copy_batch(alloc, batch) {
+        Ok(copy) => kept.push(copy).is_ok(),
+        Err(_) => false,
+    }
 }
 
 fn copy_streams(alloc: Global, streams: &[StreamPoints]) -> Result<Items<StreamPoints>, AllocError>

@@ -1,10 +1,10 @@
 //! Exporters, to which batches are handed on, and the tickers that say when.
 //!
-//! [`write_batch`] writes the text of one batch to a sink. A [`MetricExporter`] takes batch after
-//! batch until it is shut down (Metrics SDK, push metric exporter); [`TextExporter`] writes their
+//! [`write_batch`] writes the text of one batch to a sink, [`copy_batch`] copies one, and [`attributes`] are those of a point. A
+//! [`MetricExporter`] takes batch after batch until it is shut down (Metrics SDK, push metric exporter); [`TextExporter`] writes their
 //! texts to a sink, a [`KeepingExporter`] keeps the batches in memory, and a [`Queued`] keeps those that the exporter below it
-//! refused and tries them again. [`attributes`] are those of a point. A [`Ticker`] gives the moments of a periodic reader: [`ListTicker`] those of a
-//! list, [`ClockTicker`] those of a clock, until a [`StopFlag`] is set.
+//! refused and tries them again. A [`Ticker`] gives the moments of a periodic reader: [`ListTicker`] those of a list,
+//! [`ClockTicker`] those of a clock, until a [`StopFlag`] is set.
 #![tactic(auto)]
 
 mod batch;
@@ -26,6 +26,7 @@ mod watch;
 
 pub use batch::write_batch;
 pub use clock_ticker::ClockTicker;
+pub use copies::copy_batch;
 pub use exporter::MetricExporter;
 pub use fault::ExportFault;
 pub use keeping_exporter::KeepingExporter;

@@ -1,6 +1,0 @@
--- the copies so far are the first ones
-use Rattle.std.proofs.Common.{◌≡◌, take}
-use Rattle.metric_commands.proofs.batches.copy_points.Given as goal
-
-abbrev pub invariant-loop-point : goal.invariant-loop-point
-invariant-loop-point l = l.copies ≡ take l.point-index l.points
