@@ -1,6 +1,6 @@
 -- The value of the point that a name and attributes are of, in a list of batches.
 use Rattle.std.specs.Prelude.{ℕ, Bool, true, false, not, ◌&&◌, ◌==◌, List, [], ◌∷◌, Option, None}
-use Rattle.std.specs.Prelude.{Some, find, slice_get, option_and_then}
+use Rattle.std.specs.Prelude.{find, slice_get, option_and_then}
 use Rattle.std.specs.List.{list_all}
 use Rattle.std.specs.Option.{option_map, option_map_or, option_or}
 use Rattle.std.specs.Str.{bytes_eq}
