@@ -1,4 +1,5 @@
 pub mod Named
+pub mod KeysGiven
 pub mod Bounds
 pub mod Calls
 pub mod Seats

@@ -3,8 +3,9 @@
 //! A number in place of a name is wrong without a word once a file is put in another order. Here names, kinds and keys are
 //! compared with the plan's catalogue once, at the start, and a handle is kept: [`counter`], [`up_down_counter`],
 //! [`histogram`] and [`gauge`] give one, or the first [`HandleFault`]. What a call by a handle does is what the seat's call at
-//! the handle's number does, of a recorder's seat or of another [`Seat`], as a [`Counted`] one. `specs/Named.antt` says which
-//! instrument a name is of, `specs/Calls.antt` what a call does.
+//! the handle's number does, of a recorder's seat or of another [`Seat`], as a [`Counted`] one. Keys that were compared are not
+//! refused later: that is a law, [`compared_keys_are_recorded`]. `specs/Named.antt` says which instrument a name is of,
+//! `specs/Calls.antt` what a call does, `specs/KeysGiven.antt` what the law says.
 #![tactic(auto)]
 
 mod bound;
@@ -15,6 +16,7 @@ mod fault;
 mod found;
 mod handle;
 mod kinds;
+mod laws;
 mod named;
 mod replaced;
 mod seat;
@@ -28,6 +30,7 @@ pub use fault::HandleFault;
 pub use found::value_of;
 pub use handle::{Counter, Gauge, Handle, Histogram, UpDownCounter};
 pub use kinds::{Adds, IsCounter, IsGauge, IsHistogram, IsUpDownCounter, Records};
+pub use laws::{compared_keys_are_bound, compared_keys_are_recorded};
 pub use named::{counter, gauge, histogram, up_down_counter};
 pub use replaced::Replaced;
 pub use seat::Seat;
