@@ -16,10 +16,10 @@ use metric_plan::Plan;
 /// (Metrics API, Counter creation). Instrument names are compared without ASCII case; those of meters and keys exactly, as where
 /// views select them.
 ///
-/// Attributes with just these keys, in any order, are then bound or recorded, or refused for something else than their keys: see
-/// [`compared_keys_are_bound`](crate::compared_keys_are_bound) and
-/// [`compared_keys_are_recorded`](crate::compared_keys_are_recorded). A program that leaves a key out at times asks once more, with
-/// the list without it.
+/// Attributes with just these keys, in any order, are then never refused for their keys on this plan
+/// ([`compared_keys_are_bound`](crate::compared_keys_are_bound),
+/// [`compared_keys_are_recorded`](crate::compared_keys_are_recorded)). A program that leaves one out at times asks with the list
+/// without it, too.
 ///
 /// # Errors
 ///
