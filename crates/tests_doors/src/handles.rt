@@ -1,10 +1,11 @@
 //! Tests of instruments and seats by name.
 use metric_handles::{
-    BoundCounter, BoundList, Counted, Counter, HandleFault, Replaced, Seat, counter, gauge,
-    histogram, left, take_reader, take_recorder, up_down_counter, value_of,
+    BoundCounter, BoundList, Counted, Counter, HandleFault, Replaced, Seat,
+    compared_keys_are_bound, compared_keys_are_recorded, counter, gauge, histogram, left,
+    take_reader, take_recorder, up_down_counter, value_of,
 };
 use metric_sdk::{
-    Attr, Batch, Collector, Kind, MeterProvider, NoGate, Plan, Recorder, Refusal, ValueRef,
+    Attr, Batch, Collector, Kind, Marked, MeterProvider, NoGate, Plan, Recorder, Refusal, ValueRef,
     certified_plan, start,
 };
 use std::alloc::{AllocError, Global};
@@ -251,6 +252,23 @@ fn seats_are_taken_by_name(rt: HostRuntime) -> Result<(), Fail> {
     write_recorders(&mut out, rt.alloc(), &mut service)?;
     write_readers(&mut out, rt.alloc(), &mut service)?;
     assert_equal(&rt, out.as_str(), TAKEN);
+    Ok(())
+}
+
+#[test]
+fn keys_that_were_compared_are_not_refused(rt: HostRuntime) -> Result<(), Fail> {
+    compared_keys_are_bound();
+    compared_keys_are_recorded::<Marked>();
+    let plan = certified_plan(rt.alloc(), SHOP, READERS)?;
+    let orders = counter(&plan, "shop", "orders", &["country", "paid"])?;
+    for (name, due) in [("de", None), ("it", Some(Refusal::UnknownValue))] {
+        let paid = Attr {
+            key: "paid",
+            value: ValueRef::Flag(true),
+        };
+        let told = orders.bind(&plan, &[paid, country(name)]).err();
+        assert_equal(&rt, told, due);
+    }
     Ok(())
 }
 
