@@ -13,20 +13,24 @@ use std::sync::Wait;
 use std::test::Fail;
 use std::thread::Threads;
 
-// Two counters, and two recorders with ten recordings of each.
-const CATALOGUE: &str = "format = 1
+// Two counters; three more, each with one allowed combination: the first values of the required keys, their last values, and the
+// first values of all keys. Two recorders with ten recordings of each.
+const CATALOGUE: &str = "format = 2
 [[meter]]
 name = 'm'
 instrument = [
     { name = 'A', kind = 'counter', range = [0, 3] },
     { name = 'B', kind = 'counter', range = [0, 3] },
+    { name = 'first', kind = 'counter', range = [0, 3], allowed = [[1, 0, 1]], key = [{ name = 'a', values = ['x', 'y'] }, { name = 'b', values = ['p'], optional = true }, { name = 'c', values = [7, true] }] },
+    { name = 'last', kind = 'counter', range = [0, 3], allowed = [[2, 0, 2]], key = [{ name = 'a', values = ['x', 'y'] }, { name = 'b', values = ['p'], optional = true }, { name = 'c', values = [7, true] }] },
+    { name = 'all', kind = 'counter', range = [0, 3], allowed = [[1, 1, 1]], key = [{ name = 'a', values = ['x', 'y'] }, { name = 'b', values = ['p'], optional = true }, { name = 'c', values = [7, true] }] },
 ]
 [[recorder]]
 name = 'r0'
-budget = [{ instrument = 0, amount = 10 }, { instrument = 1, amount = 10 }]
+budget = [{ instrument = 0, amount = 10 }, { instrument = 1, amount = 10 }, { instrument = 2, amount = 10 }, { instrument = 3, amount = 10 }, { instrument = 4, amount = 10 }]
 [[recorder]]
 name = 'r1'
-budget = [{ instrument = 0, amount = 10 }, { instrument = 1, amount = 10 }]
+budget = [{ instrument = 0, amount = 10 }, { instrument = 1, amount = 10 }, { instrument = 2, amount = 10 }, { instrument = 3, amount = 10 }, { instrument = 4, amount = 10 }]
 ";
 
 // A cumulative reader and a delta reader.
@@ -44,9 +48,13 @@ const TWELVE_EACH: ThreadsOptions = ThreadsOptions { each: 12 };
 // How often the threads run.
 const RUNS: u32 = 200;
 
-// What each instrument comes to: its recordings, how many batches the readers were told, and what its audit answers.
-const TOLD: &str = "20 recordings of 60, 16 batches: done
-20 recordings of 60, 16 batches: done
+// What each instrument comes to: its recordings, the times of the batches that the readers were told, those of one reader after those
+// of the other, and what its audit answers.
+const TOLD: &str = "20 recordings of 60, batches at 1 2 3 4 5 6 7 8 1 2 3 4 5 6 7 8: done
+20 recordings of 60, batches at 1 2 3 4 5 6 7 8 1 2 3 4 5 6 7 8: done
+20 recordings of 60, batches at 1 2 3 4 5 6 7 8 1 2 3 4 5 6 7 8: done
+0 recordings of 0, batches at 1 2 3 4 5 6 7 8 1 2 3 4 5 6 7 8: done
+0 recordings of 0, batches at 1 2 3 4 5 6 7 8 1 2 3 4 5 6 7 8: done
 ";
 
 // What the threads of a certified plan come to.
@@ -95,6 +103,14 @@ fn write_audit(
     }
 }
 
+// Writes the times of batches, and a colon.
+fn write_times(out: &mut String, batches: &[Batch]) -> Result<(), Fail> {
+    for batch in batches {
+        write!(out, " {}", batch.time)?;
+    }
+    Ok(out.push_str(": ")?)
+}
+
 // Writes what an instrument comes to, and its audit.
 fn write_instrument(
     out: &mut String,
@@ -113,12 +129,12 @@ fn write_instrument(
     ) else {
         return Err("no such instrument".into());
     };
-    let told = batches.len();
     write!(
         out,
-        "{} recordings of {}, {told} batches: ",
+        "{} recordings of {}, batches at",
         total.count, total.sum
     )?;
+    write_times(out, batches)?;
     let (journal, slips) = (journal.as_slice(), slips.as_slice());
     write_audit(out, alloc, plan, instrument, journal, slips, batches)
 }
