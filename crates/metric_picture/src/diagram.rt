@@ -14,6 +14,8 @@ pub(crate) enum Tone {
     Red,
     /// A title without a box.
     Title,
+    /// No box, but room for a link that passes.
+    Lane,
 }
 
 /// A box: a title, and lines below it.
@@ -44,16 +46,14 @@ impl Node {
     }
 }
 
-/// A link from a box of a column to one of a later column, by their numbers.
+/// A link from a box of a column to one of the next column, by their numbers.
 #[derive(Clone, Copy)]
 pub(crate) struct Link {
-    /// The number of the first column.
-    pub from_column: usize,
+    /// The number of the column.
+    pub column: usize,
     /// The number of the box there.
     pub from: usize,
-    /// The number of the later column.
-    pub to_column: usize,
-    /// The number of the box there.
+    /// The number of the box in the next column.
     pub to: usize,
     /// How it looks.
     pub tone: Tone,

@@ -2,6 +2,7 @@
 use crate::diagram::{Diagram, Link, Node, Tone};
 use crate::exported::{each_stream, grouped_streams, red_flags};
 use crate::instruments::{each_instrument, grouped_instruments, stream_counts};
+use crate::lanes::with_lanes;
 use crate::links::Links;
 use crate::slots::Slots;
 use crate::svg::svg_of;
@@ -17,12 +18,10 @@ const MOST_INSTRUMENTS: usize = 40;
 
 const MOST_STREAMS: usize = 120;
 
-// The columns of the picture.
+// Columns of the picture, from which there are links.
 const INSTRUMENTS: usize = 0;
 
 const VIEWS: usize = 1;
-
-const STREAMS: usize = 2;
 
 /// The text of a picture of a catalogue and a config, as an SVG: instruments, the views that select them, and the streams that
 /// these give each reader, or that come by default. Fails only where memory is refused.
@@ -39,27 +38,46 @@ fn diagram_of(
     streams: &Streams,
 ) -> Result<Diagram, AllocError> {
     let red = red_flags(alloc, streams)?;
-    let list = streams.list();
+    let columns = columns_of(alloc, catalogue, config, streams.list(), &red)?;
+    let links = links_of(alloc, catalogue, config, streams.list(), &red, &columns)?;
+    let Columns {
+        instruments,
+        views,
+        streams,
+    } = columns;
+    let columns = three(alloc, instruments.nodes, views.nodes, streams.nodes)?;
+    Ok(Diagram { columns, links })
+}
+
+// The columns, from the left.
+#[derive(Drop)]
+struct Columns {
+    instruments: Slots,
+    // Of each box of instruments, the lane of its default streams.
+    views: Slots,
+    streams: Slots,
+}
+
+fn columns_of(
+    alloc: Global,
+    catalogue: &Catalogue,
+    config: &Config,
+    list: &[Stream],
+    red: &[bool],
+) -> Result<Columns, AllocError> {
     let is_grouped = catalogue.instruments().len() > MOST_INSTRUMENTS || list.len() > MOST_STREAMS;
     let instruments = instrument_slots(alloc, catalogue, list, is_grouped)?;
-    let exported = if is_grouped {
-        grouped_streams(alloc, config, list, &red)?
+    let views = with_lanes(alloc, view_nodes(alloc, config)?, list, &instruments)?;
+    let streams = if is_grouped {
+        grouped_streams(alloc, catalogue, config, list, red)?
     } else {
-        each_stream(alloc, catalogue, config, list, &red)?
+        each_stream(alloc, catalogue, config, list, red)?
     };
-    let views = view_nodes(alloc, config)?;
-    let mut links = selected_links(alloc, catalogue, config, &instruments)?;
-    push_stream_links(
-        alloc,
-        &mut links,
-        views.len(),
-        list,
-        &red,
-        &instruments,
-        &exported,
-    )?;
-    let columns = three(alloc, instruments.nodes, views, exported.nodes)?;
-    Ok(Diagram { columns, links })
+    Ok(Columns {
+        instruments,
+        views,
+        streams,
+    })
 }
 
 fn instrument_slots(
@@ -89,33 +107,41 @@ fn three(
     Ok(columns)
 }
 
-// Links from instruments to the views that select them.
-fn selected_links(
+fn links_of(
     alloc: Global,
     catalogue: &Catalogue,
     config: &Config,
-    instruments: &Slots,
+    streams: &[Stream],
+    red: &[bool],
+    columns: &Columns,
 ) -> Result<Vec<Link>, AllocError> {
-    let views = config.views();
-    let mut links = Links::new(
-        alloc,
-        INSTRUMENTS,
-        VIEWS,
-        instruments.nodes.len(),
-        views.len(),
+    let (height, width) = (columns.instruments.nodes.len(), columns.views.nodes.len());
+    let mut to_views = Links::new(alloc, INSTRUMENTS, height, width)?;
+    let mut to_streams = Links::new(alloc, VIEWS, width, columns.streams.nodes.len())?;
+    link_selected(
+        &mut to_views,
+        catalogue,
+        config.views(),
+        &columns.instruments,
     )?;
+    link_streams(&mut to_views, &mut to_streams, columns, streams, red)?;
+    let mut links = Vec::new(alloc);
+    to_views.push_to(&mut links)?;
+    to_streams.push_to(&mut links)?;
+    Ok(links)
+}
+
+// Links instruments to the views that select them.
+fn link_selected(
+    links: &mut Links,
+    catalogue: &Catalogue,
+    views: &[View],
+    instruments: &Slots,
+) -> Result<(), AllocError> {
     for (number, instrument) in catalogue.instruments().iter().enumerate() {
-        link_views(
-            &mut links,
-            catalogue,
-            views,
-            instrument,
-            instruments.at(number),
-        )?;
+        link_views(links, catalogue, views, instrument, instruments.at(number))?;
     }
-    let mut all = Vec::new(alloc);
-    links.push_to(&mut all)?;
-    Ok(all)
+    Ok(())
 }
 
 fn link_views(
@@ -136,28 +162,26 @@ fn link_views(
     Ok(())
 }
 
-// Puts links to streams last, from their views or, of default streams, from their instruments.
-fn push_stream_links(
-    alloc: Global,
-    all: &mut Vec<Link>,
-    views: usize,
+// Links streams to their views or, default streams, by a lane to their instruments.
+fn link_streams(
+    to_views: &mut Links,
+    to_streams: &mut Links,
+    columns: &Columns,
     streams: &[Stream],
     red: &[bool],
-    instruments: &Slots,
-    exported: &Slots,
 ) -> Result<(), AllocError> {
-    let width = exported.nodes.len();
-    let mut from_views = Links::new(alloc, VIEWS, STREAMS, views, width)?;
-    let height = instruments.nodes.len();
-    let mut defaults = Links::new(alloc, INSTRUMENTS, STREAMS, height, width)?;
     for (number, (stream, is_red)) in streams.iter().zip(red).enumerate() {
-        let to = exported.at(number);
         let tone = if *is_red { Tone::Red } else { Tone::Plain };
-        match stream.view {
-            Some(view) => from_views.add(view as usize, to, tone)?,
-            None => defaults.add(instruments.at(stream.instrument as usize), to, tone)?,
-        }
+        let from = match stream.view {
+            Some(view) => view as usize,
+            None => {
+                let slot = columns.instruments.at(stream.instrument as usize);
+                let lane = columns.views.at(slot);
+                to_views.add(slot, lane, tone)?;
+                lane
+            }
+        };
+        to_streams.add(from, columns.streams.at(number), tone)?;
     }
-    from_views.push_to(all)?;
-    defaults.push_to(all)
+    Ok(())
 }

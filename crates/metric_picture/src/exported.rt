@@ -1,6 +1,6 @@
 //! The boxes of streams.
 use crate::diagram::{Node, Tone};
-use crate::instruments::count_one;
+use crate::links::raise;
 use crate::slots::Slots;
 use metric_catalogue::Catalogue;
 use metric_contents::Key;
@@ -20,12 +20,6 @@ pub(crate) fn red_flags(alloc: Global, streams: &Streams) -> Result<Vec<bool>, A
     Ok(flags)
 }
 
-fn raise(flags: &mut [bool], place: usize) {
-    if let Some(flag) = flags.get_mut(place) {
-        *flag = true;
-    }
-}
-
 /// A box for each stream, below the title of its reader.
 pub(crate) fn each_stream(
     alloc: Global,
@@ -39,17 +33,16 @@ pub(crate) fn each_stream(
     for (stream, is_red) in streams.iter().zip(red) {
         if reader != Some(stream.reader) {
             reader = Some(stream.reader);
-            slots
-                .nodes
-                .push(reader_node(alloc, config, stream.reader)?)?;
+            let title = reader_node(alloc, config, stream.reader as usize)?;
+            slots.nodes.push(title)?;
         }
         slots.add(stream_node(alloc, catalogue, stream, *is_red)?)?;
     }
     Ok(slots)
 }
 
-fn reader_node(alloc: Global, config: &Config, reader: u32) -> Result<Node, AllocError> {
-    let name = match config.readers().get(reader as usize) {
+fn reader_node(alloc: Global, config: &Config, reader: usize) -> Result<Node, AllocError> {
+    let name = match config.readers().get(reader) {
         Some(reader) => reader.name.as_str(),
         None => "",
     };
@@ -69,7 +62,7 @@ fn stream_node(
         None => &[],
     };
     let kept = stream.kept.get().as_slice();
-    let mut node = Node::new(alloc, title, stream_tone(stream, kept, is_red));
+    let mut node = Node::new(alloc, title, stream_tone(is_red, is_filtered(stream)));
     let (kind, temporality) = (points_word(stream), temporality_word(stream.temporality));
     node.add_line(format!(in alloc; "{kind}, {temporality}")?)?;
     if !keys.is_empty() {
@@ -81,10 +74,15 @@ fn stream_node(
     Ok(node)
 }
 
-fn stream_tone(stream: &Stream, kept: &[bool], is_red: bool) -> Tone {
+// Whether the view of a stream leaves a key out.
+fn is_filtered(stream: &Stream) -> bool {
+    stream.view.is_some() && stream.kept.get().as_slice().contains(&false)
+}
+
+fn stream_tone(is_red: bool, is_filtered: bool) -> Tone {
     if is_red {
         Tone::Red
-    } else if stream.view.is_some() && kept.contains(&false) {
+    } else if is_filtered {
         Tone::Changed
     } else {
         Tone::Plain
@@ -122,62 +120,94 @@ fn kept_line(alloc: Global, keys: &[Key], kept: &[bool]) -> Result<String, Alloc
     Ok(line)
 }
 
+// The streams of a reader and a view, which share a box.
+#[derive(Clone, Copy)]
+struct Group {
+    // The number of the first of them.
+    first: usize,
+    // How many there are.
+    count: usize,
+    // How many of them collide.
+    red: usize,
+    // How many of them leave a key out.
+    filtered: usize,
+}
+
+const NO_STREAM: Group = Group {
+    first: usize::MAX,
+    count: 0,
+    red: 0,
+    filtered: 0,
+};
+
 /// A box for the streams of a reader and a view, below the title of the reader.
 pub(crate) fn grouped_streams(
     alloc: Global,
+    catalogue: &Catalogue,
     config: &Config,
     streams: &[Stream],
     red: &[bool],
 ) -> Result<Slots, AllocError> {
     let width = config.views().len().saturating_add(1);
-    let (counts, reds) = group_counts(alloc, config, streams, red)?;
+    let groups = groups_of(alloc, config, streams, red)?;
     let mut slots = Slots::new(alloc);
-    let mut boxes = vec![in alloc; 0usize; counts.len()]?;
-    for reader in 0..config.readers().len() {
-        slots
-            .nodes
-            .push(reader_node(alloc, config, reader as u32)?)?;
-        for view in 0..width {
-            let place = reader.saturating_mul(width).saturating_add(view);
-            add_group(
-                alloc,
-                &mut slots,
-                boxes.as_mut_slice(),
-                &counts,
-                &reds,
-                place,
-                view,
-            )?;
+    let mut boxes = Vec::new(alloc);
+    for (place, group) in groups.iter().enumerate() {
+        let (reader, view) = (place / width, place % width);
+        if view == 0 {
+            let title = reader_node(alloc, config, reader)?;
+            slots.nodes.push(title)?;
+        }
+        boxes.push(slots.nodes.len())?;
+        if group.count > 0 {
+            let node = group_node(alloc, catalogue, streams, view, *group)?;
+            slots.nodes.push(node)?;
         }
     }
-    for stream in streams {
-        let place = group_of(stream, width);
-        slots
-            .of
-            .push(boxes.get(place).copied().unwrap_or(usize::MAX))?;
-    }
+    put_in_boxes(&mut slots, &boxes, streams, width)?;
     Ok(slots)
 }
 
-// Of each reader and each view how many streams there are, and how many of these collide.
-fn group_counts(
+// Puts the number of the box of each stream last.
+fn put_in_boxes(
+    slots: &mut Slots,
+    boxes: &[usize],
+    streams: &[Stream],
+    width: usize,
+) -> Result<(), AllocError> {
+    for stream in streams {
+        let number = boxes.get(group_of(stream, width)).copied();
+        slots.of.push(number.unwrap_or(usize::MAX))?;
+    }
+    Ok(())
+}
+
+// The groups of each reader: that of its default streams, and one for those of each view.
+fn groups_of(
     alloc: Global,
     config: &Config,
     streams: &[Stream],
     red: &[bool],
-) -> Result<(Vec<usize>, Vec<usize>), AllocError> {
+) -> Result<Vec<Group>, AllocError> {
     let width = config.views().len().saturating_add(1);
-    let groups = config.readers().len().saturating_mul(width);
-    let mut counts = vec![in alloc; 0usize; groups]?;
-    let mut reds = vec![in alloc; 0usize; groups]?;
-    for (stream, is_red) in streams.iter().zip(red) {
-        let place = group_of(stream, width);
-        count_one(counts.as_mut_slice(), place);
-        if *is_red {
-            count_one(reds.as_mut_slice(), place);
+    let places = config.readers().len().saturating_mul(width);
+    let mut groups = vec![in alloc; NO_STREAM; places]?;
+    for (number, (stream, is_red)) in streams.iter().zip(red).enumerate() {
+        if let Some(group) = groups.get_mut(group_of(stream, width)) {
+            *group = joined(*group, number, *is_red, is_filtered(stream));
         }
     }
-    Ok((counts, reds))
+    Ok(groups)
+}
+
+// A group with one more stream.
+fn joined(group: Group, number: usize, is_red: bool, is_filtered: bool) -> Group {
+    Group {
+        first: group.first.min(number),
+        count: group.count.saturating_add(1),
+        red: group.red.saturating_add(usize::from(is_red)),
+        filtered: group.filtered.saturating_add(usize::from(is_filtered)),
+    }
 }
 
 // The place of a stream's group: default streams stand before those of views.
@@ -191,40 +221,38 @@ fn group_of(stream: &Stream, width: usize) -> usize {
         .saturating_add(view)
 }
 
-// Adds the box of a group, where it has streams.
-fn add_group(
+// The box of a group: that of its stream where there is only one.
+fn group_node(
     alloc: Global,
-    slots: &mut Slots,
-    boxes: &mut [usize],
-    counts: &[usize],
-    reds: &[usize],
-    place: usize,
+    catalogue: &Catalogue,
+    streams: &[Stream],
     view: usize,
-) -> Result<(), AllocError> {
-    let count = counts.get(place).copied().unwrap_or(0);
-    if count == 0 {
-        return Ok(());
+    group: Group,
+) -> Result<Node, AllocError> {
+    match streams.get(group.first) {
+        Some(stream) if group.count == 1 => stream_node(alloc, catalogue, stream, group.red > 0),
+        _ => several_node(alloc, view, group),
     }
-    if let Some(number) = boxes.get_mut(place) {
-        *number = slots.nodes.len();
-    }
-    let red = reds.get(place).copied().unwrap_or(0);
-    slots.nodes.push(group_node(alloc, view, count, red)?)?;
-    Ok(())
 }
 
-fn group_node(alloc: Global, view: usize, count: usize, red: usize) -> Result<Node, AllocError> {
-    let plural = if count == 1 { "" } else { "s" };
-    let title = if view == 0 {
-        format!(in alloc; "{count} default stream{plural}")?
-    } else {
-        let view = view.saturating_sub(1);
-        format!(in alloc; "{count} stream{plural} of view {view}")?
-    };
-    let tone = if red > 0 { Tone::Red } else { Tone::Plain };
-    let mut node = Node::new(alloc, title, tone);
+fn several_node(alloc: Global, view: usize, group: Group) -> Result<Node, AllocError> {
+    let (red, filtered) = (group.red, group.filtered);
+    let title = several_title(alloc, view, group.count)?;
+    let mut node = Node::new(alloc, title, stream_tone(red > 0, filtered > 0));
+    if filtered > 0 {
+        node.add_line(format!(in alloc; "{filtered} with keys left out")?)?;
+    }
     if red > 0 {
-        node.add_line(format!(in alloc; "{red} collide")?)?;
+        node.add_line(format!(in alloc; "{red} in a collision")?)?;
     }
     Ok(node)
+}
+
+fn several_title(alloc: Global, view: usize, count: usize) -> Result<String, AllocError> {
+    if view == 0 {
+        format!(in alloc; "{count} default streams")
+    } else {
+        let view = view.saturating_sub(1);
+        format!(in alloc; "{count} streams of view {view}")
+    }
 }

@@ -34,7 +34,7 @@ pub(crate) fn each_instrument(
 ) -> Result<Slots, AllocError> {
     let mut slots = Slots::new(alloc);
     for (instrument, count) in catalogue.instruments().iter().zip(counts) {
-        slots.add(instrument_node(alloc, instrument, *count)?)?;
+        slots.add(instrument_node(alloc, instrument, *count == 0)?)?;
     }
     Ok(slots)
 }
@@ -42,24 +42,37 @@ pub(crate) fn each_instrument(
 fn instrument_node(
     alloc: Global,
     instrument: &Instrument,
-    streams: usize,
+    is_silent: bool,
 ) -> Result<Node, AllocError> {
     let title = String::from_str(alloc, instrument.name.get().as_str())?;
-    let tone = if streams == 0 {
-        Tone::Dropped
-    } else {
-        Tone::Plain
-    };
-    let mut node = Node::new(alloc, title, tone);
-    let (kind, unit) = (kind_word(instrument.kind), instrument.unit.get().as_str());
-    node.add_line(format!(in alloc; "{kind} {unit}")?)?;
+    let mut node = Node::new(alloc, title, instrument_tone(is_silent));
+    node.add_line(kind_line(alloc, instrument)?)?;
     if !instrument.keys.as_slice().is_empty() {
         node.add_line(keys_line(alloc, instrument.keys.as_slice())?)?;
     }
-    if streams == 0 {
+    if is_silent {
         node.add_line(String::from_str(alloc, "gives no stream")?)?;
     }
     Ok(node)
+}
+
+fn instrument_tone(is_silent: bool) -> Tone {
+    if is_silent {
+        Tone::Dropped
+    } else {
+        Tone::Plain
+    }
+}
+
+// The kind of an instrument, and its unit where it has one.
+fn kind_line(alloc: Global, instrument: &Instrument) -> Result<String, AllocError> {
+    let mut line = String::from_str(alloc, kind_word(instrument.kind))?;
+    let unit = instrument.unit.get().as_str();
+    if !unit.is_empty() {
+        line.push(' ')?;
+        line.push_str(unit)?;
+    }
+    Ok(line)
 }
 
 fn keys_line(alloc: Global, keys: &[Key]) -> Result<String, AllocError> {
@@ -81,12 +94,16 @@ pub(crate) fn kind_word(kind: Kind) -> &'static str {
     }
 }
 
-// What instruments share a box: a meter and a kind.
-#[derive(Clone, Copy, PartialEq, Eq, Drop)]
+// The instruments of a meter and a kind, which share a box.
+#[derive(Clone, Copy)]
 struct Group {
     meter: u32,
     kind: Kind,
+    // The number of the first of them.
+    first: usize,
+    // How many there are.
     count: usize,
+    // How many of them give no stream.
     silent: usize,
 }
 
@@ -98,8 +115,8 @@ pub(crate) fn grouped_instruments(
 ) -> Result<Slots, AllocError> {
     let mut slots = Slots::new(alloc);
     let mut groups = Vec::new(alloc);
-    for (instrument, count) in catalogue.instruments().iter().zip(counts) {
-        let place = joined_group(&mut groups, instrument, *count)?;
+    for (number, (instrument, count)) in catalogue.instruments().iter().zip(counts).enumerate() {
+        let place = joined_group(&mut groups, number, instrument, *count)?;
         slots.of.push(place)?;
     }
     for group in groups.iter() {
@@ -111,10 +128,11 @@ pub(crate) fn grouped_instruments(
 // The number of the group that an instrument joins.
 fn joined_group(
     groups: &mut Vec<Group>,
+    number: usize,
     instrument: &Instrument,
     streams: usize,
 ) -> Result<usize, AllocError> {
-    let silent = if streams == 0 { 1 } else { 0 };
+    let silent = usize::from(streams == 0);
     for (place, group) in groups.iter_mut().enumerate() {
         if group.meter == instrument.meter && group.kind == instrument.kind {
             group.count = group.count.saturating_add(1);
@@ -125,30 +143,42 @@ fn joined_group(
     groups.push(Group {
         meter: instrument.meter,
         kind: instrument.kind,
+        first: number,
         count: 1,
         silent,
     })?;
     Ok(groups.len().saturating_sub(1))
 }
 
+// The box of a group: that of its instrument where there is only one.
 fn group_node(alloc: Global, catalogue: &Catalogue, group: Group) -> Result<Node, AllocError> {
-    let (count, kind) = (group.count, kind_word(group.kind));
-    let plural = if count == 1 { "" } else { "s" };
-    let title = format!(in alloc; "{count} {kind}{plural}")?;
-    let tone = if group.silent == count {
-        Tone::Dropped
-    } else {
-        Tone::Plain
-    };
-    let mut node = Node::new(alloc, title, tone);
-    let meter = match catalogue.meters().get(group.meter as usize) {
-        Some(meter) => meter.name.as_str(),
-        None => "",
-    };
-    node.add_line(format!(in alloc; "of meter {meter}")?)?;
-    if group.silent > 0 {
-        let silent = group.silent;
+    let meter = meter_line(alloc, catalogue, group.meter)?;
+    match catalogue.instruments().get(group.first) {
+        Some(instrument) if group.count == 1 => {
+            let mut node = instrument_node(alloc, instrument, group.silent > 0)?;
+            node.add_line(meter)?;
+            Ok(node)
+        }
+        _ => several_node(alloc, group, meter),
+    }
+}
+
+fn several_node(alloc: Global, group: Group, meter: String) -> Result<Node, AllocError> {
+    let (count, silent) = (group.count, group.silent);
+    let kind = kind_word(group.kind);
+    let title = format!(in alloc; "{count} {kind}s")?;
+    let mut node = Node::new(alloc, title, instrument_tone(silent == count));
+    node.add_line(meter)?;
+    if silent > 0 {
         node.add_line(format!(in alloc; "{silent} without a stream")?)?;
     }
     Ok(node)
+}
+
+fn meter_line(alloc: Global, catalogue: &Catalogue, meter: u32) -> Result<String, AllocError> {
+    let name = match catalogue.meters().get(meter as usize) {
+        Some(meter) => meter.name.as_str(),
+        None => "",
+    };
+    format!(in alloc; "of meter {name}")
 }

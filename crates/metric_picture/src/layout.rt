@@ -2,7 +2,7 @@
 use crate::diagram::{Diagram, Node, Tone};
 use std::alloc::{AllocError, Global};
 
-pub(crate) const WIDTH: usize = 290;
+pub(crate) const WIDTH: usize = 320;
 
 pub(crate) const LINE: usize = 16;
 
@@ -16,7 +16,7 @@ const BETWEEN_BOXES: usize = 10;
 
 const AROUND: usize = 12;
 
-/// Where a box stands.
+/// Where a box stands, or where a link passes: that place has no height.
 #[derive(Clone, Copy)]
 pub(crate) struct Place {
     pub x: usize,
@@ -69,15 +69,12 @@ fn height_of(column: &[Node]) -> usize {
 }
 
 fn box_height(node: &Node) -> usize {
-    let around = match node.tone {
-        Tone::Title => 0,
-        Tone::Plain | Tone::Changed | Tone::Dropped | Tone::Red => AROUND,
-    };
-    node.lines
-        .len()
-        .saturating_add(1)
-        .saturating_mul(LINE)
-        .saturating_add(around)
+    let texts = node.lines.len().saturating_add(1).saturating_mul(LINE);
+    match node.tone {
+        Tone::Lane => 0,
+        Tone::Title => texts,
+        Tone::Plain | Tone::Changed | Tone::Dropped | Tone::Red => texts.saturating_add(AROUND),
+    }
 }
 
 fn places_of(

@@ -1,12 +1,11 @@
-//! Links between two columns, each drawn once.
+//! Links from a column to the next, each drawn once.
 use crate::diagram::{Link, Tone};
 use std::alloc::{AllocError, Global};
 
-/// The links from one column to another, with what was linked already, and which of it is red.
+/// The links from a column to the next, with what was linked already, and which of it is red.
 #[derive(Drop)]
 pub(crate) struct Links {
-    from_column: usize,
-    to_column: usize,
+    column: usize,
     width: usize,
     linked: Vec<bool>,
     red: Vec<bool>,
@@ -14,18 +13,16 @@ pub(crate) struct Links {
 }
 
 impl Links {
-    /// No links between columns of so many boxes.
+    /// No links from a column of so many boxes to one of so many.
     pub(crate) fn new(
         alloc: Global,
-        from_column: usize,
-        to_column: usize,
+        column: usize,
         height: usize,
         width: usize,
     ) -> Result<Links, AllocError> {
         let pairs = height.saturating_mul(width);
         Ok(Links {
-            from_column,
-            to_column,
+            column,
             width,
             linked: vec![in alloc; false; pairs]?,
             red: vec![in alloc; false; pairs]?,
@@ -41,9 +38,8 @@ impl Links {
         }
         if raise(self.linked.as_mut_slice(), place) {
             self.links.push(Link {
-                from_column: self.from_column,
+                column: self.column,
                 from,
-                to_column: self.to_column,
                 to,
                 tone,
             })?;

@@ -56,8 +56,12 @@ fn push_column(out: &mut String, nodes: &[Node], places: &[Place]) -> Result<(),
 
 // Puts a box with its texts last.
 fn push_node(out: &mut String, node: &Node, place: Place) -> Result<(), AllocError> {
-    if node.tone != Tone::Title {
-        push_frame(out, node.tone, place)?;
+    match node.tone {
+        Tone::Lane => return Ok(()),
+        Tone::Title => {}
+        Tone::Plain | Tone::Changed | Tone::Dropped | Tone::Red => {
+            push_frame(out, node.tone, place)?;
+        }
     }
     push_line(out, "t", place, 0, node.title.as_str())?;
     for (number, line) in node.lines.iter().enumerate() {
@@ -95,8 +99,8 @@ fn push_line(
 
 // Puts a link last, where both of its boxes are there.
 fn push_link(out: &mut String, layout: &Layout, link: Link) -> Result<(), AllocError> {
-    let from = place_at(layout, link.from_column, link.from);
-    let to = place_at(layout, link.to_column, link.to);
+    let from = place_at(layout, link.column, link.from);
+    let to = place_at(layout, link.column.saturating_add(1), link.to);
     match (from, to) {
         (Some(from), Some(to)) => push_curve(out, link.tone, from, to),
         _ => Ok(()),
@@ -107,13 +111,19 @@ fn place_at(layout: &Layout, column: usize, number: usize) -> Option<Place> {
     layout.columns.get(column)?.get(number).copied()
 }
 
+// Puts the curve of a link last, and the line on which it passes a column.
 fn push_curve(out: &mut String, tone: Tone, from: Place, to: Place) -> Result<(), AllocError> {
     let class = class_of(tone);
     let (start, first) = (from.x.saturating_add(WIDTH), middle(from));
     let (end, last) = (to.x, middle(to));
     let half = start.saturating_add(end.saturating_sub(start) / 2);
     write!(out, "<path class=\"{class}\" d=\"M{start} {first}")?;
-    write!(out, "C{half} {first} {half} {last} {end} {last}\"/>\n")
+    write!(out, "C{half} {first} {half} {last} {end} {last}")?;
+    if to.height == 0 {
+        let end = end.saturating_add(WIDTH);
+        write!(out, "H{end}")?;
+    }
+    out.push_str("\"/>\n")
 }
 
 // The height at which links of a box begin and end.
@@ -123,7 +133,7 @@ fn middle(place: Place) -> usize {
 
 fn class_of(tone: Tone) -> &'static str {
     match tone {
-        Tone::Plain | Tone::Title => "plain",
+        Tone::Plain | Tone::Title | Tone::Lane => "plain",
         Tone::Changed => "changed",
         Tone::Dropped => "dropped",
         Tone::Red => "red",

@@ -19,18 +19,7 @@ fn view_node(alloc: Global, number: usize, view: &View) -> Result<Node, AllocErr
     let mut node = Node::new(alloc, title, tone_of(&view.settings));
     add_criteria(alloc, &mut node, &view.criteria)?;
     add_settings(alloc, &mut node, &view.settings)?;
-    add_keys(
-        alloc,
-        &mut node,
-        "keeps",
-        view.settings.keep.as_ref().map(|keys| keys.as_slice()),
-    )?;
-    add_keys(
-        alloc,
-        &mut node,
-        "leaves out",
-        view.settings.exclude.as_ref().map(|keys| keys.as_slice()),
-    )?;
+    add_keys(alloc, &mut node, &view.settings)?;
     Ok(node)
 }
 
@@ -112,22 +101,27 @@ fn aggregation_line(aggregation: Aggregation) -> &'static str {
     }
 }
 
-fn add_keys(
-    alloc: Global,
-    node: &mut Node,
-    label: &str,
-    keys: Option<&[Text]>,
-) -> Result<(), AllocError> {
-    match keys {
-        Some([]) => node.add_line(format!(in alloc; "{label} no key")?),
-        Some(keys) => {
-            let mut line = format!(in alloc; "{label}:")?;
-            for key in keys {
-                line.push(' ')?;
-                line.push_str(key.as_str())?;
-            }
-            node.add_line(line)
-        }
-        None => Ok(()),
+// Which keys the view keeps, and which it leaves out.
+fn add_keys(alloc: Global, node: &mut Node, settings: &Settings) -> Result<(), AllocError> {
+    if let Some(keys) = &settings.keep {
+        node.add_line(keys_line(alloc, "keeps", keys.as_slice())?)?;
     }
+    if let Some(keys) = &settings.exclude {
+        node.add_line(keys_line(alloc, "leaves out", keys.as_slice())?)?;
+    }
+    Ok(())
+}
+
+fn keys_line(alloc: Global, label: &str, keys: &[Text]) -> Result<String, AllocError> {
+    let mut line = String::from_str(alloc, label)?;
+    if keys.is_empty() {
+        line.push_str(" no key")?;
+        return Ok(line);
+    }
+    line.push(':')?;
+    for key in keys {
+        line.push(' ')?;
+        line.push_str(key.as_str())?;
+    }
+    Ok(line)
 }
