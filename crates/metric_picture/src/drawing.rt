@@ -18,7 +18,7 @@ const MOST_INSTRUMENTS: usize = 40;
 
 const MOST_STREAMS: usize = 120;
 
-// Columns of the picture, from which there are links.
+// Columns of the picture, from which there are links. Without views there is no column of them.
 const INSTRUMENTS: usize = 0;
 
 const VIEWS: usize = 1;
@@ -39,13 +39,24 @@ fn diagram_of(
 ) -> Result<Diagram, AllocError> {
     let red = red_flags(alloc, streams)?;
     let columns = columns_of(alloc, catalogue, config, streams.list(), &red)?;
-    let links = links_of(alloc, catalogue, config, streams.list(), &red, &columns)?;
+    let is_direct = config.views().is_empty();
+    let links = if is_direct {
+        direct_links(alloc, streams.list(), &red, &columns)?
+    } else {
+        links_of(alloc, catalogue, config, streams.list(), &red, &columns)?
+    };
     let Columns {
         instruments,
         views,
         streams,
     } = columns;
-    let columns = three(alloc, instruments.nodes, views.nodes, streams.nodes)?;
+    let columns = listed(
+        alloc,
+        instruments.nodes,
+        views.nodes,
+        streams.nodes,
+        is_direct,
+    )?;
     Ok(Diagram { columns, links })
 }
 
@@ -94,17 +105,38 @@ fn instrument_slots(
     }
 }
 
-fn three(
+fn listed(
     alloc: Global,
-    first: Vec<Node>,
-    second: Vec<Node>,
-    third: Vec<Node>,
+    instruments: Vec<Node>,
+    views: Vec<Node>,
+    streams: Vec<Node>,
+    is_direct: bool,
 ) -> Result<Vec<Vec<Node>>, AllocError> {
     let mut columns = Vec::new(alloc);
-    columns.push(first)?;
-    columns.push(second)?;
-    columns.push(third)?;
+    columns.push(instruments)?;
+    if !is_direct {
+        columns.push(views)?;
+    }
+    columns.push(streams)?;
     Ok(columns)
+}
+
+// Without views there are two columns, with links from instruments to streams.
+fn direct_links(
+    alloc: Global,
+    streams: &[Stream],
+    red: &[bool],
+    columns: &Columns,
+) -> Result<Vec<Link>, AllocError> {
+    let (height, width) = (columns.instruments.nodes.len(), columns.streams.nodes.len());
+    let mut links = Links::new(alloc, INSTRUMENTS, height, width)?;
+    for (number, (stream, is_red)) in streams.iter().zip(red).enumerate() {
+        let from = columns.instruments.at(stream.instrument as usize);
+        links.add(from, columns.streams.at(number), link_tone(*is_red))?;
+    }
+    let mut all = Vec::new(alloc);
+    links.push_to(&mut all)?;
+    Ok(all)
 }
 
 fn links_of(
@@ -171,7 +203,7 @@ fn link_streams(
     red: &[bool],
 ) -> Result<(), AllocError> {
     for (number, (stream, is_red)) in streams.iter().zip(red).enumerate() {
-        let tone = if *is_red { Tone::Red } else { Tone::Plain };
+        let tone = link_tone(*is_red);
         let from = match stream.view {
             Some(view) => view as usize,
             None => {
@@ -184,4 +216,8 @@ fn link_streams(
         to_streams.add(from, columns.streams.at(number), tone)?;
     }
     Ok(())
+}
+
+fn link_tone(is_red: bool) -> Tone {
+    if is_red { Tone::Red } else { Tone::Plain }
 }
