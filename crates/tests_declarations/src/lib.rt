@@ -1,5 +1,5 @@
-//! Tests of the crates of declarations and certificates: patterns, catalogues, configs, the streams that they give, and what
-//! certifies them.
+//! Tests of the crates of declarations and certificates: patterns, catalogues, configs, the streams that they give, their
+//! picture, and what certifies them.
 //!
 //! A module tests one crate through its public surface. It has what no clause says: examples from outside, printed texts,
 //! and that a call succeeds while memory is there.
@@ -27,6 +27,8 @@ mod equal;
 mod memory;
 #[cfg(test)]
 mod patterns;
+#[cfg(test)]
+mod pictures;
 #[cfg(test)]
 mod spares;
 #[cfg(test)]

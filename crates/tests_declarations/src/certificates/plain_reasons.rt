@@ -135,14 +135,17 @@ fn takes_one(character: u8, found: u8) -> bool {
 // Whether rows of places of the pattern, one for each place of the name, rise, hold the first place, are closed under
 // what the pattern's characters take, and do not hold the last place at the end.
 fn shuts_out(pattern: &str, name: &str, rows: &[Items<u16>]) -> bool {
-    let begins = rows.first().is_some_and(|row| has(row, 0));
-    let ends = rows.last().is_some_and(|row| has(row, pattern.len()));
     let rise = rows.iter().all(|row| rises(row.as_slice()));
-    begins && !ends && rise && are_closed(pattern, name, rows)
+    let ends = has(rows.last(), pattern.len());
+    has(rows.first(), 0) && !ends && rise && are_closed(pattern, name, rows)
 }
 
-fn has(row: &Items<u16>, place: usize) -> bool {
-    row.as_slice().iter().any(|own| usize::from(*own) == place)
+// Whether there is a row, and the place is in it.
+fn has(row: Option<&Items<u16>>, place: usize) -> bool {
+    match row {
+        Some(row) => row.as_slice().iter().any(|own| usize::from(*own) == place),
+        None => false,
+    }
 }
 
 fn rises(row: &[u16]) -> bool {
@@ -185,12 +188,11 @@ fn stays(
 ) -> bool {
     let after = place.saturating_add(1);
     match pattern.as_bytes().get(place) {
-        Some(b'*') => has(row, after)
-            && (found.is_none() || next.is_some_and(|next| has(next, place))),
-        Some(character) => {
-            let taken = found.is_some_and(|found| takes_one(*character, found));
-            !taken || next.is_some_and(|next| has(next, after))
-        }
+        Some(b'*') => has(Some(row), after) && (found.is_none() || has(next, place)),
+        Some(character) => match found {
+            Some(found) if takes_one(*character, found) => has(next, after),
+            _ => true,
+        },
         None => true,
     }
 }

@@ -1,0 +1,100 @@
+//! The boxes in the picture of a large catalogue, as they look and with their texts.
+use crate::declared::read_both;
+use crate::equal::assert_equal;
+use metric_picture::draw;
+use std::alloc::{AllocError, Global};
+use std::test::Fail;
+
+const HEAD: &str = "format = 1
+[[meter]]
+name = 'shop'
+[[meter.instrument]]
+name = 'heat'
+kind = 'gauge'
+unit = 'K'
+range = [0, 9]
+";
+
+const CONFIG: &str = "format = 1
+[[reader]]
+name = 'all'
+[[view]]
+instrument_name = 'n1?'
+keep = []
+[[view]]
+instrument_name = 'heat'
+aggregation = 'drop'
+[[view]]
+instrument_name = 'n2'
+stream_name = 'n3'
+";
+
+// The stream of view 2 has the identity of a default one.
+const BOXES: &str = "dropped
+heat
+gauge K
+gives no stream
+of meter shop
+plain
+40 counters
+of meter shop
+changed
+view 0: n1?
+keeps no key
+dropped
+view 1: heat
+drops
+changed
+view 2: n2
+renames to n3
+reader all
+red
+29 default streams
+1 in a collision
+changed
+10 streams of view 0
+10 with keys left out
+red
+n3
+sum, cumulative
+keys: k
+collides: another stream has its identity
+";
+
+// A gauge, and 40 counters with a key.
+fn many(alloc: Global) -> Result<String, AllocError> {
+    let mut text = String::from_str(alloc, HEAD)?;
+    for number in 0u8..40 {
+        write!(text, "[[meter.instrument]]\nname = 'n{number}'\n")?;
+        text.push_str("kind = 'counter'\nrange = [0, 9]\nkey = [{ name = 'k', values = [1] }]\n")?;
+    }
+    Ok(text)
+}
+
+// How each box looks, and its texts.
+fn boxes_of(alloc: Global, picture: &str) -> Result<String, AllocError> {
+    let mut told = String::new(alloc);
+    for line in picture.lines() {
+        if let Some(part) = told_of(line) {
+            told.push_str(part)?;
+            told.push('\n')?;
+        }
+    }
+    Ok(told)
+}
+
+fn told_of(line: &str) -> Option<&str> {
+    match line.strip_prefix("<rect class=\"") {
+        Some(rest) => Some(rest.split_once('"')?.0),
+        None => line.split_once("\">")?.1.strip_suffix("</text>"),
+    }
+}
+
+#[test]
+fn instruments_and_streams_share_boxes(rt: HostRuntime) -> Result<(), Fail> {
+    let declared = read_both(rt.alloc(), many(rt.alloc())?.as_str(), CONFIG)?;
+    let picture = draw(rt.alloc(), &declared.catalogue, &declared.config)?;
+    let told = boxes_of(rt.alloc(), picture.as_str())?;
+    assert_equal(&rt, told.as_str(), BOXES);
+    Ok(())
+}
