@@ -11,7 +11,7 @@
 //!    ([`Counter`] and so on), or a [`HandleFault`] before anything was recorded. [`take_recorder`] and [`take_reader`] take a
 //!    seat out of those that `open` gave.
 //! 3. **Recording.** A thread records with a [`Recorder`]: by a handle's `add` or `record`, with the [`Attr`]s, each a key with a
-//!    [`ValueRef`], and the value; 85 to 107 ns with three attributes, less than a lock and a map of three texts. What is not
+//!    [`ValueRef`], and the value; 92 to 96 ns with three attributes, less than a lock and a map of three texts. What is not
 //!    counted is answered by a [`Refusal`], also attributes of which each is declared, but not together
 //!    ([`Refusal::Combination`] of the allowed [`Combinations`]); [`explain_refusal`] gives its [`Explanation`]. Nothing is
 //!    counted in another series, and no new series appears. `Recorder::accepted` tells what the seat was [`Told`] of, [`left`] what
