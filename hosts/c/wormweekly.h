@@ -166,8 +166,8 @@ typedef struct {
 
 /* Opens a run since `start`, in nanoseconds. `run` is its number: no two runs of a process may have the same. Writes how many
  * handles of each kind there are to be; where a list has fewer (WORMWEEKLY_TOO_SHORT), nothing is opened, so ask with empty
- * lists first. Handles after those stay as they are. A fault (WORMWEEKLY_FAULT) is told in `fault`, as far as there is room,
- * with its whole length. */
+ * lists first. A handle that is filled is freed before, where it held something; those after stay as they are. A fault
+ * (WORMWEEKLY_FAULT) is told in `fault`, as far as there is room, with its whole length. */
 uint32_t wormweekly_open(const uint8_t *catalogue, size_t catalogue_length, const uint8_t *config, size_t config_length,
                          uint64_t start, uint64_t run, wormweekly_instrument *instruments, size_t instruments_length,
                          wormweekly_recorder *recorders, size_t recorders_length, wormweekly_reader *readers,

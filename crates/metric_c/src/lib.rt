@@ -62,6 +62,3 @@ pub use recorder_handle::RecorderHandle;
 pub use recordings::wormweekly_record;
 pub use settlements::{TotalOut, wormweekly_settle};
 pub use warnings::wormweekly_warnings;
-
-#[cfg(test)]
-mod tests;

@@ -1,0 +1,627 @@
+/* Makes every call of the header: done, refused, with null handles, with too little room, with bytes that are no text
+ * and with numbers of nothing. The first call that answers or writes something else than its row says is told with its
+ * line, and the status is then 1.
+ */
+#include "wormweekly.h"
+
+#include <stdio.h>
+#include <stdlib.h>
+#include <string.h>
+
+/* What the catalogue and the config declare, in their order. */
+enum { ORDERS, ARTICLES, QUEUE, INSTRUMENTS };
+enum { DAY, NIGHT, RECORDERS };
+enum { CONSOLE, CHANGES, READERS };
+
+static const char CATALOGUE[] =
+    "format = 2\n"
+    "[[meter]]\n"
+    "name = 'shop'\n"
+    "version = '2'\n"
+    "schema_url = 'https://shop.example'\n"
+    "[[meter.instrument]]\n"
+    "name = 'orders'\n"
+    "kind = 'up_down_counter'\n"
+    "unit = 'EUR'\n"
+    "description = 'what was paid'\n"
+    "range = [-100, 100]\n"
+    "key = [{ name = 'country', values = ['de', 'fr'] }, { name = 'paid', values = [true, 7] }]\n"
+    "allowed = [[1, 1], [2, 1], [2, 2]]\n"
+    "[[meter.instrument]]\n"
+    "name = 'articles'\n"
+    "kind = 'histogram'\n"
+    "range = [0, 100]\n"
+    "boundaries = [10, 20]\n"
+    "spare = 2\n"
+    "key = [{ name = 'country', values = ['de', 'fr'] }]\n"
+    "[[meter.instrument]]\n"
+    "name = 'queue'\n"
+    "kind = 'gauge'\n"
+    "range = [0, 9]\n"
+    "[[recorder]]\n"
+    "name = 'day'\n"
+    "budget = [{ instrument = 0, amount = 5 }, { instrument = 1, amount = 3 }, { instrument = 2, amount = 3 }]\n"
+    "[[recorder]]\n"
+    "name = 'night'\n"
+    "budget = [{ instrument = 0, amount = 6 }]\n";
+
+/* No view can give a gauge a sum, so this one is warned of. */
+static const char CONFIG[] = "format = 1\n"
+                             "[[reader]]\n"
+                             "name = 'console'\n"
+                             "[[reader]]\n"
+                             "name = 'changes'\n"
+                             "temporality = { histogram = 'delta' }\n"
+                             "[[view]]\n"
+                             "instrument_name = 'queue'\n"
+                             "aggregation = 'sum'\n";
+
+/* A smaller plan with its certificate. */
+static const char TILL[] = "format = 1\n"
+                           "[[meter]]\n"
+                           "name = 'shop'\n"
+                           "[[meter.instrument]]\n"
+                           "name = 'orders'\n"
+                           "kind = 'up_down_counter'\n"
+                           "range = [-100, 100]\n"
+                           "key = [{ name = 'country', values = ['de', 'fr'] },\n"
+                           "       { name = 'paid', values = [true, 7] }]\n"
+                           "[[recorder]]\n"
+                           "name = 'till'\n"
+                           "budget = [{ instrument = 0, amount = 6 }]\n";
+
+static const char TILL_CONFIG[] = "format = 1\n"
+                                  "[[reader]]\n"
+                                  "name = 'console'\n";
+
+static const char CERTIFICATE[] =
+    "format = 1\n"
+    "reason = []\n"
+    "stream = [{ reader = 0, instrument = 0, by = 'product', sets = 4 }]\n"
+    "bound = [{ instrument = 0, total = '6', amount = '1200', low = '-600', high = '600' }]\n"
+    "order = [{ reader = 0, streams = [0] }]\n";
+
+/* One recording more than the catalogue has. */
+static const char WRONG_CERTIFICATE[] =
+    "format = 1\n"
+    "reason = []\n"
+    "stream = [{ reader = 0, instrument = 0, by = 'product', sets = 4 }]\n"
+    "bound = [{ instrument = 0, total = '7', amount = '1200', low = '-600', high = '600' }]\n"
+    "order = [{ reader = 0, streams = [0] }]\n";
+
+/* Attributes, whose texts stand in the row. */
+static const wormweekly_attribute NONE[] = { { 0, WORMWEEKLY_NO, 0, 0 } };
+static const wormweekly_attribute COUNTRY[] = { { 7, WORMWEEKLY_TEXT, 2, 0 } };
+static const wormweekly_attribute PAID[] = { { 7, WORMWEEKLY_TEXT, 2, 0 }, { 4, WORMWEEKLY_YES, 0, 0 } };
+static const wormweekly_attribute PAID_7[] = { { 7, WORMWEEKLY_TEXT, 2, 0 }, { 4, WORMWEEKLY_WHOLE, 0, 7 } };
+static const wormweekly_attribute UNPAID[] = { { 7, WORMWEEKLY_TEXT, 2, 0 }, { 4, WORMWEEKLY_NO, 0, 0 } };
+static const wormweekly_attribute TWICE[] = { { 7, WORMWEEKLY_TEXT, 2, 0 }, { 7, WORMWEEKLY_TEXT, 2, 0 } };
+static const wormweekly_attribute LONG_KEY[] = { { SIZE_MAX, WORMWEEKLY_TEXT, 2, 0 } };
+static const wormweekly_attribute LONG_TEXT[] = { { 7, WORMWEEKLY_TEXT, SIZE_MAX, 0 } };
+static const wormweekly_attribute NO_KIND[] = { { 7, 4, 2, 0 } };
+/* More than a call reads without taking memory. */
+static const wormweekly_attribute NINE[] = {
+    { 1, WORMWEEKLY_YES, 0, 0 }, { 1, WORMWEEKLY_YES, 0, 0 }, { 1, WORMWEEKLY_YES, 0, 0 },
+    { 1, WORMWEEKLY_YES, 0, 0 }, { 1, WORMWEEKLY_YES, 0, 0 }, { 1, WORMWEEKLY_YES, 0, 0 },
+    { 1, WORMWEEKLY_YES, 0, 0 }, { 1, WORMWEEKLY_YES, 0, 0 }, { 1, WORMWEEKLY_YES, 0, 0 },
+};
+
+/* The handles of two runs, those of the second after those of the first, and what was prepared last. */
+static wormweekly_instrument instruments[2 * INSTRUMENTS] = { WORMWEEKLY_NOTHING };
+static wormweekly_recorder recorders[2 * RECORDERS] = { WORMWEEKLY_NOTHING };
+static wormweekly_reader readers[2 * READERS] = { WORMWEEKLY_NOTHING };
+static wormweekly_prepared prepared;
+
+/* What a call answers and writes: numbers, or a text. */
+enum { NUMBERS = 9, ROOM = 600 };
+struct told {
+    uint32_t answer;
+    int64_t numbers[NUMBERS];
+    const char *text;
+};
+
+/* A call with what it is given, as far as it takes that, and with what it is to answer and write. Handles are named by
+ * their places, or by the first of their places with how many they are. Where it is short of room, there is room for
+ * one byte or number. */
+struct row {
+    int line;
+    const char *name;
+    struct told (*call)(const struct row *row);
+    size_t instrument, recorder, reader;
+    wormweekly_counts handles;
+    const char *catalogue, *config, *certificate;
+    uint64_t run;
+    const char *texts;
+    const wormweekly_attribute *given;
+    size_t given_length;
+    int64_t value;
+    uint64_t time, amount;
+    size_t stream, point, key;
+    uint32_t kind, number;
+    uint16_t entry;
+    int is_short;
+    uint32_t answer;
+    int64_t numbers[NUMBERS];
+    const char *text;
+};
+
+#define CALL(function) .line = __LINE__, .name = "wormweekly_" #function, .call = function
+#define GIVEN(list) .given = (list), .given_length = sizeof(list) / sizeof *(list)
+#define ALL_HANDLES .handles = { INSTRUMENTS, RECORDERS, READERS }
+#define ALL_RECORDERS .recorder = DAY, .handles.recorders = RECORDERS
+#define SECOND_RUN .instrument = INSTRUMENTS, .recorder = RECORDERS, .reader = READERS
+
+static const uint8_t *bytes(const char *text) { return (const uint8_t *)text; }
+
+/* What calls write texts into. */
+static char buffer[ROOM + 1];
+
+static uint8_t *clear_buffer(void) {
+    memset(buffer, '.', ROOM);
+    return (uint8_t *)buffer;
+}
+
+/* What a call wrote into the buffer: a text of this length where it was done, else nothing. */
+static const char *written(uint32_t answer, size_t length) {
+    size_t own = answer == WORMWEEKLY_DONE ? length : 0;
+    if (own > ROOM || strspn(buffer + own, ".") != ROOM - own) {
+        return "(more than its text)";
+    }
+    buffer[own] = '\0';
+    return buffer;
+}
+
+/* The same with the length, where that alone is written. */
+static struct told told_text(uint32_t answer, size_t length) {
+    struct told told = { .answer = answer, .text = written(answer, length) };
+    told.numbers[0] = answer == WORMWEEKLY_DONE ? 0 : (int64_t)length;
+    return told;
+}
+
+static size_t room_for(const struct row *row, size_t room) { return row->is_short ? 1 : room; }
+
+static struct told answered(uint32_t answer) { return (struct told){ .answer = answer }; }
+
+/* What an opening wrote: how many handles there are to be, the length of the fault, and as much of it as has room. */
+static struct told told_opening(uint32_t answer, const wormweekly_counts *counts, size_t length, size_t room) {
+    size_t front = answer != WORMWEEKLY_FAULT ? 0 : length < room ? length : room;
+    struct told told = { .answer = answer, .text = written(WORMWEEKLY_DONE, front) };
+    told.numbers[0] = (int64_t)counts->instruments;
+    told.numbers[1] = (int64_t)counts->recorders;
+    told.numbers[2] = (int64_t)counts->readers;
+    told.numbers[3] = (int64_t)length;
+    return told;
+}
+
+enum { START = 3 };
+
+static struct told open(const struct row *row) {
+    wormweekly_counts counts = { 0 };
+    size_t length = 9, room = room_for(row, ROOM);
+    uint32_t answer = wormweekly_open(
+        bytes(row->catalogue), strlen(row->catalogue), bytes(row->config), strlen(row->config), START, row->run,
+        &instruments[row->instrument], row->handles.instruments, &recorders[row->recorder], row->handles.recorders,
+        &readers[row->reader], row->handles.readers, &counts, clear_buffer(), room, &length);
+    return told_opening(answer, &counts, length, room);
+}
+
+static struct told open_certified(const struct row *row) {
+    wormweekly_counts counts = { 0 };
+    size_t length = 9, room = room_for(row, ROOM);
+    uint32_t answer = wormweekly_open_certified(
+        bytes(row->catalogue), strlen(row->catalogue), bytes(row->config), strlen(row->config),
+        bytes(row->certificate), strlen(row->certificate), START, row->run, &instruments[row->instrument],
+        row->handles.instruments, &recorders[row->recorder], row->handles.recorders, &readers[row->reader],
+        row->handles.readers, &counts, clear_buffer(), room, &length);
+    return told_opening(answer, &counts, length, room);
+}
+
+static struct told record(const struct row *row) {
+    return answered(wormweekly_record(&instruments[row->instrument], &recorders[row->recorder], bytes(row->texts),
+                                      strlen(row->texts), row->given, row->given_length, row->value));
+}
+
+/* Writes the first entries of the set key. */
+static struct told prepare(const struct row *row) {
+    struct told told = answered(wormweekly_prepare(&recorders[row->recorder], row->number, bytes(row->texts),
+                                                   strlen(row->texts), row->given, row->given_length, &prepared));
+    told.numbers[0] = prepared.set[0];
+    told.numbers[1] = prepared.set[1];
+    return told;
+}
+
+static struct told record_prepared(const struct row *row) {
+    prepared.value = row->value;
+    return answered(wormweekly_record_prepared(&instruments[row->instrument], &recorders[row->recorder], &prepared));
+}
+
+/* A set key that no call wrote. */
+static struct told record_forged(const struct row *row) {
+    wormweekly_prepared forged = { .value = row->value };
+    forged.set[row->key] = row->entry;
+    return answered(wormweekly_record_prepared(&instruments[row->instrument], &recorders[row->recorder], &forged));
+}
+
+/* What was prepared, twice. Writes how many were made. */
+static struct told record_list(const struct row *row) {
+    wormweekly_prepared list[2] = { prepared, prepared };
+    size_t made = 9;
+    list[0].value = list[1].value = row->value;
+    struct told told =
+        answered(wormweekly_record_list(&instruments[row->instrument], &recorders[row->recorder], list, 2, &made));
+    told.numbers[0] = (int64_t)made;
+    return told;
+}
+
+static struct told collect(const struct row *row) {
+    return answered(wormweekly_collect(&instruments[row->instrument], &readers[row->reader], row->time));
+}
+
+static struct told text(const struct row *row) {
+    size_t length = 0;
+    uint32_t answer = wormweekly_text(&readers[row->reader], clear_buffer(), room_for(row, ROOM), &length);
+    return told_text(answer, length);
+}
+
+static struct told warnings(const struct row *row) {
+    size_t length = 0;
+    uint32_t answer = wormweekly_warnings(&recorders[row->recorder], clear_buffer(), room_for(row, ROOM), &length);
+    return told_text(answer, length);
+}
+
+static struct told name(const struct row *row) {
+    size_t length = 0;
+    uint32_t answer = wormweekly_name(&recorders[row->recorder], row->kind, row->number, clear_buffer(),
+                                      room_for(row, ROOM), &length);
+    return told_text(answer, length);
+}
+
+static struct told stream_text(const struct row *row) {
+    size_t length = 0;
+    uint32_t answer = wormweekly_stream_text(&readers[row->reader], row->stream, row->kind, clear_buffer(),
+                                             room_for(row, ROOM), &length);
+    return told_text(answer, length);
+}
+
+static struct told key(const struct row *row) {
+    size_t length = 0;
+    uint32_t answer = wormweekly_key(&readers[row->reader], row->stream, row->key, clear_buffer(),
+                                     room_for(row, ROOM), &length);
+    return told_text(answer, length);
+}
+
+/* Writes the kind, the length of the text and the number. */
+static struct told value(const struct row *row) {
+    wormweekly_attribute own = { 9, 9, 9, 9 };
+    uint32_t answer = wormweekly_value(&readers[row->reader], row->stream, row->key, row->entry, &own, clear_buffer(),
+                                       room_for(row, ROOM));
+    return (struct told){ answer, { (int64_t)own.kind, (int64_t)own.text, own.whole }, written(answer, own.text) };
+}
+
+static struct told batch(const struct row *row) {
+    wormweekly_batch_out out = { 0 };
+    struct told told = answered(wormweekly_batch(&readers[row->reader], &out));
+    told.numbers[0] = (int64_t)out.instrument;
+    told.numbers[1] = (int64_t)out.streams;
+    told.numbers[2] = (int64_t)out.start;
+    told.numbers[3] = (int64_t)out.time;
+    return told;
+}
+
+static struct told stream(const struct row *row) {
+    wormweekly_stream_out out = { 0 };
+    struct told told = answered(wormweekly_stream(&readers[row->reader], row->stream, &out));
+    told.numbers[0] = (int64_t)out.number;
+    told.numbers[1] = (int64_t)out.kind;
+    told.numbers[2] = (int64_t)out.aggregation;
+    told.numbers[3] = (int64_t)out.delta;
+    told.numbers[4] = (int64_t)out.boundaries;
+    told.numbers[5] = (int64_t)out.points;
+    return told;
+}
+
+/* Writes the first entries of the set key, and the rest of the point. */
+static struct told point(const struct row *row) {
+    wormweekly_point_out out = { 0 };
+    struct told told = answered(wormweekly_point(&readers[row->reader], row->stream, row->point, &out));
+    told.numbers[0] = out.set[0];
+    told.numbers[1] = out.set[1];
+    told.numbers[2] = (int64_t)out.is_series;
+    told.numbers[3] = (int64_t)out.count;
+    told.numbers[4] = (int64_t)out.has_value;
+    told.numbers[5] = out.value;
+    told.numbers[6] = out.least;
+    told.numbers[7] = out.greatest;
+    told.numbers[8] = (int64_t)out.buckets;
+    return told;
+}
+
+static struct told boundaries(const struct row *row) {
+    struct told told = { 0 };
+    told.answer = wormweekly_boundaries(&readers[row->reader], row->stream, told.numbers, room_for(row, NUMBERS));
+    return told;
+}
+
+static struct told buckets(const struct row *row) {
+    uint64_t counts[NUMBERS] = { 0 };
+    struct told told = answered(wormweekly_buckets(&readers[row->reader], row->stream, row->point, counts,
+                                                   room_for(row, NUMBERS)));
+    for (int i = 0; i < NUMBERS; i++) {
+        told.numbers[i] = (int64_t)counts[i];
+    }
+    return told;
+}
+
+static struct told grant(const struct row *row) {
+    return answered(wormweekly_grant(&instruments[row->instrument], row->number, row->amount));
+}
+
+static struct told close(const struct row *row) { return answered(wormweekly_close(&instruments[row->instrument])); }
+
+static struct told settle(const struct row *row) {
+    wormweekly_total total = { 0 };
+    struct told told = answered(
+        wormweekly_settle(&instruments[row->instrument], &recorders[row->recorder], row->handles.recorders, &total));
+    told.numbers[0] = (int64_t)total.count;
+    told.numbers[1] = (int64_t)total.negative;
+    told.numbers[2] = (int64_t)total.high;
+    told.numbers[3] = (int64_t)total.low;
+    return told;
+}
+
+static const char ORDERS_TEXT[] =
+    "collected 9 2\n"
+    "stream reader=\"console\" meter=\"shop\" version=\"2\" schema=\"https://shop.example\" name=\"orders\" "
+    "unit=\"EUR\" description=\"what was paid\" kind=sum monotonic=no temporality=cumulative\n"
+    "point {\"country\"=\"de\",\"paid\"=true} start=3 time=9 value=15\n"
+    "point {\"country\"=\"fr\",\"paid\"=true} start=3 time=9 value=-150\n";
+
+static const char WARNINGS[] = "warning Unfit view=0 instrument=2\n";
+
+/* Texts that open nothing, too few handles, and handles that are opened anew. */
+static const struct row OPENING_ROWS[] = {
+    { CALL(open), .catalogue = "format = \xff", .config = CONFIG, ALL_HANDLES, .answer = WORMWEEKLY_NO_TEXT },
+    { CALL(open), .catalogue = CATALOGUE, .config = "\xff", ALL_HANDLES, .answer = WORMWEEKLY_NO_TEXT },
+    { CALL(open), .catalogue = "format = 3\n", .config = CONFIG, ALL_HANDLES, .answer = WORMWEEKLY_FAULT,
+      .numbers = { 0, 0, 0, 28 }, .text = "catalogue 3 WrongKind at top" },
+    { CALL(open), .catalogue = "format = 3\n", .config = CONFIG, .is_short = 1, .answer = WORMWEEKLY_FAULT,
+      .numbers = { 0, 0, 0, 28 }, .text = "c" },
+    { CALL(open), .catalogue = CATALOGUE, .config = CONFIG, .answer = WORMWEEKLY_TOO_SHORT,
+      .numbers = { INSTRUMENTS, RECORDERS, READERS } },
+    { CALL(open), .catalogue = CATALOGUE, .config = CONFIG, .handles = { INSTRUMENTS - 1, RECORDERS, READERS },
+      .answer = WORMWEEKLY_TOO_SHORT, .numbers = { INSTRUMENTS, RECORDERS, READERS } },
+    { CALL(open), .catalogue = CATALOGUE, .config = CONFIG, .handles = { INSTRUMENTS, RECORDERS - 1, READERS },
+      .answer = WORMWEEKLY_TOO_SHORT, .numbers = { INSTRUMENTS, RECORDERS, READERS } },
+    { CALL(open), .catalogue = CATALOGUE, .config = CONFIG, .handles = { INSTRUMENTS, RECORDERS, READERS - 1 },
+      .answer = WORMWEEKLY_TOO_SHORT, .numbers = { INSTRUMENTS, RECORDERS, READERS } },
+    { CALL(record), .texts = "countrydepaid", GIVEN(PAID), .answer = WORMWEEKLY_NOT_OPEN },
+    { CALL(open_certified), .catalogue = TILL, .config = TILL_CONFIG, .certificate = "format = \xff", ALL_HANDLES,
+      .answer = WORMWEEKLY_NO_TEXT },
+    { CALL(open_certified), .catalogue = TILL, .config = TILL_CONFIG, .certificate = "format = 3\n", ALL_HANDLES,
+      .answer = WORMWEEKLY_FAULT, .numbers = { 0, 0, 0, 19 }, .text = "certificate 2 Shape" },
+    { CALL(open_certified), .catalogue = TILL, .config = TILL_CONFIG, .certificate = WRONG_CERTIFICATE, ALL_HANDLES,
+      .answer = WORMWEEKLY_FAULT, .numbers = { 0, 0, 0, 19 }, .text = "check 12 CountRange" },
+    { CALL(open_certified), .catalogue = TILL, .config = TILL_CONFIG, .certificate = CERTIFICATE,
+      .answer = WORMWEEKLY_TOO_SHORT, .numbers = { 1, 1, 1 } },
+    { CALL(open_certified), .catalogue = TILL, .config = TILL_CONFIG, .certificate = CERTIFICATE, .run = 1,
+      ALL_HANDLES, .numbers = { 1, 1, 1 } },
+    { CALL(name), .kind = 2, .text = "till" },
+    { CALL(open), .catalogue = CATALOGUE, .config = "format = 1\n", .run = 2, ALL_HANDLES,
+      .numbers = { INSTRUMENTS, RECORDERS, 0 } },
+    { CALL(open), .catalogue = CATALOGUE, .config = CONFIG, .run = 3, ALL_HANDLES,
+      .numbers = { INSTRUMENTS, RECORDERS, READERS } },
+    { CALL(open), .catalogue = CATALOGUE, .config = CONFIG, .run = 4, SECOND_RUN, ALL_HANDLES,
+      .numbers = { INSTRUMENTS, RECORDERS, READERS } },
+};
+
+/* An up-down counter with two keys, by a cumulative reader. */
+static const struct row ORDERS_ROWS[] = {
+    { CALL(batch), .answer = WORMWEEKLY_UNKNOWN },
+    { CALL(text), .text = "" },
+    { CALL(record), .texts = "countrydepaid", GIVEN(PAID), .value = 5 },
+    { CALL(record), .recorder = NIGHT, .texts = "countrydepaid", GIVEN(PAID), .value = 10 },
+    { CALL(record), .texts = "country\xff\xfepaid", GIVEN(PAID), .answer = WORMWEEKLY_NO_TEXT },
+    { CALL(record), .texts = "country", GIVEN(PAID), .answer = WORMWEEKLY_NO_TEXT },
+    { CALL(record), .texts = "countryde", GIVEN(LONG_KEY), .answer = WORMWEEKLY_NO_TEXT },
+    { CALL(record), .texts = "countryde", GIVEN(LONG_TEXT), .answer = WORMWEEKLY_NO_TEXT },
+    { CALL(record), .texts = "countryde", GIVEN(NO_KIND), .answer = WORMWEEKLY_NO_TEXT },
+    { CALL(record), .texts = "countrydecountryfr", GIVEN(TWICE), .answer = WORMWEEKLY_DUPLICATE_KEY },
+    { CALL(record), .texts = "countrydepait", GIVEN(PAID), .answer = WORMWEEKLY_UNKNOWN_KEY },
+    { CALL(record), .texts = "abcdefghi", GIVEN(NINE), .answer = WORMWEEKLY_UNKNOWN_KEY },
+    { CALL(record), .texts = "abcdefgh", GIVEN(NINE), .answer = WORMWEEKLY_NO_TEXT },
+    { CALL(record), .texts = "countryukpaid", GIVEN(PAID), .answer = WORMWEEKLY_UNKNOWN_VALUE },
+    { CALL(record), .texts = "countrydepaid", GIVEN(UNPAID), .answer = WORMWEEKLY_UNKNOWN_VALUE },
+    { CALL(record), .texts = "countryde", GIVEN(COUNTRY), .answer = WORMWEEKLY_MISSING_KEY },
+    { CALL(record), .texts = "countrydepaid", GIVEN(PAID_7), .answer = WORMWEEKLY_COMBINATION },
+    { CALL(record), .texts = "countrydepaid", GIVEN(PAID), .value = 101, .answer = WORMWEEKLY_VALUE_RANGE },
+    { CALL(record), .recorder = RECORDERS, .texts = "countrydepaid", GIVEN(PAID), .answer = WORMWEEKLY_STRANGER },
+    { CALL(prepare), .texts = "countryfrpaid", GIVEN(PAID_7), .numbers = { 2, 2 } },
+    { CALL(prepare), .texts = "countryfrpaid", GIVEN(PAID), .numbers = { 2, 1 } },
+    { CALL(prepare), .texts = "country", GIVEN(PAID), .answer = WORMWEEKLY_NO_TEXT, .numbers = { 2, 1 } },
+    { CALL(prepare), .texts = "abcdefghi", GIVEN(NINE), .answer = WORMWEEKLY_UNKNOWN_KEY, .numbers = { 2, 1 } },
+    { CALL(prepare), .number = INSTRUMENTS, .texts = "countryfrpaid", GIVEN(PAID),
+      .answer = WORMWEEKLY_UNKNOWN_INSTRUMENT, .numbers = { 2, 1 } },
+    { CALL(record_prepared), .value = -50 },
+    { CALL(record_prepared), .value = -101, .answer = WORMWEEKLY_VALUE_RANGE },
+    { CALL(record_forged), .key = 0, .entry = UINT16_MAX, .answer = WORMWEEKLY_UNKNOWN_VALUE },
+    { CALL(record_list), .value = -101, .answer = WORMWEEKLY_VALUE_RANGE },
+    { CALL(record_list), .value = -50, .numbers = { 2 } },
+    { CALL(collect), .reader = READERS, .time = 9, .answer = WORMWEEKLY_STRANGER },
+    { CALL(collect), .time = 9 },
+    { CALL(batch), .numbers = { ORDERS, 1, 3, 9 } },
+    { CALL(text), .text = ORDERS_TEXT },
+    { CALL(text), .is_short = 1, .answer = WORMWEEKLY_TOO_SHORT, .numbers = { sizeof ORDERS_TEXT - 1 } },
+    { CALL(stream), .numbers = { 0, 1, 0, 0, 0, 2 } },
+    { CALL(stream), .stream = 1, .answer = WORMWEEKLY_UNKNOWN },
+    { CALL(stream), .stream = SIZE_MAX, .answer = WORMWEEKLY_UNKNOWN },
+    { CALL(point), .point = 1, .numbers = { 2, 1, 1, 0, 1, -150, 0, 0, 0 } },
+    { CALL(point), .point = 2, .answer = WORMWEEKLY_UNKNOWN },
+    { CALL(point), .stream = 1, .answer = WORMWEEKLY_UNKNOWN },
+    { CALL(stream_text), .kind = 0, .text = "orders" },
+    { CALL(stream_text), .kind = 0, .is_short = 1, .answer = WORMWEEKLY_TOO_SHORT, .numbers = { 6 } },
+    { CALL(stream_text), .kind = 1, .text = "EUR" },
+    { CALL(stream_text), .kind = 2, .text = "what was paid" },
+    { CALL(stream_text), .kind = 3, .text = "shop" },
+    { CALL(stream_text), .kind = 4, .text = "2" },
+    { CALL(stream_text), .kind = 5, .text = "https://shop.example" },
+    { CALL(stream_text), .kind = 6, .answer = WORMWEEKLY_UNKNOWN },
+    { CALL(stream_text), .stream = 1, .answer = WORMWEEKLY_UNKNOWN },
+    { CALL(key), .key = 0, .text = "country" },
+    { CALL(key), .key = 0, .is_short = 1, .answer = WORMWEEKLY_TOO_SHORT, .numbers = { 7 } },
+    { CALL(key), .key = 1, .text = "paid" },
+    { CALL(key), .key = 2, .answer = WORMWEEKLY_UNKNOWN },
+    { CALL(value), .key = 0, .entry = 2, .numbers = { WORMWEEKLY_TEXT, 2, 0 }, .text = "fr" },
+    { CALL(value), .key = 0, .entry = 2, .is_short = 1, .answer = WORMWEEKLY_TOO_SHORT,
+      .numbers = { WORMWEEKLY_TEXT, 2, 0 } },
+    { CALL(value), .key = 1, .entry = 1, .numbers = { WORMWEEKLY_YES, 0, 0 } },
+    { CALL(value), .key = 1, .entry = 2, .numbers = { WORMWEEKLY_WHOLE, 0, 7 } },
+    { CALL(value), .key = 0, .entry = 0, .answer = WORMWEEKLY_UNKNOWN, .numbers = { 9, 9, 9 } },
+    { CALL(value), .key = 0, .entry = 3, .answer = WORMWEEKLY_UNKNOWN, .numbers = { 9, 9, 9 } },
+    { CALL(boundaries), .is_short = 1 },
+    { CALL(buckets), .is_short = 1 },
+    { CALL(settle), .recorder = DAY, .handles.recorders = 1, .answer = WORMWEEKLY_RECORDER_MISSING },
+    { CALL(settle), .recorder = NIGHT, .handles.recorders = 2, .answer = WORMWEEKLY_STRANGER },
+    { CALL(settle), ALL_RECORDERS, .numbers = { 5, 1, 0, 135 } },
+    { CALL(grant), .number = DAY, .amount = 0 },
+    { CALL(close) },
+    { CALL(close), .answer = WORMWEEKLY_CLOSED },
+    { CALL(record), .texts = "countrydepaid", GIVEN(PAID), .answer = WORMWEEKLY_CLOSED },
+    { CALL(grant), .number = DAY, .amount = 0, .answer = WORMWEEKLY_CLOSED },
+    { CALL(settle), ALL_RECORDERS, .numbers = { 5, 1, 0, 135 } },
+};
+
+/* A histogram with a spare budget, by a delta reader. */
+static const struct row ARTICLES_ROWS[] = {
+    { CALL(record), .instrument = ARTICLES, .texts = "countryde", GIVEN(COUNTRY), .value = 5 },
+    { CALL(prepare), .number = ARTICLES, .texts = "countryde", GIVEN(COUNTRY), .numbers = { 1, 0 } },
+    { CALL(record_list), .instrument = ARTICLES, .value = 50, .numbers = { 2 } },
+    { CALL(collect), .instrument = ARTICLES, .reader = CHANGES, .time = 9 },
+    { CALL(batch), .reader = CHANGES, .numbers = { ARTICLES, 1, 3, 9 } },
+    { CALL(stream), .reader = CHANGES, .numbers = { 4, 2, 2, 1, 2, 1 } },
+    { CALL(point), .reader = CHANGES, .numbers = { 1, 0, 1, 3, 1, 105, 5, 50, 3 } },
+    { CALL(boundaries), .reader = CHANGES, .numbers = { 10, 20 } },
+    { CALL(boundaries), .reader = CHANGES, .is_short = 1, .answer = WORMWEEKLY_TOO_SHORT },
+    { CALL(boundaries), .reader = CHANGES, .stream = 1, .answer = WORMWEEKLY_UNKNOWN },
+    { CALL(buckets), .reader = CHANGES, .numbers = { 1, 0, 2 } },
+    { CALL(buckets), .reader = CHANGES, .is_short = 1, .answer = WORMWEEKLY_TOO_SHORT },
+    { CALL(buckets), .reader = CHANGES, .point = 1, .answer = WORMWEEKLY_UNKNOWN },
+    { CALL(buckets), .reader = CHANGES, .stream = 1, .answer = WORMWEEKLY_UNKNOWN },
+    { CALL(record), .instrument = ARTICLES, .texts = "countryde", GIVEN(COUNTRY), .answer = WORMWEEKLY_BUDGET },
+    { CALL(grant), .instrument = ARTICLES, .number = RECORDERS, .amount = 1, .answer = WORMWEEKLY_UNKNOWN_RECORDER },
+    { CALL(grant), .instrument = ARTICLES, .number = DAY, .amount = 3, .answer = WORMWEEKLY_NO_SPARE },
+    { CALL(grant), .instrument = ARTICLES, .number = DAY, .amount = 1 },
+    { CALL(record_list), .instrument = ARTICLES, .value = 7, .answer = WORMWEEKLY_BUDGET, .numbers = { 1 } },
+    { CALL(collect), .instrument = ARTICLES, .reader = CHANGES, .time = 12 },
+    { CALL(batch), .reader = CHANGES, .numbers = { ARTICLES, 1, 9, 12 } },
+    { CALL(point), .reader = CHANGES, .numbers = { 1, 0, 1, 1, 1, 7, 7, 7, 3 } },
+    { CALL(settle), .instrument = ARTICLES, ALL_RECORDERS, .numbers = { 4, 0, 0, 112 } },
+};
+
+/* A gauge without keys; names and warnings. */
+static const struct row QUEUE_ROWS[] = {
+    { CALL(record), .instrument = QUEUE, .texts = "", .given = NONE, .value = 8 },
+    { CALL(prepare), .number = QUEUE, .texts = "", .given = NONE },
+    { CALL(record_list), .instrument = QUEUE, .value = 9, .numbers = { 2 } },
+    { CALL(collect), .instrument = QUEUE, .time = 15 },
+    { CALL(stream), .numbers = { 2, 3, 1, 0, 0, 1 } },
+    { CALL(point), .numbers = { 0, 0, 1, 0, 1, 9, 0, 0, 0 } },
+    { CALL(settle), .instrument = QUEUE, ALL_RECORDERS, .numbers = { 3, 0, 0, 26 } },
+    { CALL(name), .kind = 0, .number = QUEUE, .text = "queue" },
+    { CALL(name), .kind = 0, .number = QUEUE, .is_short = 1, .answer = WORMWEEKLY_TOO_SHORT, .numbers = { 5 } },
+    { CALL(name), .kind = 0, .number = INSTRUMENTS, .answer = WORMWEEKLY_UNKNOWN },
+    { CALL(name), .kind = 1, .number = QUEUE, .text = "shop" },
+    { CALL(name), .kind = 2, .number = NIGHT, .text = "night" },
+    { CALL(name), .kind = 3, .number = CHANGES, .text = "changes" },
+    { CALL(name), .kind = 3, .number = UINT32_MAX, .answer = WORMWEEKLY_UNKNOWN },
+    { CALL(name), .kind = 4, .answer = WORMWEEKLY_UNKNOWN },
+    { CALL(warnings), .text = WARNINGS },
+    { CALL(warnings), .is_short = 1, .answer = WORMWEEKLY_TOO_SHORT, .numbers = { sizeof WARNINGS - 1 } },
+};
+
+/* Where a recorder and a reader were freed. */
+static const struct row FREED_ROWS[] = {
+    { CALL(record), .recorder = NIGHT, .texts = "countrydepaid", GIVEN(PAID) },
+    { CALL(record_prepared), .recorder = NIGHT },
+    { CALL(record_list), .recorder = NIGHT },
+    { CALL(collect), .reader = CHANGES },
+    { CALL(settle), ALL_RECORDERS },
+};
+
+/* Two runs of one number, which no host may begin: what is recorded of one by the other is found out at the end. */
+static const struct row TWIN_ROWS[] = {
+    { CALL(open), .catalogue = CATALOGUE, .config = CONFIG, .run = 5, ALL_HANDLES,
+      .numbers = { INSTRUMENTS, RECORDERS, READERS } },
+    { CALL(open), .catalogue = CATALOGUE, .config = CONFIG, .run = 5, SECOND_RUN, ALL_HANDLES,
+      .numbers = { INSTRUMENTS, RECORDERS, READERS } },
+    { CALL(record), .recorder = RECORDERS, .texts = "countrydepaid", GIVEN(PAID), .value = 5 },
+    { CALL(settle), ALL_RECORDERS, .answer = WORMWEEKLY_AUDIT_MISMATCH },
+};
+
+static int passed;
+
+/* Ends the program at a call that is not answered as is wanted. */
+static void expect(int is_wanted, const struct row *row, const struct told *told) {
+    if (is_wanted) {
+        passed++;
+        return;
+    }
+    printf("answers.c:%d: %s answers %u and writes", row->line, row->name, told->answer);
+    for (int i = 0; i < NUMBERS; i++) {
+        printf(" %lld", (long long)told->numbers[i]);
+    }
+    printf(" \"%s\"\n", told->text ? told->text : "");
+    exit(1);
+}
+
+static int is_same_text(const char *one, const char *other) {
+    return strcmp(one ? one : "", other ? other : "") == 0;
+}
+
+static void check(const struct row *rows, size_t length) {
+    for (const struct row *row = rows; row < rows + length; row++) {
+        struct told told = row->call(row);
+        int is_same = told.answer == row->answer && memcmp(told.numbers, row->numbers, sizeof told.numbers) == 0;
+        expect(is_same && is_same_text(told.text, row->text), row, &told);
+    }
+}
+
+/* The same calls where handles are null. */
+static void check_freed(const struct row *rows, size_t length) {
+    for (const struct row *row = rows; row < rows + length; row++) {
+        struct told told = row->call(row);
+        expect(told.answer == WORMWEEKLY_NOT_OPEN, row, &told);
+    }
+}
+
+static void free_all(void) {
+    for (int i = 0; i < 2 * INSTRUMENTS; i++) {
+        wormweekly_free_instrument(&instruments[i]);
+    }
+    for (int i = 0; i < 2 * RECORDERS; i++) {
+        wormweekly_free_recorder(&recorders[i]);
+    }
+    for (int i = 0; i < 2 * READERS; i++) {
+        wormweekly_free_reader(&readers[i]);
+    }
+}
+
+#define ROWS(table) (table), sizeof(table) / sizeof *(table)
+
+int main(void) {
+    check(ROWS(OPENING_ROWS));
+    check(ROWS(ORDERS_ROWS));
+    check(ROWS(ARTICLES_ROWS));
+    check(ROWS(QUEUE_ROWS));
+    wormweekly_free_recorder(&recorders[NIGHT]);
+    wormweekly_free_reader(&readers[CHANGES]);
+    check_freed(ROWS(FREED_ROWS));
+    free_all();
+    free_all();
+    check_freed(ROWS(ORDERS_ROWS));
+    check_freed(ROWS(ARTICLES_ROWS));
+    check_freed(ROWS(QUEUE_ROWS));
+    check(ROWS(TWIN_ROWS));
+    free_all();
+    printf("%d passed\n", passed);
+    return 0;
+}
