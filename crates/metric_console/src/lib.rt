@@ -1,4 +1,4 @@
-//! The commands of `wormweekly`, over any folder of files and any sinks, so that a test runs them in memory.
+//! The commands of `wormweekly`, over any folder of files and any sinks.
 //!
 //! [`run_request`] is the whole program but for its devices. Each command first reads its files, and then makes its answer or
 //! stops with the first fault, before it writes anything; only a replay writes while it runs, as `metric_commands` does. Its parts
