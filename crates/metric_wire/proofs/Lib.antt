@@ -1,0 +1,4 @@
+pub mod Steps
+mod Varints
+mod Blocks
+mod Numbers
