@@ -1,16 +1,15 @@
 //! Tests of exporters that keep, try again and tell.
 ghost use Rattle.std.specs.Prelude.{[], None};
 
+use crate::asserted::{OrFail, assert_equal};
 use metric_sdk::{
     Batch, Broken, ClockTicker, Collector, CutSink, ExportFault, ExporterState, KeepingExporter,
     ListTicker, Marked, MeterProvider, MetricExporter, NoGate, OpenSink, Periodic, PeriodicEnd,
     Plan, Queued, ReopeningExporter, RunningCounts, StopFlag, Tick, certified_plan, start,
 };
 use std::alloc::Global;
-use std::fmt::Debug;
 use std::process::Abort;
 use std::sync::Wait;
-use std::test::Fail;
 use std::thread::{self, Threads, join};
 use std::time::Clock;
 
@@ -33,10 +32,6 @@ temporality = { counter = 'delta' }
 ";
 
 const TICKS: &[Tick] = &[Tick::At(10), Tick::At(20), Tick::Stop(30)];
-
-fn assert_equal<R: Abort, T: PartialEq + Debug + Drop>(rt: &R, told: T, wanted: T) {
-    assert_eq!(rt; told, wanted);
-}
 
 // An exporter whose calls of these numbers, counted from 1, fail. It keeps the time of each batch that it takes, with how many
 // points the first stream has.
@@ -95,29 +90,28 @@ fn points_of(batch: &Batch) -> usize {
 }
 
 // A provider of one counter with a recording of 5, and its delta reader.
-fn hit_once<R: Wait>(rt: &R, alloc: Global, run: u64) -> Result<(MeterProvider, Collector), Fail> {
-    let plan = certified_plan(alloc, HITS, DELTA)?;
+fn hit_once<R: Abort + Wait>(rt: &R, alloc: Global, run: u64) -> (MeterProvider, Collector) {
+    let plan = certified_plan(alloc, HITS, DELTA).or_fail(rt);
     match start::<R, Marked, NoGate>(rt, alloc, plan, 0, run, NoGate) {
         Ok((provider, mut recorders, mut collectors)) => {
-            let recorder = recorders.first_mut().ok_or("no recorder")?;
-            recorder.record(rt, &provider, 0, &[], 5)?;
-            let collector = collectors.pop().ok_or("no reader")?;
-            Ok((provider, collector))
+            let recorder = recorders.first_mut().expect(rt, "no recorder");
+            recorder.record(rt, &provider, 0, &[], 5).or_fail(rt);
+            (provider, collectors.pop().expect(rt, "no reader"))
         }
-        Err(_) => Err(Fail::from("no provider")),
+        Err((_, _, refused)) => Err(refused).or_fail(rt),
     }
 }
 
 // The end of a run of the delta reader.
-fn end_of<R: Wait, E: MetricExporter + Drop>(
+fn end_of<R: Abort + Wait, E: MetricExporter + Drop>(
     rt: &R,
     alloc: Global,
     exporter: E,
     run: u64,
-) -> Result<PeriodicEnd<E>, Fail> {
-    let (provider, collector) = hit_once(rt, alloc, run)?;
+) -> PeriodicEnd<E> {
+    let (provider, collector) = hit_once(rt, alloc, run);
     let mut ticker = ListTicker::new(TICKS);
-    Ok(Periodic::new(exporter, 9).run(rt, alloc, &provider, collector, &mut ticker))
+    Periodic::new(exporter, 9).run(rt, alloc, &provider, collector, &mut ticker)
 }
 
 // How many batches a queue keeps at most, and which calls of the exporter below it fail. Then the batches that this one took;
@@ -182,7 +176,7 @@ const CASES: &[Case] = &[
     },
 ];
 
-fn assert_case<R: Abort + Wait>(rt: &R, alloc: Global, case: &Case) -> Result<(), Fail> {
+fn assert_case<R: Abort + Wait>(rt: &R, alloc: Global, case: &Case) {
     let failing = Failing {
         taken: Vec::new(alloc),
         number: 0,
@@ -190,7 +184,7 @@ fn assert_case<R: Abort + Wait>(rt: &R, alloc: Global, case: &Case) -> Result<()
         failures: 0,
         state: ExporterState::Open,
     };
-    let end = end_of(rt, alloc, Queued::new(alloc, failing, case.most), 70)?;
+    let end = end_of(rt, alloc, Queued::new(alloc, failing, case.most), 70);
     let queue = &end.exporter;
     assert_equal(rt, queue.inner().taken.as_slice(), case.taken);
     assert_equal(rt, (end.exported, end.failed), case.counts);
@@ -199,27 +193,24 @@ fn assert_case<R: Abort + Wait>(rt: &R, alloc: Global, case: &Case) -> Result<()
         (queue.sent(), queue.kept().len(), queue.dropped()),
         case.told,
     );
-    Ok(())
 }
 
 #[test]
-fn a_queue_tries_again_in_order(rt: HostRuntime) -> Result<(), Fail> {
+fn a_queue_tries_again_in_order(rt: HostRuntime) {
     for case in CASES {
-        assert_case(&rt, rt.alloc(), case)?;
+        assert_case(&rt, rt.alloc(), case);
     }
-    Ok(())
 }
 
 #[test]
-fn a_keeping_exporter_keeps_each_batch(rt: HostRuntime) -> Result<(), Fail> {
+fn a_keeping_exporter_keeps_each_batch(rt: HostRuntime) {
     let alloc = rt.alloc();
-    let end = end_of(&rt, alloc, KeepingExporter::new(alloc), 71)?;
+    let end = end_of(&rt, alloc, KeepingExporter::new(alloc), 71);
     let mut times = Vec::new(alloc);
     for batch in &end.exporter.into_batches() {
-        times.push((batch.time, points_of(batch)))?;
+        times.push((batch.time, points_of(batch))).or_fail(&rt);
     }
     assert_equal(&rt, times.as_slice(), &[(10, 1), (20, 0), (30, 0)]);
-    Ok(())
 }
 
 // Opens sinks in memory with room for so many bytes, one after the other, and then none.
@@ -258,7 +249,7 @@ const REOPENED: &[(&[usize], (u64, u64), &str)] = &[
 ];
 
 #[test]
-fn a_queue_writes_to_a_sink_that_is_opened_anew(rt: HostRuntime) -> Result<(), Fail> {
+fn a_queue_writes_to_a_sink_that_is_opened_anew(rt: HostRuntime) {
     let alloc = rt.alloc();
     for (rooms, counts, held) in REOPENED {
         let opener = Rooms { alloc, rooms };
@@ -267,7 +258,7 @@ fn a_queue_writes_to_a_sink_that_is_opened_anew(rt: HostRuntime) -> Result<(), F
             alloc,
             Queued::new(alloc, ReopeningExporter::new(opener), 4),
             73,
-        )?;
+        );
         assert_equal(&rt, (end.exported, end.failed), *counts);
         let (exporter, _kept) = end.exporter.into_parts();
         let (_opener, sink) = exporter.into_parts();
@@ -277,7 +268,6 @@ fn a_queue_writes_to_a_sink_that_is_opened_anew(rt: HostRuntime) -> Result<(), F
         };
         assert_equal(&rt, is_held, true);
     }
-    Ok(())
 }
 
 // Wakes the reader, waits until it has exported a batch, and stops it.
@@ -293,11 +283,11 @@ fn wake_and_stop<R: Wait>(rt: &R, flag: &StopFlag, counts: &RunningCounts) {
 }
 
 // How many batches a reader exports that is to tick every hour, and is woken once before it is stopped.
-fn exported_by_waking<R: Threads + Wait + Clock + Sync>(
+fn exported_by_waking<R: Abort + Threads + Wait + Clock + Sync>(
     rt: &R,
     alloc: Global,
-) -> Result<(u64, u64), Fail> {
-    let (provider, collector) = hit_once(rt, alloc, 72)?;
+) -> (u64, u64) {
+    let (provider, collector) = hit_once(rt, alloc, 72);
     let flag = StopFlag::new();
     let counts = RunningCounts::new();
     let exporter = KeepingExporter::new(alloc);
@@ -311,12 +301,11 @@ fn exported_by_waking<R: Threads + Wait + Clock + Sync>(
         },
         || wake_and_stop(rt, &flag, &counts),
     );
-    Ok((exported, counts.exported()))
+    (exported, counts.exported())
 }
 
 #[test]
-fn a_woken_reader_exports_at_once(rt: HostRuntime) -> Result<(), Fail> {
-    let exported = exported_by_waking(&rt, rt.alloc())?;
+fn a_woken_reader_exports_at_once(rt: HostRuntime) {
+    let exported = exported_by_waking(&rt, rt.alloc());
     assert_equal(&rt, exported, (2, 2));
-    Ok(())
 }

@@ -1,9 +1,9 @@
 //! Faults of lists, as they are printed.
+use crate::asserted::{OrFail, assert_equal};
 use metric_sdk::{AllFault, Refusal, SetsFault};
-use std::test::Fail;
 
 #[test]
-fn faults_of_lists_tell_where_they_end(rt: HostRuntime) -> Result<(), Fail> {
+fn faults_of_lists_tell_where_they_end(rt: HostRuntime) {
     let sets = SetsFault {
         place: 3,
         refusal: Refusal::Budget,
@@ -13,8 +13,7 @@ fn faults_of_lists_tell_where_they_end(rt: HostRuntime) -> Result<(), Fail> {
         instrument: 2,
         refusal: Refusal::Memory,
     };
-    let told = format!(in rt.alloc(); "{sets}, {all}, {all:?}")?;
+    let told = format!(in rt.alloc(); "{sets}, {all}, {all:?}").or_fail(&rt);
     let due = "recording 3: 9 Budget, instrument 2: 11 Memory, instrument 2: 11 Memory";
-    assert_eq!(rt; told.as_str(), due);
-    Ok(())
+    assert_equal(&rt, told.as_str(), due);
 }

@@ -1,4 +1,5 @@
 //! Tests of instruments and seats by name.
+use crate::asserted::{OrFail, assert_equal};
 use metric_handles::{
     BoundCounter, BoundList, Counted, Counter, HandleFault, Replaced, Seat,
     compared_keys_are_bound, compared_keys_are_recorded, counter, gauge, histogram, left,
@@ -12,7 +13,6 @@ use std::alloc::{AllocError, Global};
 use std::fmt::Debug;
 use std::process::Abort;
 use std::sync::Wait;
-use std::test::Fail;
 
 // Two versions of a meter, of which each has something that waits.
 const SHOP: &str = "format = 2
@@ -64,11 +64,6 @@ name = 'push'
 [[reader]]
 name = 'pull'
 ";
-
-// Ends the test where something else was told than wanted, and prints both.
-fn assert_equal<R: Abort, T: PartialEq + Debug + Drop>(rt: &R, told: T, wanted: T) {
-    assert_eq!(rt; told, wanted);
-}
 
 // What a program asks for, a kind, a meter, a name and keys, and what it is told.
 type Asked = (
@@ -155,13 +150,12 @@ fn told(alloc: Global, plan: &Plan, asked: &Asked) -> Result<String, AllocError>
 }
 
 #[test]
-fn an_instrument_is_found_by_name_kind_and_keys(rt: HostRuntime) -> Result<(), Fail> {
-    let plan = certified_plan(rt.alloc(), SHOP, READERS)?;
+fn an_instrument_is_found_by_name_kind_and_keys(rt: HostRuntime) {
+    let plan = certified_plan(rt.alloc(), SHOP, READERS).or_fail(&rt);
     for asked in ASKED {
-        let told = told(rt.alloc(), &plan, asked)?;
+        let told = told(rt.alloc(), &plan, asked).or_fail(&rt);
         assert_equal(&rt, told.as_str(), asked.4);
     }
-    Ok(())
 }
 
 // A provider with the seats that it hands out.
@@ -172,68 +166,61 @@ struct Service {
     collectors: Vec<Collector>,
 }
 
-fn make_service<R: Wait>(rt: &R, alloc: Global) -> Result<Service, Fail> {
-    let plan = certified_plan(alloc, SHOP, READERS)?;
+fn make_service<R: Abort + Wait>(rt: &R, alloc: Global) -> Service {
+    let plan = certified_plan(alloc, SHOP, READERS).or_fail(rt);
     match start(rt, alloc, plan, 0, 1, NoGate) {
-        Ok((provider, recorders, collectors)) => Ok(Service {
+        Ok((provider, recorders, collectors)) => Service {
             provider,
             recorders,
             collectors,
-        }),
-        Err((_, _, refused)) => Err(Fail::from(refused)),
+        },
+        Err((_, _, refused)) => Err(refused).or_fail(rt),
     }
 }
 
 // Writes what was taken by a name and which seats are left.
-fn write_taken(
-    out: &mut String,
-    name: &str,
-    taken: Option<u32>,
-    left: &[u32],
-) -> Result<(), AllocError> {
-    write!(out, "{name} {taken:?}, left")?;
+fn write_taken<R: Abort>(out: &mut String, rt: &R, name: &str, taken: Option<u32>, left: &[u32]) {
+    write!(out, "{name} {taken:?}, left").or_fail(rt);
     for number in left {
-        write!(out, " {number}")?;
+        write!(out, " {number}").or_fail(rt);
     }
-    out.push_str("\n")
+    out.push_str("\n").or_fail(rt)
 }
 
-fn recorder_numbers(alloc: Global, seats: &[Recorder]) -> Result<Vec<u32>, AllocError> {
+fn recorder_numbers<R: Abort>(rt: &R, alloc: Global, seats: &[Recorder]) -> Vec<u32> {
     let mut numbers = Vec::new(alloc);
     for seat in seats {
-        numbers.push(seat.number())?;
+        numbers.push(seat.number()).or_fail(rt);
     }
-    Ok(numbers)
+    numbers
 }
 
-fn collector_numbers(alloc: Global, seats: &[Collector]) -> Result<Vec<u32>, AllocError> {
+fn collector_numbers<R: Abort>(rt: &R, alloc: Global, seats: &[Collector]) -> Vec<u32> {
     let mut numbers = Vec::new(alloc);
     for seat in seats {
-        numbers.push(seat.number())?;
+        numbers.push(seat.number()).or_fail(rt);
     }
-    Ok(numbers)
+    numbers
 }
 
 // Writes what is taken of the recorders, one name after the other.
-fn write_recorders(out: &mut String, alloc: Global, service: &mut Service) -> Result<(), Fail> {
+fn write_recorders<R: Abort>(out: &mut String, rt: &R, alloc: Global, service: &mut Service) {
     for name in ["Web", "push", "till", "till"] {
         let plan = service.provider.plan();
         let taken = take_recorder(plan, &mut service.recorders, name).map(|seat| seat.number());
-        let left = recorder_numbers(alloc, service.recorders.as_slice())?;
-        write_taken(out, name, taken, left.as_slice())?;
+        let left = recorder_numbers(rt, alloc, service.recorders.as_slice());
+        write_taken(out, rt, name, taken, left.as_slice());
     }
-    Ok(())
 }
 
 // Writes what is taken of the readers, one name after the other.
-fn write_readers(out: &mut String, alloc: Global, service: &mut Service) -> Result<(), Fail> {
+fn write_readers<R: Abort>(out: &mut String, rt: &R, alloc: Global, service: &mut Service) {
     for name in ["web", "push", "pull"] {
         let plan = service.provider.plan();
         let taken = take_reader(plan, &mut service.collectors, name).map(|seat| seat.number());
-        let left = collector_numbers(alloc, service.collectors.as_slice())?;
-        write_taken(out, name, taken, left.as_slice())?;
+        let left = collector_numbers(rt, alloc, service.collectors.as_slice());
+        write_taken(out, rt, name, taken, left.as_slice());
     }
-    Ok(())
 }
 
 const TAKEN: &str = "Web Some(2), left 0 1
@@ -246,21 +233,20 @@ pull Some(1), left
 ";
 
 #[test]
-fn seats_are_taken_by_name(rt: HostRuntime) -> Result<(), Fail> {
-    let mut service = make_service(&rt, rt.alloc())?;
+fn seats_are_taken_by_name(rt: HostRuntime) {
+    let mut service = make_service(&rt, rt.alloc());
     let mut out = String::new(rt.alloc());
-    write_recorders(&mut out, rt.alloc(), &mut service)?;
-    write_readers(&mut out, rt.alloc(), &mut service)?;
+    write_recorders(&mut out, &rt, rt.alloc(), &mut service);
+    write_readers(&mut out, &rt, rt.alloc(), &mut service);
     assert_equal(&rt, out.as_str(), TAKEN);
-    Ok(())
 }
 
 #[test]
-fn keys_that_were_compared_are_not_refused(rt: HostRuntime) -> Result<(), Fail> {
+fn keys_that_were_compared_are_not_refused(rt: HostRuntime) {
     compared_keys_are_bound();
     compared_keys_are_recorded::<Marked>();
-    let plan = certified_plan(rt.alloc(), SHOP, READERS)?;
-    let orders = counter(&plan, "shop", "orders", &["country", "paid"])?;
+    let plan = certified_plan(rt.alloc(), SHOP, READERS).or_fail(&rt);
+    let orders = counter(&plan, "shop", "orders", &["country", "paid"]).or_fail(&rt);
     for (name, due) in [("de", None), ("it", Some(Refusal::UnknownValue))] {
         let paid = Attr {
             key: "paid",
@@ -269,7 +255,6 @@ fn keys_that_were_compared_are_not_refused(rt: HostRuntime) -> Result<(), Fail> 
         let told = orders.bind(&plan, &[paid, country(name)]).err();
         assert_equal(&rt, told, due);
     }
-    Ok(())
 }
 
 fn country(name: &str) -> Attr<'_> {
@@ -288,24 +273,24 @@ fn write_answer<E: Debug + Drop>(
 }
 
 // Orders with attributes at the call, with bound ones, and as lists.
-fn sell<R: Wait, S: Seat>(
+fn sell<R: Abort + Wait, S: Seat>(
     out: &mut String,
     rt: &R,
     alloc: Global,
     provider: &MeterProvider,
     seat: &mut S,
-) -> Result<(), Fail> {
-    let orders = counter(provider.plan(), "shop", "orders", &["country"])?;
-    write_answer(out, orders.add(rt, provider, seat, &[country("de")], 2))?;
-    write_answer(out, orders.add(rt, provider, seat, &[country("it")], 2))?;
-    let french = orders.bind(provider.plan(), &[country("fr")])?;
-    write_answer(out, french.add(rt, provider, seat, 3))?;
-    write_answer(out, french.add(rt, provider, seat, 0))?;
+) {
+    let orders = counter(provider.plan(), "shop", "orders", &["country"]).or_fail(rt);
+    write_answer(out, orders.add(rt, provider, seat, &[country("de")], 2)).or_fail(rt);
+    write_answer(out, orders.add(rt, provider, seat, &[country("it")], 2)).or_fail(rt);
+    let french = orders.bind(provider.plan(), &[country("fr")]).or_fail(rt);
+    write_answer(out, french.add(rt, provider, seat, 3)).or_fail(rt);
+    write_answer(out, french.add(rt, provider, seat, 0)).or_fail(rt);
     sell_all(out, rt, alloc, provider, seat, &orders, &french)
 }
 
 // Two lists, of which the second meets the end of the budget, and a list of another instrument.
-fn sell_all<R: Wait, S: Seat>(
+fn sell_all<R: Abort + Wait, S: Seat>(
     out: &mut String,
     rt: &R,
     alloc: Global,
@@ -313,18 +298,17 @@ fn sell_all<R: Wait, S: Seat>(
     seat: &mut S,
     orders: &Counter,
     french: &BoundCounter,
-) -> Result<(), Fail> {
+) {
     let mut list: BoundList<_> = orders.list(alloc);
-    list.push(french, 4)?;
-    list.push(french, 5)?;
-    write_answer(out, list.add(rt, provider, seat))?;
+    list.push(french, 4).or_fail(rt);
+    list.push(french, 5).or_fail(rt);
+    write_answer(out, list.add(rt, provider, seat)).or_fail(rt);
     list.clear();
     for value in 6..9 {
-        list.push(french, value)?;
+        list.push(french, value).or_fail(rt);
     }
-    write_answer(out, list.add(rt, provider, seat))?;
-    write!(out, "{}\n", list.len())?;
-    Ok(())
+    write_answer(out, list.add(rt, provider, seat)).or_fail(rt);
+    write!(out, "{}\n", list.len()).or_fail(rt);
 }
 
 // What is answered to these calls by a seat of either kind.
@@ -347,45 +331,42 @@ const REFUSED_BY_HANDLES: &[(u32, Refusal, u64)] = &[
 ];
 
 #[test]
-fn handles_record_with_a_seat_that_counts(rt: HostRuntime) -> Result<(), Fail> {
-    let mut service = make_service(&rt, rt.alloc())?;
+fn handles_record_with_a_seat_that_counts(rt: HostRuntime) {
+    let mut service = make_service(&rt, rt.alloc());
     let provider = &service.provider;
-    let Some(seat) = take_recorder(provider.plan(), &mut service.recorders, "till") else {
-        return Err(Fail::from("no till"));
-    };
+    let taken = take_recorder(provider.plan(), &mut service.recorders, "till");
+    let seat = taken.expect(&rt, "no till");
     let Ok(mut counted) = Counted::new(rt.alloc(), provider.plan(), seat) else {
-        return Err(Fail::from("no memory"));
+        panic!(rt; "no memory");
     };
     let mut out = String::new(rt.alloc());
-    sell(&mut out, &rt, rt.alloc(), provider, &mut counted)?;
+    sell(&mut out, &rt, rt.alloc(), provider, &mut counted);
     assert_equal(&rt, out.as_str(), ANSWERED);
     for (instrument, refusal, times) in REFUSED_BY_HANDLES {
         assert_equal(&rt, counted.refused(*instrument, *refusal), *times);
     }
     let told = counted.into_seat().accepted(0).map(|told| told.count);
     assert_equal(&rt, told, Some(6));
-    Ok(())
 }
 
 // Writes each point of a batch.
-fn write_points(out: &mut String, batch: &Batch) -> Result<(), AllocError> {
+fn write_points<R: Abort>(out: &mut String, rt: &R, batch: &Batch) {
     for stream in batch.streams.as_slice() {
         for point in stream.points.as_slice() {
             let value = &point.value;
-            writeln!(out, "{} {value:?}", batch.instrument)?;
+            writeln!(out, "{} {value:?}", batch.instrument).or_fail(rt);
         }
     }
-    Ok(())
 }
 
 // Writes what is found by name and attributes.
-fn write_found(out: &mut String, plan: &Plan, batches: &[Batch]) -> Result<(), AllocError> {
+fn write_found<R: Abort>(out: &mut String, rt: &R, plan: &Plan, batches: &[Batch]) {
     for name in ["de", "fr", "it"] {
         let value = value_of(plan, batches, "Orders", &[country(name)]);
-        writeln!(out, "{name} {value:?}")?;
+        writeln!(out, "{name} {value:?}").or_fail(rt);
     }
     let value = value_of(plan, batches, "orders", &[]);
-    writeln!(out, "none {value:?}")
+    writeln!(out, "none {value:?}").or_fail(rt)
 }
 
 const SOLD: &str = "Ok(())
@@ -405,45 +386,43 @@ left Some(0)
 ";
 
 #[test]
-fn handles_record_what_they_say(rt: HostRuntime) -> Result<(), Fail> {
-    let mut service = make_service(&rt, rt.alloc())?;
+fn handles_record_what_they_say(rt: HostRuntime) {
+    let mut service = make_service(&rt, rt.alloc());
     let mut out = String::new(rt.alloc());
     let provider = &service.provider;
-    let Some(mut seat) = take_recorder(provider.plan(), &mut service.recorders, "till") else {
-        return Err(Fail::from("no till"));
-    };
-    sell(&mut out, &rt, rt.alloc(), provider, &mut seat)?;
-    let Some(mut reader) = take_reader(provider.plan(), &mut service.collectors, "pull") else {
-        return Err(Fail::from("no pull"));
-    };
-    let batch = reader.collect(&rt, rt.alloc(), provider, 0, 10)?;
-    write_points(&mut out, &batch)?;
-    write_found(&mut out, provider.plan(), &[batch])?;
+    let taken = take_recorder(provider.plan(), &mut service.recorders, "till");
+    let mut seat = taken.expect(&rt, "no till");
+    sell(&mut out, &rt, rt.alloc(), provider, &mut seat);
+    let taken = take_reader(provider.plan(), &mut service.collectors, "pull");
+    let mut reader = taken.expect(&rt, "no pull");
+    let batch = reader
+        .collect(&rt, rt.alloc(), provider, 0, 10)
+        .or_fail(&rt);
+    write_points(&mut out, &rt, &batch);
+    write_found(&mut out, &rt, provider.plan(), &[batch]);
     let left = left(&seat, provider.plan(), 0);
-    writeln!(&mut out, "left {left:?}")?;
+    writeln!(&mut out, "left {left:?}").or_fail(&rt);
     assert_equal(&rt, out.as_str(), SOLD);
-    Ok(())
 }
 
 // Two values of a key and an end of the range, beside what is declared.
 #[test]
-fn what_is_not_declared_is_replaced_and_counted(rt: HostRuntime) -> Result<(), Fail> {
-    let plan = certified_plan(rt.alloc(), SHOP, READERS)?;
+fn what_is_not_declared_is_replaced_and_counted(rt: HostRuntime) {
+    let plan = certified_plan(rt.alloc(), SHOP, READERS).or_fail(&rt);
     let mut replaced = Replaced::none();
     let mut out = String::new(rt.alloc());
     for name in ["de", "it", "fr"] {
         let (value, other) = (ValueRef::Text(name), ValueRef::Text("fr"));
         let known = replaced.known_or(plan.catalogue(), 0, "country", value, other);
-        out.push_str(text_of(known))?;
+        out.push_str(text_of(known)).or_fail(&rt);
     }
     for value in [0, 1, 100, 101] {
         let amount = replaced.clamped(plan.catalogue(), 0, value);
-        write!(&mut out, " {amount}")?;
+        write!(&mut out, " {amount}").or_fail(&rt);
     }
-    write!(&mut out, " {replaced:?}")?;
+    write!(&mut out, " {replaced:?}").or_fail(&rt);
     let wanted = "defrfr 1 1 100 100 Replaced { values: 1, amounts: 2 }";
     assert_equal(&rt, out.as_str(), wanted);
-    Ok(())
 }
 
 fn text_of(value: ValueRef<'_>) -> &str {
@@ -473,14 +452,13 @@ const REFUSED: &[(u32, Refusal, u64)] = &[
 ];
 
 #[test]
-fn a_seat_counts_what_it_is_refused(rt: HostRuntime) -> Result<(), Fail> {
-    let mut service = make_service(&rt, rt.alloc())?;
+fn a_seat_counts_what_it_is_refused(rt: HostRuntime) {
+    let mut service = make_service(&rt, rt.alloc());
     let provider = &service.provider;
-    let Some(seat) = take_recorder(provider.plan(), &mut service.recorders, "till") else {
-        return Err(Fail::from("no till"));
-    };
+    let taken = take_recorder(provider.plan(), &mut service.recorders, "till");
+    let seat = taken.expect(&rt, "no till");
     let Ok(mut counted) = Counted::new(rt.alloc(), provider.plan(), seat) else {
-        return Err(Fail::from("no memory"));
+        panic!(rt; "no memory");
     };
     for (instrument, name, value) in COUNTED {
         let _ = counted.record(&rt, provider, *instrument, &[country(name)], *value);
@@ -490,5 +468,4 @@ fn a_seat_counts_what_it_is_refused(rt: HostRuntime) -> Result<(), Fail> {
     }
     let told = counted.into_seat().accepted(0).map(|told| told.count);
     assert_equal(&rt, told, Some(1));
-    Ok(())
 }

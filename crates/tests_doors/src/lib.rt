@@ -5,6 +5,8 @@
 #![tactic(auto)]
 
 #[cfg(test)]
+mod asserted;
+#[cfg(test)]
 mod exports;
 #[cfg(test)]
 mod faults;

@@ -1,12 +1,12 @@
 //! Tests of a service from its two files to its totals.
+use crate::asserted::{OrFail, assert_equal};
 use metric_sdk::{
     Catalogue, Collector, Config, CutSink, EndFault, Marked, MeterProvider, NoGate, Recorder, Runs,
     SetupFault, TextExporter, Totals, make, now, open, open_certified, shutdown_all,
 };
-use std::alloc::{AllocError, Global};
+use std::alloc::Global;
 use std::process::Abort;
 use std::sync::Wait;
-use std::test::Fail;
 
 // Two counters of two recorders.
 const CATALOGUE: &str = "format = 1
@@ -54,48 +54,45 @@ const OPENED: &[[&str; 3]] = &[
     [HIGH, CONFIG, "make 4 SumHigh"],
 ];
 
-fn assert_told<R: Abort>(rt: &R, told: &str, wanted: &str) {
-    assert_eq!(rt; told, wanted);
-}
-
 type Opened = Result<(MeterProvider, Vec<Recorder>, Vec<Collector>), SetupFault>;
 
 // Writes the numbers of the seats that serve the run, or the fault.
-fn write_opened(out: &mut String, opened: &Opened) -> Result<(), AllocError> {
+fn write_opened<R: Abort>(out: &mut String, rt: &R, opened: &Opened) {
     match opened {
         Ok((provider, recorders, collectors)) => {
-            write!(out, "run 7, recorders")?;
+            write!(out, "run 7, recorders").or_fail(rt);
             for seat in recorders {
                 if seat.admits(provider, 0, &[], 0).is_ok() {
-                    write!(out, " {}", seat.number())?;
+                    write!(out, " {}", seat.number()).or_fail(rt);
                 }
             }
-            write!(out, ", readers")?;
+            write!(out, ", readers").or_fail(rt);
             for seat in collectors {
-                write!(out, " {}", seat.number())?;
+                write!(out, " {}", seat.number()).or_fail(rt);
             }
-            Ok(())
         }
-        Err(fault) => write!(out, "{fault}"),
+        Err(fault) => write!(out, "{fault}").or_fail(rt),
     }
 }
 
 #[test]
-fn two_texts_are_opened(rt: HostRuntime) -> Result<(), Fail> {
+fn two_texts_are_opened(rt: HostRuntime) {
     for [catalogue, config, wanted] in OPENED {
         let opened = open(&rt, rt.alloc(), catalogue, config, 5, 7);
         let mut told = String::new(rt.alloc());
-        write_opened(&mut told, &opened)?;
-        assert_told(&rt, told.as_str(), wanted);
+        write_opened(&mut told, &rt, &opened);
+        assert_equal(&rt, told.as_str(), wanted);
     }
-    Ok(())
 }
 
 // The text of the certificate that is made for a catalogue and a config.
-fn certificate_for(alloc: Global, catalogue: &str, config: &str) -> Result<String, Fail> {
-    let catalogue = Catalogue::read(alloc, catalogue)?;
-    let config = Config::read(alloc, config)?;
-    Ok(make(alloc, &catalogue, &config)?.write(alloc)?)
+fn certificate_for<R: Abort>(rt: &R, alloc: Global, catalogue: &str, config: &str) -> String {
+    let catalogue = Catalogue::read(alloc, catalogue).or_fail(rt);
+    let config = Config::read(alloc, config).or_fail(rt);
+    make(alloc, &catalogue, &config)
+        .or_fail(rt)
+        .write(alloc)
+        .or_fail(rt)
 }
 
 // Catalogues and configs, each with what it comes to by the certificate for the first two texts.
@@ -107,30 +104,28 @@ const VOUCHED: &[[&str; 3]] = &[
 ];
 
 #[test]
-fn a_certificate_is_checked(rt: HostRuntime) -> Result<(), Fail> {
-    let text = certificate_for(rt.alloc(), CATALOGUE, CONFIG)?;
+fn a_certificate_is_checked(rt: HostRuntime) {
+    let text = certificate_for(&rt, rt.alloc(), CATALOGUE, CONFIG);
     for [catalogue, config, wanted] in VOUCHED {
         let opened = open_certified(&rt, rt.alloc(), catalogue, config, text.as_str(), 5, 7);
         let mut told = String::new(rt.alloc());
-        write_opened(&mut told, &opened)?;
-        assert_told(&rt, told.as_str(), wanted);
+        write_opened(&mut told, &rt, &opened);
+        assert_equal(&rt, told.as_str(), wanted);
     }
     let opened = open_certified(&rt, rt.alloc(), CATALOGUE, CONFIG, "=", 5, 7);
     let mut told = String::new(rt.alloc());
-    write_opened(&mut told, &opened)?;
-    assert_told(&rt, told.as_str(), "certificate 1 NotToml");
-    Ok(())
+    write_opened(&mut told, &rt, &opened);
+    assert_equal(&rt, told.as_str(), "certificate 1 NotToml");
 }
 
 #[test]
-fn runs_are_counted(rt: HostRuntime) -> Result<(), Fail> {
+fn runs_are_counted(rt: HostRuntime) {
     let mut runs = Runs::new();
     let given = [runs.next(), runs.next(), runs.next()];
-    assert_eq!(rt; given, [1, 2, 3]);
+    assert_equal(&rt, given, [1, 2, 3]);
     // The second of September 2020, and thereafter.
-    let moment = now(&rt)?;
+    let moment = now(&rt).or_fail(&rt);
     assert!(rt; moment > 1_599_000_000_000_000_000);
-    Ok(())
 }
 
 // A service: a provider and its seats.
@@ -141,49 +136,47 @@ struct Service {
     collectors: Vec<Collector>,
 }
 
-fn opened<R: Wait>(rt: &R, alloc: Global) -> Result<Service, Fail> {
-    let (provider, recorders, collectors) = open(rt, alloc, CATALOGUE, CONFIG, 5, 1)?;
-    Ok(Service {
+fn opened<R: Abort + Wait>(rt: &R, alloc: Global) -> Service {
+    let (provider, recorders, collectors) = open(rt, alloc, CATALOGUE, CONFIG, 5, 1).or_fail(rt);
+    Service {
         provider,
         recorders,
         collectors,
-    })
+    }
 }
 
 // Records on each instrument by the recorder that has a budget for it, so often, and writes the answers.
-fn write_recordings<R: Wait>(
+fn write_recordings<R: Abort + Wait>(
     out: &mut String,
     rt: &R,
     provider: &MeterProvider,
     recorders: &mut [Recorder],
     times: usize,
-) -> Result<(), AllocError> {
+) {
     for _ in 0..times {
         for seat in recorders.iter_mut() {
             match seat.record(rt, provider, seat.number(), &[], 3) {
-                Ok(()) => out.push_str("ok\n")?,
-                Err(refusal) => writeln!(out, "{refusal}")?,
+                Ok(()) => out.push_str("ok\n").or_fail(rt),
+                Err(refusal) => writeln!(out, "{refusal}").or_fail(rt),
             }
         }
     }
-    Ok(())
 }
 
-fn write_totals(out: &mut String, totals: &Totals) -> Result<(), AllocError> {
+fn write_totals<R: Abort>(out: &mut String, rt: &R, totals: &Totals) {
     for total in &totals.instruments {
-        writeln!(out, "{} recordings, sum {}", total.count, total.sum)?;
+        writeln!(out, "{} recordings, sum {}", total.count, total.sum).or_fail(rt);
     }
-    Ok(())
 }
 
 // Goes over into another run, and writes the totals of this one, or why it goes on.
-fn rolled<R: Wait>(
+fn rolled<R: Abort + Wait>(
     out: &mut String,
     rt: &R,
     alloc: Global,
     service: Service,
     run: u64,
-) -> Result<Service, AllocError> {
+) -> Service {
     let Service {
         provider,
         recorders,
@@ -191,32 +184,32 @@ fn rolled<R: Wait>(
     } = service;
     match provider.roll_over(rt, alloc, recorders, 100, run) {
         Ok(rolled) => {
-            write_totals(out, &rolled.totals)?;
-            Ok(Service {
+            write_totals(out, rt, &rolled.totals);
+            Service {
                 provider: rolled.provider,
                 recorders: rolled.recorders,
                 collectors: rolled.collectors,
-            })
+            }
         }
         Err((provider, recorders, fault)) => {
-            writeln!(out, "{fault}, {} seats", recorders.len())?;
-            Ok(Service {
+            writeln!(out, "{fault}, {} seats", recorders.len()).or_fail(rt);
+            Service {
                 provider,
                 recorders,
                 collectors,
-            })
+            }
         }
     }
 }
 
 // Ends a service with an exporter of texts over a sink with some room, and writes what is told and what the sink holds.
-fn write_end<R: Wait>(
+fn write_end<R: Abort + Wait>(
     out: &mut String,
     rt: &R,
     alloc: Global,
     service: Service,
     room: Option<usize>,
-) -> Result<(), Fail> {
+) {
     let mut exporter = TextExporter::new(CutSink::new(alloc, room));
     let Service {
         provider,
@@ -232,19 +225,19 @@ fn write_end<R: Wait>(
         &mut exporter,
         200,
     ) {
-        Ok(totals) => write_totals(out, &totals)?,
-        Err(left) => write_left(out, &left)?,
+        Ok(totals) => write_totals(out, rt, &totals),
+        Err(left) => write_left(out, rt, &left),
     }
-    let text = std::str::from_utf8(exporter.sink().taken())?;
-    Ok(out.push_str(text)?)
+    let text = std::str::from_utf8(exporter.sink().taken()).or_fail(rt);
+    out.push_str(text).or_fail(rt)
 }
 
 // Writes what is left of a service, and its totals where it is finished.
-fn write_left(out: &mut String, left: &EndFault<Marked, NoGate>) -> Result<(), AllocError> {
-    writeln!(out, "{left}")?;
+fn write_left<R: Abort>(out: &mut String, rt: &R, left: &EndFault<Marked, NoGate>) {
+    writeln!(out, "{left}").or_fail(rt);
     match &left.finished {
-        Ok(totals) => write_totals(out, totals),
-        Err(unfinished) => writeln!(out, "{} seats", unfinished.recorders.len()),
+        Ok(totals) => write_totals(out, rt, totals),
+        Err(unfinished) => writeln!(out, "{} seats", unfinished.recorders.len()).or_fail(rt),
     }
 }
 
@@ -276,28 +269,27 @@ point {} start=100 time=200 value=3
 ";
 
 #[test]
-fn a_service_goes_over_into_its_next_run(rt: HostRuntime) -> Result<(), Fail> {
+fn a_service_goes_over_into_its_next_run(rt: HostRuntime) {
     let mut told = String::new(rt.alloc());
-    let mut first = opened(&rt, rt.alloc())?;
+    let mut first = opened(&rt, rt.alloc());
     write_recordings(
         &mut told,
         &rt,
         &first.provider,
         first.recorders.as_mut_slice(),
         3,
-    )?;
-    let first = rolled(&mut told, &rt, rt.alloc(), first, 1)?;
-    let mut next = rolled(&mut told, &rt, rt.alloc(), first, 2)?;
+    );
+    let first = rolled(&mut told, &rt, rt.alloc(), first, 1);
+    let mut next = rolled(&mut told, &rt, rt.alloc(), first, 2);
     write_recordings(
         &mut told,
         &rt,
         &next.provider,
         next.recorders.as_mut_slice(),
         1,
-    )?;
-    write_end(&mut told, &rt, rt.alloc(), next, None)?;
-    assert_told(&rt, told.as_str(), ROLLED);
-    Ok(())
+    );
+    write_end(&mut told, &rt, rt.alloc(), next, None);
+    assert_equal(&rt, told.as_str(), ROLLED);
 }
 
 // How many of the two recorders' seats are kept, how much room the sink of the exporter has, and what is told.
@@ -326,13 +318,12 @@ const ENDS: &[End] = &[
 ];
 
 #[test]
-fn an_end_tells_each_cause(rt: HostRuntime) -> Result<(), Fail> {
+fn an_end_tells_each_cause(rt: HostRuntime) {
     for end in ENDS {
         let mut told = String::new(rt.alloc());
-        let mut service = opened(&rt, rt.alloc())?;
+        let mut service = opened(&rt, rt.alloc());
         service.recorders.truncate(end.kept);
-        write_end(&mut told, &rt, rt.alloc(), service, end.room)?;
-        assert_told(&rt, told.as_str(), end.told);
+        write_end(&mut told, &rt, rt.alloc(), service, end.room);
+        assert_equal(&rt, told.as_str(), end.told);
     }
-    Ok(())
 }
