@@ -1,5 +1,6 @@
 -- What calls by a handle do, in one fact: what the seat's calls at its number do.
-use Rattle.std.specs.Prelude.{◌≡◌, ℕ, ℤ, Bool, List, Result, Ok, Err, IfErr, OnErr, OnOk, take}
+use Rattle.std.specs.Prelude.{◌≡◌, ℕ, ◌-◌, ℤ, Bool, List, [], Result, Ok, Err, IfErr, OnErr, OnOk}
+use Rattle.std.specs.Prelude.{drop, length, take}
 use Rattle.metric_contents.specs.declared.refusal.Refusal.{Refusal}
 use Rattle.metric_facts.specs.declared.facts.Facts.{Facts}
 use Rattle.metric_provider.specs.declared.fault.SetsFault.{SetsFault}
@@ -27,6 +28,16 @@ pub record MakesRecordings (keeps : Bool) (spares_memory : Facts → Type 0) (p 
   pub refused : IfErr result (IsRefusedAfter (SeatSpares keeps spares_memory) p old instrument all)
   pub told_before : IfErr result
       (λ fault. new ≡ noted_of_all keeps p.plan old instrument (take fault.place all))
+
+-- what is left of a list of recordings: nothing, or those from the refused one on
+abbrev pub left_of : List Measurement → Result (Unit {0}) SetsFault → List Measurement
+left_of all (Ok done) = []
+left_of all (Err fault) = drop fault.place all
+
+-- how many of a list are not tried, since they stand behind one that is refused
+abbrev pub untried_of : List Measurement → Result (Unit {0}) SetsFault → ℕ
+untried_of all (Ok done) = 0
+untried_of all (Err fault) = length all - fault.place - 1
 
 -- what recordings are answered together: nothing is refused, or the one after the last that is made
 abbrev pub answer_of : Result (Unit {0}) SetsFault → Result (Unit {0}) Refusal

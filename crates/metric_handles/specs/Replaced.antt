@@ -1,10 +1,16 @@
 -- Values that a catalogue does not declare, replaced.
-use Rattle.std.specs.Prelude.{ℕ, ◌+◌, ℤ, Bool, false, min, if◌then◌else◌, int_le, List, find}
-use Rattle.std.specs.Prelude.{is_some, slice_get}
-use Rattle.std.specs.Option.{option_map_or}
+use Rattle.std.specs.Prelude.{ℕ, ◌+◌, ℤ, Bool, min, if◌then◌else◌, int_le, List, find, Result, Ok}
+use Rattle.std.specs.Prelude.{Err, is_some, slice_get}
+use Rattle.std.specs.Ordering.{int_eq}
+use Rattle.metric_base.specs.Steps.{◌>>=◌, require_some}
 use Rattle.metric_names.specs.declared.value.AttrValue.{AttrValue}
+use Rattle.metric_names.specs.declared.value.ValueRef.{ValueRef}
+use Rattle.metric_names.specs.Values.{value_of}
+use Rattle.metric_contents.specs.declared.attributes.Attr.{Attr}
 use Rattle.metric_contents.specs.declared.contents.Instrument.{Instrument}
 use Rattle.metric_contents.specs.declared.contents.Key.{Key}
+use Rattle.metric_contents.specs.declared.refusal.Refusal.{Refusal}
+use Rattle.metric_contents.specs.declared.refusal.Refusal.TheVariants.{UnknownInstrument, UnknownKey}
 use Rattle.metric_contents.specs.KeyNames.{is_key}
 use Rattle.metric_contents.specs.Places.{place}
 
@@ -12,16 +18,18 @@ use Rattle.metric_contents.specs.Places.{place}
 abbrev pub one_more : ℕ → ℕ
 one_more count = min (count + 1) 18446744073709551615
 
--- some key of this name declares the value
-abbrev pub key_declares : List ℕ → AttrValue → List Key → Bool
-key_declares name value keys =
-    option_map_or (λ (key : Key). is_some (place key.values value)) (find (is_key name) keys) false
+-- the instrument of a number, or that there is none
+abbrev pub instrument_at : List Instrument → ℕ → Result Instrument Refusal
+instrument_at instruments number = require_some (slice_get instruments number) UnknownInstrument
 
--- the instrument of a number has such a key
-abbrev pub is_known : List Instrument → ℕ → List ℕ → AttrValue → Bool
-is_known instruments number name value =
-    option_map_or (λ (i : Instrument). key_declares name value i.keys)
-    (slice_get instruments number) false
+-- the key of a name that the instrument of a number declares, or what is not declared
+abbrev pub key_at : List Instrument → ℕ → List ℕ → Result Key Refusal
+key_at instruments number name =
+    instrument_at instruments number >>= λ i. require_some (find (is_key name) i.keys) UnknownKey
+
+-- the key declares the value
+abbrev pub is_known : Key → AttrValue → Bool
+is_known key value = is_some (place key.values value)
 
 -- the number of the instrument's range that is next to a value
 abbrev pub nearest : Instrument → ℤ → ℤ
@@ -29,7 +37,33 @@ nearest instrument value =
     if int_le instrument.lo value then (if int_le value instrument.hi then value else instrument.hi)
     else instrument.lo
 
--- the same of the instrument of a number; the value itself where there is none
-abbrev pub nearest_at : List Instrument → ℕ → ℤ → ℤ
+-- a count after a look at a value: one more where the value was replaced
+abbrev pub counted_unless : Bool → ℕ → ℕ
+counted_unless kept count = if kept then count else one_more count
+
+-- the same where there may be nothing to look at
+abbrev pub counted_after : Result Bool Refusal → ℕ → ℕ
+counted_after (Ok kept) count = counted_unless kept count
+counted_after (Err refusal) count = count
+
+-- whether a key of this name on the instrument of a number declares the value
+abbrev pub keeps_value : List Instrument → ℕ → List ℕ → AttrValue → Result Bool Refusal
+keeps_value instruments number name value =
+    key_at instruments number name >>= λ key. Ok (is_known key value)
+
+-- whether the value is in the range of the instrument of a number
+abbrev pub keeps_amount : List Instrument → ℕ → ℤ → Result Bool Refusal
+keeps_amount instruments number value =
+    instrument_at instruments number >>= λ i. Ok (int_eq (nearest i value) value)
+
+-- the attribute, where a key of its name on the instrument of a number declares its value, else
+-- with another value
+abbrev pub known_or : List Instrument → ℕ → Attr → ValueRef → Result Attr Refusal
+known_or instruments number attr other =
+    keeps_value instruments number attr.key.now (value_of attr.value) >>= λ kept.
+    Ok (if kept then attr else record attr { value = other })
+
+-- the number of the range of the instrument of a number that is next to a value
+abbrev pub nearest_at : List Instrument → ℕ → ℤ → Result ℤ Refusal
 nearest_at instruments number value =
-    option_map_or (λ i. nearest i value) (slice_get instruments number) value
+    instrument_at instruments number >>= λ i. Ok (nearest i value)

@@ -94,7 +94,7 @@ impl<K: Adds> Bound<K> {
             let admission = admitted_key provider.now old at self.now.set value in
             MakesRecording B.KEEPS_ENTRIES B.spares_memory provider.now
             old (S.seat seat.new) at value admission result }
-        ensures noted { S.notes seat.old seat.new self.now.instrument result }
+        ensures noted { S.notes seat.old seat.new self.now.instrument 0 result }
     {
         seat.record_set(rt, provider, self.instrument, self.set, value)
     }
@@ -115,7 +115,7 @@ impl<K: Records> Bound<K> {
             let admission = admitted_key provider.now old at self.now.set value in
             MakesRecording B.KEEPS_ENTRIES B.spares_memory provider.now
             old (S.seat seat.new) at value admission result }
-        ensures noted { S.notes seat.old seat.new self.now.instrument result }
+        ensures noted { S.notes seat.old seat.new self.now.instrument 0 result }
     {
         seat.record_set(rt, provider, self.instrument, self.set, value)
     }

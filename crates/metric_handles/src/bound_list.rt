@@ -1,7 +1,7 @@
 //! Lists of bound recordings.
-ghost use Rattle.std.specs.Prelude.{◌≡◌, ◌≢◌, ◌↔◌, [], ◌∷◌, ◌++◌, length, IsErrOf, OnErr, OnOk};
+ghost use Rattle.std.specs.Prelude.{◌≡◌, ◌≢◌, ◌↔◌, ◌≤◌, [], ◌∷◌, ◌++◌, drop, length, IfErr, IsErrOf, OnErr, OnOk};
 ghost use Rattle.metric_provider.specs.KeyRecordings.{measurement_of};
-ghost use Rattle.metric_handles.specs.Calls.{MakesRecordings, answer_of};
+ghost use Rattle.metric_handles.specs.Calls.{MakesRecordings, answer_of, left_of, untried_of};
 
 use crate::bound::Bound;
 use crate::kinds::{Adds, Records};
@@ -89,12 +89,52 @@ impl<K> BoundList<K> {
     {
         self.all.clear();
     }
+
+    // Takes out what was made by this answer.
+    fn take_made(&mut self, answer: &Result<(), SetsFault>)
+        requires { IfErr answer.now (λ fault. fault.place ≤ length self.old.all) }
+        ensures { self.new ≡ record self.old { all = left_of self.old.all answer.now } }
+    {
+        match answer {
+            Ok(()) => self.all.clear(),
+            Err(fault) => self.take_first(fault.place),
+        }
+    }
+
+    // Takes the first so many out.
+    fn take_first(&mut self, made: usize)
+        requires { made ≤ length self.old.all }
+        ensures { self.new ≡ record self.old { all = drop made self.old.all } }
+    {
+        let left = self.all.len() - made;
+        self.all.rotate_left(made);
+        self.all.truncate(left);
+    }
 }
 
 impl<K: Adds> BoundList<K> {
     /// Adds the values in order and under one lock, up to the first that is refused (Metrics API, Add):
-    /// [`Seat::record_sets`] at the instrument's number, with its fault. The list stays as it is.
+    /// [`Seat::record_sets`] at the instrument's number, with its fault. What was made is taken out of the list: it is empty then,
+    /// or begins with the refused recording, which can be tried again with those behind it.
     pub fn add<R: Wait, S: Seat, B: Book, G: Gate>(
+        &mut self,
+        rt: &R,
+        provider: &Provider<B, G>,
+        seat: &mut S,
+    ) -> Result<(), SetsFault>
+        ensures made { MakesRecordings B.KEEPS_ENTRIES B.spares_memory provider.now
+            (S.seat seat.old) (S.seat seat.new) self.old.instrument self.old.all result }
+        ensures noted { let untried = untried_of self.old.all result in
+            S.notes seat.old seat.new self.old.instrument untried (answer_of result) }
+        ensures left { self.new ≡ record self.old { all = left_of self.old.all result } }
+    {
+        let answer = seat.record_sets(rt, provider, self.instrument, self.all.as_slice());
+        self.take_made(&answer);
+        answer
+    }
+
+    /// The same, and the list stays as it is, so that all of it can be made again and again.
+    pub fn add_and_keep<R: Wait, S: Seat, B: Book, G: Gate>(
         &self,
         rt: &R,
         provider: &Provider<B, G>,
@@ -102,7 +142,8 @@ impl<K: Adds> BoundList<K> {
     ) -> Result<(), SetsFault>
         ensures made { MakesRecordings B.KEEPS_ENTRIES B.spares_memory provider.now
             (S.seat seat.old) (S.seat seat.new) self.now.instrument self.now.all result }
-        ensures noted { S.notes seat.old seat.new self.now.instrument (answer_of result) }
+        ensures noted { let untried = untried_of self.now.all result in
+            S.notes seat.old seat.new self.now.instrument untried (answer_of result) }
     {
         seat.record_sets(rt, provider, self.instrument, self.all.as_slice())
     }
@@ -110,8 +151,27 @@ impl<K: Adds> BoundList<K> {
 
 impl<K: Records> BoundList<K> {
     /// Records the values in order and under one lock, up to the first that is refused (Metrics API, Record):
-    /// [`Seat::record_sets`] at the instrument's number, with its fault. The list stays as it is.
+    /// [`Seat::record_sets`] at the instrument's number, with its fault. What was made is taken out of the list: it is empty then,
+    /// or begins with the refused recording, which can be tried again with those behind it.
     pub fn record<R: Wait, S: Seat, B: Book, G: Gate>(
+        &mut self,
+        rt: &R,
+        provider: &Provider<B, G>,
+        seat: &mut S,
+    ) -> Result<(), SetsFault>
+        ensures made { MakesRecordings B.KEEPS_ENTRIES B.spares_memory provider.now
+            (S.seat seat.old) (S.seat seat.new) self.old.instrument self.old.all result }
+        ensures noted { let untried = untried_of self.old.all result in
+            S.notes seat.old seat.new self.old.instrument untried (answer_of result) }
+        ensures left { self.new ≡ record self.old { all = left_of self.old.all result } }
+    {
+        let answer = seat.record_sets(rt, provider, self.instrument, self.all.as_slice());
+        self.take_made(&answer);
+        answer
+    }
+
+    /// The same, and the list stays as it is, so that all of it can be made again and again.
+    pub fn record_and_keep<R: Wait, S: Seat, B: Book, G: Gate>(
         &self,
         rt: &R,
         provider: &Provider<B, G>,
@@ -119,7 +179,8 @@ impl<K: Records> BoundList<K> {
     ) -> Result<(), SetsFault>
         ensures made { MakesRecordings B.KEEPS_ENTRIES B.spares_memory provider.now
             (S.seat seat.old) (S.seat seat.new) self.now.instrument self.now.all result }
-        ensures noted { S.notes seat.old seat.new self.now.instrument (answer_of result) }
+        ensures noted { let untried = untried_of self.now.all result in
+            S.notes seat.old seat.new self.now.instrument untried (answer_of result) }
     {
         seat.record_sets(rt, provider, self.instrument, self.all.as_slice())
     }

@@ -1,11 +1,11 @@
 //! A seat that counts what it is refused.
-ghost use Rattle.std.specs.Prelude.{◌≡◌, ◌<◌, ◌≤◌, ◌+◌, [], IfErr, IfOk, length, map, replicate, slice_index_or, slice_set};
+ghost use Rattle.std.specs.Prelude.{◌≡◌, ◌<◌, ◌≤◌, ◌+◌, IfErr, IfOk, length, map, replicate, slice_index_or, slice_set};
 ghost use Rattle.metric_contents.specs.Attributes.{given_by};
 ghost use Rattle.metric_contents.specs.Refusals.{number_of};
 ghost use Rattle.metric_provider.specs.KeyRecordings.{admitted_key};
 ghost use Rattle.metric_provider.specs.Recordings.{admitted};
-ghost use Rattle.metric_handles.specs.Calls.{MakesRecording, MakesRecordings, answer_of};
-ghost use Rattle.metric_handles.specs.Counts.{count_in, count_of, counted_of, counts_after, no_refusals, place_of, with_refusal};
+ghost use Rattle.metric_handles.specs.Calls.{MakesRecording, MakesRecordings, answer_of, untried_of};
+ghost use Rattle.metric_handles.specs.Counts.{count_in, counted_of, counts_after, counts_of, no_counts, place_of, refused_before};
 
 use crate::seat::Seat;
 use metric_book::Book;
@@ -16,43 +16,50 @@ use std::alloc::{AllocError, Global};
 use std::marker::Model;
 use std::sync::Wait;
 
-// How often each refusal came, by its number.
+// What became of an instrument's recordings that were not made: how often each refusal came, by its number, and how many
+// recordings of lists stood behind a refused one.
 #[derive(Clone, Copy)]
-struct Refusals {
-    counts: [u64; 15],
+struct Counts {
+    refused: [u64; 15],
+    untried: u64,
 }
 
-impl Model for Refusals {
-    ghost use Rattle.std.specs.Prelude.{ℕ, List, length, ◌≡◌};
+impl Model for Counts {
+    ghost use Rattle.std.specs.Prelude.{length, ◌≡◌};
+    ghost use Rattle.metric_handles.specs.Counts.{CountsValue};
 
-    ghost Value = { List ℕ };
+    ghost Value = { CountsValue };
 
-    ghost view = { λ r. r.counts };
+    ghost view = { λ c. record { refused = c.refused; untried = c.untried } };
 
-    ghost invariant = { λ r. length r.counts ≡ 15 };
+    ghost invariant = { λ c. length c.refused ≡ 15 };
 
-    ghost inverse = { λ counts. record { counts = counts } };
+    ghost inverse = { λ c. record { refused = c.refused; untried = c.untried } };
 }
 
-impl Refusals {
-    fn none() -> Refusals
-        ensures { result ≡ no_refusals }
+impl Counts {
+    fn none() -> Counts
+        ensures { result ≡ no_counts }
     {
-        Refusals { counts: [0; 15] }
+        Counts {
+            refused: [0; 15],
+            untried: 0,
+        }
     }
 
     fn of(&self, refusal: Refusal) -> u64
-        ensures { result ≡ count_in self.now refusal }
+        ensures { result ≡ count_in self.now.refused refusal }
     {
-        self.counts[number_of(refusal)]
+        self.refused[number_of(refusal)]
     }
 
-    // One more of a refusal.
-    fn add(&mut self, refusal: Refusal)
-        ensures { self.new ≡ with_refusal self.old refusal }
+    // One more of a refusal, behind which so many recordings were not tried.
+    fn add(&mut self, refusal: Refusal, untried: u64)
+        ensures { self.new ≡ refused_before self.old refusal untried }
     {
         let number = number_of(refusal);
-        self.counts[number] = self.counts[number].saturating_add(1);
+        self.refused[number] = self.refused[number].saturating_add(1);
+        self.untried = self.untried.saturating_add(untried);
     }
 }
 
@@ -64,14 +71,15 @@ fn number_of(refusal: Refusal) -> usize
     usize::from(refusal.number())
 }
 
-/// A seat of a recorder that counts its refusals by kind and by instrument, so that none is lost where a service goes on without
-/// looking at an answer. Its recordings are those of the seat, and handles, bound attributes and lists take it as they take that (a
+/// A seat of a recorder that counts its refusals by kind and by instrument, and the recordings of lists that were not tried since one
+/// before them was refused. So what was handed in is what was made, what was refused and what was not tried, also where a service goes
+/// on without looking at an answer. Its recordings are those of the seat, and handles, bound attributes and lists take it as they take that (a
 /// [`Seat`]). Kinds are told apart by their numbers ([`Refusal::number`]), and all instruments that the plan does not have are
 /// counted as one.
 #[derive(Drop)]
 pub struct Counted {
     seat: Recorder,
-    refused: Vec<Refusals>,
+    counts: Vec<Counts>,
 }
 
 impl Model for Counted {
@@ -80,13 +88,13 @@ impl Model for Counted {
 
     ghost Value = { CountedValue };
 
-    ghost view = { λ c. record { seat = c.seat; refused = c.refused.items } };
+    ghost view = { λ c. record { seat = c.seat; counts = c.counts.items } };
 
-    ghost invariant = { λ c. 0 < length c.refused.items };
+    ghost invariant = { λ c. 0 < length c.counts.items };
 }
 
 impl Counted {
-    /// The seat, which was refused nothing of the instruments of a plan. Takes 120 bytes for each instrument and as many for all
+    /// The seat, which was refused nothing of the instruments of a plan. Takes 128 bytes for each instrument and as many for all
     /// others. Where memory is refused, the seat is handed back.
     pub fn new(
         alloc: Global,
@@ -96,8 +104,8 @@ impl Counted {
         ensures made { IfOk result (λ counted. counted ≡ counted_of plan.now seat) }
         ensures back { IfErr result (λ refused. refused.0 ≡ seat) }
     {
-        match no_lists(alloc, plan.catalogue().instruments().len()) {
-            Ok(refused) => Ok(Counted { seat, refused }),
+        match none_of_all(alloc, plan.catalogue().instruments().len()) {
+            Ok(counts) => Ok(Counted { seat, counts }),
             Err(refused) => Err((seat, refused)),
         }
     }
@@ -118,9 +126,17 @@ impl Counted {
 
     /// How often this refusal, or one of its number, came on the instrument of this number, up to the greatest number of 64 bits.
     pub fn refused(&self, instrument: u32, refusal: Refusal) -> u64
-        ensures { result ≡ count_of self.now.refused instrument refusal }
+        ensures { result ≡ count_in (counts_of self.now.counts instrument).refused refusal }
     {
-        self.refused[self.place(instrument)].of(refusal)
+        self.counts[self.place(instrument)].of(refusal)
+    }
+
+    /// How many recordings of lists on the instrument of this number were not tried, since one before them in their list was
+    /// refused, up to the greatest number of 64 bits.
+    pub fn untried(&self, instrument: u32) -> u64
+        ensures { result ≡ (counts_of self.now.counts instrument).untried }
+    {
+        self.counts[self.place(instrument)].untried
     }
 
     /// Makes a recording: [`Recorder::record`] of the seat. A refusal is counted, and answered.
@@ -136,10 +152,10 @@ impl Counted {
             let admission = admitted provider.now self.old.seat instrument given value in
             MakesRecording B.KEEPS_ENTRIES B.spares_memory provider.now
             self.old.seat self.new.seat instrument value admission result }
-        ensures counted { self.new.refused ≡ counts_after self.old.refused instrument result }
+        ensures counted { self.new.counts ≡ counts_after self.old.counts instrument 0 result }
     {
         let answer = self.seat.record(rt, provider, instrument, attrs, value);
-        self.count(instrument, &answer);
+        self.count(instrument, 0, &answer);
         answer
     }
 
@@ -156,15 +172,15 @@ impl Counted {
             let admission = admitted_key provider.now old instrument set value in
             MakesRecording B.KEEPS_ENTRIES B.spares_memory provider.now
             old self.new.seat instrument value admission result }
-        ensures counted { self.new.refused ≡ counts_after self.old.refused instrument result }
+        ensures counted { self.new.counts ≡ counts_after self.old.counts instrument 0 result }
     {
         let answer = self.seat.record_set(rt, provider, instrument, set, value);
-        self.count(instrument, &answer);
+        self.count(instrument, 0, &answer);
         answer
     }
 
-    /// The same of recordings by set keys under one lock: [`Recorder::record_sets`] of the seat. The refusal is counted, and
-    /// answered with its place.
+    /// The same of recordings by set keys under one lock: [`Recorder::record_sets`] of the seat. The refusal is counted, and how many
+    /// stand behind it, and it is answered with its place.
     pub fn record_sets<R: Wait, B: Book, G: Gate>(
         &mut self,
         rt: &R,
@@ -174,39 +190,40 @@ impl Counted {
     ) -> Result<(), SetsFault>
         ensures made { MakesRecordings B.KEEPS_ENTRIES B.spares_memory provider.now
             self.old.seat self.new.seat instrument all.now result }
-        ensures counted { let answer = answer_of result in
-            self.new.refused ≡ counts_after self.old.refused instrument answer }
+        ensures counted { let untried = untried_of all.now result in
+            self.new.counts ≡ counts_after self.old.counts instrument untried (answer_of result) }
     {
         let answer = self.seat.record_sets(rt, provider, instrument, all);
-        self.count(instrument, &answer.map_err(|fault| fault.refusal));
+        let untried = untried_of(all, &answer);
+        self.count(instrument, untried, &answer.map_err(|fault| fault.refusal));
         answer
     }
 
-    // Counts an answer.
-    fn count(&mut self, instrument: u32, answer: &Result<(), Refusal>)
-        ensures { let refused = counts_after self.old.refused instrument answer.now in
-            self.new ≡ record self.old { refused = refused } }
+    // Counts an answer, behind which so many recordings were not tried.
+    fn count(&mut self, instrument: u32, untried: u64, answer: &Result<(), Refusal>)
+        ensures { let counts = counts_after self.old.counts instrument untried answer.now in
+            self.new ≡ record self.old { counts = counts } }
     {
         if let Err(refusal) = answer {
             let place = self.place(instrument);
-            count_at(&mut self.refused, place, *refusal);
+            count_at(&mut self.counts, place, *refusal, untried);
         }
     }
 
-    // The place of the list of an instrument.
+    // The place of the counts of an instrument.
     fn place(&self, instrument: u32) -> usize
-        ensures place { result ≡ place_of self.now.refused instrument }
-        ensures within { result < length self.now.refused }
+        ensures place { result ≡ place_of self.now.counts instrument }
+        ensures within { result < length self.now.counts }
     {
-        (instrument as usize).min(self.refused.len() - 1)
+        (instrument as usize).min(self.counts.len() - 1)
     }
 }
 
 impl Seat for Counted {
     ghost seat = { λ counted. counted.seat };
 
-    ghost notes = { λ old new instrument answer.
-        new.refused ≡ counts_after old.refused instrument answer };
+    ghost notes = { λ old new instrument untried answer.
+        new.counts ≡ counts_after old.counts instrument untried answer };
 
     #[inline(always)]
     fn record<R: Wait, B: Book, G: Gate>(
@@ -244,22 +261,32 @@ impl Seat for Counted {
     }
 }
 
-// Counts a refusal in the list at a place.
-fn count_at(all: &mut Vec<Refusals>, place: usize, refusal: Refusal)
-    requires { place < length all.old.items }
-    ensures { let more = with_refusal (slice_index_or all.old.items place []) refusal in
-        all.new.items ≡ slice_set all.old.items place more }
+// How many recordings of a list stand behind the one that was refused.
+fn untried_of(all: &[Measurement], answer: &Result<(), SetsFault>) -> u64
+    ensures { result ≡ untried_of all.now answer.now }
 {
-    let counts = &mut all[place];
-    counts.add(refusal);
+    match answer {
+        Ok(()) => 0,
+        Err(fault) => all.len().saturating_sub(fault.place).saturating_sub(1) as u64,
+    }
 }
 
-// A list for each of so many instruments, and one for all others.
-fn no_lists(alloc: Global, instruments: usize) -> Result<Vec<Refusals>, AllocError>
-    requires { instruments ≤ 512 }
-    ensures { IfOk result (λ lists. lists.items ≡ replicate (instruments + 1) no_refusals) }
+// Counts a refusal in the counts at a place.
+fn count_at(all: &mut Vec<Counts>, place: usize, refusal: Refusal, untried: u64)
+    requires { place < length all.old.items }
+    ensures { let old = slice_index_or all.old.items place no_counts in
+        all.new.items ≡ slice_set all.old.items place (refused_before old refusal untried) }
 {
-    let mut lists = Vec::new(alloc);
-    lists.resize(instruments + 1, Refusals::none())?;
-    Ok(lists)
+    let counts = &mut all[place];
+    counts.add(refusal, untried);
+}
+
+// No counts of each of so many instruments, nor of all others.
+fn none_of_all(alloc: Global, instruments: usize) -> Result<Vec<Counts>, AllocError>
+    requires { instruments ≤ 512 }
+    ensures { IfOk result (λ all. all.items ≡ replicate (instruments + 1) no_counts) }
+{
+    let mut all = Vec::new(alloc);
+    all.resize(instruments + 1, Counts::none())?;
+    Ok(all)
 }

@@ -104,7 +104,7 @@ impl<K: Adds> Handle<K> {
             let admission = admitted provider.now (S.seat seat.old) self.now given value in
             MakesRecording B.KEEPS_ENTRIES B.spares_memory provider.now
             (S.seat seat.old) (S.seat seat.new) self.now value admission result }
-        ensures noted { S.notes seat.old seat.new self.now result }
+        ensures noted { S.notes seat.old seat.new self.now 0 result }
     {
         seat.record(rt, provider, self.number, attrs, value)
     }
@@ -126,7 +126,7 @@ impl<K: Records> Handle<K> {
             let admission = admitted provider.now (S.seat seat.old) self.now given value in
             MakesRecording B.KEEPS_ENTRIES B.spares_memory provider.now
             (S.seat seat.old) (S.seat seat.new) self.now value admission result }
-        ensures noted { S.notes seat.old seat.new self.now result }
+        ensures noted { S.notes seat.old seat.new self.now 0 result }
     {
         seat.record(rt, provider, self.number, attrs, value)
     }

@@ -1,17 +1,19 @@
 //! Values that a catalogue does not declare, replaced and counted.
-ghost use Rattle.std.specs.Prelude.{◌≡◌, ◌==◌, find, if◌then◌else◌};
-ghost use Rattle.std.specs.Ordering.{int_eq};
+ghost use Rattle.std.specs.Prelude.{◌≡◌, find, if◌then◌else◌};
 ghost use Rattle.std.specs.Option.{option_copied};
+ghost use Rattle.std.specs.Ordering.{int_eq};
+ghost use Rattle.std.specs.Result.{result_map_both};
 ghost use Rattle.metric_names.specs.Values.{value_of};
 ghost use Rattle.metric_contents.specs.KeyNames.{is_key};
-ghost use Rattle.metric_handles.specs.Replaced.{is_known, key_declares, nearest, nearest_at, one_more};
+ghost use Rattle.metric_handles.specs.Replaced.{counted_after, counted_unless, instrument_at, is_known, keeps_amount, keeps_value, key_at, known_or, nearest, nearest_at};
 
-use metric_catalogue::Catalogue;
-use metric_contents::{Instrument, Key};
+use crate::handle::Handle;
+use metric_contents::{Attr, Instrument, Key, Refusal};
 use metric_names::ValueRef;
+use metric_plan::Plan;
 
 /// How often values were replaced before they were recorded: what comes in from outside is told by a count, and no recording is
-/// lost for it. The counts rise by the calls that replace, and stop at the greatest number of 64 bits.
+/// lost for it. The counts rise by [`Handle::known_or`] and [`Handle::clamped`], and stop at the greatest number of 64 bits.
 #[derive(Clone, Copy, Debug, PartialEq, Eq, Drop)]
 pub struct Replaced {
     /// How many values of attributes were not declared.
@@ -31,41 +33,27 @@ impl Replaced {
         }
     }
 
-    /// The value, where the instrument declares it for the key of this name; else the other one, which is counted. Where the
-    /// catalogue has no such instrument or key, that is the other one, too, and a recording with it is refused.
-    pub fn known_or<'a>(
-        &mut self,
-        catalogue: &Catalogue,
-        instrument: u32,
-        key: &str,
-        value: ValueRef<'a>,
-        other: ValueRef<'a>,
-    ) -> ValueRef<'a>
-        ensures value { let instruments = catalogue.now.instruments in
-            let known = is_known instruments instrument key.now (value_of value.entry) in
+    // The value, where the key declares it; else the other one, which is counted.
+    fn known_or<'a>(&mut self, key: &Key, value: ValueRef<'a>, other: ValueRef<'a>) -> ValueRef<'a>
+        ensures value { let known = is_known key.now (value_of value.entry) in
             result ≡ (if known then value.entry else other.entry) }
-        ensures counted { let instruments = catalogue.now.instruments in
-            let known = is_known instruments instrument key.now (value_of value.entry) in
-            let values = if known then self.old.values else one_more self.old.values in
-            self.new ≡ record self.old { values = values } }
+        ensures counted { let known = is_known key.now (value_of value.entry) in
+            self.new ≡ record self.old { values = counted_unless known self.old.values } }
     {
-        if is_known(catalogue.instruments(), instrument, key, value) {
+        if key.values.number_of(value).is_some() {
             return value;
         }
         self.values = self.values.saturating_add(1);
         other
     }
 
-    /// The value, where it is in the instrument's range; else the end of the range that is next to it, which is counted. Where the
-    /// catalogue has no such instrument, it is the value itself, and a recording of it is refused.
-    pub fn clamped(&mut self, catalogue: &Catalogue, instrument: u32, value: i64) -> i64
-        ensures value { result ≡ nearest_at catalogue.now.instruments instrument value }
-        ensures counted { let nearest = nearest_at catalogue.now.instruments instrument value in
-            let same = int_eq nearest value in
-            let amounts = if same then self.old.amounts else one_more self.old.amounts in
-            self.new ≡ record self.old { amounts = amounts } }
+    // The value, where it is in the instrument's range; else the end of the range that is next to it, which is counted.
+    fn clamped(&mut self, instrument: &Instrument, value: i64) -> i64
+        ensures value { result ≡ nearest instrument.now value }
+        ensures counted { let kept = int_eq (nearest instrument.now value) value in
+            self.new ≡ record self.old { amounts = counted_unless kept self.old.amounts } }
     {
-        let nearest = nearest_at(catalogue.instruments(), instrument, &value);
+        let nearest = nearest(instrument, &value);
         if nearest != value {
             self.amounts = self.amounts.saturating_add(1);
         }
@@ -73,22 +61,71 @@ impl Replaced {
     }
 }
 
-// Whether the instrument of this number declares the value for the key of this name.
-fn is_known(instruments: &[Instrument], number: u32, key: &str, value: ValueRef<'_>) -> bool
-    ensures { result ≡ is_known instruments.now number key.now (value_of value.entry) }
-{
-    match instruments.get(number as usize) {
-        Some(instrument) => key_declares(instrument.keys.as_slice(), key, value),
-        None => false,
+impl<K> Handle<K> {
+    /// The attribute, where the instrument declares its value for its key; else the key with the other value, and the count of
+    /// replaced values rises by one. What comes back is recorded as it is: where the other value is declared, it is not refused
+    /// for this attribute.
+    ///
+    /// # Errors
+    ///
+    /// `UnknownInstrument` where the plan has no instrument of the handle's number, `UnknownKey` where this declares no such key.
+    /// Nothing is counted then.
+    pub fn known_or<'a>(
+        &self,
+        plan: &Plan,
+        replaced: &mut Replaced,
+        attr: Attr<'a>,
+        other: ValueRef<'a>,
+    ) -> Result<Attr<'a>, Refusal>
+        ensures value { let instruments = plan.now.facts.contents.instruments in
+            result ≡ known_or instruments self.now attr.entry other.entry }
+        ensures counted { let instruments = plan.now.facts.contents.instruments in
+            let value = value_of attr.entry.value in
+            let kept = keeps_value instruments self.now attr.entry.key.now value in
+            replaced.new ≡ record replaced.old { values = counted_after kept replaced.old.values } }
+    {
+        let key = key_at(plan.catalogue().instruments(), self.number(), attr.key)?;
+        let value = replaced.known_or(key, attr.value, other);
+        Ok(Attr {
+            key: attr.key,
+            value,
+        })
+    }
+
+    /// The value, where it is in the instrument's range; else the end of the range that is next to it, and the count of replaced
+    /// amounts rises by one.
+    ///
+    /// # Errors
+    ///
+    /// `UnknownInstrument` where the plan has no instrument of the handle's number. Nothing is counted then.
+    pub fn clamped(&self, plan: &Plan, replaced: &mut Replaced, value: i64) -> Result<i64, Refusal>
+        ensures value { result ≡ nearest_at plan.now.facts.contents.instruments self.now value }
+        ensures counted { let instruments = plan.now.facts.contents.instruments in
+            let kept = keeps_amount instruments self.now value in
+            replaced.new ≡ record replaced.old { amounts = counted_after kept replaced.old.amounts } }
+    {
+        let instrument = instrument_at(plan.catalogue().instruments(), self.number())?;
+        Ok(replaced.clamped(instrument, value))
     }
 }
 
-fn key_declares(keys: &[Key], name: &str, value: ValueRef<'_>) -> bool
-    ensures { result ≡ key_declares name.now (value_of value.entry) keys.now }
+// The instrument of a number.
+fn instrument_at(instruments: &[Instrument], number: u32) -> Result<&Instrument, Refusal>
+    ensures { result_map_both (λ r. r.now) (λ e. e) result ≡ instrument_at instruments.now number }
 {
-    match key_named(keys, name) {
-        Some(key) => key.values.number_of(value).is_some(),
-        None => false,
+    instruments
+        .get(number as usize)
+        .ok_or(Refusal::UnknownInstrument)
+}
+
+// The key of a name on the instrument of a number.
+fn key_at<'a>(instruments: &'a [Instrument], number: u32, name: &str) -> Result<&'a Key, Refusal>
+    ensures { result_map_both (λ r. r.now) (λ e. e) result ≡ key_at instruments.now number name.now }
+{
+    let instrument = instrument_at(instruments, number)?;
+    match key_named(instrument.keys.as_slice(), name) {
+        Some(key) => Ok(key),
+        None => Err(Refusal::UnknownKey),
     }
 }
 
@@ -99,15 +136,6 @@ fn key_named<'a>(keys: &'a [Key], name: &str) -> Option<&'a Key>
 }
 
 // The number of the instrument's range that is next to a value.
-fn nearest_at(instruments: &[Instrument], number: u32, value: &i64) -> i64
-    ensures { result ≡ nearest_at instruments.now number value.now }
-{
-    match instruments.get(number as usize) {
-        Some(instrument) => nearest(instrument, value),
-        None => *value,
-    }
-}
-
 fn nearest(instrument: &Instrument, value: &i64) -> i64
     ensures { result ≡ nearest instrument.now value.now }
 {

@@ -5,7 +5,7 @@ ghost use Rattle.metric_contents.specs.declared.refusal.Refusal.{Refusal as refu
 ghost use Rattle.metric_provider.specs.KeyRecordings.{admitted_key};
 ghost use Rattle.metric_provider.specs.Recordings.{admitted};
 ghost use Rattle.metric_provider.specs.Seats.{RecorderValue};
-ghost use Rattle.metric_handles.specs.Calls.{MakesRecording, MakesRecordings, answer_of};
+ghost use Rattle.metric_handles.specs.Calls.{MakesRecording, MakesRecordings, answer_of, untried_of};
 
 use metric_book::Book;
 use metric_contents::{Attr, Refusal, SetKey};
@@ -20,8 +20,8 @@ pub trait Seat {
     // The recorder's seat that is told of the recordings.
     ghost seat: { Self → RecorderValue };
 
-    // What the answer to recordings on an instrument changes beside it.
-    ghost notes: { Self → Self → ℕ → Result (Unit {0}) refusals → Type 0 };
+    // What the answer to recordings on an instrument changes beside it, where so many behind a refused one are not tried.
+    ghost notes: { Self → Self → ℕ → ℕ → Result (Unit {0}) refusals → Type 0 };
 
     /// Makes a recording: [`Recorder::record`], with its refusals.
     fn record<R: Wait, B: Book, G: Gate>(
@@ -36,7 +36,7 @@ pub trait Seat {
             let admission = admitted provider.now (seat self.old) instrument given value in
             MakesRecording B.KEEPS_ENTRIES B.spares_memory provider.now
             (seat self.old) (seat self.new) instrument value admission result }
-        ensures noted { notes self.old self.new instrument result };
+        ensures noted { notes self.old self.new instrument 0 result };
 
     /// Makes a recording by a set key: [`Recorder::record_set`], with its refusals.
     fn record_set<R: Wait, B: Book, G: Gate>(
@@ -51,7 +51,7 @@ pub trait Seat {
             let admission = admitted_key provider.now old instrument set value in
             MakesRecording B.KEEPS_ENTRIES B.spares_memory provider.now
             old (seat self.new) instrument value admission result }
-        ensures noted { notes self.old self.new instrument result };
+        ensures noted { notes self.old self.new instrument 0 result };
 
     /// Makes recordings by set keys under one lock, up to the first that is refused: [`Recorder::record_sets`], with its
     /// fault.
@@ -64,13 +64,14 @@ pub trait Seat {
     ) -> Result<(), SetsFault>
         ensures made { MakesRecordings B.KEEPS_ENTRIES B.spares_memory provider.now
             (seat self.old) (seat self.new) instrument all.now result }
-        ensures noted { notes self.old self.new instrument (answer_of result) };
+        ensures noted { let untried = untried_of all.now result in
+            notes self.old self.new instrument untried (answer_of result) };
 }
 
 impl Seat for Recorder {
     ghost seat = { λ recorder. recorder };
 
-    ghost notes = { λ _ _ _ _. Unit {0} };
+    ghost notes = { λ _ _ _ _ _. Unit {0} };
 
     #[inline(always)]
     fn record<R: Wait, B: Book, G: Gate>(

@@ -16,7 +16,7 @@
 //!    ([`Refusal::Combination`] of the allowed [`Combinations`]); [`explain_refusal`] gives its [`Explanation`]. Nothing is
 //!    counted in another series, and no new series appears. `Recorder::accepted` tells what the seat was [`Told`] of, [`left`] what
 //!    is left of its budget. A [`Counted`] seat counts its refusals, and handles take it as they take a recorder's (a [`Seat`]);
-//!    a [`Replaced`] puts a declared value in the place of one that is not, and counts that.
+//!    `known_or` and `clamped` of a handle put a declared value in the place of one that is not, counted by a [`Replaced`].
 //! 4. **Bound attributes.** `Handle::bind` looks attributes up once, 40 of these ns for three of them; the [`Bound`] that it gives
 //!    records without them, in 46, and a [`BoundList`] hands on many under one lock, in 34 each. Below both are set keys:
 //!    `Recorder::admits` gives the [`SetKey`] of attributes, `Recorder::record_set` records by it, and `Recorder::record_sets` a

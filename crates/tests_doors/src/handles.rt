@@ -6,8 +6,8 @@ use metric_handles::{
     take_reader, take_recorder, up_down_counter, value_of,
 };
 use metric_sdk::{
-    Attr, Batch, Collector, Kind, Marked, MeterProvider, NoGate, Plan, Recorder, Refusal, ValueRef,
-    certified_plan, start,
+    Attr, Batch, Collector, Kind, Marked, MeterProvider, NoGate, Plan, Recorder, Refusal,
+    SetsFault, ValueRef, certified_plan, start,
 };
 use std::alloc::{AllocError, Global};
 use std::fmt::Debug;
@@ -289,7 +289,7 @@ fn sell<R: Abort + Wait, S: Seat>(
     sell_all(out, rt, alloc, provider, seat, &orders, &french)
 }
 
-// Two lists, of which the second meets the end of the budget, and a list of another instrument.
+// A list that is made twice, and one that meets the end of the budget, and meets it again with what is left of it.
 fn sell_all<R: Abort + Wait, S: Seat>(
     out: &mut String,
     rt: &R,
@@ -301,14 +301,25 @@ fn sell_all<R: Abort + Wait, S: Seat>(
 ) {
     let mut list: BoundList<_> = orders.list(alloc);
     list.push(french, 4).or_fail(rt);
-    list.push(french, 5).or_fail(rt);
-    write_answer(out, list.add(rt, provider, seat)).or_fail(rt);
-    list.clear();
-    for value in 6..9 {
-        list.push(french, value).or_fail(rt);
+    let kept = list.add_and_keep(rt, provider, seat);
+    write_left(out, rt, kept, &list);
+    for values in [0..0, 6..10, 0..0] {
+        for value in values {
+            list.push(french, value).or_fail(rt);
+        }
+        let answer = list.add(rt, provider, seat);
+        write_left(out, rt, answer, &list);
     }
-    write_answer(out, list.add(rt, provider, seat)).or_fail(rt);
-    write!(out, "{}\n", list.len()).or_fail(rt);
+}
+
+// Writes what a list is answered, and how long it is then.
+fn write_left<R: Abort, K>(
+    out: &mut String,
+    rt: &R,
+    answer: Result<(), SetsFault>,
+    list: &BoundList<K>,
+) {
+    writeln!(out, "{answer:?}, left {}", list.len()).or_fail(rt);
 }
 
 // What is answered to these calls by a seat of either kind.
@@ -316,16 +327,17 @@ const ANSWERED: &str = "Ok(())
 Err(UnknownValue)
 Ok(())
 Err(ValueRange)
-Ok(())
-Err(SetsFault { place: 2, refusal: Budget })
-3
+Ok(()), left 1
+Ok(()), left 0
+Err(SetsFault { place: 2, refusal: Budget }), left 2
+Err(SetsFault { place: 0, refusal: Budget }), left 2
 ";
 
-// How often a seat that counts was refused by these calls: each recording once, a list once with its first refusal.
+// How often a seat that counts was refused by these calls: each recording once, each list once with its first refusal.
 const REFUSED_BY_HANDLES: &[(u32, Refusal, u64)] = &[
     (0, Refusal::UnknownValue, 1),
     (0, Refusal::ValueRange, 1),
-    (0, Refusal::Budget, 1),
+    (0, Refusal::Budget, 2),
     (0, Refusal::Combination, 0),
     (3, Refusal::Budget, 0),
 ];
@@ -345,6 +357,7 @@ fn handles_record_with_a_seat_that_counts(rt: HostRuntime) {
     for (instrument, refusal, times) in REFUSED_BY_HANDLES {
         assert_equal(&rt, counted.refused(*instrument, *refusal), *times);
     }
+    assert_equal(&rt, (counted.untried(0), counted.untried(1)), (2, 0));
     let told = counted.into_seat().accepted(0).map(|told| told.count);
     assert_equal(&rt, told, Some(6));
 }
@@ -373,13 +386,14 @@ const SOLD: &str = "Ok(())
 Err(UnknownValue)
 Ok(())
 Err(ValueRange)
-Ok(())
-Err(SetsFault { place: 2, refusal: Budget })
-3
+Ok(()), left 1
+Ok(()), left 0
+Err(SetsFault { place: 2, refusal: Budget }), left 2
+Err(SetsFault { place: 0, refusal: Budget }), left 2
 0 Sum(2)
-0 Sum(25)
+0 Sum(24)
 de Some(Sum(2))
-fr Some(Sum(25))
+fr Some(Sum(24))
 it None
 none None
 left Some(0)
@@ -405,31 +419,39 @@ fn handles_record_what_they_say(rt: HostRuntime) {
     assert_equal(&rt, out.as_str(), SOLD);
 }
 
-// Two values of a key and an end of the range, beside what is declared.
+// Values of a key and of the range, beside what is declared; a key that the instrument does not declare is no value to replace.
 #[test]
 fn what_is_not_declared_is_replaced_and_counted(rt: HostRuntime) {
     let plan = certified_plan(rt.alloc(), SHOP, READERS).or_fail(&rt);
+    let orders = counter(&plan, "shop", "Orders", &["country"]).or_fail(&rt);
     let mut replaced = Replaced::none();
     let mut out = String::new(rt.alloc());
-    for name in ["de", "it", "fr"] {
-        let (value, other) = (ValueRef::Text(name), ValueRef::Text("fr"));
-        let known = replaced.known_or(plan.catalogue(), 0, "country", value, other);
-        out.push_str(text_of(known)).or_fail(&rt);
+    for (key, name) in [
+        ("country", "de"),
+        ("country", "it"),
+        ("country", "fr"),
+        ("contry", "it"),
+    ] {
+        let value = ValueRef::Text(name);
+        let known = orders.known_or(
+            &plan,
+            &mut replaced,
+            Attr { key, value },
+            ValueRef::Text("fr"),
+        );
+        match known {
+            Ok(attr) => write!(&mut out, "{}={} ", attr.key, attr.value).or_fail(&rt),
+            Err(refusal) => write!(&mut out, "{refusal} ").or_fail(&rt),
+        }
     }
     for value in [0, 1, 100, 101] {
-        let amount = replaced.clamped(plan.catalogue(), 0, value);
-        write!(&mut out, " {amount}").or_fail(&rt);
+        let amount = orders.clamped(&plan, &mut replaced, value).or_fail(&rt);
+        write!(&mut out, "{amount} ").or_fail(&rt);
     }
-    write!(&mut out, " {replaced:?}").or_fail(&rt);
-    let wanted = "defrfr 1 1 100 100 Replaced { values: 1, amounts: 2 }";
+    write!(&mut out, "{replaced:?}").or_fail(&rt);
+    let wanted =
+        "country=de country=fr country=fr 4 UnknownKey 1 1 100 100 Replaced { values: 1, amounts: 2 }";
     assert_equal(&rt, out.as_str(), wanted);
-}
-
-fn text_of(value: ValueRef<'_>) -> &str {
-    match value {
-        ValueRef::Text(text) => text,
-        _ => "?",
-    }
 }
 
 // An instrument, a country, and a value: one that is accepted, and three refusals.
