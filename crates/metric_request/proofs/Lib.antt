@@ -1,4 +1,3 @@
 mod Choices
-mod CommandLemmas
 mod FaultLemmas
 mod NumberLaws

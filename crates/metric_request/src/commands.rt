@@ -1,12 +1,12 @@
 //! The program and its commands, as clap is told of them.
 ghost use Rattle.std.specs.Prelude.{◌≡◌, false, IfOk};
-ghost use Rattle.clap.specs.Words.{app_of, new_app};
+ghost use Rattle.clap.specs.Words.{App, Rule, app_of, new_app, rule_of, with_rule, with_subcommand};
 ghost use Rattle.clap.specs.declared.builder.command.Command.TheViews.{out-Command as fields_of};
 ghost use Rattle.metric_request.specs.Apps.{bare_app, check_app, draw_app, first_app, headroom_app, lint_app, make_app, pair_app, program_app};
 ghost use Rattle.metric_request.specs.Apps.{replay_app, second_app, show_app, table_app};
 
 use crate::arguments::{file, flag, number, output, text};
-use clap::Command;
+use clap::{Arg, Command};
 use std::alloc::{AllocError, Global};
 
 // The widest table, the highest rate and the most processes.
@@ -29,26 +29,52 @@ Status: 0 done, 1 refused, 2 usage, 3 unreadable input, 4 no memory, 5 a write f
 pub(crate) fn program<'a>(alloc: Global) -> Result<Command<'a>, AllocError>
     ensures { IfOk result (λ command. app_of command ≡ program_app) }
 {
-    second(alloc)?
-        .subcommand(replay(alloc)?)?
-        .subcommand(draw(alloc)?)
+    let program = with_command(second(alloc), replay(alloc));
+    with_command(program, draw(alloc))
 }
 
 fn second<'a>(alloc: Global) -> Result<Command<'a>, AllocError>
     ensures { IfOk result (λ command. app_of command ≡ second_app) }
 {
-    first(alloc)?
-        .subcommand(make(alloc)?)?
-        .subcommand(check(alloc)?)
+    let program = with_command(first(alloc), make(alloc));
+    with_command(program, check(alloc))
 }
 
 fn first<'a>(alloc: Global) -> Result<Command<'a>, AllocError>
     ensures { IfOk result (λ command. app_of command ≡ first_app) }
 {
-    bare(alloc)
-        .subcommand(lint(alloc)?)?
-        .subcommand(show(alloc)?)?
-        .subcommand(headroom(alloc)?)
+    let program = with_command(Ok(bare(alloc)), lint(alloc));
+    let program = with_command(program, show(alloc));
+    with_command(program, headroom(alloc))
+}
+
+// A program with one more command, where both could be made. It is the only place where one of the two is dropped.
+fn with_command<'a>(
+    program: Result<Command<'a>, AllocError>,
+    more: Result<Command<'a>, AllocError>,
+) -> Result<Command<'a>, AllocError>
+    ensures { (before added : App) → IfOk program.entry (λ command. app_of command ≡ before)
+        → IfOk more.entry (λ command. app_of command ≡ added)
+        → IfOk more.entry (λ command. (fields_of command).has_globals ≡ false)
+        → IfOk result (λ command. app_of command ≡ with_subcommand before added.top) }
+{
+    program?.subcommand(more?)
+}
+
+// A command with one more argument, where it could be made. The argument is dropped nowhere else.
+fn with_argument<'a>(
+    command: Result<Command<'a>, AllocError>,
+    argument: Arg<'a>,
+) -> Result<Command<'a>, AllocError>
+    ensures app { (before : App) → (rule : Rule)
+        → IfOk command.entry (λ command. app_of command ≡ before)
+        → rule_of argument.entry ≡ rule → argument.entry.global ≡ false
+        → IfOk result (λ command. app_of command ≡ with_rule before rule) }
+    ensures local { IfOk command.entry (λ command. (fields_of command).has_globals ≡ false)
+        → argument.entry.global ≡ false
+        → IfOk result (λ command. (fields_of command).has_globals ≡ false) }
+{
+    command?.arg(argument)
 }
 
 // The program without a command.
@@ -76,17 +102,11 @@ fn over_pair<'a>(
     ensures app { IfOk result (λ command. app_of command ≡ pair_app name.entry.now) }
     ensures local { IfOk result (λ command. (fields_of command).has_globals ≡ false) }
 {
-    let catalogue = file(
-        alloc,
-        "catalogue",
-        "CATALOGUE",
-        "What may be recorded",
-        true,
-    );
-    let config = file(alloc, "config", "CONFIG", "The readers and views", true);
-    named(alloc, name, about, example)
-        .arg(catalogue)?
-        .arg(config)
+    let command = Ok(named(alloc, name, about, example));
+    let help = "What may be recorded";
+    let command = with_argument(command, file(alloc, "catalogue", "CATALOGUE", help, true));
+    let help = "The readers and views";
+    with_argument(command, file(alloc, "config", "CONFIG", help, true))
 }
 
 // One that prints a table.
@@ -99,31 +119,25 @@ fn over_table<'a>(
     ensures app { IfOk result (λ command. app_of command ≡ table_app name.entry.now) }
     ensures local { IfOk result (λ command. (fields_of command).has_globals ≡ false) }
 {
-    let json = flag(alloc, "json", "Print a line of JSON for each row");
+    let command = over_pair(alloc, name, about, example);
+    let help = "Print a line of JSON for each row";
+    let command = with_argument(command, flag(alloc, "json", help));
     let help = "How wide the table may be; 0: as the terminal";
-    let width = number(alloc, "width", help, 0, MOST_WIDTH, "0");
-    over_pair(alloc, name, about, example)?
-        .arg(json)?
-        .arg(width)
+    with_argument(command, number(alloc, "width", help, 0, MOST_WIDTH, "0"))
 }
 
 fn lint<'a>(alloc: Global) -> Result<Command<'a>, AllocError>
     ensures app { IfOk result (λ command. app_of command ≡ lint_app) }
     ensures local { IfOk result (λ command. (fields_of command).has_globals ≡ false) }
 {
-    let deny = text(
-        alloc,
-        "deny",
-        "WHAT",
-        "`remarks`: end with status 1 where there are any",
-    );
-    over_pair(
+    let command = over_pair(
         alloc,
         "lint",
         "Prints what looks like a mistake, with its place",
         "Example:\n  wormweekly lint catalogue.toml config.toml --deny remarks",
-    )?
-    .arg(deny)
+    );
+    let help = "`remarks`: end with status 1 where there are any";
+    with_argument(command, text(alloc, "deny", "WHAT", help))
 }
 
 fn show<'a>(alloc: Global) -> Result<Command<'a>, AllocError>
@@ -142,82 +156,75 @@ fn headroom<'a>(alloc: Global) -> Result<Command<'a>, AllocError>
     ensures app { IfOk result (λ command. app_of command ≡ headroom_app) }
     ensures local { IfOk result (λ command. (fields_of command).has_globals ≡ false) }
 {
-    let help = "Recordings a second on each instrument";
-    let rate = number(alloc, "rate", help, 1, MOST_RATE, "10000");
-    let help = "Processes that a backend adds up";
-    let instances = number(alloc, "instances", help, 1, MOST_INSTANCES, "1");
-    over_table(
+    let command = over_table(
         alloc,
         "headroom",
         "Prints how often each instrument may be recorded, and what would fail first",
         "Example:\n  wormweekly headroom catalogue.toml config.toml --rate 10000 --instances 500",
-    )?
-    .arg(rate)?
-    .arg(instances)
+    );
+    let help = "Recordings a second on each instrument";
+    let command = with_argument(command, number(alloc, "rate", help, 1, MOST_RATE, "10000"));
+    let help = "Processes that a backend adds up";
+    let instances = number(alloc, "instances", help, 1, MOST_INSTANCES, "1");
+    with_argument(command, instances)
 }
 
 fn make<'a>(alloc: Global) -> Result<Command<'a>, AllocError>
     ensures app { IfOk result (λ command. app_of command ≡ make_app) }
     ensures local { IfOk result (λ command. (fields_of command).has_globals ≡ false) }
 {
-    over_pair(
+    let command = over_pair(
         alloc,
         "make",
         "Makes a certificate that the two are safe, or says what is not",
         "Example:\n  wormweekly make catalogue.toml config.toml -o certificate.toml",
-    )?
-    .arg(output(alloc))
+    );
+    with_argument(command, output(alloc))
 }
 
 fn check<'a>(alloc: Global) -> Result<Command<'a>, AllocError>
     ensures app { IfOk result (λ command. app_of command ≡ check_app) }
     ensures local { IfOk result (λ command. (fields_of command).has_globals ≡ false) }
 {
-    let help = "The certificate, whoever made it";
-    let certificate = file(alloc, "certificate", "CERTIFICATE", help, true);
-    over_pair(
+    let command = over_pair(
         alloc,
         "check",
         "Checks a certificate, and prints `accepted`",
         "Example:\n  wormweekly check catalogue.toml config.toml certificate.toml",
-    )?
-    .arg(certificate)
+    );
+    let help = "The certificate, whoever made it";
+    let certificate = file(alloc, "certificate", "CERTIFICATE", help, true);
+    with_argument(command, certificate)
 }
 
 fn replay<'a>(alloc: Global) -> Result<Command<'a>, AllocError>
     ensures app { IfOk result (λ command. app_of command ≡ replay_app) }
     ensures local { IfOk result (λ command. (fields_of command).has_globals ≡ false) }
 {
-    let help = "The certificate, or the script where no other file follows";
-    let third = file(alloc, "third", "[CERTIFICATE] SCRIPT", help, true);
-    let fourth = file(
-        alloc,
-        "fourth",
-        "SCRIPT",
-        "The script, after a certificate",
-        false,
-    );
-    let audit = flag(alloc, "audit", "Audit the replies before they are printed");
-    over_pair(
+    let command = over_pair(
         alloc,
         "replay",
         "Runs a script of events and prints each reply; without a certificate as a trial",
         "Example:\n  wormweekly replay catalogue.toml config.toml certificate.toml script.txt --audit",
-    )?
-    .arg(third)?
-    .arg(fourth)?
-    .arg(audit)
+    );
+    let help = "The certificate, or the script where no other file follows";
+    let third = file(alloc, "third", "[CERTIFICATE] SCRIPT", help, true);
+    let command = with_argument(command, third);
+    let help = "The script, after a certificate";
+    let command = with_argument(command, file(alloc, "fourth", "SCRIPT", help, false));
+    let help = "Audit the replies before they are printed";
+    with_argument(command, flag(alloc, "audit", help))
 }
 
 fn draw<'a>(alloc: Global) -> Result<Command<'a>, AllocError>
     ensures app { IfOk result (λ command. app_of command ≡ draw_app) }
     ensures local { IfOk result (λ command. (fields_of command).has_globals ≡ false) }
 {
-    over_pair(
+    let command = over_pair(
         alloc,
         "draw",
         "Draws readers, views, instruments and streams, as an SVG",
         "Example:\n  wormweekly draw catalogue.toml config.toml -o streams.svg",
-    )?
-    .arg(output(alloc))
+    );
+    with_argument(command, output(alloc))
 }

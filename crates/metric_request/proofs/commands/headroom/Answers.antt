@@ -1,0 +1,7 @@
+-- Both options are added.
+use Rattle.metric_request.proofs.commands.headroom.Goals as goal
+
+pub returns-clause-app : goal.returns-clause-app
+returns-clause-app c =
+    let first = c.with_argument-command.ensures.app _ _ c.over_table-command.ensures.app c.number.ensures.rule c.number.ensures.own in
+    c.with_argument.ensures.app _ _ first c.number-instances.ensures.rule c.number-instances.ensures.own

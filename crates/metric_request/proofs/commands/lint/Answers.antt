@@ -1,0 +1,5 @@
+-- One argument is added.
+use Rattle.metric_request.proofs.commands.lint.Goals as goal
+
+pub returns-clause-app : goal.returns-clause-app
+returns-clause-app c = c.with_argument.ensures.app _ _ c.over_pair-command.ensures.app c.text.ensures.rule c.text.ensures.own

@@ -1,0 +1,7 @@
+-- Each command is added to what was made before it.
+use Rattle.metric_request.proofs.commands.program.Goals as goal
+
+pub returns : goal.returns
+returns c =
+    let replay = c.with_command-program.ensures _ _ c.second.ensures c.replay.ensures.app c.replay.ensures.local in
+    c.with_command.ensures _ _ replay c.draw.ensures.app c.draw.ensures.local

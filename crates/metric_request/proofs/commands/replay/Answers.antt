@@ -1,0 +1,8 @@
+-- Each argument is added to what was made before.
+use Rattle.metric_request.proofs.commands.replay.Goals as goal
+
+pub returns-clause-app : goal.returns-clause-app
+returns-clause-app c =
+    let first = c.with_argument-command.ensures.app _ _ c.over_pair-command.ensures.app c.file-third.ensures.rule c.file-third.ensures.own in
+    let second = c.with_argument-command-2.ensures.app _ _ first c.file.ensures.rule c.file.ensures.own in
+    c.with_argument.ensures.app _ _ second c.flag.ensures.rule c.flag.ensures.own
