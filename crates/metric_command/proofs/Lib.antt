@@ -1,3 +1,2 @@
-mod CommandLemmas
 mod FaultLemmas
 mod NumberLaws

@@ -1,7 +1,8 @@
 //! The reading of a command line.
 ghost use Rattle.std.specs.Prelude.{◌≡◌, [], IfOk, IsErrOf, OnOk, Some, map, false, true};
-ghost use Rattle.clap.specs.Words.{app_of, fault_of, first_of, found_of, rows_of, rule_of, subcommand_of, subcommand_rows_of, takes};
+ghost use Rattle.clap.specs.Words.{App, app_of, fault_of, first_of, found_of, rows_of, rule_of, subcommand_of, subcommand_rows_of, takes};
 ghost use Rattle.clap.specs.Words.{with_subcommand};
+ghost use Rattle.clap.specs.declared.builder.command.Command.TheViews.{out-Command as fields_of};
 ghost use Rattle.metric_command.specs.Kit.{audit_flag, each_option, kit_app, plain_app, replay_app, threads_app, trial_flag};
 ghost use Rattle.metric_command.specs.Lines.{IsRefused, has_flag, line_in};
 ghost use Rattle.metric_command.specs.Numbers.{number_in, number_of};
@@ -39,28 +40,37 @@ pub fn command_of<'a>(alloc: Global, words: &'a [&'a str]) -> Result<Line, LineF
 fn kit_command<'a>(alloc: Global) -> Result<Command<'a>, AllocError>
     ensures { IfOk result (λ command. app_of command ≡ kit_app) }
 {
-    let program = with_replay(alloc, plain_command(alloc)?)?;
-    with_threads(alloc, program)
+    let program = with_command(plain_command(alloc), replay(alloc));
+    with_command(program, threads(alloc))
 }
 
-// The program with the command `replay`.
-fn with_replay<'a>(alloc: Global, program: Command<'a>) -> Result<Command<'a>, AllocError>
-    ensures { IfOk result (λ command. app_of command
-        ≡ with_subcommand (app_of program.entry) replay_app.top) }
+// A program with one more command, where both could be made. It is the only place where one of the two is dropped.
+fn with_command<'a>(
+    program: Result<Command<'a>, AllocError>,
+    more: Result<Command<'a>, AllocError>,
+) -> Result<Command<'a>, AllocError>
+    ensures { (before added : App) → IfOk program.entry (λ command. app_of command ≡ before)
+        → IfOk more.entry (λ command. app_of command ≡ added)
+        → IfOk more.entry (λ command. (fields_of command).has_globals ≡ false)
+        → IfOk result (λ command. app_of command ≡ with_subcommand before added.top) }
 {
-    let command = Command::new(alloc, "replay")
+    program?.subcommand(more?)
+}
+
+fn replay<'a>(alloc: Global) -> Result<Command<'a>, AllocError>
+    ensures app { IfOk result (λ command. app_of command ≡ replay_app) }
+    ensures local { IfOk result (λ command. (fields_of command).has_globals ≡ false) }
+{
+    Command::new(alloc, "replay")
         .arg(trial_flag(alloc))?
-        .arg(audit_flag(alloc))?;
-    program.subcommand(command)
+        .arg(audit_flag(alloc))
 }
 
-// The program with the command `threads`.
-fn with_threads<'a>(alloc: Global, program: Command<'a>) -> Result<Command<'a>, AllocError>
-    ensures { IfOk result (λ command. app_of command
-        ≡ with_subcommand (app_of program.entry) threads_app.top) }
+fn threads<'a>(alloc: Global) -> Result<Command<'a>, AllocError>
+    ensures app { IfOk result (λ command. app_of command ≡ threads_app) }
+    ensures local { IfOk result (λ command. (fields_of command).has_globals ≡ false) }
 {
-    let command = Command::new(alloc, "threads").arg(each_option(alloc))?;
-    program.subcommand(command)
+    Command::new(alloc, "threads").arg(each_option(alloc))
 }
 
 fn trial_flag<'a>(alloc: Global) -> Arg<'a>
@@ -96,10 +106,10 @@ fn each_option<'a>(alloc: Global) -> Arg<'a>
 fn plain_command<'a>(alloc: Global) -> Result<Command<'a>, AllocError>
     ensures { IfOk result (λ command. app_of command ≡ plain_app) }
 {
-    Command::new(alloc, "metric_kit")
-        .subcommand(Command::new(alloc, "make"))?
-        .subcommand(Command::new(alloc, "check"))?
-        .subcommand(Command::new(alloc, "show"))
+    let program = Ok(Command::new(alloc, "metric_kit"));
+    let program = with_command(program, Ok(Command::new(alloc, "make")));
+    let program = with_command(program, Ok(Command::new(alloc, "check")));
+    with_command(program, Ok(Command::new(alloc, "show")))
 }
 
 fn line_asked(matches: &ArgMatches<'_>) -> Line
