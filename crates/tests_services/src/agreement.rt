@@ -1,5 +1,5 @@
 //! The answers of seats in one thread beside the replies of a core.
-use crate::equal::assert_equal;
+use crate::asserted::{OrFail, assert_equal};
 use crate::samples::{BOTH, CODES, HITS, MAIN, PAIRS, SPARED};
 use crate::seats::{BookSeats, seats_of};
 use crate::texts::write_reply;
@@ -13,9 +13,9 @@ use metric_parts::{Needs, parts_of};
 use metric_script::{ScriptEvents, events_of};
 use metric_sdk::certified_plan;
 use metric_text::lines;
-use std::alloc::{AllocError, Global};
+use std::alloc::Global;
+use std::process::Abort;
 use std::sync::Wait;
-use std::test::Fail;
 
 const SCRIPT: Needs = Needs {
     certificate: false,
@@ -23,62 +23,61 @@ const SCRIPT: Needs = Needs {
 };
 
 /// The events of an input whose only part with lines is the script.
-pub(crate) fn script_of(alloc: Global, input: &str) -> Result<ScriptEvents, Fail> {
-    let lines = lines(alloc, input.as_bytes())?;
-    script_in(alloc, &lines)
+pub(crate) fn script_of<R: Abort>(rt: &R, alloc: Global, input: &str) -> ScriptEvents {
+    let lines = lines(alloc, input.as_bytes()).or_fail(rt);
+    script_in(rt, alloc, &lines)
 }
 
-fn script_in(alloc: Global, lines: &[&[u8]]) -> Result<ScriptEvents, Fail> {
-    let parts = parts_of(alloc, lines, SCRIPT)?;
-    match &parts.script {
-        Some(script) => Ok(events_of(alloc, script)?),
-        None => Err(Fail::from("no script")),
-    }
+fn script_in<R: Abort>(rt: &R, alloc: Global, lines: &[&[u8]]) -> ScriptEvents {
+    let parts = parts_of(alloc, lines, SCRIPT).or_fail(rt);
+    let script = parts.script.as_ref().expect(rt, "no script");
+    events_of(alloc, script).or_fail(rt)
 }
 
-fn write_replies(out: &mut String, replies: &[Reply]) -> Result<(), AllocError> {
+fn write_replies<R: Abort>(out: &mut String, rt: &R, replies: &[Reply]) {
     for reply in replies {
-        write_reply(out, reply)?;
+        write_reply(out, rt, reply);
     }
-    Ok(())
 }
 
-fn write_run<B: Book>(
+fn write_run<R: Abort, B: Book>(
     out: &mut String,
+    rt: &R,
     alloc: Global,
     core: &mut Core<B>,
     events: &[Event],
-) -> Result<(), AllocError> {
-    let replies = core.run(alloc, events)?;
-    write_replies(out, &replies)
+) {
+    let replies = core.run(alloc, events).or_fail(rt);
+    write_replies(out, rt, &replies);
 }
 
 /// Writes a line for the reply of a core to each event.
-pub(crate) fn write_core<B: Book>(
-    out: &mut String,
-    alloc: Global,
-    catalogue: &str,
-    config: &str,
-    script: &ScriptEvents,
-) -> Result<(), Fail> {
-    let plan = certified_plan(alloc, catalogue, config)?;
-    match Core::<B>::new(alloc, plan, script.start) {
-        Ok(mut core) => Ok(write_run(out, alloc, &mut core, script.events.as_slice())?),
-        Err(_) => Err(Fail::from("memory")),
-    }
-}
-
-/// Writes a line for the answer of a seat or the provider to each event.
-pub(crate) fn write_seats<R: Wait, B: Book>(
+pub(crate) fn write_core<R: Abort, B: Book>(
     out: &mut String,
     rt: &R,
     alloc: Global,
     catalogue: &str,
     config: &str,
     script: &ScriptEvents,
-) -> Result<(), Fail> {
-    let mut seats: BookSeats<B> = seats_of(rt, alloc, catalogue, config, script.start, 1)?;
-    Ok(seats.write_answers(out, rt, alloc, script.events.as_slice())?)
+) {
+    let plan = certified_plan(alloc, catalogue, config).or_fail(rt);
+    match Core::<B>::new(alloc, plan, script.start) {
+        Ok(mut core) => write_run(out, rt, alloc, &mut core, script.events.as_slice()),
+        Err(_) => panic!(rt; "memory"),
+    }
+}
+
+/// Writes a line for the answer of a seat or the provider to each event.
+pub(crate) fn write_seats<R: Abort + Wait, B: Book>(
+    out: &mut String,
+    rt: &R,
+    alloc: Global,
+    catalogue: &str,
+    config: &str,
+    script: &ScriptEvents,
+) {
+    let mut seats: BookSeats<B> = seats_of(rt, alloc, catalogue, config, script.start, 1);
+    seats.write_answers(out, rt, alloc, script.events.as_slice());
 }
 
 struct Sample {
@@ -316,36 +315,26 @@ done
 ];
 
 // Writes the answers of seats after those of a core.
-fn write_both<R: Wait, B: Book>(
-    out: &mut String,
-    rt: &R,
-    alloc: Global,
-    sample: &Sample,
-) -> Result<(), Fail> {
-    let script = script_of(alloc, sample.script)?;
+fn write_both<R: Abort + Wait, B: Book>(out: &mut String, rt: &R, alloc: Global, sample: &Sample) {
+    let script = script_of(rt, alloc, sample.script);
     let (catalogue, config) = (sample.catalogue, sample.config);
-    write_core::<B>(out, alloc, catalogue, config, &script)?;
-    write_seats::<R, B>(out, rt, alloc, catalogue, config, &script)
+    write_core::<R, B>(out, rt, alloc, catalogue, config, &script);
+    write_seats::<R, B>(out, rt, alloc, catalogue, config, &script);
 }
 
 // The answers of a core and of seats over each book, one after the other.
-fn told<R: Wait>(rt: &R, alloc: Global, sample: &Sample) -> Result<String, Fail> {
+fn told<R: Abort + Wait>(rt: &R, alloc: Global, sample: &Sample) -> String {
     let mut out = String::new(alloc);
-    write_both::<R, JournalBook>(&mut out, rt, alloc, sample)?;
-    write_both::<R, Marked>(&mut out, rt, alloc, sample)?;
-    write_both::<R, Audited>(&mut out, rt, alloc, sample)?;
-    Ok(out)
+    write_both::<R, JournalBook>(&mut out, rt, alloc, sample);
+    write_both::<R, Marked>(&mut out, rt, alloc, sample);
+    write_both::<R, Audited>(&mut out, rt, alloc, sample);
+    out
 }
 
 #[test]
-fn seats_answer_as_core(rt: HostRuntime) -> Result<(), Fail> {
+fn seats_answer_as_core(rt: HostRuntime) {
     for sample in SAMPLES {
-        let wanted = sample.answers.repeat(rt.alloc(), 6)?;
-        assert_equal(
-            &rt,
-            told(&rt, rt.alloc(), sample)?.as_str(),
-            wanted.as_str(),
-        );
+        let wanted = sample.answers.repeat(rt.alloc(), 6).or_fail(&rt);
+        assert_equal(&rt, told(&rt, rt.alloc(), sample).as_str(), wanted.as_str());
     }
-    Ok(())
 }

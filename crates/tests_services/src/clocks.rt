@@ -1,5 +1,5 @@
 //! What a clock's ticker waits for and reads, by a clock of the tests' own.
-use crate::equal::assert_equal;
+use crate::asserted::assert_equal;
 use metric_export::{ClockTicker, StopFlag, Tick, Ticker};
 use std::cell::Cell;
 use std::io;

@@ -1,12 +1,12 @@
 //! A counter step by step: a recording of 5, a collection, a close, and the total.
 use crate::agreement::script_of;
-use crate::equal::assert_equal;
+use crate::asserted::{OrFail, assert_equal};
 use crate::runs::write_finish;
 use crate::seats::{Seats, hit_once};
 use metric_history::Event;
 use std::alloc::Global;
+use std::process::Abort;
 use std::sync::Wait;
-use std::test::Fail;
 
 // What comes after the recording.
 const SCRIPT: &str = "%% catalogue
@@ -28,32 +28,26 @@ done
 ";
 
 // Writes what the seats were told of the counter, and of an instrument that there is not.
-fn write_seen(out: &mut String, seats: &Seats) -> Result<(), Fail> {
+fn write_seen<R: Abort>(out: &mut String, rt: &R, seats: &Seats) {
     let (Some(recorder), Some(reader)) = (seats.recorders.first(), seats.collectors.first()) else {
-        return Err(Fail::from("no seat"));
+        panic!(rt; "no seat");
     };
     let told = [recorder.accepted(0), recorder.accepted(1)];
     let seen = [reader.seen(0), reader.seen(1)];
-    Ok(writeln!(out, "{told:?} {seen:?}")?)
+    writeln!(out, "{told:?} {seen:?}").or_fail(rt);
 }
 
-fn write_counter<R: Wait>(
-    out: &mut String,
-    rt: &R,
-    alloc: Global,
-    events: &[Event],
-) -> Result<(), Fail> {
-    let mut seats = hit_once(rt, alloc, 1)?;
-    seats.write_answers(out, rt, alloc, events)?;
-    write_seen(out, &seats)?;
-    Ok(write_finish(out, rt, alloc, seats)?)
+fn write_counter<R: Abort + Wait>(out: &mut String, rt: &R, alloc: Global, events: &[Event]) {
+    let mut seats = hit_once(rt, alloc, 1);
+    seats.write_answers(out, rt, alloc, events);
+    write_seen(out, rt, &seats);
+    write_finish(out, rt, alloc, seats);
 }
 
 #[test]
-fn a_counter_comes_to_its_recordings(rt: HostRuntime) -> Result<(), Fail> {
-    let script = script_of(rt.alloc(), SCRIPT)?;
+fn a_counter_comes_to_its_recordings(rt: HostRuntime) {
+    let script = script_of(&rt, rt.alloc(), SCRIPT);
     let mut told = String::new(rt.alloc());
-    write_counter(&mut told, &rt, rt.alloc(), script.events.as_slice())?;
+    write_counter(&mut told, &rt, rt.alloc(), script.events.as_slice());
     assert_equal(&rt, told.as_str(), TOLD);
-    Ok(())
 }

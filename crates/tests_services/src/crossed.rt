@@ -1,12 +1,12 @@
 //! A provider that is finished with the seats of another one, of the same plan and number of the run.
 use crate::agreement::script_of;
-use crate::equal::assert_equal;
+use crate::asserted::{OrFail, assert_equal};
 use crate::runs::write_finish;
 use crate::samples::MAIN;
 use crate::seats::{Seats, seats_of};
 use std::alloc::Global;
+use std::process::Abort;
 use std::sync::Wait;
-use std::test::Fail;
 
 // Two counters with ranges of their own.
 const UNLIKE: &str = "format = 1
@@ -77,75 +77,64 @@ accepted
 ";
 
 // Writes the answers to the events of a script.
-fn write_script<R: Wait>(
+fn write_script<R: Abort + Wait>(
     out: &mut String,
     rt: &R,
     alloc: Global,
     seats: &mut Seats,
     script: &str,
-) -> Result<(), Fail> {
-    let script = script_of(alloc, script)?;
-    Ok(seats.write_answers(out, rt, alloc, script.events.as_slice())?)
+) {
+    let script = script_of(rt, alloc, script);
+    seats.write_answers(out, rt, alloc, script.events.as_slice());
 }
 
 // The seats of a provider since 7, after the events of a script.
-fn seats_after<R: Wait>(
-    out: &mut String,
-    rt: &R,
-    alloc: Global,
-    script: &str,
-) -> Result<Seats, Fail> {
-    let mut seats: Seats = seats_of(rt, alloc, UNLIKE, MAIN, 7, 1)?;
-    write_script(out, rt, alloc, &mut seats, script)?;
-    Ok(seats)
+fn seats_after<R: Abort + Wait>(out: &mut String, rt: &R, alloc: Global, script: &str) -> Seats {
+    let mut seats: Seats = seats_of(rt, alloc, UNLIKE, MAIN, 7, 1);
+    write_script(out, rt, alloc, &mut seats, script);
+    seats
 }
 
 // Writes why a provider is not finished with the other's seats, and hands it back with its own.
-fn refused<R: Wait>(
+fn refused<R: Abort + Wait>(
     out: &mut String,
     rt: &R,
     alloc: Global,
     own: Seats,
     other: Seats,
-) -> Result<Seats, Fail> {
+) -> Seats {
     let Seats {
         provider,
         recorders,
         collectors,
     } = own;
     match provider.finish(rt, alloc, other.recorders) {
-        Ok(_) => Err(Fail::from("finished")),
+        Ok(_) => panic!(rt; "finished"),
         Err((provider, others, fault)) => {
-            writeln!(out, "{fault}, {} seats", others.len())?;
-            Ok(Seats {
+            writeln!(out, "{fault}, {} seats", others.len()).or_fail(rt);
+            Seats {
                 provider,
                 recorders,
                 collectors,
-            })
+            }
         }
     }
 }
 
 // Writes what a provider answers its own seats before and after it is to be finished with the other's.
-fn write_crossed<R: Wait>(
-    out: &mut String,
-    rt: &R,
-    alloc: Global,
-    others: &str,
-) -> Result<(), Fail> {
-    let own = seats_after(out, rt, alloc, FIRST)?;
-    let other = seats_after(out, rt, alloc, others)?;
-    let mut own = refused(out, rt, alloc, own, other)?;
-    write_script(out, rt, alloc, &mut own, LAST)?;
-    Ok(write_finish(out, rt, alloc, own)?)
+fn write_crossed<R: Abort + Wait>(out: &mut String, rt: &R, alloc: Global, others: &str) {
+    let own = seats_after(out, rt, alloc, FIRST);
+    let other = seats_after(out, rt, alloc, others);
+    let mut own = refused(out, rt, alloc, own, other);
+    write_script(out, rt, alloc, &mut own, LAST);
+    write_finish(out, rt, alloc, own);
 }
 
 #[test]
-fn a_provider_goes_on_after_the_seats_of_another(rt: HostRuntime) -> Result<(), Fail> {
+fn a_provider_goes_on_after_the_seats_of_another(rt: HostRuntime) {
     for others in OTHERS {
         let mut told = String::new(rt.alloc());
-        write_crossed(&mut told, &rt, rt.alloc(), others)?;
+        write_crossed(&mut told, &rt, rt.alloc(), others);
         assert_equal(&rt, told.as_str(), TOLD);
     }
-    Ok(())
 }

@@ -1,5 +1,5 @@
 //! Runs of calls on exporters: what each call answers, and what the sink took.
-use crate::equal::assert_equal;
+use crate::asserted::{OrFail, assert_equal};
 use crate::samples::FIVE;
 use crate::seats::{Seats, hit_once};
 use metric_export::{ExportFault, MetricExporter, TextExporter};
@@ -7,8 +7,8 @@ use metric_history::Batch;
 use metric_io::CutSink;
 use metric_plan::Plan;
 use std::alloc::{AllocError, Global};
+use std::process::Abort;
 use std::sync::Wait;
-use std::test::Fail;
 
 #[derive(Clone, Copy)]
 enum Call {
@@ -79,23 +79,23 @@ fn write_answer(out: &mut String, answer: Result<(), ExportFault>) -> Result<(),
     }
 }
 
-fn write_answers<E: MetricExporter>(
+fn write_answers<R: Abort, E: MetricExporter>(
     out: &mut String,
+    rt: &R,
     alloc: Global,
     exporter: &mut E,
     plan: &Plan,
     batch: &Batch,
     calls: &[Call],
-) -> Result<(), AllocError> {
+) {
     for call in calls {
         let answer = match call {
             Call::Export => exporter.export(alloc, plan, batch),
             Call::Flush => exporter.force_flush(),
             Call::ShutDown => exporter.shutdown(),
         };
-        write_answer(out, answer)?;
+        write_answer(out, answer).or_fail(rt);
     }
-    Ok(())
 }
 
 /// A sink that has room for so many bytes, and of which flushes fail or not.
@@ -120,55 +120,53 @@ fn write_held(
     write!(out, "{state:?} {is_held}")
 }
 
-fn write_run(
+fn write_run<R: Abort>(
     out: &mut String,
+    rt: &R,
     alloc: Global,
     plan: &Plan,
     batch: &Batch,
     run: &Run,
-) -> Result<(), AllocError> {
+) {
     let mut exporter = TextExporter::new(sink_of(alloc, run.room, run.flushes));
-    write_answers(out, alloc, &mut exporter, plan, batch, run.calls)?;
-    write_held(out, exporter, run.held)
+    write_answers(out, rt, alloc, &mut exporter, plan, batch, run.calls);
+    write_held(out, exporter, run.held).or_fail(rt);
 }
 
 // Writes a run on the batch of the delta reader.
-fn write_collected<R: Wait>(
+fn write_collected<R: Abort + Wait>(
     out: &mut String,
     rt: &R,
     alloc: Global,
     seats: &mut Seats,
     run: &Run,
-) -> Result<(), Fail> {
-    let Some(reader) = seats.collectors.last_mut() else {
-        return Err(Fail::from("no reader"));
-    };
-    let batch = reader.collect(rt, alloc, &seats.provider, 0, 10)?;
-    Ok(write_run(out, alloc, seats.provider.plan(), &batch, run)?)
+) {
+    let (provider, readers) = (&seats.provider, &mut seats.collectors);
+    let reader = readers.last_mut().expect(rt, "no reader");
+    let batch = reader.collect(rt, alloc, provider, 0, 10).or_fail(rt);
+    write_run(out, rt, alloc, provider.plan(), &batch, run);
 }
 
 // The same, after a recording of 5.
-fn write_hit<R: Wait>(out: &mut String, rt: &R, alloc: Global, run: &Run) -> Result<(), Fail> {
-    let mut seats = hit_once(rt, alloc, 1)?;
-    write_collected(out, rt, alloc, &mut seats, run)
+fn write_hit<R: Abort + Wait>(out: &mut String, rt: &R, alloc: Global, run: &Run) {
+    let mut seats = hit_once(rt, alloc, 1);
+    write_collected(out, rt, alloc, &mut seats, run);
 }
 
 #[test]
-fn texts_are_exported(rt: HostRuntime) -> Result<(), Fail> {
+fn texts_are_exported(rt: HostRuntime) {
     for run in RUNS {
         let mut told = String::new(rt.alloc());
-        write_hit(&mut told, &rt, rt.alloc(), run)?;
+        write_hit(&mut told, &rt, rt.alloc(), run);
         assert_equal(&rt, told.as_str(), run.told);
     }
-    Ok(())
 }
 
 #[test]
-fn faults_are_printed(rt: HostRuntime) -> Result<(), Fail> {
+fn faults_are_printed(rt: HostRuntime) {
     let mut printed = String::new(rt.alloc());
     for fault in FAULTS {
-        write_answer(&mut printed, Err(*fault))?;
+        write_answer(&mut printed, Err(*fault)).or_fail(&rt);
     }
     assert_equal(&rt, printed.as_str(), "1 Write 2 ShutDown 3 Memory ");
-    Ok(())
 }

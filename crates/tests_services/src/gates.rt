@@ -1,15 +1,15 @@
 //! What is done inside a lock: a recording, or a list of them, that is held there, and a second one of another instrument or
 //! of the same; and that each step of a provider is told there.
-use crate::equal::assert_equal;
+use crate::asserted::{OrFail, assert_equal};
 use crate::samples::{MAIN, PAIR};
 use metric_contents::Refusal;
 use metric_marked::Marked;
 use metric_provider::{Collector, Gate, Measurement, Provider, Recorder, start};
 use metric_sdk::certified_plan;
 use std::alloc::Global;
+use std::process::Abort;
 use std::sync::Wait;
 use std::sync::atomic::{AtomicBool, AtomicU64, Ordering};
-use std::test::Fail;
 use std::thread;
 use std::thread::{Threads, join};
 
@@ -105,34 +105,34 @@ fn record_second<R: Wait>(
 type Answers = (Result<(), Refusal>, Result<(), Refusal>);
 
 // What the threads of the two recorders are answered.
-fn both_answers<R: Threads + Wait + Sync>(
+fn both_answers<R: Abort + Threads + Wait + Sync>(
     rt: &R,
     provider: &Held<'_>,
     mut seats: Vec<Recorder>,
     (is_list, instrument): (bool, u32),
     flags: &Flags,
-) -> Result<Answers, Fail> {
+) -> Answers {
     let (Some(second), Some(first)) = (seats.pop(), seats.pop()) else {
-        return Err(Fail::from("no two recorders"));
+        panic!(rt; "no two recorders");
     };
-    Ok(join(
+    join(
         rt,
         move || record_first(rt, provider, first, is_list),
         move || record_second(rt, provider, second, instrument, flags),
-    ))
+    )
 }
 
 // What they are answered by a provider whose first instrument is held.
-fn answers<R: Threads + Wait + Sync>(
+fn answers<R: Abort + Threads + Wait + Sync>(
     rt: &R,
     alloc: Global,
     recordings: (bool, u32),
     flags: &Flags,
-) -> Result<Answers, Fail> {
-    let plan = certified_plan(alloc, PAIR, MAIN)?;
+) -> Answers {
+    let plan = certified_plan(alloc, PAIR, MAIN).or_fail(rt);
     match start(rt, alloc, plan, 0, 0, Holding { flags }) {
         Ok((provider, recorders, _)) => both_answers(rt, &provider, recorders, recordings, flags),
-        Err((_, _, refused)) => Err(Fail::from(refused)),
+        Err((_, _, refused)) => Err(refused).or_fail(rt),
     }
 }
 
@@ -141,7 +141,7 @@ fn answers<R: Threads + Wait + Sync>(
 const CASES: &[(bool, u32, bool)] = &[(false, 1, true), (false, 0, false), (true, 0, false)];
 
 #[test]
-fn a_held_instrument_keeps_its_own_recordings(rt: HostRuntime) -> Result<(), Fail> {
+fn a_held_instrument_keeps_its_own_recordings(rt: HostRuntime) {
     for (is_list, instrument, wanted) in CASES {
         let flags = Flags {
             is_inside: AtomicBool::new(false),
@@ -149,11 +149,10 @@ fn a_held_instrument_keeps_its_own_recordings(rt: HostRuntime) -> Result<(), Fai
             is_seen: AtomicBool::new(false),
             turns: if *wanted { TURNS } else { HELD_TURNS },
         };
-        let answers = answers(&rt, rt.alloc(), (*is_list, *instrument), &flags)?;
+        let answers = answers(&rt, rt.alloc(), (*is_list, *instrument), &flags);
         let is_seen = flags.is_seen.load(Ordering::SeqCst);
         assert_equal(&rt, (answers, is_seen), ((Ok(()), Ok(())), *wanted));
     }
-    Ok(())
 }
 
 // Keeps which instruments were stepped on, in order: a digit each, one above the instrument's number.
@@ -173,50 +172,46 @@ impl Gate for Listing<'_> {
 type Listed<'a> = Provider<Marked, Listing<'a>>;
 
 // Records on the second instrument, and a list of two on the first.
-fn record_all<R: Wait>(rt: &R, provider: &Listed<'_>, seat: &mut Recorder) -> Result<(), Fail> {
-    seat.record(rt, provider, 1, &[], 1)?;
+fn record_all<R: Abort + Wait>(rt: &R, provider: &Listed<'_>, seat: &mut Recorder) {
+    seat.record(rt, provider, 1, &[], 1).or_fail(rt);
     let one = Measurement {
         set: [0; 8],
         value: 1,
     };
-    match seat.record_sets(rt, provider, 0, &[one, one]) {
-        Ok(()) => Ok(()),
-        Err(fault) => Err(Fail::from(fault.refusal)),
-    }
+    seat.record_sets(rt, provider, 0, &[one, one]).or_fail(rt);
 }
 
 // Makes a step of each kind: recordings, a collection of the second instrument, the end of the first, and a grant on the second.
-fn make_steps<R: Wait>(
+fn make_steps<R: Abort + Wait>(
     rt: &R,
     alloc: Global,
     provider: &Listed<'_>,
     recorders: &mut [Recorder],
     readers: &mut [Collector],
-) -> Result<(), Fail> {
+) {
     for seat in recorders.iter_mut() {
-        record_all(rt, provider, seat)?;
+        record_all(rt, provider, seat);
     }
     for seat in readers.iter_mut() {
-        seat.collect(rt, alloc, provider, 1, 10)?;
+        seat.collect(rt, alloc, provider, 1, 10).or_fail(rt);
     }
-    provider.close(rt, 0)?;
-    Ok(provider.grant(rt, 0, 1, 0)?)
+    provider.close(rt, 0).or_fail(rt);
+    provider.grant(rt, 0, 1, 0).or_fail(rt);
 }
 
-fn steps_into<R: Wait>(rt: &R, alloc: Global, steps: &AtomicU64) -> Result<(), Fail> {
-    let plan = certified_plan(alloc, PAIR, MAIN)?;
+fn steps_into<R: Abort + Wait>(rt: &R, alloc: Global, steps: &AtomicU64) {
+    let plan = certified_plan(alloc, PAIR, MAIN).or_fail(rt);
     match start(rt, alloc, plan, 0, 0, Listing { steps }) {
         Ok((provider, mut recorders, mut readers)) => {
             make_steps(rt, alloc, &provider, &mut recorders, &mut readers)
         }
-        Err((_, _, refused)) => Err(Fail::from(refused)),
+        Err((_, _, refused)) => Err(refused).or_fail(rt),
     }
 }
 
 #[test]
-fn each_step_is_told_inside(rt: HostRuntime) -> Result<(), Fail> {
+fn each_step_is_told_inside(rt: HostRuntime) {
     let steps = AtomicU64::new(0);
-    steps_into(&rt, rt.alloc(), &steps)?;
+    steps_into(&rt, rt.alloc(), &steps);
     assert_equal(&rt, steps.load(Ordering::SeqCst), 211_211_212);
-    Ok(())
 }

@@ -1,15 +1,15 @@
 //! Scripts that numbers put together of lines, answered by the seats over each book as by a core.
 use crate::agreement::{script_of, write_core, write_seats};
-use crate::equal::assert_equal;
+use crate::asserted::{OrFail, assert_equal};
 use crate::samples::BOTH;
 use metric_audit::Audited;
 use metric_book::Book;
 use metric_journal::JournalBook;
 use metric_marked::Marked;
 use metric_script::ScriptEvents;
-use std::alloc::{AllocError, Global};
+use std::alloc::Global;
+use std::process::Abort;
 use std::sync::Wait;
-use std::test::Fail;
 
 // How many scripts there are.
 const SCRIPTS: u64 = 64;
@@ -67,46 +67,47 @@ const SEEN: &[&str] = &[
 ];
 
 // Sixteen events that the digits of a number choose.
-fn input_of(alloc: Global, number: u64) -> Result<String, AllocError> {
+fn input_of<R: Abort>(rt: &R, alloc: Global, number: u64) -> String {
     let mut digits = number.wrapping_mul(0x9E37_79B9_7F4A_7C15);
-    let mut input = String::from_str(alloc, "%% catalogue\n%% config\n%% script\nstart 3\n")?;
+    let first = "%% catalogue\n%% config\n%% script\nstart 3\n";
+    let mut input = String::from_str(alloc, first).or_fail(rt);
     for _ in 0..16 {
-        input.push_str(EVENTS[(digits % 16) as usize])?;
+        input.push_str(EVENTS[(digits % 16) as usize]).or_fail(rt);
         digits /= 16;
     }
-    Ok(input)
+    input
 }
 
 // Whether the seats over a book answer this, and its core too.
-fn is_answered<R: Wait, B: Book>(
+fn is_answered<R: Abort + Wait, B: Book>(
     rt: &R,
     alloc: Global,
     script: &ScriptEvents,
     wanted: &str,
-) -> Result<[bool; 2], Fail> {
+) -> [bool; 2] {
     let mut core = String::new(alloc);
-    write_core::<B>(&mut core, alloc, SHARED, BOTH, script)?;
+    write_core::<R, B>(&mut core, rt, alloc, SHARED, BOTH, script);
     let mut seats = String::new(alloc);
-    write_seats::<R, B>(&mut seats, rt, alloc, SHARED, BOTH, script)?;
-    Ok([core.as_str() == wanted, seats.as_str() == wanted])
+    write_seats::<R, B>(&mut seats, rt, alloc, SHARED, BOTH, script);
+    [core.as_str() == wanted, seats.as_str() == wanted]
 }
 
 // Whether each book answers a script as the plain one does.
-fn agreement<R: Wait>(
+fn agreement<R: Abort + Wait>(
     seen: &mut String,
     rt: &R,
     alloc: Global,
     number: u64,
-) -> Result<[[bool; 2]; 3], Fail> {
-    let script = script_of(alloc, &input_of(alloc, number)?)?;
+) -> [[bool; 2]; 3] {
+    let script = script_of(rt, alloc, &input_of(rt, alloc, number));
     let mut wanted = String::new(alloc);
-    write_core::<JournalBook>(&mut wanted, alloc, SHARED, BOTH, &script)?;
-    seen.push_str(&wanted)?;
-    Ok([
-        is_answered::<R, JournalBook>(rt, alloc, &script, &wanted)?,
-        is_answered::<R, Marked>(rt, alloc, &script, &wanted)?,
-        is_answered::<R, Audited>(rt, alloc, &script, &wanted)?,
-    ])
+    write_core::<R, JournalBook>(&mut wanted, rt, alloc, SHARED, BOTH, &script);
+    seen.push_str(&wanted).or_fail(rt);
+    [
+        is_answered::<R, JournalBook>(rt, alloc, &script, &wanted),
+        is_answered::<R, Marked>(rt, alloc, &script, &wanted),
+        is_answered::<R, Audited>(rt, alloc, &script, &wanted),
+    ]
 }
 
 fn first_unseen(seen: &str) -> Option<&'static str> {
@@ -119,12 +120,11 @@ fn first_unseen(seen: &str) -> Option<&'static str> {
 }
 
 #[test]
-fn seats_answer_scripts_as_core(rt: HostRuntime) -> Result<(), Fail> {
+fn seats_answer_scripts_as_core(rt: HostRuntime) {
     let mut seen = String::new(rt.alloc());
     for number in 1..=SCRIPTS {
-        let found = agreement(&mut seen, &rt, rt.alloc(), number)?;
+        let found = agreement(&mut seen, &rt, rt.alloc(), number);
         assert_equal(&rt, (number, found), (number, [[true, true]; 3]));
     }
     assert_equal(&rt, first_unseen(&seen), None);
-    Ok(())
 }

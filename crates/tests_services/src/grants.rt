@@ -1,12 +1,12 @@
 //! Recordings beside the budget, by what a service's recorders are granted, from the first to the totals.
-use crate::equal::assert_equal;
+use crate::asserted::assert_equal;
 use crate::runs::write_finish;
 use crate::samples::{MAIN, SPARED};
 use crate::seats::{Seats, seats_of};
 use metric_contents::Refusal;
 use std::alloc::Global;
+use std::process::Abort;
 use std::sync::Wait;
-use std::test::Fail;
 
 // What is asked of a running provider.
 enum Step {
@@ -52,29 +52,27 @@ fn answer<R: Wait>(rt: &R, seats: &mut Seats, step: &Step) -> Result<(), Refusal
 
 const TOTALS: &str = "[Total { count: 3, sum: 15 }], 1 journals, 1 slips\n";
 
-fn totals<R: Wait>(rt: &R, alloc: Global, seats: Seats) -> Result<String, Fail> {
+fn totals<R: Abort + Wait>(rt: &R, alloc: Global, seats: Seats) -> String {
     let mut out = String::new(alloc);
-    write_finish(&mut out, rt, alloc, seats)?;
-    Ok(out)
+    write_finish(&mut out, rt, alloc, seats);
+    out
 }
 
 #[test]
-fn what_is_spared_is_recorded(rt: HostRuntime) -> Result<(), Fail> {
-    let mut seats: Seats = seats_of(&rt, rt.alloc(), SPARED, MAIN, 0, 1)?;
+fn what_is_spared_is_recorded(rt: HostRuntime) {
+    let mut seats: Seats = seats_of(&rt, rt.alloc(), SPARED, MAIN, 0, 1);
     for (step, wanted) in STEPS {
         assert_equal(&rt, answer(&rt, &mut seats, step), *wanted);
     }
-    assert_equal(&rt, totals(&rt, rt.alloc(), seats)?.as_str(), TOTALS);
-    Ok(())
+    assert_equal(&rt, totals(&rt, rt.alloc(), seats).as_str(), TOTALS);
 }
 
 #[test]
-fn a_stranger_is_granted_nothing(rt: HostRuntime) -> Result<(), Fail> {
-    let seats: Seats = seats_of(&rt, rt.alloc(), SPARED, MAIN, 0, 1)?;
-    let others: Seats = seats_of(&rt, rt.alloc(), SPARED, MAIN, 0, 2)?;
+fn a_stranger_is_granted_nothing(rt: HostRuntime) {
+    let seats: Seats = seats_of(&rt, rt.alloc(), SPARED, MAIN, 0, 1);
+    let others: Seats = seats_of(&rt, rt.alloc(), SPARED, MAIN, 0, 2);
     for seat in &others.recorders {
         let answer = seat.ask(&rt, &seats.provider, 0, 0);
         assert_equal(&rt, answer, Err(Refusal::Stranger));
     }
-    Ok(())
 }

@@ -1,7 +1,7 @@
 //! Instruments that a host keeps behind locks of its own, and their seats.
 ghost use Rattle.std.specs.Prelude.{IsTrue};
 
-use crate::equal::assert_equal;
+use crate::asserted::{OrFail, assert_equal};
 use crate::samples::{MAIN, ROUTES};
 use crate::texts::{write_batch, write_refusal, write_reply};
 use metric_contents::{Attr, Refusal, SetKey};
@@ -9,8 +9,8 @@ use metric_history::Reply;
 use metric_hosted::{Hosted, Prepared, ReaderSeat, RecorderSeat};
 use metric_plan::Plan;
 use metric_sdk::{ValueRef, certified_plan};
-use std::alloc::{AllocError, Global};
-use std::test::Fail;
+use std::alloc::Global;
+use std::process::Abort;
 
 // What is done with one instrument, a seat of its recorder and one of its reader.
 enum Step {
@@ -102,19 +102,19 @@ struct Held<'a> {
     reader: ReaderSeat,
 }
 
-fn held_of(alloc: Global, plan: &Plan, run: u64) -> Result<Held<'_>, Fail>
+fn held_of<'a, R: Abort>(rt: &R, alloc: Global, plan: &'a Plan, run: u64) -> Held<'a>
     requires { IsTrue plan.now.is_certified }
 {
     let instruments = plan.all_facts().len();
     if instruments == 0 {
-        return Err(Fail::from("no instrument"));
+        panic!(rt; "no instrument");
     }
-    Ok(Held {
+    Held {
         plan,
-        instrument: Hosted::new(alloc, plan, 0, 7, 1)?,
-        recorder: RecorderSeat::new(alloc, run, 0, instruments)?,
-        reader: ReaderSeat::new(alloc, run, 0, instruments)?,
-    })
+        instrument: Hosted::new(alloc, plan, 0, 7, 1).or_fail(rt),
+        recorder: RecorderSeat::new(alloc, run, 0, instruments).or_fail(rt),
+        reader: ReaderSeat::new(alloc, run, 0, instruments).or_fail(rt),
+    }
 }
 
 fn key_of(entry: u16) -> SetKey {
@@ -128,68 +128,65 @@ fn reply_of(answer: Result<(), Refusal>, done: Reply) -> Reply {
     }
 }
 
-fn prepared(alloc: Global, list: &[(u16, i64)]) -> Result<Vec<Prepared>, AllocError> {
+fn prepared<R: Abort>(rt: &R, alloc: Global, list: &[(u16, i64)]) -> Vec<Prepared> {
     let mut all = Vec::new(alloc);
     for (entry, value) in list {
-        let value = *value;
-        all.push(Prepared {
+        let prepared = Prepared {
             set: key_of(*entry),
-            value,
-        })?;
+            value: *value,
+        };
+        all.push(prepared).or_fail(rt);
     }
-    Ok(all)
+    all
 }
 
-fn write_list(
+fn write_list<R: Abort>(
     out: &mut String,
+    rt: &R,
     alloc: Global,
     held: &mut Held<'_>,
     list: &[(u16, i64)],
-) -> Result<(), AllocError> {
-    let all = prepared(alloc, list)?;
+) {
+    let all = prepared(rt, alloc, list);
     let answer = held
         .recorder
         .record_sets(held.plan, &mut held.instrument, all.as_slice());
     match answer {
-        Ok(()) => out.push_str("made\n"),
+        Ok(()) => out.push_str("made\n").or_fail(rt),
         Err(ended) => {
-            write!(out, "{} made, then ", ended.done)?;
-            write_refusal(out, ended.refusal)
+            write!(out, "{} made, then ", ended.done).or_fail(rt);
+            write_refusal(out, rt, ended.refusal)
         }
     }
 }
 
-fn write_collected(
+fn write_collected<R: Abort>(
     out: &mut String,
+    rt: &R,
     alloc: Global,
     held: &mut Held<'_>,
     now: u64,
-) -> Result<(), AllocError> {
+) {
     let answer = held
         .reader
         .collect(alloc, held.plan, &mut held.instrument, now);
     match answer {
-        Ok(batch) => write_batch(out, &batch),
-        Err(refusal) => write_refusal(out, refusal),
+        Ok(batch) => write_batch(out, rt, &batch),
+        Err(refusal) => write_refusal(out, rt, refusal),
     }
 }
 
-fn write_settled(out: &mut String, held: &Held<'_>) -> Result<(), AllocError> {
+fn write_settled<R: Abort>(out: &mut String, rt: &R, held: &Held<'_>) {
     let Ok(told) = held.recorder.told_of(held.plan, &held.instrument) else {
-        return out.push_str("a stranger's\n");
+        return out.push_str("a stranger's\n").or_fail(rt);
     };
     match held.instrument.settle(&[told]) {
-        Ok(total) => writeln!(out, "{} come to {}", total.count, total.sum),
-        Err(fault) => writeln!(out, "{fault}"),
+        Ok(total) => writeln!(out, "{} come to {}", total.count, total.sum).or_fail(rt),
+        Err(fault) => writeln!(out, "{fault}").or_fail(rt),
     }
 }
 
-fn write_step(
-    out: &mut String,
-    alloc: Global,
-    held: &mut Held<'_>,
-    step: &Step,
-) -> Result<(), AllocError> {
+fn write_step<R: Abort>(out: &mut String, rt: &R, alloc: Global, held: &mut Held<'_>, step: &Step) {
     match step {
         Step::Record(route, value) => {
             let route = Attr {
@@ -199,44 +196,43 @@ fn write_step(
             let answer = held
                 .recorder
                 .record(held.plan, &mut held.instrument, &[route], *value);
-            write_reply(out, &reply_of(answer, Reply::Accepted))
+            write_reply(out, rt, &reply_of(answer, Reply::Accepted))
         }
         Step::RecordSet(entry, value) => {
             let set = key_of(*entry);
             let answer = held
                 .recorder
                 .record_set(held.plan, &mut held.instrument, set, *value);
-            write_reply(out, &reply_of(answer, Reply::Accepted))
+            write_reply(out, rt, &reply_of(answer, Reply::Accepted))
         }
-        Step::RecordSets(list) => write_list(out, alloc, held, list),
-        Step::Collect(now) => write_collected(out, alloc, held, *now),
+        Step::RecordSets(list) => write_list(out, rt, alloc, held, list),
+        Step::Collect(now) => write_collected(out, rt, alloc, held, *now),
         Step::Grant(recorder, amount) => {
             let answer = held.instrument.grant(*recorder, *amount);
-            write_reply(out, &reply_of(answer, Reply::Granted))
+            write_reply(out, rt, &reply_of(answer, Reply::Granted))
         }
         Step::Close => {
             let answer = held.instrument.close();
-            write_reply(out, &reply_of(answer, Reply::Done))
+            write_reply(out, rt, &reply_of(answer, Reply::Done))
         }
-        Step::Settle => write_settled(out, held),
+        Step::Settle => write_settled(out, rt, held),
     }
 }
 
-fn told_of(alloc: Global, case: &Case) -> Result<String, Fail> {
-    let plan = certified_plan(alloc, ROUTES, MAIN)?;
-    let mut held = held_of(alloc, &plan, case.run)?;
+fn told_of<R: Abort>(rt: &R, alloc: Global, case: &Case) -> String {
+    let plan = certified_plan(alloc, ROUTES, MAIN).or_fail(rt);
+    let mut held = held_of(rt, alloc, &plan, case.run);
     let mut out = String::new(alloc);
     for step in case.steps {
-        write_step(&mut out, alloc, &mut held, step)?;
+        write_step(&mut out, rt, alloc, &mut held, step);
     }
-    Ok(out)
+    out
 }
 
 #[test]
-fn a_held_instrument_answers_its_seats(rt: HostRuntime) -> Result<(), Fail> {
+fn a_held_instrument_answers_its_seats(rt: HostRuntime) {
     for case in CASES {
-        let told = told_of(rt.alloc(), case)?;
+        let told = told_of(&rt, rt.alloc(), case);
         assert_equal(&rt, told.as_str(), case.told);
     }
-    Ok(())
 }

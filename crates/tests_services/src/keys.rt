@@ -1,14 +1,14 @@
 //! Recordings by set keys.
-use crate::equal::assert_equal;
+use crate::asserted::{OrFail, assert_equal};
 use crate::samples::{CODES, MAIN, PAIRS, ROUTES};
 use crate::seats::{Seats, seats_of};
 use crate::texts::{write_batch, write_numbers, write_refusal, write_reply};
 use metric_history::Reply;
 use metric_provider::{Measurement, Recorder};
 use metric_sdk::MeterProvider;
-use std::alloc::{AllocError, Global};
+use std::alloc::Global;
+use std::process::Abort;
 use std::sync::Wait;
-use std::test::Fail;
 
 struct KeyCase {
     catalogue: &'static str,
@@ -64,55 +64,44 @@ accepted
 ];
 
 // Writes the answer to each recording of the first recorder.
-fn write_recordings<R: Wait>(
+fn write_recordings<R: Abort + Wait>(
     out: &mut String,
     rt: &R,
     seats: &mut Seats,
     recordings: &[(u32, [u16; 3], i64)],
-) -> Result<(), Fail> {
-    let Some(seat) = seats.recorders.first_mut() else {
-        return Err(Fail::from("no recorder"));
-    };
+) {
+    let seat = seats.recorders.first_mut().expect(rt, "no recorder");
     for (instrument, [first, second, third], value) in recordings {
         let set = [*first, *second, *third, 0, 0, 0, 0, 0];
         let reply = match seat.record_set(rt, &seats.provider, *instrument, set, *value) {
             Ok(()) => Reply::Accepted,
             Err(refusal) => Reply::Refused(refusal),
         };
-        write_reply(out, &reply)?;
+        write_reply(out, rt, &reply);
     }
-    Ok(())
 }
 
 // Writes what the first reader is told.
-fn write_collected<R: Wait>(
-    out: &mut String,
-    rt: &R,
-    alloc: Global,
-    seats: &mut Seats,
-) -> Result<(), Fail> {
-    let Some(seat) = seats.collectors.first_mut() else {
-        return Err(Fail::from("no reader"));
-    };
-    let batch = seat.collect(rt, alloc, &seats.provider, 0, 10)?;
-    Ok(write_batch(out, &batch)?)
+fn write_collected<R: Abort + Wait>(out: &mut String, rt: &R, alloc: Global, seats: &mut Seats) {
+    let seat = seats.collectors.first_mut().expect(rt, "no reader");
+    let batch = seat.collect(rt, alloc, &seats.provider, 0, 10).or_fail(rt);
+    write_batch(out, rt, &batch);
 }
 
-fn told<R: Wait>(rt: &R, alloc: Global, case: &KeyCase) -> Result<String, Fail> {
-    let mut seats: Seats = seats_of(rt, alloc, case.catalogue, MAIN, 0, 1)?;
+fn told<R: Abort + Wait>(rt: &R, alloc: Global, case: &KeyCase) -> String {
+    let mut seats: Seats = seats_of(rt, alloc, case.catalogue, MAIN, 0, 1);
     let mut out = String::new(alloc);
-    write_recordings(&mut out, rt, &mut seats, case.recordings)?;
-    write_collected(&mut out, rt, alloc, &mut seats)?;
-    Ok(out)
+    write_recordings(&mut out, rt, &mut seats, case.recordings);
+    write_collected(&mut out, rt, alloc, &mut seats);
+    out
 }
 
 #[test]
-fn set_keys_are_recorded_or_refused(rt: HostRuntime) -> Result<(), Fail> {
+fn set_keys_are_recorded_or_refused(rt: HostRuntime) {
     for case in KEYS {
-        let told = told(&rt, rt.alloc(), case)?;
+        let told = told(&rt, rt.alloc(), case);
         assert_equal(&rt, told.as_str(), case.told);
     }
-    Ok(())
 }
 
 // Lists of recordings, one after the other: the entry of the key, and the value.
@@ -174,70 +163,65 @@ const LISTS: &[ListCase] = &[
     },
 ];
 
-fn measurements(alloc: Global, list: &[(u16, i64)]) -> Result<Vec<Measurement>, AllocError> {
+fn measurements<R: Abort>(rt: &R, alloc: Global, list: &[(u16, i64)]) -> Vec<Measurement> {
     let mut all = Vec::new(alloc);
     for (entry, value) in list {
         let set = [*entry, 0, 0, 0, 0, 0, 0, 0];
         let value = *value;
-        all.push(Measurement { set, value })?;
+        all.push(Measurement { set, value }).or_fail(rt);
     }
-    Ok(all)
+    all
 }
 
 // Writes what the seat was told.
-fn write_told(out: &mut String, seat: &Recorder) -> Result<(), AllocError> {
-    match seat.accepted(0) {
-        None => Ok(()),
-        Some(told) => write_numbers(out, &[(", told ", told.count), (" ", told.amount)]),
+fn write_told<R: Abort>(out: &mut String, rt: &R, seat: &Recorder) {
+    if let Some(told) = seat.accepted(0) {
+        write_numbers(out, rt, &[(", told ", told.count), (" ", told.amount)]);
     }
 }
 
 // Writes the answer to each list of recordings.
-fn write_lists<R: Wait>(
+fn write_lists<R: Abort + Wait>(
     out: &mut String,
     rt: &R,
     alloc: Global,
     provider: &MeterProvider,
     seat: &mut Recorder,
     lists: &[&[(u16, i64)]],
-) -> Result<(), AllocError> {
+) {
     for list in lists {
-        let all = measurements(alloc, list)?;
+        let all = measurements(rt, alloc, list);
         match seat.record_sets(rt, provider, 0, all.as_slice()) {
             Ok(()) => {
-                out.push_str("made")?;
-                write_told(out, seat)?;
-                out.push_str("\n")?;
+                out.push_str("made").or_fail(rt);
+                write_told(out, rt, seat);
+                out.push_str("\n").or_fail(rt);
             }
             Err(fault) => {
-                write!(out, "{}", fault.place)?;
-                write_told(out, seat)?;
-                out.push_str(": ")?;
-                write_refusal(out, fault.refusal)?;
+                write!(out, "{}", fault.place).or_fail(rt);
+                write_told(out, rt, seat);
+                out.push_str(": ").or_fail(rt);
+                write_refusal(out, rt, fault.refusal);
             }
         }
     }
-    Ok(())
 }
 
 // A seat of the provider's run is its own, since both were told of nothing.
-fn told_of_lists<R: Wait>(rt: &R, alloc: Global, case: &ListCase) -> Result<String, Fail> {
-    let mut seats: Seats = seats_of(rt, alloc, ROUTES, MAIN, 0, 1)?;
-    let mut others: Seats = seats_of(rt, alloc, ROUTES, MAIN, 0, case.run)?;
-    let Some(seat) = others.recorders.first_mut() else {
-        return Err(Fail::from("no recorder"));
-    };
+fn told_of_lists<R: Abort + Wait>(rt: &R, alloc: Global, case: &ListCase) -> String {
+    let mut seats: Seats = seats_of(rt, alloc, ROUTES, MAIN, 0, 1);
+    let mut others: Seats = seats_of(rt, alloc, ROUTES, MAIN, 0, case.run);
+    let seat = others.recorders.first_mut().expect(rt, "no recorder");
     let mut out = String::new(alloc);
-    write_lists(&mut out, rt, alloc, &seats.provider, seat, case.lists)?;
-    write_collected(&mut out, rt, alloc, &mut seats)?;
-    Ok(out)
+    write_lists(&mut out, rt, alloc, &seats.provider, seat, case.lists);
+    write_collected(&mut out, rt, alloc, &mut seats);
+    out
 }
 
 #[test]
-fn lists_are_recorded_up_to_the_first_refusal(rt: HostRuntime) -> Result<(), Fail> {
+fn lists_are_recorded_up_to_the_first_refusal(rt: HostRuntime) {
     for case in LISTS {
-        let told = told_of_lists(&rt, rt.alloc(), case)?;
+        let told = told_of_lists(&rt, rt.alloc(), case);
         assert_equal(&rt, told.as_str(), case.told);
     }
-    Ok(())
 }

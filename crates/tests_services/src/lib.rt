@@ -8,6 +8,8 @@
 #[cfg(test)]
 mod agreement;
 #[cfg(test)]
+mod asserted;
+#[cfg(test)]
 mod audited;
 #[cfg(test)]
 mod clocks;
@@ -15,8 +17,6 @@ mod clocks;
 mod counter;
 #[cfg(test)]
 mod crossed;
-#[cfg(test)]
-mod equal;
 #[cfg(test)]
 mod exporters;
 #[cfg(test)]

@@ -1,5 +1,5 @@
 //! Runs of a periodic reader: what is exported, and how the run is counted.
-use crate::equal::assert_equal;
+use crate::asserted::{OrFail, assert_equal};
 use crate::exporters::sink_of;
 use crate::samples::{BOTH, FIVE, PAIR};
 use crate::seats::{Seats, hit_once, seats_of};
@@ -9,9 +9,9 @@ use metric_io::CutSink;
 use metric_periodic::{Periodic, PeriodicEnd};
 use metric_provider::Collector;
 use metric_sdk::MeterProvider;
-use std::alloc::{AllocError, Global};
+use std::alloc::Global;
+use std::process::Abort;
 use std::sync::Wait;
-use std::test::Fail;
 
 /// When the periodic readers collect.
 pub(crate) const TICKS: &[Tick] = &[Tick::At(10), Tick::At(20), Tick::Stop(30)];
@@ -161,65 +161,60 @@ fn end_of<R: Wait>(
 }
 
 // The end of a run with the provider of another run.
-fn end_elsewhere<R: Wait>(
-    rt: &R,
-    alloc: Global,
-    reader: Collector,
-    run: &Run,
-) -> Result<End, Fail> {
-    let other = hit_once(rt, alloc, 2)?;
-    Ok(end_of(rt, alloc, &other.provider, reader, run))
+fn end_elsewhere<R: Abort + Wait>(rt: &R, alloc: Global, reader: Collector, run: &Run) -> End {
+    let other = hit_once(rt, alloc, 2);
+    end_of(rt, alloc, &other.provider, reader, run)
 }
 
 // Two counters with their seats, after a recording of 3 on one of them.
-fn pair_after_hit<R: Wait>(rt: &R, alloc: Global, instrument: u32) -> Result<Seats, Fail> {
-    let mut seats: Seats = seats_of(rt, alloc, PAIR, BOTH, 0, 1)?;
+fn pair_after_hit<R: Abort + Wait>(rt: &R, alloc: Global, instrument: u32) -> Seats {
+    let mut seats: Seats = seats_of(rt, alloc, PAIR, BOTH, 0, 1);
     if let Some(recorder) = seats.recorders.first_mut() {
-        recorder.record(rt, &seats.provider, instrument, &[], 3)?;
+        recorder
+            .record(rt, &seats.provider, instrument, &[], 3)
+            .or_fail(rt);
     }
-    Ok(seats)
+    seats
 }
 
 // The delta reader's seat of two counters that has seen a recording of the second one.
-fn second_seen<R: Wait>(rt: &R, alloc: Global) -> Result<Collector, Fail> {
-    let mut seats = pair_after_hit(rt, alloc, 1)?;
-    let Some(reader) = seats.collectors.pop() else {
-        return Err(Fail::from("no reader"));
-    };
-    let mut reader = reader;
-    reader.collect(rt, alloc, &seats.provider, 1, 0)?;
-    Ok(reader)
+fn second_seen<R: Abort + Wait>(rt: &R, alloc: Global) -> Collector {
+    let mut seats = pair_after_hit(rt, alloc, 1);
+    let mut reader = seats.collectors.pop().expect(rt, "no reader");
+    reader.collect(rt, alloc, &seats.provider, 1, 0).or_fail(rt);
+    reader
 }
 
 // The end of a run with a provider of the same number that has no recording of the second counter.
-fn end_of_half<R: Wait>(rt: &R, alloc: Global, run: &Run) -> Result<End, Fail> {
-    let reader = second_seen(rt, alloc)?;
-    let seats = pair_after_hit(rt, alloc, 0)?;
-    Ok(end_of(rt, alloc, &seats.provider, reader, run))
+fn end_of_half<R: Abort + Wait>(rt: &R, alloc: Global, run: &Run) -> End {
+    let reader = second_seen(rt, alloc);
+    let seats = pair_after_hit(rt, alloc, 0);
+    end_of(rt, alloc, &seats.provider, reader, run)
 }
 
 // The end of a run of the delta reader, after a recording of 5.
-fn end_after_hit<R: Wait>(rt: &R, alloc: Global, run: &Run) -> Result<End, Fail> {
-    let mut seats = hit_once(rt, alloc, 1)?;
+fn end_after_hit<R: Abort + Wait>(rt: &R, alloc: Global, run: &Run) -> End {
+    let mut seats = hit_once(rt, alloc, 1);
     match (run.of, seats.collectors.pop()) {
         (Of::Half, _) => end_of_half(rt, alloc, run),
-        (_, None) => Err(Fail::from("no reader")),
+        (_, None) => panic!(rt; "no reader"),
         (Of::Elsewhere, Some(reader)) => end_elsewhere(rt, alloc, reader, run),
-        (Of::Own, Some(reader)) => Ok(end_of(rt, alloc, &seats.provider, reader, run)),
+        (Of::Own, Some(reader)) => end_of(rt, alloc, &seats.provider, reader, run),
     }
 }
 
 // Writes the counts of an end, whether the ticker stopped the run, whether the reader is handed back, and whether these texts
 // are held.
-fn write_end(out: &mut String, end: &End, run: &Run) -> Result<(), AllocError> {
+fn write_end<R: Abort>(out: &mut String, rt: &R, end: &End, run: &Run) {
     write_numbers(
         out,
+        rt,
         &[
             ("exported ", end.exported),
             (" failed ", end.failed),
             (" refused ", end.refused),
         ],
-    )?;
+    );
     let (stopped, is_kept) = (end.stopped, end.kept.is_some());
     let rest = end
         .exporter
@@ -227,20 +222,19 @@ fn write_end(out: &mut String, end: &End, run: &Run) -> Result<(), AllocError> {
         .taken()
         .strip_prefix(run.first.as_bytes());
     let is_held = rest == Some(run.rest.as_bytes());
-    write!(out, " {stopped} {is_kept} {is_held}")
+    write!(out, " {stopped} {is_kept} {is_held}").or_fail(rt);
 }
 
-fn write_run<R: Wait>(out: &mut String, rt: &R, alloc: Global, run: &Run) -> Result<(), Fail> {
-    let end = end_after_hit(rt, alloc, run)?;
-    Ok(write_end(out, &end, run)?)
+fn write_run<R: Abort + Wait>(out: &mut String, rt: &R, alloc: Global, run: &Run) {
+    let end = end_after_hit(rt, alloc, run);
+    write_end(out, rt, &end, run);
 }
 
 #[test]
-fn batches_are_exported(rt: HostRuntime) -> Result<(), Fail> {
+fn batches_are_exported(rt: HostRuntime) {
     for run in RUNS {
         let mut told = String::new(rt.alloc());
-        write_run(&mut told, &rt, rt.alloc(), run)?;
+        write_run(&mut told, &rt, rt.alloc(), run);
         assert_equal(&rt, told.as_str(), run.told);
     }
-    Ok(())
 }

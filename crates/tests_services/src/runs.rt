@@ -1,15 +1,15 @@
 //! Runs of two counters with two recorders and two readers, from the first recording to the totals.
 use crate::agreement::script_of;
-use crate::equal::assert_equal;
+use crate::asserted::{OrFail, assert_equal};
 use crate::samples::{BOTH, PAIR};
 use crate::seats::{Seats, seats_of};
 use crate::texts::write_batches;
 use metric_history::Event;
 use metric_provider::{Collector, Recorder};
 use metric_sdk::MeterProvider;
-use std::alloc::{AllocError, Global};
+use std::alloc::Global;
+use std::process::Abort;
 use std::sync::Wait;
-use std::test::Fail;
 
 // Both recorders record on both instruments; a third one is there only where a run has a stranger.
 const SCRIPT: &str = "%% catalogue
@@ -105,77 +105,53 @@ reader 1 [Some(1), Some(1), None]
 ];
 
 // The last recorder's seat of another run.
-fn stranger<R: Wait>(rt: &R, alloc: Global) -> Result<Recorder, Fail> {
-    let mut other: Seats = seats_of(rt, alloc, PAIR, BOTH, 0, 2)?;
-    match other.recorders.pop() {
-        Some(seat) => Ok(seat),
-        None => Err(Fail::from("no seat")),
-    }
+fn stranger<R: Abort + Wait>(rt: &R, alloc: Global) -> Recorder {
+    let mut other: Seats = seats_of(rt, alloc, PAIR, BOTH, 0, 2);
+    other.recorders.pop().expect(rt, "no seat")
 }
 
 // Writes what each recorder was told of both instruments and of one that there is not, and what it may record.
-fn write_recorders(out: &mut String, seats: &Seats) -> Result<(), AllocError> {
+fn write_recorders<R: Abort>(out: &mut String, rt: &R, seats: &Seats) {
     for seat in &seats.recorders {
         let number = seat.number();
         let told = [seat.accepted(0), seat.accepted(1), seat.accepted(2)];
         let admitted = seat.admits(&seats.provider, 1, &[], 3);
-        writeln!(out, "recorder {number} {told:?} {admitted:?}")?;
+        writeln!(out, "recorder {number} {told:?} {admitted:?}").or_fail(rt);
     }
-    Ok(())
 }
 
 // Writes a collection of all instruments, and what the reader has then seen of them and of one that there is not.
-fn write_reader<R: Wait>(
+fn write_reader<R: Abort + Wait>(
     out: &mut String,
     rt: &R,
     alloc: Global,
     provider: &MeterProvider,
     reader: &mut Collector,
-) -> Result<(), Fail> {
-    match reader.collect_all(rt, alloc, provider, 20) {
-        Ok(batches) => write_batches(out, &batches)?,
-        Err(_) => return Err(Fail::from("refused")),
-    }
+) {
+    let batches = reader.collect_all(rt, alloc, provider, 20).or_fail(rt);
+    write_batches(out, rt, &batches);
     let number = reader.number();
     let seen = [reader.seen(0), reader.seen(1), reader.seen(2)];
-    Ok(writeln!(out, "reader {number} {seen:?}")?)
+    writeln!(out, "reader {number} {seen:?}").or_fail(rt);
 }
 
-fn write_readers<R: Wait>(
-    out: &mut String,
-    rt: &R,
-    alloc: Global,
-    seats: &mut Seats,
-) -> Result<(), Fail> {
+fn write_readers<R: Abort + Wait>(out: &mut String, rt: &R, alloc: Global, seats: &mut Seats) {
     for reader in seats.collectors.iter_mut() {
-        write_reader(out, rt, alloc, &seats.provider, reader)?;
+        write_reader(out, rt, alloc, &seats.provider, reader);
     }
-    Ok(())
 }
 
 // Writes the last collection of the delta reader.
-fn write_last<R: Wait>(
-    out: &mut String,
-    rt: &R,
-    alloc: Global,
-    seats: &mut Seats,
-) -> Result<(), Fail> {
-    let Some(reader) = seats.collectors.pop() else {
-        return Err(Fail::from("no reader"));
-    };
+fn write_last<R: Abort + Wait>(out: &mut String, rt: &R, alloc: Global, seats: &mut Seats) {
+    let reader = seats.collectors.pop().expect(rt, "no reader");
     match reader.shutdown(rt, alloc, &seats.provider, 30) {
-        Ok(batches) => Ok(write_batches(out, &batches)?),
-        Err(_) => Err(Fail::from("refused")),
+        Ok(batches) => write_batches(out, rt, &batches),
+        Err(_) => panic!(rt; "refused"),
     }
 }
 
 /// Writes what the recordings come to, or why they do not and how many seats are handed back.
-pub(crate) fn write_finish<R: Wait>(
-    out: &mut String,
-    rt: &R,
-    alloc: Global,
-    seats: Seats,
-) -> Result<(), AllocError> {
+pub(crate) fn write_finish<R: Abort + Wait>(out: &mut String, rt: &R, alloc: Global, seats: Seats) {
     let Seats {
         provider,
         recorders,
@@ -185,65 +161,60 @@ pub(crate) fn write_finish<R: Wait>(
         Ok(totals) => {
             let instruments = totals.instruments.as_slice();
             let (journals, slips) = (totals.journals.len(), totals.slips.len());
-            writeln!(out, "{instruments:?}, {journals} journals, {slips} slips")
+            writeln!(out, "{instruments:?}, {journals} journals, {slips} slips").or_fail(rt)
         }
-        Err((_, recorders, fault)) => writeln!(out, "{fault}, {} seats", recorders.len()),
+        Err((_, recorders, fault)) => {
+            writeln!(out, "{fault}, {} seats", recorders.len()).or_fail(rt)
+        }
     }
 }
 
 // Leaves the seats that the run keeps, and adds the stranger where it has one.
-fn choose_seats<R: Wait>(
-    rt: &R,
-    alloc: Global,
-    recorders: &mut Vec<Recorder>,
-    run: &Run,
-) -> Result<(), Fail> {
+fn choose_seats<R: Abort + Wait>(rt: &R, alloc: Global, recorders: &mut Vec<Recorder>, run: &Run) {
     recorders.truncate(run.kept);
     if run.has_stranger {
-        recorders.push(stranger(rt, alloc)?)?;
+        recorders.push(stranger(rt, alloc)).or_fail(rt);
     }
-    Ok(())
 }
 
 // Writes what the seats answer and are told up to the last collection.
-fn write_told<R: Wait>(
+fn write_told<R: Abort + Wait>(
     out: &mut String,
     rt: &R,
     alloc: Global,
     seats: &mut Seats,
     events: &[Event],
-) -> Result<(), Fail> {
-    seats.write_answers(out, rt, alloc, events)?;
-    write_recorders(out, seats)?;
-    write_readers(out, rt, alloc, seats)?;
-    write_last(out, rt, alloc, seats)
+) {
+    seats.write_answers(out, rt, alloc, events);
+    write_recorders(out, rt, seats);
+    write_readers(out, rt, alloc, seats);
+    write_last(out, rt, alloc, seats);
 }
 
-fn write_run<R: Wait>(
+fn write_run<R: Abort + Wait>(
     out: &mut String,
     rt: &R,
     alloc: Global,
     run: &Run,
     events: &[Event],
-) -> Result<(), Fail> {
-    let mut seats: Seats = seats_of(rt, alloc, PAIR, BOTH, 0, 1)?;
-    choose_seats(rt, alloc, &mut seats.recorders, run)?;
-    write_told(out, rt, alloc, &mut seats, events)?;
-    Ok(write_finish(out, rt, alloc, seats)?)
+) {
+    let mut seats: Seats = seats_of(rt, alloc, PAIR, BOTH, 0, 1);
+    choose_seats(rt, alloc, &mut seats.recorders, run);
+    write_told(out, rt, alloc, &mut seats, events);
+    write_finish(out, rt, alloc, seats);
 }
 
 // Writes a run from its script to its totals.
-fn write_script<R: Wait>(out: &mut String, rt: &R, alloc: Global, run: &Run) -> Result<(), Fail> {
-    let script = script_of(alloc, SCRIPT)?;
-    write_run(out, rt, alloc, run, script.events.as_slice())
+fn write_script<R: Abort + Wait>(out: &mut String, rt: &R, alloc: Global, run: &Run) {
+    let script = script_of(rt, alloc, SCRIPT);
+    write_run(out, rt, alloc, run, script.events.as_slice());
 }
 
 #[test]
-fn runs_end_with_the_seats_of_all_recorders(rt: HostRuntime) -> Result<(), Fail> {
+fn runs_end_with_the_seats_of_all_recorders(rt: HostRuntime) {
     for run in RUNS {
         let mut told = String::new(rt.alloc());
-        write_script(&mut told, &rt, rt.alloc(), run)?;
+        write_script(&mut told, &rt, rt.alloc(), run);
         assert_equal(&rt, told.as_str(), run.told);
     }
-    Ok(())
 }

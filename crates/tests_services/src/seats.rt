@@ -1,4 +1,5 @@
 //! A provider with its seats, and what they answer to events.
+use crate::asserted::OrFail;
 use crate::samples::{BOTH, HITS};
 use crate::texts::write_reply;
 use metric_book::Book;
@@ -7,9 +8,9 @@ use metric_history::{Event, Reply};
 use metric_marked::Marked;
 use metric_provider::{Collector, NoGate, Provider, Recorder, start};
 use metric_sdk::certified_plan;
-use std::alloc::{AllocError, Global};
+use std::alloc::Global;
+use std::process::Abort;
 use std::sync::Wait;
-use std::test::Fail;
 
 /// A provider over a book, and the seats of its recorders and readers, in order.
 #[derive(Drop)]
@@ -23,43 +24,44 @@ pub(crate) struct BookSeats<B: Book> {
 pub(crate) type Seats = BookSeats<Marked>;
 
 /// A provider of a catalogue and a config, with its seats.
-pub(crate) fn seats_of<R: Wait, B: Book>(
+pub(crate) fn seats_of<R: Abort + Wait, B: Book>(
     rt: &R,
     alloc: Global,
     catalogue: &str,
     config: &str,
     since: u64,
     run: u64,
-) -> Result<BookSeats<B>, Fail> {
-    let plan = certified_plan(alloc, catalogue, config)?;
+) -> BookSeats<B> {
+    let plan = certified_plan(alloc, catalogue, config).or_fail(rt);
     match start(rt, alloc, plan, since, run, NoGate) {
-        Ok((provider, recorders, collectors)) => Ok(BookSeats {
+        Ok((provider, recorders, collectors)) => BookSeats {
             provider,
             recorders,
             collectors,
-        }),
-        Err((_, _, refused)) => Err(Fail::from(refused)),
+        },
+        Err((_, _, refused)) => Err(refused).or_fail(rt),
     }
 }
 
 /// A counter for a cumulative and a delta reader, in the run of a number, after a recording of 5.
-pub(crate) fn hit_once<R: Wait>(rt: &R, alloc: Global, run: u64) -> Result<Seats, Fail> {
-    let mut seats: Seats = seats_of(rt, alloc, HITS, BOTH, 0, run)?;
+pub(crate) fn hit_once<R: Abort + Wait>(rt: &R, alloc: Global, run: u64) -> Seats {
+    let mut seats: Seats = seats_of(rt, alloc, HITS, BOTH, 0, run);
     match seats.record(rt, 0, 0, &[], 5) {
-        Reply::Accepted => Ok(seats),
-        _ => Err(Fail::from("not accepted")),
+        Reply::Accepted => seats,
+        _ => panic!(rt; "not accepted"),
     }
 }
 
-fn borrowed(alloc: Global, owned: &[OwnedAttr]) -> Result<Vec<Attr<'_>>, AllocError> {
+fn borrowed<'a, R: Abort>(rt: &R, alloc: Global, owned: &'a [OwnedAttr]) -> Vec<Attr<'a>> {
     let mut attrs = Vec::new(alloc);
     for attr in owned {
-        attrs.push(Attr {
+        let attr = Attr {
             key: attr.key.as_str(),
             value: attr.value.as_ref(),
-        })?;
+        };
+        attrs.push(attr).or_fail(rt);
     }
-    Ok(attrs)
+    attrs
 }
 
 impl<B: Book> BookSeats<B> {
@@ -114,20 +116,20 @@ impl<B: Book> BookSeats<B> {
     }
 
     /// The answer of a seat or the provider to an event.
-    pub(crate) fn answer<R: Wait>(
+    pub(crate) fn answer<R: Abort + Wait>(
         &mut self,
         rt: &R,
         alloc: Global,
         event: &Event,
-    ) -> Result<Reply, AllocError> {
-        Ok(match event {
+    ) -> Reply {
+        match event {
             Event::Record {
                 recorder,
                 instrument,
                 attrs,
                 value,
             } => {
-                let attrs = borrowed(alloc, attrs.as_slice())?;
+                let attrs = borrowed(rt, alloc, attrs.as_slice());
                 self.record(rt, *recorder, *instrument, &attrs, *value)
             }
             Event::Collect {
@@ -141,20 +143,19 @@ impl<B: Book> BookSeats<B> {
                 instrument,
                 amount,
             } => self.grant(rt, *recorder, *instrument, *amount),
-        })
+        }
     }
 
     /// Writes a line for the answer to each event.
-    pub(crate) fn write_answers<R: Wait>(
+    pub(crate) fn write_answers<R: Abort + Wait>(
         &mut self,
         out: &mut String,
         rt: &R,
         alloc: Global,
         events: &[Event],
-    ) -> Result<(), AllocError> {
+    ) {
         for event in events {
-            write_reply(out, &self.answer(rt, alloc, event)?)?;
+            write_reply(out, rt, &self.answer(rt, alloc, event));
         }
-        Ok(())
     }
 }

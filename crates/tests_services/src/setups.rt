@@ -1,9 +1,8 @@
 //! The faults of two texts that no provider starts of.
-use crate::equal::assert_equal;
+use crate::asserted::{OrFail, assert_equal};
 use crate::samples::{HITS, MAIN};
 use metric_sdk::certified_plan;
 use std::alloc::{AllocError, Global};
-use std::test::Fail;
 
 // Ten recordings of the greatest value come to a sum beyond 64 bits.
 const HIGH: &str = "format = 1
@@ -47,11 +46,10 @@ fn write_fault(
 }
 
 #[test]
-fn a_plan_is_made_of_safe_files_alone(rt: HostRuntime) -> Result<(), Fail> {
+fn a_plan_is_made_of_safe_files_alone(rt: HostRuntime) {
     let mut told = String::new(rt.alloc());
     for [catalogue, config] in FILES {
-        write_fault(&mut told, rt.alloc(), catalogue, config)?;
+        write_fault(&mut told, rt.alloc(), catalogue, config).or_fail(&rt);
     }
     assert_equal(&rt, told.as_str(), FAULTS);
-    Ok(())
 }

@@ -2,7 +2,7 @@
 ghost use Rattle.std.specs.Prelude.{◌≡◌, IsTrue, length};
 ghost use Rattle.metric_provider.specs.Totals.{AreAllSeats};
 
-use crate::equal::assert_equal;
+use crate::asserted::{OrFail, assert_equal};
 use crate::samples::{HITS, MAIN};
 use crate::texts::{write_batch, write_numbers};
 use metric_facts::{Facts, is_allowed_set};
@@ -11,50 +11,52 @@ use metric_plan::Plan;
 use metric_provider::{NoGate, Recorder, Slot, Told, settle, start};
 use metric_sdk::certified_plan;
 use std::alloc::{AllocError, Global};
+use std::process::Abort;
 use std::sync::Wait;
-use std::test::Fail;
 
 // Writes the answer to a recording, and what its recorder was told.
-fn write_recorded(out: &mut String, slot: &mut Slot<Marked>, facts: &Facts) -> Result<(), Fail> {
+fn write_recorded<R: Abort>(out: &mut String, rt: &R, slot: &mut Slot<Marked>, facts: &Facts) {
     let set = [0; 8];
     if !is_allowed_set(facts, &set) || facts.budgets.is_empty() || !facts.admits(&5) {
-        return Err(Fail::from("no such recording"));
+        panic!(rt; "no such recording");
     }
     let mut told = Told {
         count: 0,
         amount: 0,
     };
     let answer = slot.record(facts, &mut told, 0, set, 5);
-    Ok(writeln!(out, "{answer:?} {told:?}")?)
+    writeln!(out, "{answer:?} {told:?}").or_fail(rt);
 }
 
 // Writes the batch of the first reader, and what that has seen.
-fn write_collected(
+fn write_collected<R: Abort>(
     out: &mut String,
+    rt: &R,
     alloc: Global,
     slot: &mut Slot<Marked>,
     facts: &Facts,
-) -> Result<(), Fail> {
+) {
     if facts.delta.is_empty() {
-        return Err(Fail::from("no reader"));
+        panic!(rt; "no reader");
     }
     let mut seen = 0;
-    let batch = slot.collect(alloc, facts, &mut seen, 0, 10)?;
-    write_batch(out, &batch)?;
-    Ok(write_numbers(out, &[("seen ", seen), (" of ", slot.cell().count())])?)
+    let batch = slot.collect(alloc, facts, &mut seen, 0, 10).or_fail(rt);
+    write_batch(out, rt, &batch);
+    write_numbers(out, rt, &[("seen ", seen), (" of ", slot.cell().count())]);
 }
 
 // Writes the answers to a recording and a collection, and to two ends.
-fn write_calls(
+fn write_calls<R: Abort>(
     out: &mut String,
+    rt: &R,
     alloc: Global,
     slot: &mut Slot<Marked>,
     facts: &Facts,
-) -> Result<(), Fail> {
-    write_recorded(out, slot, facts)?;
-    write_collected(out, alloc, slot, facts)?;
+) {
+    write_recorded(out, rt, slot, facts);
+    write_collected(out, rt, alloc, slot, facts);
     let ends = [slot.close(), slot.close()];
-    Ok(writeln!(out, ", ends {ends:?}")?)
+    writeln!(out, ", ends {ends:?}").or_fail(rt);
 }
 
 // Writes what the recordings of a slot come to.
@@ -75,53 +77,54 @@ fn write_settled(
 }
 
 // Writes what a slot of the only instrument answers, if it is called, and what it comes to.
-fn write_slot(
+fn write_slot<R: Abort>(
     out: &mut String,
+    rt: &R,
     alloc: Global,
     plan: &Plan,
     recorders: &[Recorder],
     is_called: bool,
-) -> Result<(), Fail>
+)
     requires certified { IsTrue plan.now.is_certified }
     requires one { length plan.now.facts.instruments ≡ 1 }
     requires recorders { AreAllSeats plan.now recorders.now }
 {
-    let mut slot: Slot<Marked> = Slot::new(alloc, plan, 0, 0)?;
+    let mut slot: Slot<Marked> = Slot::new(alloc, plan, 0, 0).or_fail(rt);
     if is_called {
-        write_calls(out, alloc, &mut slot, plan.facts(0))?;
+        write_calls(out, rt, alloc, &mut slot, plan.facts(0));
     }
-    Ok(write_settled(out, alloc, plan, &slot, recorders)?)
+    write_settled(out, alloc, plan, &slot, recorders).or_fail(rt);
 }
 
 // Writes the same for the seats of a plan that are told of nothing.
 #[tactic(auto, using(crate::proofs::SeatLaws::one_seat))]
-fn write_untold<R: Wait>(
+fn write_untold<R: Abort + Wait>(
     out: &mut String,
     rt: &R,
     alloc: Global,
     plan: Plan,
     is_called: bool,
-) -> Result<(), Fail>
+)
     requires certified { IsTrue plan.is_certified }
     requires recorder { length plan.facts.contents.recorders ≡ 1 }
     requires one { length plan.facts.instruments ≡ 1 }
 {
     match start::<R, Marked, NoGate>(rt, alloc, plan, 0, 1, NoGate) {
         Ok((provider, recorders, _)) => {
-            write_slot(out, alloc, provider.plan(), &recorders, is_called)
+            write_slot(out, rt, alloc, provider.plan(), &recorders, is_called)
         }
-        Err((_, _, refused)) => Err(Fail::from(refused)),
+        Err((_, _, refused)) => Err(refused).or_fail(rt),
     }
 }
 
-fn told<R: Wait>(rt: &R, alloc: Global, is_called: bool) -> Result<String, Fail> {
-    let plan = certified_plan(alloc, HITS, MAIN)?;
+fn told<R: Abort + Wait>(rt: &R, alloc: Global, is_called: bool) -> String {
+    let plan = certified_plan(alloc, HITS, MAIN).or_fail(rt);
     if plan.catalogue().recorders().len() != 1 || plan.all_facts().len() != 1 {
-        return Err(Fail::from("not one recorder and one instrument"));
+        panic!(rt; "not one recorder and one instrument");
     }
     let mut out = String::new(alloc);
-    write_untold(&mut out, rt, alloc, plan, is_called)?;
-    Ok(out)
+    write_untold(&mut out, rt, alloc, plan, is_called);
+    out
 }
 
 // Whether the slot is called, and what is told.
@@ -138,10 +141,9 @@ seen 1 of 1, ends [Ok(()), Err(Closed)]
 ];
 
 #[test]
-fn a_slot_comes_to_what_seats_were_told(rt: HostRuntime) -> Result<(), Fail> {
+fn a_slot_comes_to_what_seats_were_told(rt: HostRuntime) {
     for (is_called, wanted) in SLOTS {
-        let told = told(&rt, rt.alloc(), *is_called)?;
+        let told = told(&rt, rt.alloc(), *is_called);
         assert_equal(&rt, told.as_str(), *wanted);
     }
-    Ok(())
 }

@@ -1,7 +1,6 @@
 //! When a clock stops.
-use crate::equal::assert_equal;
+use crate::asserted::assert_equal;
 use metric_export::{ClockTicker, StopFlag, Tick, Ticker};
-use std::test::Fail;
 
 // How many of the next four ticks are stops.
 fn stops<R, T: Ticker<R>>(rt: &R, ticker: &mut T) -> u32 {
@@ -18,7 +17,7 @@ fn stops<R, T: Ticker<R>>(rt: &R, ticker: &mut T) -> u32 {
 const CLOCKS: &[(u64, bool, u32)] = &[(0, false, 4), (3, false, 1), (9, false, 0), (9, true, 4)];
 
 #[test]
-fn a_clock_stops(rt: HostRuntime) -> Result<(), Fail> {
+fn a_clock_stops(rt: HostRuntime) {
     for (most, is_set, wanted) in CLOCKS {
         let flag = StopFlag::new();
         if *is_set {
@@ -27,5 +26,4 @@ fn a_clock_stops(rt: HostRuntime) -> Result<(), Fail> {
         let mut ticker = ClockTicker::new(1, *most, &flag);
         assert_equal(&rt, stops(&rt, &mut ticker), *wanted);
     }
-    Ok(())
 }

@@ -3,7 +3,7 @@ ghost use Rattle.std.specs.Prelude.{◌≡◌, [], None};
 ghost use Rattle.metric_export.specs.States.{GoesOn};
 ghost use Rattle.metric_export.specs.declared.state.ExporterState.TheVariants.{ShutDown};
 
-use crate::equal::assert_equal;
+use crate::asserted::assert_equal;
 use crate::periods::TICKS;
 use crate::seats::hit_once;
 use metric_export::{ExportFault, ExporterState, ListTicker, MetricExporter};
@@ -13,8 +13,8 @@ use metric_plan::Plan;
 use metric_provider::Collector;
 use metric_sdk::MeterProvider;
 use std::alloc::Global;
+use std::process::Abort;
 use std::sync::Wait;
-use std::test::Fail;
 
 // An exporter whose export of one number, counted from 1, fails. It keeps the time of each batch that it takes, with how
 // many points the first stream has.
@@ -87,16 +87,14 @@ fn end_of<R: Wait>(
 }
 
 // The end of a run of the delta reader, after a recording of 5.
-fn end_after_hit<R: Wait>(
+fn end_after_hit<R: Abort + Wait>(
     rt: &R,
     alloc: Global,
     fails_at: u64,
-) -> Result<PeriodicEnd<WaveringExporter>, Fail> {
-    let mut seats = hit_once(rt, alloc, 1)?;
-    match seats.collectors.pop() {
-        Some(reader) => Ok(end_of(rt, alloc, &seats.provider, reader, fails_at)),
-        None => Err(Fail::from("no reader")),
-    }
+) -> PeriodicEnd<WaveringExporter> {
+    let mut seats = hit_once(rt, alloc, 1);
+    let reader = seats.collectors.pop().expect(rt, "no reader");
+    end_of(rt, alloc, &seats.provider, reader, fails_at)
 }
 
 // Which export fails, how many are exported and how many failed, and which batches were taken.
@@ -108,11 +106,10 @@ const RUNS: &[(u64, (u64, u64), &[(u64, usize)])] = &[
 ];
 
 #[test]
-fn an_exporter_that_failed_goes_on(rt: HostRuntime) -> Result<(), Fail> {
+fn an_exporter_that_failed_goes_on(rt: HostRuntime) {
     for (fails_at, counts, taken) in RUNS {
-        let end = end_after_hit(&rt, rt.alloc(), *fails_at)?;
+        let end = end_after_hit(&rt, rt.alloc(), *fails_at);
         assert_equal(&rt, (end.exported, end.failed), *counts);
         assert_equal(&rt, end.exporter.taken.as_slice(), *taken);
     }
-    Ok(())
 }
