@@ -1,8 +1,9 @@
 //! Allowed combinations: which sets are among the rows, which rows stand twice, and what is left where keys are not kept.
+use crate::asserted::{OrFail, assert_equal, assert_true};
 use metric_base::{Copied, is_same};
 use metric_combinations::{CombinationRows, Combinations, permits, restrict};
-use std::alloc::{AllocError, Global};
-use std::test::Fail;
+use std::alloc::Global;
+use std::process::Abort;
 
 // How the rows of a table are made from their numbers.
 #[derive(Clone, Copy)]
@@ -74,21 +75,17 @@ const TABLES: &[(Shape, u16)] = &[
 ];
 
 // The combinations of the first rows of a shape, where none of these stands twice.
-fn combinations(
-    alloc: Global,
-    shape: Shape,
-    count: u16,
-) -> Result<Option<Combinations>, AllocError> {
+fn combinations<R: Abort>(rt: &R, alloc: Global, shape: Shape, count: u16) -> Option<Combinations> {
     let mut rows = CombinationRows::new(alloc);
     for n in 0..count {
-        if !rows.push(row_of(shape, n))? {
-            return Ok(None);
+        if !rows.push(row_of(shape, n)).or_fail(rt) {
+            return None;
         }
     }
     if rows.len() > 4096 {
-        return Ok(None);
+        return None;
     }
-    Ok(Some(rows.finish(alloc)?))
+    Some(rows.finish(alloc).or_fail(rt))
 }
 
 // Whether each row is told, and some sets beside rows as a look at all rows tells them.
@@ -116,14 +113,14 @@ fn is_told(all: &Combinations, set: [u16; 8]) -> bool {
 }
 
 #[test]
-fn sets_are_told_from_rows(rt: HostRuntime) -> Result<(), Fail> {
+fn sets_are_told_from_rows(rt: HostRuntime) {
     for (shape, count) in TABLES {
-        let all = combinations(rt.alloc(), *shape, *count)?.ok_or("a row stands twice")?;
-        assert_eq!(rt; all.rows().len(), usize::from(*count));
-        assert!(rt; are_told(&all));
-        assert!(rt; is_same(&all.copy(rt.alloc())?, &all));
+        let all = combinations(&rt, rt.alloc(), *shape, *count);
+        let all = all.expect(&rt, "a row stands twice");
+        assert_equal(&rt, all.rows().len(), usize::from(*count));
+        assert_true(&rt, are_told(&all));
+        assert_true(&rt, is_same(&all.copy(rt.alloc()).or_fail(&rt), &all));
     }
-    Ok(())
 }
 
 // Rows, and for each whether it was new.
@@ -143,26 +140,21 @@ const REPEATED: &[(&[[u16; 8]], &[bool])] = &[
 ];
 
 // Whether each row is told to be new or not, as it is due.
-fn are_repetitions_told(
-    alloc: Global,
-    rows: &[[u16; 8]],
-    new: &[bool],
-) -> Result<bool, AllocError> {
+fn are_repetitions_told<R: Abort>(rt: &R, alloc: Global, rows: &[[u16; 8]], new: &[bool]) -> bool {
     let mut read = CombinationRows::new(alloc);
     for (row, new) in rows.iter().zip(new) {
-        if read.push(*row)? != *new {
-            return Ok(false);
+        if read.push(*row).or_fail(rt) != *new {
+            return false;
         }
     }
-    Ok(true)
+    true
 }
 
 #[test]
-fn rows_that_stand_twice_are_told(rt: HostRuntime) -> Result<(), Fail> {
+fn rows_that_stand_twice_are_told(rt: HostRuntime) {
     for (rows, new) in REPEATED {
-        assert!(rt; are_repetitions_told(rt.alloc(), rows, new)?);
+        assert_true(&rt, are_repetitions_told(&rt, rt.alloc(), rows, new));
     }
-    Ok(())
 }
 
 // Flags of kept keys, and the restrictions of the rows [2, 1], [1, 2] and [1, 1] of two keys.
@@ -187,39 +179,39 @@ const KEPT: &[(&[bool], &[[u16; 8]])] = &[
 ];
 
 // The combinations of these rows.
-fn allowed(alloc: Global, rows: &[[u16; 8]]) -> Result<Combinations, AllocError> {
+fn allowed<R: Abort>(rt: &R, alloc: Global, rows: &[[u16; 8]]) -> Combinations {
     let mut read = CombinationRows::new(alloc);
     for row in rows {
-        let _new = read.push(*row)?;
+        let _new = read.push(*row).or_fail(rt);
     }
     if read.len() > 4096 {
         read = CombinationRows::new(alloc);
     }
-    read.finish(alloc)
+    read.finish(alloc).or_fail(rt)
 }
 
 #[test]
-fn restrictions_rise_and_are_listed_once(rt: HostRuntime) -> Result<(), Fail> {
+fn restrictions_rise_and_are_listed_once(rt: HostRuntime) {
     let rows = [
         [2, 1, 0, 0, 0, 0, 0, 0],
         [1, 2, 0, 0, 0, 0, 0, 0],
         [1, 1, 0, 0, 0, 0, 0, 0],
     ];
-    let all = allowed(rt.alloc(), &rows)?;
+    let all = allowed(&rt, rt.alloc(), &rows);
     for (kept, list) in KEPT {
-        assert_eq!(rt; all.restrictions(rt.alloc(), kept)?.as_slice(), *list);
-        assert_eq!(rt; restrict(kept, &rows[2]), list[0]);
+        let restrictions = all.restrictions(rt.alloc(), kept).or_fail(&rt);
+        assert_equal(&rt, restrictions.as_slice(), *list);
+        assert_equal(&rt, Some(restrict(kept, &rows[2])), list.first().copied());
     }
-    let none = allowed(rt.alloc(), &[])?;
-    assert!(rt; none.restrictions(rt.alloc(), &[])?.is_empty() && none != all);
-    Ok(())
+    let none = allowed(&rt, rt.alloc(), &[]);
+    let restrictions = none.restrictions(rt.alloc(), &[]).or_fail(&rt);
+    assert_true(&rt, restrictions.is_empty() && none != all);
 }
 
 #[test]
-fn sets_are_permitted_unless_rows_are_asked(rt: HostRuntime) -> Result<(), Fail> {
+fn sets_are_permitted_unless_rows_are_asked(rt: HostRuntime) {
     let set = [1, 2, 0, 0, 0, 0, 0, 0];
-    assert!(rt; permits(&None, &set));
-    assert!(rt; permits(&Some(allowed(rt.alloc(), &[set])?), &set));
-    assert!(rt; !permits(&Some(allowed(rt.alloc(), &[])?), &set));
-    Ok(())
+    assert_true(&rt, permits(&None, &set));
+    assert_true(&rt, permits(&Some(allowed(&rt, rt.alloc(), &[set])), &set));
+    assert_true(&rt, !permits(&Some(allowed(&rt, rt.alloc(), &[])), &set));
 }

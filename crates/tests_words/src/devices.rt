@@ -1,13 +1,13 @@
 //! Sources that are read and sinks that are written, whole and with failures.
-use crate::equal::assert_equal;
+use crate::asserted::{OrFail, assert_equal, assert_true};
 use metric_io::{
     Broken, CutSink, CutSource, MAX_BYTES, MAX_READS, ReadFault, Sink, StdSink, StdSource,
     read_all, write_all,
 };
-use std::alloc::{AllocError, Global};
+use std::alloc::Global;
 use std::io;
 use std::io::{ErrorKind, Read, Write};
-use std::test::Fail;
+use std::process::Abort;
 
 const ALPHABET: &[u8] = b"abcdefghijklmnopqrstuvwxyz";
 
@@ -92,8 +92,12 @@ fn is_read(alloc: Global, source: &mut CutSource<'_>, reading: &Reading) -> bool
 fn an_input_is_read_whole_or_up_to_a_failure(rt: HostRuntime) {
     for reading in READS {
         let mut source = source_of(reading);
-        assert!(rt; is_read(rt.alloc(), &mut source, reading));
-        assert!(rt; source.reads() == reading.reads && source.rest() == reading.rest);
+        assert_true(&rt, is_read(rt.alloc(), &mut source, reading));
+        assert_equal(
+            &rt,
+            (source.reads(), source.rest()),
+            (reading.reads, reading.rest),
+        );
     }
 }
 
@@ -107,18 +111,17 @@ fn an_input_has_no_more_bytes_than_the_limit(rt: HostRuntime) {
 }
 
 // Whether so many bytes are read one by one, or not, by as many reads as there may be.
-fn is_read_by_bytes(alloc: Global, count: usize, is_whole: bool) -> Result<bool, AllocError> {
-    let bytes = vec![in alloc; b'a'; count]?;
+fn is_read_by_bytes<R: Abort>(rt: &R, alloc: Global, count: usize, is_whole: bool) -> bool {
+    let bytes = vec![in alloc; b'a'; count].or_fail(rt);
     let mut source = CutSource::new(&bytes, None).in_pieces(1);
-    Ok(read_all(alloc, &mut source).is_ok() == is_whole && source.reads() == MAX_READS)
+    read_all(alloc, &mut source).is_ok() == is_whole && source.reads() == MAX_READS
 }
 
 #[test]
-fn the_read_that_finds_the_end_is_one_of_the_limit(rt: HostRuntime) -> Result<(), Fail> {
+fn the_read_that_finds_the_end_is_one_of_the_limit(rt: HostRuntime) {
     for (count, is_whole) in [(4_194_303, true), (4_194_304, false)] {
-        assert!(rt; is_read_by_bytes(rt.alloc(), count, is_whole)?);
+        assert_true(&rt, is_read_by_bytes(&rt, rt.alloc(), count, is_whole));
     }
-    Ok(())
 }
 
 // The room of a sink and the most of one write; what is taken of the alphabet.
@@ -143,7 +146,7 @@ fn a_sink_takes_all_or_fails_after_a_prefix(rt: HostRuntime) {
         let mut sink = CutSink::new(rt.alloc(), *room)
             .in_pieces(*most)
             .with_failing_flush();
-        assert!(rt; takes(&mut sink, taken));
+        assert_true(&rt, takes(&mut sink, taken));
     }
 }
 
@@ -215,15 +218,16 @@ fn written(alloc: Global, error: ErrorKind) -> Result<Vec<u8>, Broken> {
 }
 
 #[test]
-fn calls_that_a_signal_interrupts_are_made_again(rt: HostRuntime) -> Result<(), Fail> {
+fn calls_that_a_signal_interrupts_are_made_again(rt: HostRuntime) {
     let error = ErrorKind::Interrupted;
-    assert_equal(&rt, read(rt.alloc(), error)?.as_slice(), ALPHABET);
+    let told = read(rt.alloc(), error).or_fail(&rt);
+    assert_equal(&rt, told.as_slice(), ALPHABET);
+    let told = written(rt.alloc(), error).or_fail(&rt);
     assert_equal(
         &rt,
-        written(rt.alloc(), error)?.as_slice(),
+        told.as_slice(),
         b"abcdefghijklmnopqrstuvwxyz.".as_slice(),
     );
-    Ok(())
 }
 
 #[test]

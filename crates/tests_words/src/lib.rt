@@ -5,6 +5,8 @@
 #![tactic(auto)]
 
 #[cfg(test)]
+mod asserted;
+#[cfg(test)]
 mod base;
 #[cfg(test)]
 mod combinations;
@@ -12,8 +14,6 @@ mod combinations;
 mod command;
 #[cfg(test)]
 mod devices;
-#[cfg(test)]
-mod equal;
 #[cfg(test)]
 mod faults;
 #[cfg(test)]

@@ -1,24 +1,24 @@
 //! Names, units and values, with the printed faults.
-use crate::equal::assert_equal;
+use crate::asserted::{OrFail, assert_equal, assert_true};
 use metric_base::{Copied, Text, copy_all, is_same};
 use metric_names::{AttrValue, Name, NameFault, Unit, ValueRef, first_other_than_printable};
-use std::alloc::{AllocError, Global};
+use std::alloc::Global;
 use std::cmp::Ordering;
-use std::test::Fail;
+use std::process::Abort;
 
 // What the copy of a name is, or the fault as it is printed.
-fn as_name(alloc: Global, text: &str) -> Result<String, AllocError> {
+fn as_name<R: Abort>(rt: &R, alloc: Global, text: &str) -> String {
     match Name::parse(alloc, text) {
-        Ok(name) => String::from_str(alloc, name.copy(alloc)?.as_str()),
-        Err(fault) => fault.to_string(alloc),
+        Ok(name) => String::from_str(alloc, name.copy(alloc).or_fail(rt).as_str()).or_fail(rt),
+        Err(fault) => fault.to_string(alloc).or_fail(rt),
     }
 }
 
 // What the copy of a unit is, or the fault as it is printed.
-fn as_unit(alloc: Global, text: &str) -> Result<String, AllocError> {
+fn as_unit<R: Abort>(rt: &R, alloc: Global, text: &str) -> String {
     match Unit::parse(alloc, text) {
-        Ok(unit) => String::from_str(alloc, unit.copy(alloc)?.as_str()),
-        Err(fault) => fault.to_string(alloc),
+        Ok(unit) => String::from_str(alloc, unit.copy(alloc).or_fail(rt).as_str()).or_fail(rt),
+        Err(fault) => fault.to_string(alloc).or_fail(rt),
     }
 }
 
@@ -116,12 +116,11 @@ const WORDS: &[Word] = &[
 ];
 
 #[test]
-fn words_are_names_and_units_or_have_faults(rt: HostRuntime) -> Result<(), Fail> {
+fn words_are_names_and_units_or_have_faults(rt: HostRuntime) {
     for word in WORDS {
-        assert_equal(&rt, as_name(rt.alloc(), word.text)?.as_str(), word.name);
-        assert_equal(&rt, as_unit(rt.alloc(), word.text)?.as_str(), word.unit);
+        assert_equal(&rt, as_name(&rt, rt.alloc(), word.text).as_str(), word.name);
+        assert_equal(&rt, as_unit(&rt, rt.alloc(), word.text).as_str(), word.unit);
     }
-    Ok(())
 }
 
 #[test]
@@ -138,58 +137,60 @@ const ORDERS: &[(&str, &str, Ordering)] = &[
 ];
 
 // How two names compare, and whether they are the same.
-fn compared(alloc: Global, one: &str, other: &str) -> Result<(Ordering, bool), NameFault> {
-    let one = Name::parse(alloc, one)?;
-    let other = Name::parse(alloc, other)?;
-    Ok((one.fold_order(&other), one.same(&other)))
+fn compared<R: Abort>(rt: &R, alloc: Global, one: &str, other: &str) -> (Ordering, bool) {
+    let one = Name::parse(alloc, one).or_fail(rt);
+    let other = Name::parse(alloc, other).or_fail(rt);
+    (one.fold_order(&other), one.same(&other))
 }
 
 #[test]
-fn names_are_compared_without_case(rt: HostRuntime) -> Result<(), Fail> {
+fn names_are_compared_without_case(rt: HostRuntime) {
     for (one, other, order) in ORDERS {
         let is_same = *order == Ordering::Equal;
-        assert!(rt; compared(rt.alloc(), one, other)? == (*order, is_same));
+        assert_equal(
+            &rt,
+            compared(&rt, rt.alloc(), one, other),
+            (*order, is_same),
+        );
     }
-    Ok(())
 }
 
 /// The value that a borrowed one is.
-pub(crate) fn owned(alloc: Global, value: ValueRef<'_>) -> Result<AttrValue, AllocError> {
+pub(crate) fn owned<R: Abort>(rt: &R, alloc: Global, value: ValueRef<'_>) -> AttrValue {
     match value {
-        ValueRef::Text(text) => Ok(AttrValue::Text(Text::new(alloc, text)?)),
-        ValueRef::Whole(number) => Ok(AttrValue::Whole(number)),
-        ValueRef::Flag(flag) => Ok(AttrValue::Flag(flag)),
+        ValueRef::Text(text) => AttrValue::Text(Text::new(alloc, text).or_fail(rt)),
+        ValueRef::Whole(number) => AttrValue::Whole(number),
+        ValueRef::Flag(flag) => AttrValue::Flag(flag),
     }
 }
 
 // Whether the copy of a value is the value, by each way to compare them.
-fn is_copied(alloc: Global, value: ValueRef<'_>) -> Result<bool, AllocError> {
-    let own = owned(alloc, value)?;
-    let copy = own.copy(alloc)?;
-    Ok(is_same(&copy, &own) && value.is(&copy) && copy.as_ref().is(&own))
+fn is_copied<R: Abort>(rt: &R, alloc: Global, value: ValueRef<'_>) -> bool {
+    let own = owned(rt, alloc, value);
+    let copy = own.copy(alloc).or_fail(rt);
+    is_same(&copy, &own) && value.is(&copy) && copy.as_ref().is(&own)
 }
 
 // Whether the copy of a list of values is the list.
-fn are_copied(alloc: Global, values: &[ValueRef<'_>]) -> Result<bool, AllocError> {
+fn are_copied<R: Abort>(rt: &R, alloc: Global, values: &[ValueRef<'_>]) -> bool {
     let mut own = Vec::new(alloc);
     for value in values {
-        own.push(owned(alloc, *value)?)?;
+        own.push(owned(rt, alloc, *value)).or_fail(rt);
     }
-    Ok(copy_all(alloc, own.as_slice())?.as_slice() == own.as_slice())
+    copy_all(alloc, own.as_slice()).or_fail(rt).as_slice() == own.as_slice()
 }
 
 #[test]
-fn values_are_copied(rt: HostRuntime) -> Result<(), Fail> {
+fn values_are_copied(rt: HostRuntime) {
     let values = [
         ValueRef::Text("1"),
         ValueRef::Whole(1),
         ValueRef::Flag(true),
     ];
     for value in &values {
-        assert!(rt; is_copied(rt.alloc(), *value)?);
+        assert_true(&rt, is_copied(&rt, rt.alloc(), *value));
     }
-    assert!(rt; are_copied(rt.alloc(), &values)?);
-    Ok(())
+    assert_true(&rt, are_copied(&rt, rt.alloc(), &values));
 }
 
 // Values, each as it is printed for users and for programmers.
@@ -201,23 +202,22 @@ const PRINTED: [(ValueRef<'static>, &str, &str); 4] = [
 ];
 
 // A value as it is printed in both ways, borrowed or owned.
-fn printed(alloc: Global, value: ValueRef<'_>, is_owned: bool) -> Result<String, AllocError> {
+fn printed<R: Abort>(rt: &R, alloc: Global, value: ValueRef<'_>, is_owned: bool) -> String {
     if is_owned {
-        let own = owned(alloc, value)?;
-        format!(in alloc; "{own} {own:?}")
+        let own = owned(rt, alloc, value);
+        format!(in alloc; "{own} {own:?}").or_fail(rt)
     } else {
-        format!(in alloc; "{value} {value:?}")
+        format!(in alloc; "{value} {value:?}").or_fail(rt)
     }
 }
 
 #[test]
-fn values_print_as_in_rust(rt: HostRuntime) -> Result<(), Fail> {
+fn values_print_as_in_rust(rt: HostRuntime) {
     for (value, shown, told) in &PRINTED {
-        let due = format!(in rt.alloc(); "{shown} {told}")?;
+        let due = format!(in rt.alloc(); "{shown} {told}").or_fail(&rt);
         for is_owned in [false, true] {
-            let text = printed(rt.alloc(), *value, is_owned)?;
+            let text = printed(&rt, rt.alloc(), *value, is_owned);
             assert_equal(&rt, text.as_str(), due.as_str());
         }
     }
-    Ok(())
 }

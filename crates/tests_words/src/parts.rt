@@ -1,9 +1,9 @@
 //! Inputs divided into their parts, and the first lines with which no input goes on.
-use crate::equal::assert_equal;
+use crate::asserted::{OrFail, assert_equal};
 use metric_parts::{Needs, Parts, Script, one_reading, parts_of};
 use metric_text::lines;
 use std::alloc::Global;
-use std::test::Fail;
+use std::process::Abort;
 
 const MAKE: Needs = Needs {
     certificate: false,
@@ -26,35 +26,35 @@ const REPLAY: Needs = Needs {
 };
 
 // Each line of a script, and the number of the line after the last.
-fn write_script(out: &mut String, script: &Script<'_>) -> Result<(), Fail> {
+fn write_script<R: Abort>(out: &mut String, rt: &R, script: &Script<'_>) {
     for line in script.lines() {
-        out.push_str(str::from_utf8(line)?)?;
-        out.push('/')?;
+        out.push_str(str::from_utf8(line).or_fail(rt)).or_fail(rt);
+        out.push('/').or_fail(rt);
     }
     let end = script.line_number(script.lines().len());
-    Ok(write!(out, "{end}")?)
+    write!(out, "{end}").or_fail(rt);
 }
 
 // Each part as it was read, `-` where a certificate is not needed.
-fn shown(alloc: Global, parts: &Parts<'_>) -> Result<String, Fail> {
+fn shown<R: Abort>(rt: &R, alloc: Global, parts: &Parts<'_>) -> String {
     let catalogue = parts.catalogue.as_str();
     let config = parts.config.as_str();
     let certificate = match &parts.certificate {
         Some(text) => text.as_str(),
         None => "-",
     };
-    let mut out = format!(in alloc; "[{catalogue}][{config}][{certificate}]")?;
+    let mut out = format!(in alloc; "[{catalogue}][{config}][{certificate}]").or_fail(rt);
     if let Some(script) = &parts.script {
-        write_script(&mut out, script)?;
+        write_script(&mut out, rt, script);
     }
-    Ok(out)
+    out
 }
 
 // What is read of lines, or their fault as it is printed.
-fn told(alloc: Global, lines: &[&[u8]], needs: Needs) -> Result<String, Fail> {
+fn told<R: Abort>(rt: &R, alloc: Global, lines: &[&[u8]], needs: Needs) -> String {
     match parts_of(alloc, lines, needs) {
-        Ok(parts) => shown(alloc, &parts),
-        Err(fault) => Ok(fault.to_string(alloc)?),
+        Ok(parts) => shown(rt, alloc, &parts),
+        Err(fault) => fault.to_string(alloc).or_fail(rt),
     }
 }
 
@@ -241,13 +241,10 @@ const INPUTS: &[(&[u8], Needs, &str)] = &[
 ];
 
 #[test]
-fn parts_are_read_up_to_the_first_line_with_which_no_input_goes_on(
-    rt: HostRuntime,
-) -> Result<(), Fail> {
+fn parts_are_read_up_to_the_first_line_with_which_no_input_goes_on(rt: HostRuntime) {
     one_reading();
     for (input, needs, wanted) in INPUTS {
-        let lines = lines(rt.alloc(), input)?;
-        assert_equal(&rt, told(rt.alloc(), &lines, *needs)?.as_str(), *wanted);
+        let lines = lines(rt.alloc(), input).or_fail(&rt);
+        assert_equal(&rt, told(&rt, rt.alloc(), &lines, *needs).as_str(), *wanted);
     }
-    Ok(())
 }

@@ -1,5 +1,5 @@
 //! The fields of a table, read by each reader, with its faults.
-use crate::equal::assert_equal;
+use crate::asserted::{OrFail, assert_equal};
 use metric_table::{
     FieldFaults, all_integers_of, flag_or, format_up_to, integer_of, integers_of, list_of, member,
     only, optional_text, required, short_text, table_of, tables_field, text_field, text_of,
@@ -7,7 +7,7 @@ use metric_table::{
 };
 use std::alloc::{AllocError, Global};
 use std::fmt::Debug;
-use std::test::Fail;
+use std::process::Abort;
 use toml::{Table, Value};
 
 #[derive(Clone, Copy, Debug)]
@@ -39,8 +39,8 @@ one = {a = 1}
 ";
 
 // Promises nothing of the table, so that no test is proved by the parts of its text.
-fn table(alloc: Global) -> Result<Table, Fail> {
-    Ok(toml::table_from_str(alloc, FIELDS)?)
+fn table<R: Abort>(rt: &R, alloc: Global) -> Table {
+    toml::table_from_str(alloc, FIELDS).or_fail(rt)
 }
 
 // An answer as it is printed.
@@ -102,13 +102,12 @@ const OF_TABLE: &[(OfTable, &str)] = &[
 ];
 
 #[test]
-fn fields_are_read(rt: HostRuntime) -> Result<(), Fail> {
-    let table = table(rt.alloc())?;
+fn fields_are_read(rt: HostRuntime) {
+    let table = table(&rt, rt.alloc());
     for (reader, wanted) in OF_TABLE {
-        let told = told_of_table(rt.alloc(), &table, reader)?;
+        let told = told_of_table(rt.alloc(), &table, reader).or_fail(&rt);
         assert_equal(&rt, told.as_str(), *wanted);
     }
-    Ok(())
 }
 
 // A reader of a value; of a list, with the most values that it may have.
@@ -177,21 +176,19 @@ const OF_VALUES: &[(&str, OfValue, &str)] = &[
 ];
 
 #[test]
-fn values_are_read(rt: HostRuntime) -> Result<(), Fail> {
-    let table = table(rt.alloc())?;
+fn values_are_read(rt: HostRuntime) {
+    let table = table(&rt, rt.alloc());
     for (name, reader, wanted) in OF_VALUES {
-        let value = required(&table, name, &FAULTS)?;
-        let told = told_of_value(rt.alloc(), value, reader)?;
+        let value = required(&table, name, &FAULTS).or_fail(&rt);
+        let told = told_of_value(rt.alloc(), value, reader).or_fail(&rt);
         assert_equal(&rt, told.as_str(), *wanted);
     }
-    Ok(())
 }
 
 #[test]
-fn free_texts_have_at_most_1023_characters(rt: HostRuntime) -> Result<(), Fail> {
+fn free_texts_have_at_most_1023_characters(rt: HostRuntime) {
     for (count, is_short) in [(1023, true), (1024, false)] {
-        let text = "é".repeat(rt.alloc(), count)?;
+        let text = "é".repeat(rt.alloc(), count).or_fail(&rt);
         assert_equal(&rt, short_text(&text, &FAULTS).is_ok(), is_short);
     }
-    Ok(())
 }

@@ -1,5 +1,5 @@
 //! Spellings from outside, written and read back.
-use crate::equal::assert_equal;
+use crate::asserted::{OrFail, assert_equal, assert_true};
 use crate::names::owned;
 use metric_base::Text;
 use metric_names::{AttrValue, ValueRef};
@@ -8,9 +8,9 @@ use metric_text::{
     each_value_has_one_spelling, i64_at, i64_of, push_byte, push_joined, push_labelled, push_list,
     push_numbered, push_quoted, push_value, quoted_at, u32_at, u32_of, u64_of, value_at, word_at,
 };
-use std::alloc::{AllocError, Global};
+use std::alloc::Global;
+use std::process::Abort;
 use std::slice;
-use std::test::Fail;
 
 // Values, and how they are written.
 const VALUES: &[(ValueRef<'static>, &str)] = &[
@@ -26,11 +26,11 @@ const VALUES: &[(ValueRef<'static>, &str)] = &[
 ];
 
 // A value, and a space after it.
-fn written(alloc: Global, value: ValueRef<'_>) -> Result<Vec<u8>, AllocError> {
+fn written<R: Abort>(rt: &R, alloc: Global, value: ValueRef<'_>) -> Vec<u8> {
     let mut out = Vec::new(alloc);
-    push_value(&mut out, &owned(alloc, value)?)?;
-    push_byte(&mut out, b' ')?;
-    Ok(out)
+    push_value(&mut out, &owned(rt, alloc, value)).or_fail(rt);
+    push_byte(&mut out, b' ').or_fail(rt);
+    out
 }
 
 // Whether this value is read, and the space is left.
@@ -42,14 +42,13 @@ fn is_read(alloc: Global, bytes: &[u8], value: ValueRef<'_>) -> bool {
 }
 
 #[test]
-fn values_are_written_and_read_back(rt: HostRuntime) -> Result<(), Fail> {
+fn values_are_written_and_read_back(rt: HostRuntime) {
     each_value_has_one_spelling();
     for (value, spelled) in VALUES {
-        let bytes = written(rt.alloc(), *value)?;
+        let bytes = written(&rt, rt.alloc(), *value);
         assert_equal(&rt, bytes.strip_suffix(b" "), Some(spelled.as_bytes()));
-        assert!(rt; is_read(rt.alloc(), &bytes, *value));
+        assert_true(&rt, is_read(rt.alloc(), &bytes, *value));
     }
-    Ok(())
 }
 
 // What begins with no value.
@@ -73,8 +72,14 @@ const NO_VALUES: &[&[u8]] = &[
 #[test]
 fn other_values_are_refused(rt: HostRuntime) {
     for bytes in NO_VALUES {
-        assert!(rt; matches!(value_at(rt.alloc(), bytes), Err(SpellingFault::Bad)));
-        assert!(rt; matches!(quoted_at(rt.alloc(), bytes), Err(SpellingFault::Bad)));
+        assert_true(
+            &rt,
+            matches!(value_at(rt.alloc(), bytes), Err(SpellingFault::Bad)),
+        );
+        assert_true(
+            &rt,
+            matches!(quoted_at(rt.alloc(), bytes), Err(SpellingFault::Bad)),
+        );
     }
 }
 
@@ -157,36 +162,35 @@ fn words_are_read_one_after_the_other(rt: HostRuntime) {
     }
 }
 
-fn push_numbers(out: &mut Vec<u8>) -> Result<(), AllocError> {
-    push_joined(out, &[1u64, 20])?;
-    push_list(out, &[-1i64, 2])?;
-    push_numbered(out, " limit=", 2000)?;
-    push_labelled(out, " name=", "a\"b")
+fn push_numbers<R: Abort>(out: &mut Vec<u8>, rt: &R) {
+    push_joined(out, &[1u64, 20]).or_fail(rt);
+    push_list(out, &[-1i64, 2]).or_fail(rt);
+    push_numbered(out, " limit=", 2000).or_fail(rt);
+    push_labelled(out, " name=", "a\"b").or_fail(rt);
 }
 
-fn push_texts(out: &mut Vec<u8>, text: &Text) -> Result<(), AllocError> {
-    push_list(out, slice::from_ref(text))?;
-    push_quoted(out, text.as_str())
+fn push_texts<R: Abort>(out: &mut Vec<u8>, rt: &R, text: &Text) {
+    push_list(out, slice::from_ref(text)).or_fail(rt);
+    push_quoted(out, text.as_str()).or_fail(rt);
 }
 
-fn push_pairs(out: &mut Vec<u8>, value: &AttrValue) -> Result<(), AllocError> {
+fn push_pairs<R: Abort>(out: &mut Vec<u8>, rt: &R, value: &AttrValue) {
     let pair = Pair { key: "a", value };
-    push_joined(out, &[pair, pair])?;
-    push_list(out, slice::from_ref(value))
+    push_joined(out, &[pair, pair]).or_fail(rt);
+    push_list(out, slice::from_ref(value)).or_fail(rt);
 }
 
-fn lists(alloc: Global) -> Result<Vec<u8>, AllocError> {
+fn lists<R: Abort>(rt: &R, alloc: Global) -> Vec<u8> {
     let mut out = Vec::new(alloc);
-    push_numbers(&mut out)?;
-    push_texts(&mut out, &Text::new(alloc, "k")?)?;
-    push_pairs(&mut out, &AttrValue::Flag(true))?;
-    Ok(out)
+    push_numbers(&mut out, rt);
+    push_texts(&mut out, rt, &Text::new(alloc, "k").or_fail(rt));
+    push_pairs(&mut out, rt, &AttrValue::Flag(true));
+    out
 }
 
 #[test]
-fn lists_have_commas_between_and_labels_stand_first(rt: HostRuntime) -> Result<(), Fail> {
+fn lists_have_commas_between_and_labels_stand_first(rt: HostRuntime) {
     let wanted =
         b"1,20[-1,2] limit=2000 name=\"a\\\"b\"[\"k\"]\"k\"\"a\"=true,\"a\"=true[true]".as_slice();
-    assert_equal(&rt, lists(rt.alloc())?.as_slice(), wanted);
-    Ok(())
+    assert_equal(&rt, lists(&rt, rt.alloc()).as_slice(), wanted);
 }
