@@ -1,6 +1,6 @@
 //! Headrooms, remarks, explanations and positions.
+use crate::asserted::{OrFail, assert_equal};
 use crate::declared::{Declared, read_both};
-use crate::equal::assert_equal;
 use metric_advice::{
     explain_refusal, explain_unsafe, headrooms, lint, locate_in_catalogue, locate_in_config,
 };
@@ -9,7 +9,7 @@ use metric_contents::Attr;
 use metric_names::ValueRef;
 use metric_views::ConfigPlace;
 use std::alloc::{AllocError, Global};
-use std::test::Fail;
+use std::process::Abort;
 
 const JOBS: &str = r#"
 format = 1
@@ -72,27 +72,26 @@ const ROOMS: &[(&str, &str)] = &[
     ),
 ];
 
-fn rooms_of(alloc: Global, declared: &Declared) -> Result<String, AllocError> {
+fn rooms_of<R: Abort>(rt: &R, alloc: Global, declared: &Declared) -> String {
     let mut out = String::new(alloc);
-    let rooms = headrooms(alloc, &declared.catalogue, &declared.config)?;
+    let rooms = headrooms(alloc, &declared.catalogue, &declared.config).or_fail(rt);
     for room in rooms.as_slice() {
         let limit = room.limit;
-        writeln!(out, "{} {} {limit:?}", room.total, room.most)?;
+        writeln!(out, "{} {} {limit:?}", room.total, room.most).or_fail(rt);
     }
-    Ok(out)
+    out
 }
 
-fn told_rooms(alloc: Global, config: &str) -> Result<String, Fail> {
-    let declared = read_both(alloc, JOBS, config)?;
-    Ok(rooms_of(alloc, &declared)?)
+fn told_rooms<R: Abort>(rt: &R, alloc: Global, config: &str) -> String {
+    let declared = read_both(rt, alloc, JOBS, config);
+    rooms_of(rt, alloc, &declared)
 }
 
 #[test]
-fn headrooms_are_the_greatest_safe_totals(rt: HostRuntime) -> Result<(), Fail> {
+fn headrooms_are_the_greatest_safe_totals(rt: HostRuntime) {
     for (config, wanted) in ROOMS {
-        assert_equal(&rt, told_rooms(rt.alloc(), config)?.as_str(), *wanted);
+        assert_equal(&rt, told_rooms(&rt, rt.alloc(), config).as_str(), *wanted);
     }
-    Ok(())
 }
 
 // A config, and the remarks on it and the catalogue.
@@ -136,18 +135,18 @@ view 2 gives boundaries, but no stream of it is a histogram
     ),
 ];
 
-fn remarks_of(alloc: Global, declared: &Declared) -> Result<String, AllocError> {
+fn remarks_of<R: Abort>(rt: &R, alloc: Global, declared: &Declared) -> String {
     let mut out = String::new(alloc);
-    let remarks = lint(alloc, &declared.catalogue, &declared.config)?;
+    let remarks = lint(alloc, &declared.catalogue, &declared.config).or_fail(rt);
     for remark in remarks.as_slice() {
-        writeln!(out, "{remark}")?;
+        writeln!(out, "{remark}").or_fail(rt);
     }
-    Ok(out)
+    out
 }
 
-fn told_remarks(alloc: Global, catalogue: &str, config: &str) -> Result<String, Fail> {
-    let declared = read_both(alloc, catalogue, config)?;
-    Ok(remarks_of(alloc, &declared)?)
+fn told_remarks<R: Abort>(rt: &R, alloc: Global, catalogue: &str, config: &str) -> String {
+    let declared = read_both(rt, alloc, catalogue, config);
+    remarks_of(rt, alloc, &declared)
 }
 
 const IDLE: &str = "format = 1
@@ -167,17 +166,13 @@ there is no reader
 ";
 
 #[test]
-fn each_remark_comes_up_and_a_clean_pair_has_none(rt: HostRuntime) -> Result<(), Fail> {
+fn each_remark_comes_up_and_a_clean_pair_has_none(rt: HostRuntime) {
     for (config, wanted) in REMARKS {
-        assert_equal(
-            &rt,
-            told_remarks(rt.alloc(), JOBS, config)?.as_str(),
-            *wanted,
-        );
+        let told = told_remarks(&rt, rt.alloc(), JOBS, config);
+        assert_equal(&rt, told.as_str(), *wanted);
     }
-    let idle = told_remarks(rt.alloc(), IDLE, "format = 1")?;
+    let idle = told_remarks(&rt, rt.alloc(), IDLE, "format = 1");
     assert_equal(&rt, idle.as_str(), IDLE_REMARKS);
-    Ok(())
 }
 
 const BUSY: &str = "format = 1
@@ -217,26 +212,22 @@ const UNSAFE: &[(&str, &str, &str)] = &[
     ),
 ];
 
-fn unsafe_part(alloc: Global, declared: &Declared) -> Result<String, AllocError> {
-    let part = explain_unsafe(alloc, &declared.catalogue, &declared.config)?;
-    format!(in alloc; "{part:?}")
+fn unsafe_part<R: Abort>(rt: &R, alloc: Global, declared: &Declared) -> String {
+    let part = explain_unsafe(alloc, &declared.catalogue, &declared.config).or_fail(rt);
+    format!(in alloc; "{part:?}").or_fail(rt)
 }
 
-fn told_unsafe(alloc: Global, catalogue: &str, config: &str) -> Result<String, Fail> {
-    let declared = read_both(alloc, catalogue, config)?;
-    Ok(unsafe_part(alloc, &declared)?)
+fn told_unsafe<R: Abort>(rt: &R, alloc: Global, catalogue: &str, config: &str) -> String {
+    let declared = read_both(rt, alloc, catalogue, config);
+    unsafe_part(rt, alloc, &declared)
 }
 
 #[test]
-fn what_is_not_safe_is_explained(rt: HostRuntime) -> Result<(), Fail> {
+fn what_is_not_safe_is_explained(rt: HostRuntime) {
     for (catalogue, config, wanted) in UNSAFE {
-        assert_equal(
-            &rt,
-            told_unsafe(rt.alloc(), catalogue, config)?.as_str(),
-            *wanted,
-        );
+        let told = told_unsafe(&rt, rt.alloc(), catalogue, config);
+        assert_equal(&rt, told.as_str(), *wanted);
     }
-    Ok(())
 }
 
 const PRINT: Attr<'static> = Attr {
@@ -353,18 +344,14 @@ fn explained(
 }
 
 #[test]
-fn refusals_are_explained(rt: HostRuntime) -> Result<(), Fail> {
+fn refusals_are_explained(rt: HostRuntime) {
     for (text, cases) in [(JOBS, EXPLAINED), (PAIRS, PAIRED)] {
-        let catalogue = catalogue_of(rt.alloc(), text)?;
+        let catalogue = catalogue_of(rt.alloc(), text).or_fail(&rt);
         for case in cases {
-            assert_equal(
-                &rt,
-                explained(rt.alloc(), &catalogue, case)?.as_str(),
-                case.3,
-            );
+            let told = explained(rt.alloc(), &catalogue, case).or_fail(&rt);
+            assert_equal(&rt, told.as_str(), case.3);
         }
     }
-    Ok(())
 }
 
 const SCATTERED: &str = "format = 1
@@ -413,25 +400,24 @@ const PLACES: &[(CataloguePlace, &str)] = &[
     (CataloguePlace::Recorder(1), "None"),
 ];
 
-fn catalogue_place(alloc: Global, text: &str, place: CataloguePlace) -> Result<String, AllocError> {
-    let found = locate_in_catalogue(alloc, text, place)?;
-    format!(in alloc; "{found:?}")
+fn catalogue_place<R: Abort>(rt: &R, alloc: Global, text: &str, place: CataloguePlace) -> String {
+    let found = locate_in_catalogue(alloc, text, place).or_fail(rt);
+    format!(in alloc; "{found:?}").or_fail(rt)
 }
 
-fn config_place(alloc: Global, text: &str, place: ConfigPlace) -> Result<String, AllocError> {
-    let found = locate_in_config(alloc, text, place)?;
-    format!(in alloc; "{found:?}")
+fn config_place<R: Abort>(rt: &R, alloc: Global, text: &str, place: ConfigPlace) -> String {
+    let found = locate_in_config(alloc, text, place).or_fail(rt);
+    format!(in alloc; "{found:?}").or_fail(rt)
 }
 
 #[test]
-fn tables_are_located(rt: HostRuntime) -> Result<(), Fail> {
+fn tables_are_located(rt: HostRuntime) {
     for (place, wanted) in PLACES {
-        let told = catalogue_place(rt.alloc(), SCATTERED, *place)?;
+        let told = catalogue_place(&rt, rt.alloc(), SCATTERED, *place);
         assert_equal(&rt, told.as_str(), *wanted);
     }
-    let one_line = catalogue_place(rt.alloc(), IDLE, CataloguePlace::Instrument(0))?;
+    let one_line = catalogue_place(&rt, rt.alloc(), IDLE, CataloguePlace::Instrument(0));
     assert_equal(&rt, one_line.as_str(), "None");
-    Ok(())
 }
 
 // A place of a config, and where it stands.
@@ -449,10 +435,9 @@ const CONFIG_PLACES: &[(ConfigPlace, &str)] = &[
 ];
 
 #[test]
-fn tables_of_configs_are_located(rt: HostRuntime) -> Result<(), Fail> {
+fn tables_of_configs_are_located(rt: HostRuntime) {
     for (place, wanted) in CONFIG_PLACES {
-        let told = config_place(rt.alloc(), SCATTERED, *place)?;
+        let told = config_place(&rt, rt.alloc(), SCATTERED, *place);
         assert_equal(&rt, told.as_str(), *wanted);
     }
-    Ok(())
 }

@@ -1,11 +1,11 @@
 //! A catalogue in which every field is given, and faults with their places.
-use crate::equal::assert_equal;
+use crate::asserted::{OrFail, assert_equal, assert_true};
 use crate::words::write_joined;
 use metric_catalogue::{Catalogue, CatalogueFault};
 use metric_contents::{Instrument, Key, Meter, Recorder, Values};
 use metric_names::AttrValue;
 use std::alloc::{AllocError, Global};
-use std::test::Fail;
+use std::process::Abort;
 
 pub(crate) const SHOP: &str = r#"
 format = 1
@@ -93,89 +93,89 @@ Gate 1:1 0:2 2:3
 (7, 3, 0, 0)
 ";
 
-fn write_value(out: &mut String, value: &AttrValue) -> Result<(), AllocError> {
+fn write_value<R: Abort>(out: &mut String, rt: &R, value: &AttrValue) {
     match value {
-        AttrValue::Text(text) => write_joined(out, &[" '", text.as_str(), "'"]),
-        AttrValue::Whole(number) => write!(out, " {number}"),
-        AttrValue::Flag(flag) => write!(out, " {flag}"),
+        AttrValue::Text(text) => write_joined(out, rt, &[" '", text.as_str(), "'"]),
+        AttrValue::Whole(number) => write!(out, " {number}").or_fail(rt),
+        AttrValue::Flag(flag) => write!(out, " {flag}").or_fail(rt),
     }
 }
 
 // Each value with its number.
-fn write_values(out: &mut String, values: &Values) -> Result<(), AllocError> {
+fn write_values<R: Abort>(out: &mut String, rt: &R, values: &Values) {
     for value in values.as_slice() {
-        write_value(out, value)?;
+        write_value(out, rt, value);
         if let Some(number) = values.number_of(value.as_ref()) {
-            write!(out, "#{number}")?;
+            write!(out, "#{number}").or_fail(rt);
         }
     }
-    out.push_str("\n")
+    out.push_str("\n").or_fail(rt);
 }
 
-fn write_keys(out: &mut String, keys: &[Key]) -> Result<(), AllocError> {
+fn write_keys<R: Abort>(out: &mut String, rt: &R, keys: &[Key]) {
     for key in keys {
         let need = if key.optional { "optional" } else { "needed" };
-        write_joined(out, &[" ", key.name.as_str(), " ", need])?;
-        write_values(out, &key.values)?;
+        write_joined(out, rt, &[" ", key.name.as_str(), " ", need]);
+        write_values(out, rt, &key.values);
     }
-    Ok(())
 }
 
-fn write_names(out: &mut String, instrument: &Instrument) -> Result<(), AllocError> {
+fn write_names<R: Abort>(out: &mut String, rt: &R, instrument: &Instrument) {
     let kind = (instrument.meter, instrument.kind);
-    write!(out, "{kind:?} ")?;
+    write!(out, "{kind:?} ").or_fail(rt);
     let name = instrument.name.get().as_str();
     let unit = instrument.unit.get().as_str();
     let description = instrument.description.get().as_str();
-    write_joined(out, &[name, "|", unit, "|", description, "|"])
+    write_joined(out, rt, &[name, "|", unit, "|", description, "|"]);
 }
 
-fn write_range(out: &mut String, instrument: &Instrument) -> Result<(), AllocError> {
+fn write_range<R: Abort>(out: &mut String, rt: &R, instrument: &Instrument) {
     let range = (instrument.lo, instrument.hi);
-    write!(out, " {range:?}")?;
+    write!(out, " {range:?}").or_fail(rt);
     match &instrument.advice {
         Some(advice) => {
             let advice = advice.get().as_slice();
-            writeln!(out, " {advice:?}")
+            writeln!(out, " {advice:?}").or_fail(rt)
         }
-        None => out.push_str(" -\n"),
+        None => out.push_str(" -\n").or_fail(rt),
     }
 }
 
-fn write_instruments(out: &mut String, instruments: &[Instrument]) -> Result<(), AllocError> {
+fn write_instruments<R: Abort>(out: &mut String, rt: &R, instruments: &[Instrument]) {
     for instrument in instruments {
-        write_names(out, instrument)?;
-        write_range(out, instrument)?;
-        write_keys(out, instrument.keys.as_slice())?;
+        write_names(out, rt, instrument);
+        write_range(out, rt, instrument);
+        write_keys(out, rt, instrument.keys.as_slice());
     }
-    Ok(())
 }
 
-fn write_recorder(out: &mut String, recorder: &Recorder) -> Result<(), AllocError> {
-    out.push_str(recorder.name.as_str())?;
+fn write_recorder<R: Abort>(out: &mut String, rt: &R, recorder: &Recorder) {
+    out.push_str(recorder.name.as_str()).or_fail(rt);
     for budget in recorder.budgets.as_slice() {
         let instrument = budget.instrument;
         let amount = budget.amount;
-        write!(out, " {instrument}:{amount}")?;
+        write!(out, " {instrument}:{amount}").or_fail(rt);
     }
-    out.push_str("\n")
+    out.push_str("\n").or_fail(rt);
 }
 
-fn write_recorders(out: &mut String, recorders: &[Recorder]) -> Result<(), AllocError> {
+fn write_recorders<R: Abort>(out: &mut String, rt: &R, recorders: &[Recorder]) {
     for recorder in recorders {
-        write_recorder(out, recorder)?;
+        write_recorder(out, rt, recorder);
     }
-    Ok(())
 }
 
-fn write_meters(out: &mut String, meters: &[Meter]) -> Result<(), AllocError> {
+fn write_meters<R: Abort>(out: &mut String, rt: &R, meters: &[Meter]) {
     for meter in meters {
         let name = meter.name.as_str();
         let version = meter.version.as_str();
         let schema_url = meter.schema_url.as_str();
-        write_joined(out, &["meter ", name, "|", version, "|", schema_url, "\n"])?;
+        write_joined(
+            out,
+            rt,
+            &["meter ", name, "|", version, "|", schema_url, "\n"],
+        );
     }
-    Ok(())
 }
 
 // The budgets of some recorders on some instruments, of which the last two are not declared.
@@ -189,25 +189,25 @@ fn write_budgets(out: &mut String, catalogue: &Catalogue) -> Result<(), AllocErr
     writeln!(out, "{budgets:?}")
 }
 
-fn write_catalogue(out: &mut String, catalogue: &Catalogue) -> Result<(), AllocError> {
-    write_meters(out, catalogue.meters())?;
-    write_instruments(out, catalogue.instruments())?;
-    write_recorders(out, catalogue.recorders())?;
-    write_budgets(out, catalogue)
+fn write_catalogue<R: Abort>(out: &mut String, rt: &R, catalogue: &Catalogue) {
+    write_meters(out, rt, catalogue.meters());
+    write_instruments(out, rt, catalogue.instruments());
+    write_recorders(out, rt, catalogue.recorders());
+    write_budgets(out, catalogue).or_fail(rt);
 }
 
 // All that a catalogue declares.
-fn shown(alloc: Global, catalogue: &Catalogue) -> Result<String, AllocError> {
+fn shown<R: Abort>(rt: &R, alloc: Global, catalogue: &Catalogue) -> String {
     let mut out = String::new(alloc);
-    write_catalogue(&mut out, catalogue)?;
-    Ok(out)
+    write_catalogue(&mut out, rt, catalogue);
+    out
 }
 
 // The same of the catalogue that a text is, or its fault as it is printed.
-pub(crate) fn told(alloc: Global, text: &str) -> Result<String, AllocError> {
+pub(crate) fn told<R: Abort>(rt: &R, alloc: Global, text: &str) -> String {
     match Catalogue::read(alloc, text) {
-        Ok(catalogue) => shown(alloc, &catalogue),
-        Err(fault) => fault.to_string(alloc),
+        Ok(catalogue) => shown(rt, alloc, &catalogue),
+        Err(fault) => fault.to_string(alloc).or_fail(rt),
     }
 }
 
@@ -294,16 +294,15 @@ const TOLD: &[(&str, &str)] = &[
 ];
 
 #[test]
-fn every_field_is_read_or_has_its_fault(rt: HostRuntime) -> Result<(), Fail> {
+fn every_field_is_read_or_has_its_fault(rt: HostRuntime) {
     for (text, wanted) in TOLD {
-        assert_equal(&rt, told(rt.alloc(), text)?.as_str(), *wanted);
+        assert_equal(&rt, told(&rt, rt.alloc(), text).as_str(), *wanted);
     }
-    Ok(())
 }
 
 // With each allocation refused in turn, as with none, this passes.
 #[test]
 fn a_refused_allocation_is_a_fault_of_memory(rt: HostRuntime) {
     let read = Catalogue::read(rt.alloc(), SHOP);
-    assert!(rt; matches!(&read, Ok(_) | Err(CatalogueFault::Memory)));
+    assert_true(&rt, matches!(&read, Ok(_) | Err(CatalogueFault::Memory)));
 }

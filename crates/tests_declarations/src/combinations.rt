@@ -1,12 +1,12 @@
 //! The allowed combinations of an instrument: their rows, the faults of these, and the recordings that they refuse.
+use crate::asserted::{OrFail, assert_equal, assert_true};
 use crate::encoding::are_encoded;
-use crate::equal::assert_equal;
 use crate::words::write_joined;
 use metric_catalogue::{Catalogue, CatalogueFault};
 use metric_contents::{Attr, Instrument, Refusal, SetKey};
 use metric_names::ValueRef;
 use std::alloc::{AllocError, Global};
-use std::test::Fail;
+use std::process::Abort;
 
 const BEFORE: &str = "
 [[meter]]
@@ -41,29 +41,30 @@ fn write_rows(out: &mut String, instrument: &Instrument) -> Result<(), AllocErro
 }
 
 // The rows of each instrument.
-fn rows(alloc: Global, catalogue: &Catalogue) -> Result<String, AllocError> {
+fn rows<R: Abort>(rt: &R, alloc: Global, catalogue: &Catalogue) -> String {
     let mut out = String::new(alloc);
     for instrument in catalogue.instruments() {
-        write_rows(&mut out, instrument)?;
+        write_rows(&mut out, instrument).or_fail(rt);
     }
-    Ok(out)
+    out
 }
 
-fn told(alloc: Global, text: &str) -> Result<String, AllocError> {
+fn told<R: Abort>(rt: &R, alloc: Global, text: &str) -> String {
     match Catalogue::read(alloc, text) {
-        Ok(catalogue) => rows(alloc, &catalogue),
-        Err(fault) => fault.to_string(alloc),
+        Ok(catalogue) => rows(rt, alloc, &catalogue),
+        Err(fault) => fault.to_string(alloc).or_fail(rt),
     }
 }
 
 // A second instrument with these fields, and then the keys and perhaps more of them.
-fn told_with(alloc: Global, format: &str, fields: &str, more: &str) -> Result<String, AllocError> {
+fn told_with<R: Abort>(rt: &R, alloc: Global, format: &str, fields: &str, more: &str) -> String {
     let mut text = String::new(alloc);
     write_joined(
         &mut text,
+        rt,
         &["format = ", format, BEFORE, fields, KEYS, more],
-    )?;
-    told(alloc, text.as_str())
+    );
+    told(rt, alloc, text.as_str())
 }
 
 const ONE_MORE: &str = "[[meter.instrument.key]]\nname = 'a'\nvalues = [1]";
@@ -160,31 +161,29 @@ const TOLD: &[(&str, &str, &str, &str)] = &[
 ];
 
 #[test]
-fn rows_are_read_or_have_their_fault(rt: HostRuntime) -> Result<(), Fail> {
+fn rows_are_read_or_have_their_fault(rt: HostRuntime) {
     for (format, fields, more, wanted) in TOLD {
-        let told = told_with(rt.alloc(), format, fields, more)?;
+        let told = told_with(&rt, rt.alloc(), format, fields, more);
         assert_equal(&rt, told.as_str(), *wanted);
     }
-    Ok(())
 }
 
 // So many rows that are none.
-fn told_of_many(alloc: Global, count: usize) -> Result<String, AllocError> {
-    let rows = "0, ".repeat(alloc, count)?;
+fn told_of_many<R: Abort>(rt: &R, alloc: Global, count: usize) -> String {
+    let rows = "0, ".repeat(alloc, count).or_fail(rt);
     let mut fields = String::new(alloc);
-    write_joined(&mut fields, &["name = 'c'\nallowed = [", &rows, "]"])?;
-    told_with(alloc, "2", fields.as_str(), "")
+    write_joined(&mut fields, rt, &["name = 'c'\nallowed = [", &rows, "]"]);
+    told_with(rt, alloc, "2", fields.as_str(), "")
 }
 
 #[test]
-fn rows_are_at_most_4096(rt: HostRuntime) -> Result<(), Fail> {
+fn rows_are_at_most_4096(rt: HostRuntime) {
     for (count, wanted) in [
         (4096, "3 WrongKind at instrument 1"),
         (4097, "17 TooMany at instrument 1"),
     ] {
-        assert_equal(&rt, told_of_many(rt.alloc(), count)?.as_str(), wanted);
+        assert_equal(&rt, told_of_many(&rt, rt.alloc(), count).as_str(), wanted);
     }
-    Ok(())
 }
 
 const PAIRS: &str = "
@@ -247,18 +246,20 @@ const ENCODED: &[(u32, &[Attr<'static>], Result<SetKey, Refusal>)] = &[
 ];
 
 #[test]
-fn a_combination_outside_the_list_is_refused(rt: HostRuntime) -> Result<(), Fail> {
-    let pairs = pairs(rt.alloc())?;
+fn a_combination_outside_the_list_is_refused(rt: HostRuntime) {
+    let pairs = pairs(rt.alloc()).or_fail(&rt);
     assert_equal(&rt, pairs.format(), 2);
     for (instrument, attrs, wanted) in ENCODED {
-        assert!(rt; are_encoded(rt.alloc(), &pairs, *instrument, attrs, *wanted)?);
+        assert_true(
+            &rt,
+            are_encoded(&rt, rt.alloc(), &pairs, *instrument, attrs, *wanted),
+        );
     }
-    Ok(())
 }
 
 // With each allocation refused in turn, as with none, this passes.
 #[test]
 fn a_refused_allocation_is_a_fault_of_memory(rt: HostRuntime) {
     let read = Catalogue::read(rt.alloc(), PAIRS);
-    assert!(rt; matches!(&read, Ok(_) | Err(CatalogueFault::Memory)));
+    assert_true(&rt, matches!(&read, Ok(_) | Err(CatalogueFault::Memory)));
 }

@@ -1,11 +1,11 @@
 //! A config in which every field is given, and faults with their places.
-use crate::equal::assert_equal;
+use crate::asserted::{OrFail, assert_equal};
 use crate::words::{aggregation_word, temporality_word, write_joined};
 use metric_base::{Few, Text};
 use metric_contents::Kind;
 use metric_views::{Config, Criteria, Reader, Settings, View};
 use std::alloc::{AllocError, Global};
-use std::test::Fail;
+use std::process::Abort;
 
 pub(crate) const FULL: &str = r#"
 format = 1
@@ -94,24 +94,22 @@ const KINDS: &[Kind] = &[
 ];
 
 // What a reader says of each kind.
-fn write_kinds(out: &mut String, reader: &Reader) -> Result<(), AllocError> {
+fn write_kinds<R: Abort>(out: &mut String, rt: &R, reader: &Reader) {
     for kind in KINDS {
         let temporality = temporality_word(reader.temporality.of(*kind));
         let aggregation = aggregation_word(reader.aggregation.of(*kind));
         let limit = reader.limit.of(*kind);
-        write_joined(out, &[" / ", temporality, " ", aggregation])?;
-        write!(out, " {limit}")?;
+        write_joined(out, rt, &[" / ", temporality, " ", aggregation]);
+        write!(out, " {limit}").or_fail(rt);
     }
-    Ok(())
 }
 
-fn write_readers(out: &mut String, readers: &[Reader]) -> Result<(), AllocError> {
+fn write_readers<R: Abort>(out: &mut String, rt: &R, readers: &[Reader]) {
     for reader in readers {
-        out.push_str(reader.name.as_str())?;
-        write_kinds(out, reader)?;
-        out.push_str("\n")?;
+        out.push_str(reader.name.as_str()).or_fail(rt);
+        write_kinds(out, rt, reader);
+        out.push_str("\n").or_fail(rt);
     }
-    Ok(())
 }
 
 // A text that a view may give.
@@ -131,39 +129,35 @@ fn write_selection(out: &mut String, criteria: &Criteria) -> Result<(), AllocErr
     write!(out, "of {name} {kind:?} ")
 }
 
-fn write_criteria(out: &mut String, criteria: &Criteria) -> Result<(), AllocError> {
-    write_selection(out, criteria)?;
+fn write_criteria<R: Abort>(out: &mut String, rt: &R, criteria: &Criteria) {
+    write_selection(out, criteria).or_fail(rt);
     let unit = word_of(&criteria.instrument_unit);
     let meter = word_of(&criteria.meter_name);
     let version = word_of(&criteria.meter_version);
     let schema_url = word_of(&criteria.meter_schema_url);
     write_joined(
         out,
+        rt,
         &[unit, "|", meter, "|", version, "|", schema_url, "|\n"],
-    )
+    );
 }
 
-fn write_keys(out: &mut String, keys: &[Text]) -> Result<(), AllocError> {
+fn write_keys<R: Abort>(out: &mut String, rt: &R, keys: &[Text]) {
     for key in keys {
-        write_joined(out, &[" '", key.as_str(), "'"])?;
+        write_joined(out, rt, &[" '", key.as_str(), "'"]);
     }
-    Ok(())
 }
 
 // A word, and the keys that a view may give.
-fn write_given(
-    out: &mut String,
-    word: &str,
-    keys: &Option<Few<Text, 64>>,
-) -> Result<(), AllocError> {
-    out.push_str(word)?;
+fn write_given<R: Abort>(out: &mut String, rt: &R, word: &str, keys: &Option<Few<Text, 64>>) {
+    out.push_str(word).or_fail(rt);
     match keys {
-        Some(keys) => write_keys(out, keys.as_slice()),
-        None => out.push_str(" -"),
+        Some(keys) => write_keys(out, rt, keys.as_slice()),
+        None => out.push_str(" -").or_fail(rt),
     }
 }
 
-fn write_names(out: &mut String, settings: &Settings) -> Result<(), AllocError> {
+fn write_names<R: Abort>(out: &mut String, rt: &R, settings: &Settings) {
     let name = match &settings.stream_name {
         Some(name) => name.get().as_str(),
         None => "-",
@@ -172,54 +166,53 @@ fn write_names(out: &mut String, settings: &Settings) -> Result<(), AllocError> 
         Some(description) => description.get().as_str(),
         None => "-",
     };
-    write_joined(out, &[" ", name, "|", description, "| "])
+    write_joined(out, rt, &[" ", name, "|", description, "| "]);
 }
 
-fn write_aggregation(out: &mut String, settings: &Settings) -> Result<(), AllocError> {
+fn write_aggregation<R: Abort>(out: &mut String, rt: &R, settings: &Settings) {
     let aggregation = match settings.aggregation {
         Some(aggregation) => aggregation_word(aggregation),
         None => "-",
     };
-    out.push_str(aggregation)?;
+    out.push_str(aggregation).or_fail(rt);
     match &settings.boundaries {
         Some(boundaries) => {
             let boundaries = boundaries.get().as_slice();
-            write!(out, " {boundaries:?}")
+            write!(out, " {boundaries:?}").or_fail(rt)
         }
-        None => out.push_str(" -"),
+        None => out.push_str(" -").or_fail(rt),
     }
 }
 
-fn write_settings(out: &mut String, settings: &Settings) -> Result<(), AllocError> {
+fn write_settings<R: Abort>(out: &mut String, rt: &R, settings: &Settings) {
     let limit = settings.limit;
-    write_names(out, settings)?;
-    write_aggregation(out, settings)?;
-    write_given(out, " keep", &settings.keep)?;
-    write_given(out, " exclude", &settings.exclude)?;
-    writeln!(out, " {limit:?}")
+    write_names(out, rt, settings);
+    write_aggregation(out, rt, settings);
+    write_given(out, rt, " keep", &settings.keep);
+    write_given(out, rt, " exclude", &settings.exclude);
+    writeln!(out, " {limit:?}").or_fail(rt);
 }
 
-fn write_views(out: &mut String, views: &[View]) -> Result<(), AllocError> {
+fn write_views<R: Abort>(out: &mut String, rt: &R, views: &[View]) {
     for view in views {
-        write_criteria(out, &view.criteria)?;
-        write_settings(out, &view.settings)?;
+        write_criteria(out, rt, &view.criteria);
+        write_settings(out, rt, &view.settings);
     }
-    Ok(())
 }
 
 // All that a config says.
-fn shown(alloc: Global, config: &Config) -> Result<String, AllocError> {
+fn shown<R: Abort>(rt: &R, alloc: Global, config: &Config) -> String {
     let mut out = String::new(alloc);
-    write_readers(&mut out, config.readers())?;
-    write_views(&mut out, config.views())?;
-    Ok(out)
+    write_readers(&mut out, rt, config.readers());
+    write_views(&mut out, rt, config.views());
+    out
 }
 
 // The same of the config that a text is, or its fault as it is printed.
-pub(crate) fn told(alloc: Global, text: &str) -> Result<String, AllocError> {
+pub(crate) fn told<R: Abort>(rt: &R, alloc: Global, text: &str) -> String {
     match Config::read(alloc, text) {
-        Ok(config) => shown(alloc, &config),
-        Err(fault) => fault.to_string(alloc),
+        Ok(config) => shown(rt, alloc, &config),
+        Err(fault) => fault.to_string(alloc).or_fail(rt),
     }
 }
 
@@ -281,9 +274,8 @@ const TOLD: &[(&str, &str)] = &[
 ];
 
 #[test]
-fn every_field_is_read_or_has_its_fault(rt: HostRuntime) -> Result<(), Fail> {
+fn every_field_is_read_or_has_its_fault(rt: HostRuntime) {
     for (text, wanted) in TOLD {
-        assert_equal(&rt, told(rt.alloc(), text)?.as_str(), *wanted);
+        assert_equal(&rt, told(&rt, rt.alloc(), text).as_str(), *wanted);
     }
-    Ok(())
 }

@@ -1,6 +1,6 @@
 //! What a person is told of faults and remarks.
+use crate::asserted::{OrFail, assert_equal};
 use crate::declared::{Declared, read_both};
-use crate::equal::assert_equal;
 use metric_advice::lint;
 use metric_catalogue::Catalogue;
 use metric_cert::CertFault;
@@ -12,28 +12,28 @@ use metric_make::{MakeFault, make};
 use metric_plan::CheckFault;
 use metric_views::Config;
 use std::alloc::{AllocError, Global};
-use std::test::Fail;
+use std::process::Abort;
 
 // What is told of the text of a catalogue.
-fn of_catalogue(alloc: Global, text: &str) -> Result<String, AllocError> {
+fn of_catalogue<R: Abort>(rt: &R, alloc: Global, text: &str) -> String {
     let name = "catalogue.toml";
     match Catalogue::read(alloc, text) {
-        Ok(_) => String::from_str(alloc, "right"),
+        Ok(_) => String::from_str(alloc, "right").or_fail(rt),
         Err(fault) => {
-            let told = diagnose_catalogue(alloc, NamedText { name, text }, fault)?;
-            format!(in alloc; "{told}")
+            let told = diagnose_catalogue(alloc, NamedText { name, text }, fault).or_fail(rt);
+            format!(in alloc; "{told}").or_fail(rt)
         }
     }
 }
 
 // What is told of the text of a config.
-fn of_config(alloc: Global, text: &str) -> Result<String, AllocError> {
+fn of_config<R: Abort>(rt: &R, alloc: Global, text: &str) -> String {
     let name = "config.toml";
     match Config::read(alloc, text) {
-        Ok(_) => String::from_str(alloc, "right"),
+        Ok(_) => String::from_str(alloc, "right").or_fail(rt),
         Err(fault) => {
-            let told = diagnose_config(alloc, NamedText { name, text }, fault)?;
-            format!(in alloc; "{told}")
+            let told = diagnose_config(alloc, NamedText { name, text }, fault).or_fail(rt);
+            format!(in alloc; "{told}").or_fail(rt)
         }
     }
 }
@@ -85,11 +85,10 @@ const CATALOGUES: &[(&str, &str)] = &[
 ];
 
 #[test]
-fn faults_of_catalogues_are_told(rt: HostRuntime) -> Result<(), Fail> {
+fn faults_of_catalogues_are_told(rt: HostRuntime) {
     for (text, wanted) in CATALOGUES {
-        assert_equal(&rt, of_catalogue(rt.alloc(), text)?.as_str(), *wanted);
+        assert_equal(&rt, of_catalogue(&rt, rt.alloc(), text).as_str(), *wanted);
     }
-    Ok(())
 }
 
 const FIRST: &str = "format = 2
@@ -147,17 +146,16 @@ const INSTRUMENTS: &[(&str, &str)] = &[
 ];
 
 #[test]
-fn faults_of_instruments_are_told(rt: HostRuntime) -> Result<(), Fail> {
+fn faults_of_instruments_are_told(rt: HostRuntime) {
     for (fields, wanted) in INSTRUMENTS {
-        let text = format!(in rt.alloc(); "{FIRST}[[meter.instrument]]\n{fields}\n")?;
-        let told = of_catalogue(rt.alloc(), text.as_str())?;
+        let text = format!(in rt.alloc(); "{FIRST}[[meter.instrument]]\n{fields}\n").or_fail(&rt);
+        let told = of_catalogue(&rt, rt.alloc(), text.as_str());
         assert_equal(
             &rt,
             after_place(told.as_str(), "catalogue.toml:8:1: "),
             *wanted,
         );
     }
-    Ok(())
 }
 
 // What follows a place, or the whole text where it does not begin with that.
@@ -220,14 +218,13 @@ range = [0, 1]
 ";
 
 #[test]
-fn faults_of_keys_are_told(rt: HostRuntime) -> Result<(), Fail> {
+fn faults_of_keys_are_told(rt: HostRuntime) {
     for (fields, wanted) in KEYS {
-        let text = format!(in rt.alloc(); "{FIRST}{SECOND}{fields}\n")?;
-        let told = of_catalogue(rt.alloc(), text.as_str())?;
+        let text = format!(in rt.alloc(); "{FIRST}{SECOND}{fields}\n").or_fail(&rt);
+        let told = of_catalogue(&rt, rt.alloc(), text.as_str());
         let place = "catalogue.toml:8:1: instrument 1 \"second\": ";
         assert_equal(&rt, after_place(told.as_str(), place), *wanted);
     }
-    Ok(())
 }
 
 // Budgets of one recorder on two instruments, and what is told of it.
@@ -248,15 +245,14 @@ const BUDGETS: &[(&str, &str)] = &[
 ];
 
 #[test]
-fn faults_of_budgets_are_told(rt: HostRuntime) -> Result<(), Fail> {
+fn faults_of_budgets_are_told(rt: HostRuntime) {
     for (budgets, wanted) in BUDGETS {
         let recorder = "[[recorder]]\nname = 'r'\nbudget = ";
-        let text = format!(in rt.alloc(); "{FIRST}{SECOND}{recorder}{budgets}\n")?;
-        let told = of_catalogue(rt.alloc(), text.as_str())?;
+        let text = format!(in rt.alloc(); "{FIRST}{SECOND}{recorder}{budgets}\n").or_fail(&rt);
+        let told = of_catalogue(&rt, rt.alloc(), text.as_str());
         let place = "catalogue.toml:12:1: recorder 0 \"r\": ";
         assert_equal(&rt, after_place(told.as_str(), place), *wanted);
     }
-    Ok(())
 }
 
 // Configs, and what is told of them.
@@ -309,11 +305,10 @@ const CONFIGS: &[(&str, &str)] = &[
 ];
 
 #[test]
-fn faults_of_configs_are_told(rt: HostRuntime) -> Result<(), Fail> {
+fn faults_of_configs_are_told(rt: HostRuntime) {
     for (text, wanted) in CONFIGS {
-        assert_equal(&rt, of_config(rt.alloc(), text)?.as_str(), *wanted);
+        assert_equal(&rt, of_config(&rt, rt.alloc(), text).as_str(), *wanted);
     }
-    Ok(())
 }
 
 // A text that is no TOML, where it breaks off, and what is shown of it.
@@ -326,44 +321,43 @@ const BROKEN: &[(&str, &str, &str)] = &[
     ("format = \n", "catalogue.toml:1:", "    1 | format = \n"),
 ];
 
-fn of_broken(alloc: Global, text: &str) -> Result<(String, String), AllocError> {
+fn of_broken<R: Abort>(rt: &R, alloc: Global, text: &str) -> (String, String) {
     let source = NamedText {
         name: "catalogue.toml",
         text,
     };
-    let told = diagnose_catalogue(alloc, source, metric_catalogue::CatalogueFault::NotToml)?;
+    let fault = metric_catalogue::CatalogueFault::NotToml;
+    let told = diagnose_catalogue(alloc, source, fault).or_fail(rt);
     let excerpt = told.excerpt();
-    Ok((
-        format!(in alloc; "{told}")?,
-        format!(in alloc; "{excerpt}")?,
-    ))
+    (
+        format!(in alloc; "{told}").or_fail(rt),
+        format!(in alloc; "{excerpt}").or_fail(rt),
+    )
 }
 
 #[test]
-fn texts_that_are_no_toml_are_told_with_their_line(rt: HostRuntime) -> Result<(), Fail> {
+fn texts_that_are_no_toml_are_told_with_their_line(rt: HostRuntime) {
     for (text, place, line) in BROKEN {
-        let (told, excerpt) = of_broken(rt.alloc(), text)?;
+        let (told, excerpt) = of_broken(&rt, rt.alloc(), text);
         assert_equal(&rt, told.as_str().starts_with(*place), true);
         assert_equal(&rt, excerpt.as_str().starts_with(*line), true);
         assert_equal(&rt, told.as_str().contains("the text is no TOML: "), true);
     }
-    Ok(())
 }
 
 #[test]
-fn the_line_of_a_table_is_marked(rt: HostRuntime) -> Result<(), Fail> {
+fn the_line_of_a_table_is_marked(rt: HostRuntime) {
     let text = "format = 1\n\t [[recorder]] # one\n";
     let (name, alloc) = ("c.toml", rt.alloc());
-    let fault = Catalogue::read(alloc, text).err().ok_or("read")?;
-    let told = diagnose_catalogue(alloc, NamedText { name, text }, fault)?;
+    let fault = Catalogue::read(alloc, text).err().expect(&rt, "read");
+    let told = diagnose_catalogue(alloc, NamedText { name, text }, fault).or_fail(&rt);
     let excerpt = told.excerpt();
-    let shown = format!(in alloc; "{told}\n{excerpt}")?;
+    let shown = format!(in alloc; "{told}\n{excerpt}").or_fail(&rt);
     let wanted = "c.toml:2:3: recorder 0: field \"name\" is missing
     2 | \t [[recorder]] # one
       | \t ^
 ";
     assert_equal(&rt, shown.as_str(), wanted);
-    Ok(())
 }
 
 const JOBS: &str = "format = 1
@@ -431,21 +425,21 @@ fn pair_of<'t>(declared: &'t Declared, catalogue: &'t str, config: &'t str) -> P
     }
 }
 
-fn of_pair(alloc: Global, pair: Pair<'_>) -> Result<String, AllocError> {
+fn of_pair<R: Abort>(rt: &R, alloc: Global, pair: Pair<'_>) -> String {
     match make(alloc, pair.catalogue, pair.config) {
-        Ok(_) => String::from_str(alloc, "safe"),
-        Err(fault) => told_make(alloc, pair, fault),
+        Ok(_) => String::from_str(alloc, "safe").or_fail(rt),
+        Err(fault) => told_make(rt, alloc, pair, fault),
     }
 }
 
-fn told_make(alloc: Global, pair: Pair<'_>, fault: MakeFault) -> Result<String, AllocError> {
-    let told = diagnose_make(alloc, pair, fault)?;
-    format!(in alloc; "{told}")
+fn told_make<R: Abort>(rt: &R, alloc: Global, pair: Pair<'_>, fault: MakeFault) -> String {
+    let told = diagnose_make(alloc, pair, fault).or_fail(rt);
+    format!(in alloc; "{told}").or_fail(rt)
 }
 
-fn of_texts(alloc: Global, catalogue: &str, config: &str) -> Result<String, Fail> {
-    let declared = read_both(alloc, catalogue, config)?;
-    Ok(of_pair(alloc, pair_of(&declared, catalogue, config))?)
+fn of_texts<R: Abort>(rt: &R, alloc: Global, catalogue: &str, config: &str) -> String {
+    let declared = read_both(rt, alloc, catalogue, config);
+    of_pair(rt, alloc, pair_of(&declared, catalogue, config))
 }
 
 // The catalogue with so many recordings.
@@ -455,13 +449,12 @@ fn with_amount(alloc: Global, amount: &str) -> Result<String, AllocError> {
 }
 
 #[test]
-fn what_is_not_safe_is_told_with_its_place(rt: HostRuntime) -> Result<(), Fail> {
+fn what_is_not_safe_is_told_with_its_place(rt: HostRuntime) {
     for (amount, config, wanted) in PAIRS {
-        let catalogue = with_amount(rt.alloc(), amount)?;
-        let told = of_texts(rt.alloc(), catalogue.as_str(), config)?;
+        let catalogue = with_amount(rt.alloc(), amount).or_fail(&rt);
+        let told = of_texts(&rt, rt.alloc(), catalogue.as_str(), config);
         assert_equal(&rt, told.as_str(), *wanted);
     }
-    Ok(())
 }
 
 const REMARKED: &str = "format = 1
@@ -485,24 +478,23 @@ catalogue.toml:15:1: recorder 0 \"main\" has no budget for instrument 0 \"proces
 config.toml:1:1: there is no reader, so nothing is collected
 ";
 
-fn told_remarks(alloc: Global, pair: Pair<'_>) -> Result<String, AllocError> {
+fn told_remarks<R: Abort>(rt: &R, alloc: Global, pair: Pair<'_>) -> String {
     let mut out = String::new(alloc);
-    let remarks = lint(alloc, pair.catalogue, pair.config)?;
+    let remarks = lint(alloc, pair.catalogue, pair.config).or_fail(rt);
     for remark in remarks.as_slice() {
-        let told = diagnose_remark(alloc, pair, *remark)?;
-        writeln!(out, "{told}")?;
+        let told = diagnose_remark(alloc, pair, *remark).or_fail(rt);
+        writeln!(out, "{told}").or_fail(rt);
     }
-    Ok(out)
+    out
 }
 
 #[test]
-fn remarks_are_told_with_their_places(rt: HostRuntime) -> Result<(), Fail> {
+fn remarks_are_told_with_their_places(rt: HostRuntime) {
     let alloc = rt.alloc();
-    let catalogue = with_amount(alloc, "0")?;
-    let declared = read_both(alloc, catalogue.as_str(), REMARKED)?;
-    let told = told_remarks(alloc, pair_of(&declared, catalogue.as_str(), REMARKED))?;
+    let catalogue = with_amount(alloc, "0").or_fail(&rt);
+    let declared = read_both(&rt, alloc, catalogue.as_str(), REMARKED);
+    let told = told_remarks(&rt, alloc, pair_of(&declared, catalogue.as_str(), REMARKED));
     assert_equal(&rt, told.as_str(), TOLD);
-    Ok(())
 }
 
 // A fault of a certificate, and what is told of it.
@@ -515,15 +507,16 @@ const CHECKS: &[(CheckFault, &str)] = &[
 ];
 
 #[test]
-fn faults_of_certificates_are_told(rt: HostRuntime) -> Result<(), Fail> {
+fn faults_of_certificates_are_told(rt: HostRuntime) {
     let (name, text, alloc) = ("w.toml", "format = 1", rt.alloc());
     for (fault, wanted) in CHECKS {
-        let told = diagnose_check(alloc, NamedText { name, text }, *fault)?;
-        assert_equal(&rt, format!(in alloc; "{told}")?.as_str(), *wanted);
+        let told = diagnose_check(alloc, NamedText { name, text }, *fault).or_fail(&rt);
+        let told = format!(in alloc; "{told}").or_fail(&rt);
+        assert_equal(&rt, told.as_str(), *wanted);
     }
-    let told = diagnose_certificate(alloc, NamedText { name, text }, CertFault::Shape)?;
+    let told = diagnose_certificate(alloc, NamedText { name, text }, CertFault::Shape).or_fail(&rt);
     let wanted =
         "w.toml: the tables are not those of a certificate: it was altered, or is of another format; make it anew";
-    assert_equal(&rt, format!(in alloc; "{told}")?.as_str(), wanted);
-    Ok(())
+    let told = format!(in alloc; "{told}").or_fail(&rt);
+    assert_equal(&rt, told.as_str(), wanted);
 }

@@ -1,11 +1,11 @@
 //! The set keys and refusals of attributes.
-use crate::equal::assert_equal;
+use crate::asserted::{OrFail, assert_equal, assert_true};
 use metric_base::{Items, Text};
 use metric_catalogue::{Catalogue, CatalogueFault};
 use metric_contents::{Attr, Kind, OwnedAttr, Refusal, SetKey, encode_ignores_order};
 use metric_names::{AttrValue, ValueRef};
-use std::alloc::{AllocError, Global};
-use std::test::Fail;
+use std::alloc::Global;
+use std::process::Abort;
 
 const SHOP: &str = r#"
 format = 1
@@ -83,73 +83,78 @@ const ENCODED: &[(u32, &[Attr<'static>], Result<SetKey, Refusal>)] = &[
     (0, &[], Err(Refusal::MissingKey)),
 ];
 
-fn owned_value(alloc: Global, value: ValueRef<'_>) -> Result<AttrValue, AllocError> {
+fn owned_value<R: Abort>(rt: &R, alloc: Global, value: ValueRef<'_>) -> AttrValue {
     match value {
-        ValueRef::Text(text) => Ok(AttrValue::Text(Text::new(alloc, text)?)),
-        ValueRef::Whole(number) => Ok(AttrValue::Whole(number)),
-        ValueRef::Flag(flag) => Ok(AttrValue::Flag(flag)),
+        ValueRef::Text(text) => AttrValue::Text(Text::new(alloc, text).or_fail(rt)),
+        ValueRef::Whole(number) => AttrValue::Whole(number),
+        ValueRef::Flag(flag) => AttrValue::Flag(flag),
     }
 }
 
-fn owned_attr(alloc: Global, attr: Attr<'_>) -> Result<OwnedAttr, AllocError> {
-    let key = Text::new(alloc, attr.key)?;
-    Ok(OwnedAttr {
+fn owned_attr<R: Abort>(rt: &R, alloc: Global, attr: Attr<'_>) -> OwnedAttr {
+    let key = Text::new(alloc, attr.key).or_fail(rt);
+    OwnedAttr {
         key,
-        value: owned_value(alloc, attr.value)?,
-    })
+        value: owned_value(rt, alloc, attr.value),
+    }
 }
 
-fn owned(alloc: Global, attrs: &[Attr<'_>]) -> Result<Items<OwnedAttr>, AllocError> {
+fn owned<R: Abort>(rt: &R, alloc: Global, attrs: &[Attr<'_>]) -> Items<OwnedAttr> {
     let mut owned = Items::new(alloc);
     for attr in attrs {
-        owned.push(owned_attr(alloc, *attr)?)?;
+        owned.push(owned_attr(rt, alloc, *attr)).or_fail(rt);
     }
-    Ok(owned)
+    owned
 }
 
-fn encoded_with_room(
+fn encoded_with_room<R: Abort>(
+    rt: &R,
     alloc: Global,
     shop: &Catalogue,
     instrument: u32,
     attrs: &[OwnedAttr],
-) -> Result<Result<SetKey, Refusal>, AllocError> {
-    let mut room = Vec::with_capacity(alloc, attrs.len())?;
-    Ok(shop.encode_with_room(instrument, attrs, &mut room))
+) -> Result<SetKey, Refusal> {
+    let mut room = Vec::with_capacity(alloc, attrs.len()).or_fail(rt);
+    shop.encode_with_room(instrument, attrs, &mut room)
 }
 
 // Whether both ways to encode owned attributes answer this.
-fn are_owned_encoded(
+fn are_owned_encoded<R: Abort>(
+    rt: &R,
     alloc: Global,
     shop: &Catalogue,
     instrument: u32,
     attrs: &[OwnedAttr],
     wanted: Result<SetKey, Refusal>,
-) -> Result<bool, AllocError> {
+) -> bool {
     let is_encoded = shop.encode_owned(instrument, attrs) == wanted;
-    Ok(is_encoded && encoded_with_room(alloc, shop, instrument, attrs)? == wanted)
+    is_encoded && encoded_with_room(rt, alloc, shop, instrument, attrs) == wanted
 }
 
 // Whether all ways to encode attributes answer this.
-pub(crate) fn are_encoded(
+pub(crate) fn are_encoded<R: Abort>(
+    rt: &R,
     alloc: Global,
     shop: &Catalogue,
     instrument: u32,
     attrs: &[Attr<'_>],
     wanted: Result<SetKey, Refusal>,
-) -> Result<bool, AllocError> {
+) -> bool {
     let is_encoded = shop.encode(instrument, attrs) == wanted;
-    let owned = owned(alloc, attrs)?;
-    Ok(is_encoded && are_owned_encoded(alloc, shop, instrument, owned.as_slice(), wanted)?)
+    let owned = owned(rt, alloc, attrs);
+    is_encoded && are_owned_encoded(rt, alloc, shop, instrument, owned.as_slice(), wanted)
 }
 
 #[test]
-fn attributes_name_a_set_key_or_are_refused(rt: HostRuntime) -> Result<(), Fail> {
+fn attributes_name_a_set_key_or_are_refused(rt: HostRuntime) {
     encode_ignores_order();
-    let shop = shop(rt.alloc())?;
+    let shop = shop(rt.alloc()).or_fail(&rt);
     for (instrument, attrs, wanted) in ENCODED {
-        assert!(rt; are_encoded(rt.alloc(), &shop, *instrument, attrs, *wanted)?);
+        assert_true(
+            &rt,
+            are_encoded(&rt, rt.alloc(), &shop, *instrument, attrs, *wanted),
+        );
     }
-    Ok(())
 }
 
 const REFUSALS: &[(Refusal, &str)] = &[
@@ -170,11 +175,11 @@ const REFUSALS: &[(Refusal, &str)] = &[
 ];
 
 #[test]
-fn refusals_have_numbers_and_names(rt: HostRuntime) -> Result<(), Fail> {
+fn refusals_have_numbers_and_names(rt: HostRuntime) {
     for (refusal, printed) in REFUSALS {
-        assert_equal(&rt, refusal.to_string(rt.alloc())?.as_str(), *printed);
+        let told = refusal.to_string(rt.alloc()).or_fail(&rt);
+        assert_equal(&rt, told.as_str(), *printed);
     }
-    Ok(())
 }
 
 // Names, and the kinds that they name.
@@ -191,5 +196,8 @@ fn kinds_have_names(rt: HostRuntime) {
     for (text, kind) in KINDS {
         assert_equal(&rt, Kind::named(text), *kind);
     }
-    assert!(rt; Kind::Counter.is_monotonic() && !Kind::UpDownCounter.is_monotonic());
+    assert_true(
+        &rt,
+        Kind::Counter.is_monotonic() && !Kind::UpDownCounter.is_monotonic(),
+    );
 }

@@ -8,6 +8,8 @@
 #[cfg(test)]
 mod advice;
 #[cfg(test)]
+mod asserted;
+#[cfg(test)]
 mod catalogue;
 #[cfg(test)]
 mod certificates;
@@ -21,8 +23,6 @@ mod declared;
 mod diagnoses;
 #[cfg(test)]
 mod encoding;
-#[cfg(test)]
-mod equal;
 #[cfg(test)]
 mod memory;
 #[cfg(test)]

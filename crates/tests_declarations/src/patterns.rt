@@ -1,27 +1,26 @@
 //! Matches, reasons and faults of name patterns.
-use crate::equal::assert_equal;
+use crate::asserted::{OrFail, assert_equal};
 use metric_base::{Copied, Items};
 use metric_glob::{Pattern, Reason};
 use metric_names::Name;
-use std::alloc::{AllocError, Global};
-use std::test::Fail;
+use std::alloc::Global;
+use std::process::Abort;
 
-fn write_rows(out: &mut String, rows: &[Items<u16>]) -> Result<(), AllocError> {
-    out.push_str(" rows")?;
+fn write_rows<R: Abort>(out: &mut String, rt: &R, rows: &[Items<u16>]) {
+    out.push_str(" rows").or_fail(rt);
     for row in rows {
         let row = row.as_slice();
-        write!(out, " {row:?}")?;
+        write!(out, " {row:?}").or_fail(rt);
     }
-    Ok(())
 }
 
-fn write_reason(out: &mut String, reason: &Reason) -> Result<(), AllocError> {
+fn write_reason<R: Abort>(out: &mut String, rt: &R, reason: &Reason) {
     match reason {
         Reason::Takes(takes) => {
             let takes = takes.as_slice();
-            write!(out, " takes {takes:?}")
+            write!(out, " takes {takes:?}").or_fail(rt)
         }
-        Reason::Rows(rows) => write_rows(out, rows.as_slice()),
+        Reason::Rows(rows) => write_rows(out, rt, rows.as_slice()),
     }
 }
 
@@ -32,30 +31,30 @@ struct Pair {
     name: Name,
 }
 
-fn pair_of(alloc: Global, pattern: &str, name: &str) -> Result<Pair, Fail> {
-    let pattern = Pattern::parse(alloc, pattern)?;
-    let name = Name::parse(alloc, name)?;
-    Ok(Pair { pattern, name })
+fn pair_of<R: Abort>(rt: &R, alloc: Global, pattern: &str, name: &str) -> Pair {
+    let pattern = Pattern::parse(alloc, pattern).or_fail(rt);
+    let name = Name::parse(alloc, name).or_fail(rt);
+    Pair { pattern, name }
 }
 
 // Whether the name matches, whether the reason is confirmed, and the reason.
-fn write_told(out: &mut String, pair: &Pair, reason: &Reason) -> Result<(), AllocError> {
+fn write_told<R: Abort>(out: &mut String, rt: &R, pair: &Pair, reason: &Reason) {
     let does_match = pair.pattern.matches(&pair.name);
     let is_confirmed = pair.pattern.confirms(&pair.name, reason);
-    write!(out, "{does_match} {is_confirmed}")?;
-    write_reason(out, reason)
+    write!(out, "{does_match} {is_confirmed}").or_fail(rt);
+    write_reason(out, rt, reason);
 }
 
-fn told_of(alloc: Global, pair: &Pair) -> Result<String, AllocError> {
+fn told_of<R: Abort>(rt: &R, alloc: Global, pair: &Pair) -> String {
     let mut out = String::new(alloc);
-    let reason = pair.pattern.why(alloc, &pair.name)?;
-    write_told(&mut out, pair, &reason)?;
-    Ok(out)
+    let reason = pair.pattern.why(alloc, &pair.name).or_fail(rt);
+    write_told(&mut out, rt, pair, &reason);
+    out
 }
 
-fn told(alloc: Global, pattern: &str, name: &str) -> Result<String, Fail> {
-    let pair = pair_of(alloc, pattern, name)?;
-    Ok(told_of(alloc, &pair)?)
+fn told<R: Abort>(rt: &R, alloc: Global, pattern: &str, name: &str) -> String {
+    let pair = pair_of(rt, alloc, pattern, name);
+    told_of(rt, alloc, &pair)
 }
 
 // A pattern, a name, and why the name matches or does not.
@@ -79,30 +78,30 @@ const REASONS: &[(&str, &str, &str)] = &[
 ];
 
 #[test]
-fn a_reason_says_why_a_name_matches_or_does_not(rt: HostRuntime) -> Result<(), Fail> {
+fn a_reason_says_why_a_name_matches_or_does_not(rt: HostRuntime) {
     for (pattern, name, wanted) in REASONS {
-        assert_equal(&rt, told(rt.alloc(), pattern, name)?.as_str(), *wanted);
+        assert_equal(&rt, told(&rt, rt.alloc(), pattern, name).as_str(), *wanted);
     }
-    Ok(())
 }
 
 // So many times a text, between two others.
-fn repeated(
+fn repeated<R: Abort>(
+    rt: &R,
     alloc: Global,
     front: &str,
     part: &str,
     count: usize,
     end: &str,
-) -> Result<String, AllocError> {
-    let parts = part.repeat(alloc, count.min(256))?;
-    [front, parts.as_str(), end].concat(alloc)
+) -> String {
+    let parts = part.repeat(alloc, count.min(256)).or_fail(rt);
+    [front, parts.as_str(), end].concat(alloc).or_fail(rt)
 }
 
 // Why a name of 255 letters `a` matches 254 stars and this character, or does not.
-fn told_of_stars(alloc: Global, last: &str) -> Result<String, Fail> {
-    let name = repeated(alloc, "", "a", 255, "")?;
-    let pattern = repeated(alloc, "", "*", 254, last)?;
-    told(alloc, pattern.as_str(), name.as_str())
+fn told_of_stars<R: Abort>(rt: &R, alloc: Global, last: &str) -> String {
+    let name = repeated(rt, alloc, "", "a", 255, "");
+    let pattern = repeated(rt, alloc, "", "*", 254, last);
+    told(rt, alloc, pattern.as_str(), name.as_str())
 }
 
 // Every place of the stars.
@@ -127,24 +126,24 @@ const STARS: &[(&str, &str, &str, usize, &str)] = &[
 ];
 
 #[test]
-fn the_longest_patterns_have_reasons(rt: HostRuntime) -> Result<(), Fail> {
+fn the_longest_patterns_have_reasons(rt: HostRuntime) {
     for (last, front, part, count, end) in STARS {
-        let due = repeated(rt.alloc(), front, part, *count, end)?;
-        assert_equal(&rt, told_of_stars(rt.alloc(), last)?.as_str(), due.as_str());
+        let due = repeated(&rt, rt.alloc(), front, part, *count, end);
+        let told = told_of_stars(&rt, rt.alloc(), last);
+        assert_equal(&rt, told.as_str(), due.as_str());
     }
-    Ok(())
 }
 
 // What the copy of a pattern is.
-fn copied(alloc: Global, pattern: &Pattern) -> Result<String, AllocError> {
-    String::from_str(alloc, pattern.copy(alloc)?.as_str())
+fn copied<R: Abort>(rt: &R, alloc: Global, pattern: &Pattern) -> String {
+    String::from_str(alloc, pattern.copy(alloc).or_fail(rt).as_str()).or_fail(rt)
 }
 
 // What a text is as a pattern: the pattern itself, or the fault as it is printed.
-fn as_pattern(alloc: Global, text: &str) -> Result<String, AllocError> {
+fn as_pattern<R: Abort>(rt: &R, alloc: Global, text: &str) -> String {
     match Pattern::parse(alloc, text) {
-        Ok(pattern) => copied(alloc, &pattern),
-        Err(fault) => fault.to_string(alloc),
+        Ok(pattern) => copied(rt, alloc, &pattern),
+        Err(fault) => fault.to_string(alloc).or_fail(rt),
     }
 }
 
@@ -165,10 +164,9 @@ const PATTERNS: &[(&str, &str)] = &[
 ];
 
 #[test]
-fn a_pattern_is_up_to_255_printable_characters(rt: HostRuntime) -> Result<(), Fail> {
+fn a_pattern_is_up_to_255_printable_characters(rt: HostRuntime) {
     for (text, wanted) in PATTERNS {
-        assert_equal(&rt, as_pattern(rt.alloc(), text)?.as_str(), *wanted);
+        assert_equal(&rt, as_pattern(&rt, rt.alloc(), text).as_str(), *wanted);
     }
-    assert_equal(&rt, Pattern::any(rt.alloc())?.as_str(), "*");
-    Ok(())
+    assert_equal(&rt, Pattern::any(rt.alloc()).or_fail(&rt).as_str(), "*");
 }

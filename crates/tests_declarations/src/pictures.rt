@@ -1,9 +1,9 @@
 //! The boxes in the picture of a large catalogue, as they look and with their texts.
+use crate::asserted::{OrFail, assert_equal};
 use crate::declared::read_both;
-use crate::equal::assert_equal;
 use metric_picture::draw;
-use std::alloc::{AllocError, Global};
-use std::test::Fail;
+use std::alloc::Global;
+use std::process::Abort;
 
 const HEAD: &str = "format = 1
 [[meter]]
@@ -62,25 +62,26 @@ collides: another stream has its identity
 ";
 
 // A gauge, and 40 counters with a key.
-fn many(alloc: Global) -> Result<String, AllocError> {
-    let mut text = String::from_str(alloc, HEAD)?;
+fn many<R: Abort>(rt: &R, alloc: Global) -> String {
+    let mut text = String::from_str(alloc, HEAD).or_fail(rt);
     for number in 0u8..40 {
-        write!(text, "[[meter.instrument]]\nname = 'n{number}'\n")?;
-        text.push_str("kind = 'counter'\nrange = [0, 9]\nkey = [{ name = 'k', values = [1] }]\n")?;
+        write!(text, "[[meter.instrument]]\nname = 'n{number}'\n").or_fail(rt);
+        text.push_str("kind = 'counter'\nrange = [0, 9]\nkey = [{ name = 'k', values = [1] }]\n")
+            .or_fail(rt);
     }
-    Ok(text)
+    text
 }
 
 // How each box looks, and its texts.
-fn boxes_of(alloc: Global, picture: &str) -> Result<String, AllocError> {
+fn boxes_of<R: Abort>(rt: &R, alloc: Global, picture: &str) -> String {
     let mut told = String::new(alloc);
     for line in picture.lines() {
         if let Some(part) = told_of(line) {
-            told.push_str(part)?;
-            told.push('\n')?;
+            told.push_str(part).or_fail(rt);
+            told.push('\n').or_fail(rt);
         }
     }
-    Ok(told)
+    told
 }
 
 fn told_of(line: &str) -> Option<&str> {
@@ -91,10 +92,9 @@ fn told_of(line: &str) -> Option<&str> {
 }
 
 #[test]
-fn instruments_and_streams_share_boxes(rt: HostRuntime) -> Result<(), Fail> {
-    let declared = read_both(rt.alloc(), many(rt.alloc())?.as_str(), CONFIG)?;
-    let picture = draw(rt.alloc(), &declared.catalogue, &declared.config)?;
-    let told = boxes_of(rt.alloc(), picture.as_str())?;
+fn instruments_and_streams_share_boxes(rt: HostRuntime) {
+    let declared = read_both(&rt, rt.alloc(), many(&rt, rt.alloc()).as_str(), CONFIG);
+    let picture = draw(rt.alloc(), &declared.catalogue, &declared.config).or_fail(&rt);
+    let told = boxes_of(&rt, rt.alloc(), picture.as_str());
     assert_equal(&rt, told.as_str(), BOXES);
-    Ok(())
 }

@@ -1,12 +1,12 @@
 //! The spare budget of an instrument: how it is read, its faults, and what it adds to the total.
-use crate::equal::assert_equal;
+use crate::asserted::{OrFail, assert_equal};
 use crate::words::write_joined;
 use metric_catalogue::Catalogue;
 use metric_cert::InstrumentBound;
 use metric_make::make;
 use metric_views::Config;
 use std::alloc::{AllocError, Global};
-use std::test::Fail;
+use std::process::Abort;
 
 const BEFORE: &str = "
 [[meter]]
@@ -26,12 +26,12 @@ fn spares(alloc: Global, catalogue: &Catalogue) -> Result<String, AllocError> {
     format!(in alloc; "{told:?}")
 }
 
-fn told(alloc: Global, format: &str, fields: &str) -> Result<String, AllocError> {
+fn told<R: Abort>(rt: &R, alloc: Global, format: &str, fields: &str) -> String {
     let mut text = String::new(alloc);
-    write_joined(&mut text, &["format = ", format, BEFORE, fields])?;
+    write_joined(&mut text, rt, &["format = ", format, BEFORE, fields]);
     match Catalogue::read(alloc, &text) {
-        Ok(catalogue) => spares(alloc, &catalogue),
-        Err(fault) => fault.to_string(alloc),
+        Ok(catalogue) => spares(alloc, &catalogue).or_fail(rt),
+        Err(fault) => fault.to_string(alloc).or_fail(rt),
     }
 }
 
@@ -85,12 +85,11 @@ const TOLD: &[(&str, &str, &str)] = &[
 ];
 
 #[test]
-fn each_spare_is_read(rt: HostRuntime) -> Result<(), Fail> {
+fn each_spare_is_read(rt: HostRuntime) {
     for (format, fields, wanted) in TOLD {
-        let found = told(rt.alloc(), *format, *fields)?;
+        let found = told(&rt, rt.alloc(), *format, *fields);
         assert_equal(&rt, found.as_str(), *wanted);
     }
-    Ok(())
 }
 
 const RECORDERS: &str = "
@@ -117,22 +116,22 @@ fn write_bound(out: &mut String, bound: &InstrumentBound) -> Result<(), AllocErr
 }
 
 // The bounds of the certificate that is made, or the fault.
-fn made(alloc: Global, fields: &str) -> Result<String, Fail> {
+fn made<R: Abort>(rt: &R, alloc: Global, fields: &str) -> String {
     let mut text = String::new(alloc);
     let head = "format = 2\n[[meter]]\nname = 'm'\n[[meter.instrument]]\nname = 'c'\n";
-    write_joined(&mut text, &[head, fields, RECORDERS])?;
-    let catalogue = Catalogue::read(alloc, &text)?;
-    let config = Config::read(alloc, CONFIG)?;
+    write_joined(&mut text, rt, &[head, fields, RECORDERS]);
+    let catalogue = Catalogue::read(alloc, &text).or_fail(rt);
+    let config = Config::read(alloc, CONFIG).or_fail(rt);
     let mut out = String::new(alloc);
     match make(alloc, &catalogue, &config) {
         Ok(certificate) => {
             for bound in certificate.claims().bounds.as_slice() {
-                write_bound(&mut out, bound)?;
+                write_bound(&mut out, bound).or_fail(rt);
             }
         }
-        Err(fault) => write!(out, "{fault}")?,
+        Err(fault) => write!(out, "{fault}").or_fail(rt),
     }
-    Ok(out)
+    out
 }
 
 // The kind, range and spare of a counter with a budget of one recording, and its bound or the fault.
@@ -157,10 +156,9 @@ const MADE: &[(&str, &str)] = &[
 ];
 
 #[test]
-fn a_spare_is_in_the_total(rt: HostRuntime) -> Result<(), Fail> {
+fn a_spare_is_in_the_total(rt: HostRuntime) {
     for (fields, wanted) in MADE {
-        let found = made(rt.alloc(), *fields)?;
+        let found = made(&rt, rt.alloc(), *fields);
         assert_equal(&rt, found.as_str(), *wanted);
     }
-    Ok(())
 }

@@ -1,6 +1,6 @@
 //! What views select, what they and the defaults make of instruments, and the warnings.
+use crate::asserted::{OrFail, assert_equal};
 use crate::declared::{Declared, read_both};
-use crate::equal::assert_equal;
 use crate::words::{temporality_word, write_joined};
 use metric_base::Copied;
 use metric_catalogue::Catalogue;
@@ -12,7 +12,7 @@ use metric_resolve::{
 use metric_views::{Fill, Stream, StreamAggregation, fill};
 use std::alloc::{AllocError, Global};
 use std::cmp::Ordering;
-use std::test::Fail;
+use std::process::Abort;
 
 const SHOP: &str = r#"
 format = 1
@@ -103,13 +103,13 @@ dropped
 ";
 
 // The numbers of a stream's reader, instrument and view, and the texts.
-fn write_names(out: &mut String, stream: &Stream) -> Result<(), AllocError> {
+fn write_names<R: Abort>(out: &mut String, rt: &R, stream: &Stream) {
     let numbers = (stream.reader, stream.instrument, stream.view);
-    write!(out, "{numbers:?} ")?;
+    write!(out, "{numbers:?} ").or_fail(rt);
     let name = stream.name.get().as_str();
     let description = stream.description.get().as_str();
     let unit = stream.unit.get().as_str();
-    write_joined(out, &[name, "|", description, "|", unit, "|"])
+    write_joined(out, rt, &[name, "|", description, "|", unit, "|"]);
 }
 
 fn write_aggregation(out: &mut String, aggregation: &StreamAggregation) -> Result<(), AllocError> {
@@ -130,17 +130,16 @@ fn write_series(out: &mut String, stream: &Stream) -> Result<(), AllocError> {
     writeln!(out, " {series:?} {temporality}")
 }
 
-fn write_stream(out: &mut String, stream: &Stream) -> Result<(), AllocError> {
-    write_names(out, stream)?;
-    write_aggregation(out, &stream.aggregation)?;
-    write_series(out, stream)
+fn write_stream<R: Abort>(out: &mut String, rt: &R, stream: &Stream) {
+    write_names(out, rt, stream);
+    write_aggregation(out, &stream.aggregation).or_fail(rt);
+    write_series(out, stream).or_fail(rt);
 }
 
-fn write_copies(out: &mut String, alloc: Global, streams: &[Stream]) -> Result<(), AllocError> {
+fn write_copies<R: Abort>(out: &mut String, rt: &R, alloc: Global, streams: &[Stream]) {
     for stream in streams {
-        write_stream(out, &stream.copy(alloc)?)?;
+        write_stream(out, rt, &stream.copy(alloc).or_fail(rt));
     }
-    Ok(())
 }
 
 fn meter_of<'a>(catalogue: &'a Catalogue, stream: &Stream) -> Option<&'a Meter> {
@@ -155,27 +154,24 @@ fn order_of(catalogue: &Catalogue, left: &Stream, right: &Stream) -> Option<Orde
 }
 
 // How each stream stands to the next by their identities.
-fn write_orders(
-    out: &mut String,
-    catalogue: &Catalogue,
-    streams: &[Stream],
-) -> Result<(), AllocError> {
-    out.push_str("order")?;
+fn write_orders<R: Abort>(out: &mut String, rt: &R, catalogue: &Catalogue, streams: &[Stream]) {
+    out.push_str("order").or_fail(rt);
     for pair in streams.windows(2) {
         if let Some(order) = order_of(catalogue, &pair[0], &pair[1]) {
-            write!(out, " {order:?}")?;
+            write!(out, " {order:?}").or_fail(rt);
         }
     }
-    out.push_str("\n")
+    out.push_str("\n").or_fail(rt);
 }
 
 // What the view of this number, or the default, makes of an instrument for the first reader, where these are there.
-fn fill_of(
+fn fill_of<R: Abort>(
+    rt: &R,
     alloc: Global,
     declared: &Declared,
     instrument: u32,
     view: Option<u32>,
-) -> Result<Option<Fill>, AllocError> {
+) -> Option<Fill> {
     let catalogue = &declared.catalogue;
     let config = &declared.config;
     let has_view = match view {
@@ -186,66 +182,65 @@ fn fill_of(
         || instrument as usize >= catalogue.instruments().len()
         || !has_view
     {
-        return Ok(None);
+        return None;
     }
-    Ok(Some(fill(alloc, catalogue, config, 0, instrument, view)?))
+    Some(fill(alloc, catalogue, config, 0, instrument, view).or_fail(rt))
 }
 
-fn write_fill(out: &mut String, fill: &Fill) -> Result<(), AllocError> {
+fn write_fill<R: Abort>(out: &mut String, rt: &R, fill: &Fill) {
     match fill {
-        Fill::Unfit => out.push_str("unfit\n"),
-        Fill::Dropped => out.push_str("dropped\n"),
-        Fill::Kept(stream) => write_stream(out, stream),
+        Fill::Unfit => out.push_str("unfit\n").or_fail(rt),
+        Fill::Dropped => out.push_str("dropped\n").or_fail(rt),
+        Fill::Kept(stream) => write_stream(out, rt, stream),
     }
 }
 
 // An instrument, and a view that is asked what it makes of it.
 const FILLS: &[(u32, Option<u32>)] = &[(0, Some(0)), (2, None), (1, Some(2)), (0, Some(5))];
 
-fn write_fills(out: &mut String, alloc: Global, declared: &Declared) -> Result<(), AllocError> {
+fn write_fills<R: Abort>(out: &mut String, rt: &R, alloc: Global, declared: &Declared) {
     for (instrument, view) in FILLS {
-        if let Some(fill) = fill_of(alloc, declared, *instrument, *view)? {
-            write_fill(out, &fill)?;
+        if let Some(fill) = fill_of(rt, alloc, declared, *instrument, *view) {
+            write_fill(out, rt, &fill);
         }
     }
-    Ok(())
 }
 
-fn write_all(
+fn write_all<R: Abort>(
     out: &mut String,
+    rt: &R,
     alloc: Global,
     declared: &Declared,
     streams: &Streams,
-) -> Result<(), AllocError> {
+) {
     let warnings = streams.warnings();
-    write_copies(out, alloc, streams.list())?;
-    writeln!(out, "{warnings:?}")?;
-    write_orders(out, &declared.catalogue, streams.list())?;
-    write_fills(out, alloc, declared)
+    write_copies(out, rt, alloc, streams.list());
+    writeln!(out, "{warnings:?}").or_fail(rt);
+    write_orders(out, rt, &declared.catalogue, streams.list());
+    write_fills(out, rt, alloc, declared);
 }
 
 // Each stream by a line, the warnings, the order of the streams, and what single views make.
-fn shown_of(alloc: Global, declared: &Declared) -> Result<String, AllocError> {
+fn shown_of<R: Abort>(rt: &R, alloc: Global, declared: &Declared) -> String {
     let mut out = String::new(alloc);
-    let streams = resolve(alloc, &declared.catalogue, &declared.config)?;
-    write_all(&mut out, alloc, declared, &streams)?;
-    Ok(out)
+    let streams = resolve(alloc, &declared.catalogue, &declared.config).or_fail(rt);
+    write_all(&mut out, rt, alloc, declared, &streams);
+    out
 }
 
-fn shown(alloc: Global, catalogue: &str, config: &str) -> Result<String, Fail> {
-    let declared = read_both(alloc, catalogue, config)?;
-    Ok(shown_of(alloc, &declared)?)
+fn shown<R: Abort>(rt: &R, alloc: Global, catalogue: &str, config: &str) -> String {
+    let declared = read_both(rt, alloc, catalogue, config);
+    shown_of(rt, alloc, &declared)
 }
 
 #[test]
-fn every_part_of_the_streams_is_given(rt: HostRuntime) -> Result<(), Fail> {
+fn every_part_of_the_streams_is_given(rt: HostRuntime) {
     streams_are_what_views_give();
     collisions_are_of_one_identity();
     unfit_views_sum_gauges();
     for (config, wanted) in [(CONFIG, SHOWN), ("format = 1", "[]\norder\n")] {
-        assert_equal(&rt, shown(rt.alloc(), SHOP, config)?.as_str(), wanted);
+        assert_equal(&rt, shown(&rt, rt.alloc(), SHOP, config).as_str(), wanted);
     }
-    Ok(())
 }
 
 const TWO: &str = "format = 1
@@ -355,32 +350,31 @@ const GIVEN: &[(&str, &str, &str)] = &[
     ),
 ];
 
-fn write_numbers(out: &mut String, streams: &[Stream]) -> Result<(), AllocError> {
+fn write_numbers<R: Abort>(out: &mut String, rt: &R, streams: &[Stream]) {
     for stream in streams {
         let numbers = (stream.reader, stream.instrument, stream.view);
-        write!(out, "{numbers:?} ")?;
+        write!(out, "{numbers:?} ").or_fail(rt);
     }
-    Ok(())
 }
 
-fn given_of(alloc: Global, streams: &Streams) -> Result<String, AllocError> {
+fn given_of<R: Abort>(rt: &R, alloc: Global, streams: &Streams) -> String {
     let warnings = streams.warnings();
     let mut out = String::new(alloc);
-    write_numbers(&mut out, streams.list())?;
-    write!(out, "{warnings:?}")?;
-    Ok(out)
+    write_numbers(&mut out, rt, streams.list());
+    write!(out, "{warnings:?}").or_fail(rt);
+    out
 }
 
-fn given(alloc: Global, catalogue: &str, config: &str) -> Result<String, Fail> {
-    let declared = read_both(alloc, catalogue, config)?;
-    let streams = resolve(alloc, &declared.catalogue, &declared.config)?;
-    Ok(given_of(alloc, &streams)?)
+fn given<R: Abort>(rt: &R, alloc: Global, catalogue: &str, config: &str) -> String {
+    let declared = read_both(rt, alloc, catalogue, config);
+    let streams = resolve(alloc, &declared.catalogue, &declared.config).or_fail(rt);
+    given_of(rt, alloc, &streams)
 }
 
 #[test]
-fn views_select_by_all_their_criteria(rt: HostRuntime) -> Result<(), Fail> {
+fn views_select_by_all_their_criteria(rt: HostRuntime) {
     for (catalogue, config, wanted) in GIVEN {
-        assert_equal(&rt, given(rt.alloc(), catalogue, config)?.as_str(), *wanted);
+        let told = given(&rt, rt.alloc(), catalogue, config);
+        assert_equal(&rt, told.as_str(), *wanted);
     }
-    Ok(())
 }

@@ -1,8 +1,8 @@
 //! Names that are near those of the formats and are none, at every table.
-use crate::equal::assert_equal;
+use crate::asserted::{OrFail, assert_equal};
 use crate::{catalogue, certificates, config};
 use std::alloc::{AllocError, Global};
-use std::test::Fail;
+use std::process::Abort;
 
 // What a text is read as.
 enum Form {
@@ -155,23 +155,23 @@ fn whole(form: &Form) -> &'static str {
     }
 }
 
-fn told(alloc: Global, form: &Form, text: &str) -> Result<String, AllocError> {
+fn told<R: Abort>(rt: &R, alloc: Global, form: &Form, text: &str) -> String {
     match form {
-        Form::Catalogue => catalogue::told(alloc, text),
-        Form::Config => config::told(alloc, text),
-        Form::Certificate => certificates::rewritten(alloc, text),
+        Form::Catalogue => catalogue::told(rt, alloc, text),
+        Form::Config => config::told(rt, alloc, text),
+        Form::Certificate => certificates::rewritten(alloc, text).or_fail(rt),
     }
 }
 
-fn told_with(alloc: Global, form: &Form, old: &str, new: &str) -> Result<String, AllocError> {
-    let text = whole(form).replace(alloc, old, new)?;
-    told(alloc, form, text.as_str())
+fn told_with<R: Abort>(rt: &R, alloc: Global, form: &Form, old: &str, new: &str) -> String {
+    let text = whole(form).replace(alloc, old, new).or_fail(rt);
+    told(rt, alloc, form, text.as_str())
 }
 
 #[test]
-fn a_name_that_is_none_is_refused_at_its_place(rt: HostRuntime) -> Result<(), Fail> {
+fn a_name_that_is_none_is_refused_at_its_place(rt: HostRuntime) {
     for (form, old, new, due) in NEAR {
-        assert_equal(&rt, told_with(rt.alloc(), form, old, new)?.as_str(), *due);
+        let told = told_with(&rt, rt.alloc(), form, old, new);
+        assert_equal(&rt, told.as_str(), *due);
     }
-    Ok(())
 }

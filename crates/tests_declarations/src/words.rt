@@ -1,13 +1,13 @@
 //! The words by which the tests show what choices are, and lines of texts.
+use crate::asserted::OrFail;
 use metric_views::{Aggregation, Temporality};
-use std::alloc::AllocError;
+use std::process::Abort;
 
 /// Texts, one after the other.
-pub(crate) fn write_joined(out: &mut String, texts: &[&str]) -> Result<(), AllocError> {
+pub(crate) fn write_joined<R: Abort>(out: &mut String, rt: &R, texts: &[&str]) {
     for text in texts {
-        out.push_str(text)?;
+        out.push_str(text).or_fail(rt);
     }
-    Ok(())
 }
 
 pub(crate) fn temporality_word(temporality: Temporality) -> &'static str {

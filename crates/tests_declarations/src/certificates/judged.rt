@@ -1,15 +1,15 @@
 //! How texts are judged as certificates.
+use crate::asserted::{OrFail, assert_equal, assert_true};
 use crate::certificates::listed::{FOLDED, MIXED, ONE_KEY, PAIRS, RARE_PAIRS};
 use crate::certificates::samples::{
     CRITERIA, FOUR_KINDS, FULL, NO_INSTRUMENTS, NOTHING, SELDOM, Sample, TWO_COUNTERS, TWO_READERS,
     WIDE_GAUGE,
 };
 use crate::declared::{Declared, read_both};
-use crate::equal::assert_equal;
 use metric_cert::Certificate;
 use metric_check::check;
 use std::alloc::{AllocError, Global};
-use std::test::Fail;
+use std::process::Abort;
 
 fn judged_for(
     alloc: Global,
@@ -22,16 +22,16 @@ fn judged_for(
     }
 }
 
-fn judged(alloc: Global, sample: &Sample, certificate: &Certificate) -> Result<String, Fail> {
-    let declared = read_both(alloc, sample.catalogue, sample.config)?;
-    Ok(judged_for(alloc, declared, certificate)?)
+fn judged<R: Abort>(rt: &R, alloc: Global, sample: &Sample, certificate: &Certificate) -> String {
+    let declared = read_both(rt, alloc, sample.catalogue, sample.config);
+    judged_for(alloc, declared, certificate).or_fail(rt)
 }
 
 // How a text is judged as a certificate for the catalogue and the config of a sample.
-fn told(alloc: Global, sample: &Sample, text: &str) -> Result<String, Fail> {
+fn told<R: Abort>(rt: &R, alloc: Global, sample: &Sample, text: &str) -> String {
     match Certificate::read(alloc, text) {
-        Ok(certificate) => judged(alloc, sample, &certificate),
-        Err(fault) => Ok(fault.to_string(alloc)?),
+        Ok(certificate) => judged(rt, alloc, sample, &certificate),
+        Err(fault) => fault.to_string(alloc).or_fail(rt),
     }
 }
 
@@ -70,12 +70,11 @@ const JUDGED: &[(Sample, &str)] = &[
 ];
 
 #[test]
-fn certificates_are_judged(rt: HostRuntime) -> Result<(), Fail> {
+fn certificates_are_judged(rt: HostRuntime) {
     for (sample, due) in JUDGED {
-        let told = told(rt.alloc(), sample, sample.certificate)?;
+        let told = told(&rt, rt.alloc(), sample, sample.certificate);
         assert_equal(&rt, told.as_str(), *due);
     }
-    Ok(())
 }
 
 // What takes the place of which piece of the certificate of two counters, and how the text is judged then.
@@ -290,37 +289,34 @@ const ALTERED_LISTS: &[(&str, &str, &str)] = &[
     ),
 ];
 
-fn told_with(alloc: Global, sample: &Sample, old: &str, new: &str) -> Result<String, Fail> {
-    let text = sample.certificate.replace(alloc, old, new)?;
-    told(alloc, sample, text.as_str())
+fn told_with<R: Abort>(rt: &R, alloc: Global, sample: &Sample, old: &str, new: &str) -> String {
+    let text = sample.certificate.replace(alloc, old, new).or_fail(rt);
+    told(rt, alloc, sample, text.as_str())
 }
 
 #[test]
-fn each_alteration_has_its_fault(rt: HostRuntime) -> Result<(), Fail> {
+fn each_alteration_has_its_fault(rt: HostRuntime) {
     for (old, new, due) in ALTERED {
-        let told = told_with(rt.alloc(), &TWO_COUNTERS, old, new)?;
+        let told = told_with(&rt, rt.alloc(), &TWO_COUNTERS, old, new);
         assert_equal(&rt, told.as_str(), *due);
     }
-    Ok(())
 }
 
 #[test]
-fn each_altered_list_has_its_fault(rt: HostRuntime) -> Result<(), Fail> {
+fn each_altered_list_has_its_fault(rt: HostRuntime) {
     for (old, new, due) in ALTERED_LISTS {
-        let told = told_with(rt.alloc(), &PAIRS, old, new)?;
+        let told = told_with(&rt, rt.alloc(), &PAIRS, old, new);
         assert_equal(&rt, told.as_str(), *due);
     }
-    Ok(())
 }
 
 // The instrument lists no combinations.
 #[test]
-fn a_list_of_no_combinations_is_refused(rt: HostRuntime) -> Result<(), Fail> {
+fn a_list_of_no_combinations_is_refused(rt: HostRuntime) {
     let old = "by = \"product\", sets = 1";
     let new = "by = \"list\", sets = 1, list = [[0, 0, 0, 0, 0, 0, 0, 0]]";
-    let told = told_with(rt.alloc(), &MIXED, old, new)?;
+    let told = told_with(&rt, rt.alloc(), &MIXED, old, new);
     assert_equal(&rt, told.as_str(), "8 BadSets");
-    Ok(())
 }
 
 fn is_no_certificate(told: &str) -> bool {
@@ -329,11 +325,10 @@ fn is_no_certificate(told: &str) -> bool {
 
 // A text that is cut short is no TOML, or another table.
 #[test]
-fn a_text_that_is_cut_is_no_certificate(rt: HostRuntime) -> Result<(), Fail> {
+fn a_text_that_is_cut_is_no_certificate(rt: HostRuntime) {
     for end in 0..TWO_COUNTERS.certificate.len() {
         let part = TWO_COUNTERS.certificate.get(0..end).unwrap_or("");
-        let told = told(rt.alloc(), &TWO_COUNTERS, part)?;
-        assert!(rt; is_no_certificate(told.as_str()));
+        let told = told(&rt, rt.alloc(), &TWO_COUNTERS, part);
+        assert_true(&rt, is_no_certificate(told.as_str()));
     }
-    Ok(())
 }

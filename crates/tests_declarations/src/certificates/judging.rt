@@ -1,15 +1,15 @@
 //! Certificates that are altered in one place: each is accepted exactly where it is valid all the same.
+use crate::asserted::assert_equal;
 use crate::certificates::altering::altered;
 use crate::certificates::listed::{FOLDED, PAIRS, RARE_PAIRS};
 use crate::certificates::made::made;
 use crate::certificates::plain::is_valid;
 use crate::certificates::samples::{FOUR_KINDS, NO_INSTRUMENTS, Sample, TWO_COUNTERS, TWO_READERS};
 use crate::declared::{Declared, read_both};
-use crate::equal::assert_equal;
 use metric_cert::Certificate;
 use metric_check::check;
 use std::alloc::Global;
-use std::test::Fail;
+use std::process::Abort;
 
 const DECLARED: &[Sample] = &[TWO_COUNTERS, TWO_READERS, FOUR_KINDS, NO_INSTRUMENTS];
 
@@ -44,58 +44,56 @@ fn is_accepted(alloc: Global, declared: Declared, certificate: &Certificate) -> 
 }
 
 // Counts how a certificate is judged for the catalogue and the config of a sample.
-fn judge(
+fn judge<R: Abort>(
+    rt: &R,
     alloc: Global,
     counts: &mut Counts,
     sample: &Sample,
     certificate: &Certificate,
-) -> Result<(), Fail> {
-    let declared = read_both(alloc, sample.catalogue, sample.config)?;
-    let is_valid = is_valid(alloc, &declared, certificate)?;
+) {
+    let declared = read_both(rt, alloc, sample.catalogue, sample.config);
+    let is_valid = is_valid(rt, alloc, &declared, certificate);
     counts.add(is_accepted(alloc, declared, certificate), is_valid);
-    Ok(())
 }
 
 // How texts are judged that are certificates.
-fn counts_of(alloc: Global, sample: &Sample, texts: &[String]) -> Result<Counts, Fail> {
+fn counts_of<R: Abort>(rt: &R, alloc: Global, sample: &Sample, texts: &[String]) -> Counts {
     let mut counts = NONE;
     for text in texts {
         if let Ok(certificate) = Certificate::read(alloc, text.as_str()) {
-            judge(alloc, &mut counts, sample, &certificate)?;
+            judge(rt, alloc, &mut counts, sample, &certificate);
         }
     }
-    Ok(counts)
+    counts
 }
 
 // The certificate of a sample, altered in one place.
-fn altered_of(alloc: Global, sample: &Sample) -> Result<Vec<String>, Fail> {
-    let text = made(alloc, sample.catalogue, sample.config)?;
-    Ok(altered(alloc, text.as_str())?)
+fn altered_of<R: Abort>(rt: &R, alloc: Global, sample: &Sample) -> Vec<String> {
+    let text = made(rt, alloc, sample.catalogue, sample.config);
+    altered(rt, alloc, text.as_str())
 }
 
 // How many certificates of samples are judged wrongly, each altered in one place everywhere. A sample of which none is accepted, or
 // none refused, counts as one.
-fn misjudged(alloc: Global, samples: &[Sample]) -> Result<u32, Fail> {
+fn misjudged<R: Abort>(rt: &R, alloc: Global, samples: &[Sample]) -> u32 {
     let mut misjudged: u32 = 0;
     for sample in samples {
-        let texts = altered_of(alloc, sample)?;
-        let counts = counts_of(alloc, sample, &texts)?;
+        let texts = altered_of(rt, alloc, sample);
+        let counts = counts_of(rt, alloc, sample, &texts);
         misjudged = misjudged.saturating_add(counts.misjudged);
         if counts.accepted == 0 || counts.refused == 0 {
             misjudged = misjudged.saturating_add(1);
         }
     }
-    Ok(misjudged)
+    misjudged
 }
 
 #[test]
-fn what_is_altered_is_accepted_where_valid(rt: HostRuntime) -> Result<(), Fail> {
-    assert_equal(&rt, misjudged(rt.alloc(), DECLARED)?, 0);
-    Ok(())
+fn what_is_altered_is_accepted_where_valid(rt: HostRuntime) {
+    assert_equal(&rt, misjudged(&rt, rt.alloc(), DECLARED), 0);
 }
 
 #[test]
-fn what_is_altered_of_lists_is_accepted_where_valid(rt: HostRuntime) -> Result<(), Fail> {
-    assert_equal(&rt, misjudged(rt.alloc(), LISTED)?, 0);
-    Ok(())
+fn what_is_altered_of_lists_is_accepted_where_valid(rt: HostRuntime) {
+    assert_equal(&rt, misjudged(&rt, rt.alloc(), LISTED), 0);
 }

@@ -1,4 +1,5 @@
 //! What is made for a catalogue and a config.
+use crate::asserted::{OrFail, assert_equal};
 use crate::certificates::listed::{FOLDED, MIXED, ONE_KEY, PAIRS, RARE_PAIRS};
 use crate::certificates::printed::rewritten;
 use crate::certificates::samples::{
@@ -6,10 +7,9 @@ use crate::certificates::samples::{
     TWO_READERS, WIDE_GAUGE,
 };
 use crate::declared::{Declared, read_both};
-use crate::equal::assert_equal;
 use metric_make::make;
 use std::alloc::{AllocError, Global};
-use std::test::Fail;
+use std::process::Abort;
 
 fn made_for(alloc: Global, declared: &Declared) -> Result<String, AllocError> {
     match make(alloc, &declared.catalogue, &declared.config) {
@@ -19,9 +19,9 @@ fn made_for(alloc: Global, declared: &Declared) -> Result<String, AllocError> {
 }
 
 // The certificate that is made for a catalogue and a config, as it is written, or the fault as it is printed.
-pub(crate) fn made(alloc: Global, catalogue: &str, config: &str) -> Result<String, Fail> {
-    let declared = read_both(alloc, catalogue, config)?;
-    Ok(made_for(alloc, &declared)?)
+pub(crate) fn made<R: Abort>(rt: &R, alloc: Global, catalogue: &str, config: &str) -> String {
+    let declared = read_both(rt, alloc, catalogue, config);
+    made_for(alloc, &declared).or_fail(rt)
 }
 
 const MADE: &[Sample] = &[
@@ -42,13 +42,12 @@ const MADE: &[Sample] = &[
 ];
 
 #[test]
-fn certificates_are_made(rt: HostRuntime) -> Result<(), Fail> {
+fn certificates_are_made(rt: HostRuntime) {
     for sample in MADE {
-        let due = rewritten(rt.alloc(), sample.certificate)?;
-        let made = made(rt.alloc(), sample.catalogue, sample.config)?;
+        let due = rewritten(rt.alloc(), sample.certificate).or_fail(&rt);
+        let made = made(&rt, rt.alloc(), sample.catalogue, sample.config);
         assert_equal(&rt, made.as_str(), due.as_str());
     }
-    Ok(())
 }
 
 // A limit of two series.
@@ -141,11 +140,10 @@ fn catalogue_of(alloc: Global, instrument: &str, recorders: &str) -> Result<Stri
 }
 
 #[test]
-fn what_is_not_safe_is_refused(rt: HostRuntime) -> Result<(), Fail> {
+fn what_is_not_safe_is_refused(rt: HostRuntime) {
     for (instrument, recorders, config, due) in UNSAFE {
-        let catalogue = catalogue_of(rt.alloc(), instrument, recorders)?;
-        let told = made(rt.alloc(), catalogue.as_str(), config)?;
+        let catalogue = catalogue_of(rt.alloc(), instrument, recorders).or_fail(&rt);
+        let told = made(&rt, rt.alloc(), catalogue.as_str(), config);
         assert_equal(&rt, told.as_str(), *due);
     }
-    Ok(())
 }

@@ -1,33 +1,32 @@
 //! Whether the orders of readers are right.
+use crate::asserted::OrFail;
 use crate::declared::Declared;
 use metric_catalogue::Catalogue;
 use metric_cert::ReaderOrder;
 use metric_contents::Meter;
 use metric_views::Stream;
-use std::alloc::{AllocError, Global};
+use std::alloc::Global;
 use std::cmp::Ordering;
+use std::process::Abort;
 
 /// Whether there is an order for each reader, in order, of its streams, of all of them, whose identities rise.
-pub fn are_orders(
+pub fn are_orders<R: Abort>(
+    rt: &R,
     alloc: Global,
     declared: &Declared,
     streams: &[Stream],
     orders: &[ReaderOrder],
-) -> Result<bool, AllocError> {
+) -> bool {
     for (reader, order) in orders.iter().enumerate() {
         if order.reader as usize != reader || !is_of_reader(streams, order) {
-            return Ok(false);
+            return false;
         }
-        if !is_rising(
-            alloc,
-            &declared.catalogue,
-            streams,
-            order.streams.as_slice(),
-        )? {
-            return Ok(false);
+        let numbers = order.streams.as_slice();
+        if !is_rising(rt, alloc, &declared.catalogue, streams, numbers) {
+            return false;
         }
     }
-    Ok(orders.len() == declared.config.readers().len())
+    orders.len() == declared.config.readers().len()
 }
 
 // Whether the order names streams of its reader alone, and all of them.
@@ -56,20 +55,21 @@ fn has(numbers: &[u32], place: usize) -> bool {
     numbers.iter().any(|number| *number as usize == place)
 }
 
-fn is_rising(
+fn is_rising<R: Abort>(
+    rt: &R,
     alloc: Global,
     catalogue: &Catalogue,
     streams: &[Stream],
     numbers: &[u32],
-) -> Result<bool, AllocError> {
+) -> bool {
     for pair in numbers.windows(2) {
         let first = identified(catalogue, streams, pair[0]);
         let second = identified(catalogue, streams, pair[1]);
-        if !is_below(alloc, first, second)? {
-            return Ok(false);
+        if !is_below(rt, alloc, first, second) {
+            return false;
         }
     }
-    Ok(true)
+    true
 }
 
 // A stream, and the meter of its instrument.
@@ -86,32 +86,30 @@ fn identified<'a>(
     Some((stream, meter))
 }
 
-fn is_below(
+fn is_below<R: Abort>(
+    rt: &R,
     alloc: Global,
     first: Option<Identified<'_>>,
     second: Option<Identified<'_>>,
-) -> Result<bool, AllocError> {
+) -> bool {
     match (first, second) {
         (Some(first), Some(second)) => {
-            Ok(identity_order(alloc, first, second)? == Ordering::Less)
+            identity_order(rt, alloc, first, second) == Ordering::Less
         }
-        _ => Ok(false),
+        _ => false,
     }
 }
 
 // By the name, the version and the schema URL of the meter, then by the name of the stream in small letters.
-fn identity_order(
+fn identity_order<R: Abort>(
+    rt: &R,
     alloc: Global,
     first: Identified<'_>,
     second: Identified<'_>,
-) -> Result<Ordering, AllocError> {
+) -> Ordering {
     let meters = meter_order(first.1, second.1);
-    let names = name_order(
-        alloc,
-        first.0.name.get().as_str(),
-        second.0.name.get().as_str(),
-    )?;
-    Ok(meters.then(names))
+    let (one, other) = (first.0.name.get(), second.0.name.get());
+    meters.then(name_order(rt, alloc, one.as_str(), other.as_str()))
 }
 
 fn meter_order(first: &Meter, second: &Meter) -> Ordering {
@@ -121,8 +119,8 @@ fn meter_order(first: &Meter, second: &Meter) -> Ordering {
     names.then(versions).then(urls)
 }
 
-fn name_order(alloc: Global, first: &str, second: &str) -> Result<Ordering, AllocError> {
-    let first = first.to_ascii_lowercase(alloc)?;
-    let second = second.to_ascii_lowercase(alloc)?;
-    Ok(first.as_str().cmp(second.as_str()))
+fn name_order<R: Abort>(rt: &R, alloc: Global, first: &str, second: &str) -> Ordering {
+    let first = first.to_ascii_lowercase(alloc).or_fail(rt);
+    let second = second.to_ascii_lowercase(alloc).or_fail(rt);
+    first.as_str().cmp(second.as_str())
 }

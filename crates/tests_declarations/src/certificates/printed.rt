@@ -1,8 +1,7 @@
 //! Certificates as they are read and written.
-use crate::equal::assert_equal;
+use crate::asserted::{OrFail, assert_equal};
 use metric_cert::Certificate;
 use std::alloc::{AllocError, Global};
-use std::test::Fail;
 
 // The certificate that a text is, as it is written, or the fault as it is printed.
 pub(crate) fn rewritten(alloc: Global, text: &str) -> Result<String, AllocError> {
@@ -111,8 +110,9 @@ sets = 0
 "#;
 
 #[test]
-fn every_field_is_read_and_written(rt: HostRuntime) -> Result<(), Fail> {
-    assert_equal(&rt, rewritten(rt.alloc(), WHOLE)?.as_str(), WRITTEN);
-    assert_equal(&rt, rewritten(rt.alloc(), LISTED)?.as_str(), LISTED_WRITTEN);
-    Ok(())
+fn every_field_is_read_and_written(rt: HostRuntime) {
+    let told = rewritten(rt.alloc(), WHOLE).or_fail(&rt);
+    assert_equal(&rt, told.as_str(), WRITTEN);
+    let told = rewritten(rt.alloc(), LISTED).or_fail(&rt);
+    assert_equal(&rt, told.as_str(), LISTED_WRITTEN);
 }
