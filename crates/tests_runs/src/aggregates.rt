@@ -1,9 +1,9 @@
 //! Worked values, each aggregator through its trait.
-use crate::equal::assert_equal;
+use crate::asserted::{OrFail, assert_equal};
 use metric_aggregate::{Aggregate, BucketAgg, HistogramParameters, LastAgg, PointValue, SumAgg};
 use metric_base::{Boundaries, Copied, Few, Shared, copy_all, is_rising, is_same};
 use std::alloc::Global;
-use std::test::Fail;
+use std::process::Abort;
 
 #[derive(Clone, Copy)]
 enum Kind {
@@ -83,59 +83,60 @@ fn add_all<A: Aggregate>(aggregate: &mut A, values: &[i64]) -> Option<i64> {
 }
 
 // The text of a value's copy, and of a value for which there was no room.
-fn text_of(alloc: Global, value: &PointValue, refused: Option<i64>) -> Result<String, Fail> {
-    let copy = value.copy(alloc)?;
+fn text_of<R: Abort>(rt: &R, alloc: Global, value: &PointValue, refused: Option<i64>) -> String {
+    let copy = value.copy(alloc).or_fail(rt);
     let is_copy = is_same(value, &copy);
-    Ok(format!(in alloc; "{copy:?} {is_copy} {refused:?}")?)
+    format!(in alloc; "{copy:?} {is_copy} {refused:?}").or_fail(rt)
 }
 
-fn told<A: Aggregate>(
+fn told<R: Abort, A: Aggregate>(
+    rt: &R,
     alloc: Global,
     parameters: &A::Parameters,
     values: &[i64],
-) -> Result<String, Fail> {
-    let mut aggregate = A::with_parameters(alloc, parameters)?;
+) -> String {
+    let mut aggregate = A::with_parameters(alloc, parameters).or_fail(rt);
     let refused = add_all(&mut aggregate, values);
     if aggregate.is_empty() {
-        return Ok(String::from_str(alloc, "nothing")?);
+        return String::from_str(alloc, "nothing").or_fail(rt);
     }
-    text_of(alloc, &aggregate.read(alloc)?, refused)
+    text_of(rt, alloc, &aggregate.read(alloc).or_fail(rt), refused)
 }
 
-fn boundaries(alloc: Global, numbers: &[i64]) -> Result<Boundaries, Fail> {
-    let items = copy_all(alloc, numbers)?;
+fn boundaries<R: Abort>(rt: &R, alloc: Global, numbers: &[i64]) -> Boundaries {
+    let items = copy_all(alloc, numbers).or_fail(rt);
     if items.len() > 128 || !is_rising(items.as_slice()) {
-        return Err("not boundaries".into());
+        panic!(rt; "not boundaries");
     }
-    Ok(Boundaries::from_few(Few::from_items(items)))
+    Boundaries::from_few(Few::from_items(items))
 }
 
-fn told_between(
+fn told_between<R: Abort>(
+    rt: &R,
     alloc: Global,
     numbers: &[i64],
     keeps_sum: bool,
     values: &[i64],
-) -> Result<String, Fail> {
+) -> String {
     let parameters = HistogramParameters {
-        boundaries: Shared::new(alloc, boundaries(alloc, numbers)?)?,
+        boundaries: Shared::new(alloc, boundaries(rt, alloc, numbers)).or_fail(rt),
         keeps_sum,
     };
-    told::<BucketAgg>(alloc, &parameters, values)
+    told::<R, BucketAgg>(rt, alloc, &parameters, values)
 }
 
-fn told_by(alloc: Global, kind: Kind, values: &[i64]) -> Result<String, Fail> {
+fn told_by<R: Abort>(rt: &R, alloc: Global, kind: Kind, values: &[i64]) -> String {
     match kind {
-        Kind::Sum => told::<SumAgg>(alloc, &(), values),
-        Kind::Last => told::<LastAgg>(alloc, &(), values),
-        Kind::Buckets(numbers, keeps_sum) => told_between(alloc, numbers, keeps_sum, values),
+        Kind::Sum => told::<R, SumAgg>(rt, alloc, &(), values),
+        Kind::Last => told::<R, LastAgg>(rt, alloc, &(), values),
+        Kind::Buckets(numbers, keeps_sum) => told_between(rt, alloc, numbers, keeps_sum, values),
     }
 }
 
 #[test]
-fn values_are_read_together(rt: HostRuntime) -> Result<(), Fail> {
+fn values_are_read_together(rt: HostRuntime) {
     for (kind, values, wanted) in READ {
-        let told = told_by(rt.alloc(), *kind, values)?;
+        let told = told_by(&rt, rt.alloc(), *kind, values);
         assert_equal(&rt, told.as_str(), *wanted);
     }
-    Ok(())
 }

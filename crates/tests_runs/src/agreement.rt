@@ -1,13 +1,13 @@
 //! Inputs that a seed puts together of lines, run over each book.
+use crate::asserted::{OrFail, assert_equal};
 use crate::dice::Dice;
-use crate::equal::assert_equal;
 use crate::runs::told;
 use metric_audit::Audited;
 use metric_book::Book;
 use metric_journal::JournalBook;
 use metric_marked::Marked;
 use std::alloc::Global;
-use std::test::Fail;
+use std::process::Abort;
 
 // How many inputs there are, and how many events a script has.
 const INPUTS: u64 = 24;
@@ -266,78 +266,80 @@ const SEEN: Lines = &[
 ];
 
 /// Puts one line of each list last.
-pub(crate) fn push_lines(out: &mut String, dice: &mut Dice, lists: &[Lines]) -> Result<(), Fail> {
+pub(crate) fn push_lines<R: Abort>(out: &mut String, rt: &R, dice: &mut Dice, lists: &[Lines]) {
     for lines in lists {
-        out.push_str(dice.word(lines))?;
+        out.push_str(dice.word(lines)).or_fail(rt);
     }
-    Ok(())
 }
 
-fn push_readers(out: &mut String, dice: &mut Dice) -> Result<(), Fail> {
-    out.push_str("%% config\nformat = 1\n")?;
+fn push_readers<R: Abort>(out: &mut String, rt: &R, dice: &mut Dice) {
+    out.push_str("%% config\nformat = 1\n").or_fail(rt);
     for number in 0..16 {
-        write!(out, "[[reader]]\nname = 'q{number}'\n")?;
-        push_lines(out, dice, READER)?;
+        write!(out, "[[reader]]\nname = 'q{number}'\n").or_fail(rt);
+        push_lines(out, rt, dice, READER);
     }
-    Ok(())
 }
 
-fn push_views(out: &mut String, dice: &mut Dice) -> Result<(), Fail> {
+fn push_views<R: Abort>(out: &mut String, rt: &R, dice: &mut Dice) {
     for _ in 0..dice.roll(4) {
-        push_lines(out, dice, VIEW)?;
+        push_lines(out, rt, dice, VIEW);
     }
-    Ok(())
 }
 
-fn push_event(out: &mut String, dice: &mut Dice) -> Result<(), Fail> {
+fn push_event<R: Abort>(out: &mut String, rt: &R, dice: &mut Dice) {
     match dice.roll(80) {
-        0 => push_lines(out, dice, CLOSE),
-        1..=48 => push_lines(out, dice, RECORD),
-        49..=52 => push_lines(out, dice, GRANT),
-        _ => push_lines(out, dice, COLLECT),
+        0 => push_lines(out, rt, dice, CLOSE),
+        1..=48 => push_lines(out, rt, dice, RECORD),
+        49..=52 => push_lines(out, rt, dice, GRANT),
+        _ => push_lines(out, rt, dice, COLLECT),
     }
 }
 
 /// Puts a script last, for five instruments, three recorders and sixteen readers.
-pub(crate) fn push_script(out: &mut String, dice: &mut Dice) -> Result<(), Fail> {
-    out.push_str("%% script\nstart 300\n")?;
+pub(crate) fn push_script<R: Abort>(out: &mut String, rt: &R, dice: &mut Dice) {
+    out.push_str("%% script\nstart 300\n").or_fail(rt);
     for _ in 0..EVENTS {
-        push_event(out, dice)?;
+        push_event(out, rt, dice);
     }
-    Ok(())
 }
 
-fn push_input(out: &mut String, dice: &mut Dice) -> Result<(), Fail> {
-    push_lines(out, dice, CATALOGUE)?;
-    push_readers(out, dice)?;
-    push_views(out, dice)?;
-    push_script(out, dice)
+fn push_input<R: Abort>(out: &mut String, rt: &R, dice: &mut Dice) {
+    push_lines(out, rt, dice, CATALOGUE);
+    push_readers(out, rt, dice);
+    push_views(out, rt, dice);
+    push_script(out, rt, dice);
 }
 
-fn input_of(alloc: Global, seed: u64) -> Result<String, Fail> {
+fn input_of<R: Abort>(rt: &R, alloc: Global, seed: u64) -> String {
     let mut input = String::new(alloc);
-    push_input(&mut input, &mut Dice::new(seed))?;
-    Ok(input)
+    push_input(&mut input, rt, &mut Dice::new(seed));
+    input
 }
 
 // Whether a book gives these replies, in runs of this size.
-fn is_told<B: Book>(alloc: Global, input: &str, size: usize, wanted: &str) -> Result<bool, Fail> {
-    let found = told::<B>(alloc, input, size)?;
-    Ok(found.as_str() == wanted)
+fn is_told<R: Abort, B: Book>(
+    rt: &R,
+    alloc: Global,
+    input: &str,
+    size: usize,
+    wanted: &str,
+) -> bool {
+    let found = told::<R, B>(rt, alloc, input, size);
+    found.as_str() == wanted
 }
 
 // Whether each book, whole and in pieces, give the replies of the plain one to the whole script.
-fn agreement(seen: &mut String, alloc: Global, seed: u64) -> Result<[bool; 4], Fail> {
-    let input = input_of(alloc, seed)?;
-    let wanted = told::<JournalBook>(alloc, &input, usize::MAX)?;
-    seen.push_str(&wanted)?;
+fn agreement<R: Abort>(seen: &mut String, rt: &R, alloc: Global, seed: u64) -> [bool; 4] {
+    let input = input_of(rt, alloc, seed);
+    let wanted = told::<R, JournalBook>(rt, alloc, &input, usize::MAX);
+    seen.push_str(&wanted).or_fail(rt);
     let size = (seed % 9) as usize;
-    Ok([
-        is_told::<Marked>(alloc, &input, usize::MAX, &wanted)?,
-        is_told::<Marked>(alloc, &input, size, &wanted)?,
-        is_told::<JournalBook>(alloc, &input, size, &wanted)?,
-        is_told::<Audited>(alloc, &input, size, &wanted)?,
-    ])
+    [
+        is_told::<R, Marked>(rt, alloc, &input, usize::MAX, &wanted),
+        is_told::<R, Marked>(rt, alloc, &input, size, &wanted),
+        is_told::<R, JournalBook>(rt, alloc, &input, size, &wanted),
+        is_told::<R, Audited>(rt, alloc, &input, size, &wanted),
+    ]
 }
 
 fn first_unseen(seen: &str) -> Option<&'static str> {
@@ -350,12 +352,11 @@ fn first_unseen(seen: &str) -> Option<&'static str> {
 }
 
 #[test]
-fn books_and_pieces_give_the_same_replies(rt: HostRuntime) -> Result<(), Fail> {
+fn books_and_pieces_give_the_same_replies(rt: HostRuntime) {
     let mut seen = String::new(rt.alloc());
     for seed in 0..INPUTS {
-        let found = agreement(&mut seen, rt.alloc(), seed)?;
+        let found = agreement(&mut seen, &rt, rt.alloc(), seed);
         assert_equal(&rt, (seed, found), (seed, [true, true, true, true]));
     }
     assert_equal(&rt, first_unseen(&seen), None);
-    Ok(())
 }

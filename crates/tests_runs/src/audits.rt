@@ -1,5 +1,5 @@
 //! Audits of journals, slips and batches that are told in full.
-use crate::equal::assert_equal;
+use crate::asserted::{OrFail, assert_equal};
 use crate::plans::plan_of;
 use metric_aggregate::PointValue;
 use metric_audit::{Audited, audit};
@@ -9,7 +9,7 @@ use metric_core::Core;
 use metric_history::{Batch, Entry, Event, Point, Reply, StreamPoints};
 use metric_plan::Plan;
 use std::alloc::Global;
-use std::test::Fail;
+use std::process::Abort;
 
 const CATALOGUE: &str = "format = 1
 [[meter]]
@@ -160,106 +160,115 @@ const CASES: &[Case] = &[
     ),
 ];
 
-fn entries_of(alloc: Global, told: &[(u32, i64)]) -> Result<Vec<Entry>, Fail> {
+fn entries_of<R: Abort>(rt: &R, alloc: Global, told: &[(u32, i64)]) -> Vec<Entry> {
     let mut entries = Vec::new(alloc);
     for (recorder, value) in told {
-        entries.push(Entry {
+        let entry = Entry {
             recorder: *recorder,
             set: [0; 8],
             value: *value,
-        })?;
+        };
+        entries.push(entry).or_fail(rt);
     }
-    Ok(entries)
+    entries
 }
 
-fn slips_of(alloc: Global, values: &[i64]) -> Result<Items<Slip>, Fail> {
+fn slips_of<R: Abort>(rt: &R, alloc: Global, values: &[i64]) -> Items<Slip> {
     let mut slips = Items::new(alloc);
     for value in values {
-        slips.push(Slip {
+        let slip = Slip {
             set: [0; 8],
             value: *value,
-        })?;
+        };
+        slips.push(slip).or_fail(rt);
     }
-    Ok(slips)
+    slips
 }
 
 // The points of a reader's one stream, which has the reader's number.
-fn streams_of(alloc: Global, reader: u32, value: Option<i64>) -> Result<Items<StreamPoints>, Fail> {
+fn streams_of<R: Abort>(
+    rt: &R,
+    alloc: Global,
+    reader: u32,
+    value: Option<i64>,
+) -> Items<StreamPoints> {
     let mut points = Items::new(alloc);
     if let Some(value) = value {
-        points.push(Point {
+        let point = Point {
             set: Some([0; 8]),
             value: PointValue::Sum(value),
-        })?;
+        };
+        points.push(point).or_fail(rt);
     }
     let mut streams = Items::new(alloc);
-    streams.push(StreamPoints {
+    let stream = StreamPoints {
         stream: reader,
         points,
-    })?;
-    Ok(streams)
+    };
+    streams.push(stream).or_fail(rt);
+    streams
 }
 
-fn batch_of(alloc: Global, told: &Told) -> Result<Batch, Fail> {
+fn batch_of<R: Abort>(rt: &R, alloc: Global, told: &Told) -> Batch {
     let ([reader, instrument], [from, mark, start, time], value) = *told;
-    Ok(Batch {
+    Batch {
         reader,
         instrument,
         from,
         mark,
         start,
         time,
-        streams: streams_of(alloc, reader, value)?,
-    })
+        streams: streams_of(rt, alloc, reader, value),
+    }
 }
 
-fn batches_of(alloc: Global, told: &[Told]) -> Result<Vec<Batch>, Fail> {
+fn batches_of<R: Abort>(rt: &R, alloc: Global, told: &[Told]) -> Vec<Batch> {
     let mut batches = Vec::new(alloc);
     for one in told {
-        batches.push(batch_of(alloc, one)?)?;
+        batches.push(batch_of(rt, alloc, one)).or_fail(rt);
     }
-    Ok(batches)
+    batches
 }
 
 // What an audit of the first instrument answers, since the start 0.
-fn answer(
+fn answer<R: Abort>(
+    rt: &R,
     alloc: Global,
     plan: &Plan,
     entries: &[Entry],
     slips: &[Items<Slip>],
     batches: &[Batch],
-) -> Result<String, Fail> {
+) -> String {
     let is_one_each = slips.len() == plan.catalogue().recorders().len();
     if plan.all_facts().is_empty() || !is_one_each {
-        return Err("no such instrument".into());
+        panic!(rt; "no such instrument");
     }
     match audit(alloc, plan, 0, 0, entries, slips, batches) {
-        Ok(()) => Ok(String::from_str(alloc, "done")?),
-        Err(fault) => Ok(format!(in alloc; "{fault}")?),
+        Ok(()) => String::from_str(alloc, "done").or_fail(rt),
+        Err(fault) => format!(in alloc; "{fault}").or_fail(rt),
     }
 }
 
-fn answer_to(alloc: Global, case: &Case) -> Result<String, Fail> {
-    let plan = plan_of(alloc, CATALOGUE, CONFIG)?;
+fn answer_to<R: Abort>(rt: &R, alloc: Global, case: &Case) -> String {
+    let plan = plan_of(rt, alloc, CATALOGUE, CONFIG);
     let (entries, slips, batches, _) = *case;
-    let entries = entries_of(alloc, entries)?;
-    let slips = [slips_of(alloc, slips)?];
-    let batches = batches_of(alloc, batches)?;
-    answer(alloc, &plan, &entries, &slips, &batches)
+    let entries = entries_of(rt, alloc, entries);
+    let slips = [slips_of(rt, alloc, slips)];
+    let batches = batches_of(rt, alloc, batches);
+    answer(rt, alloc, &plan, &entries, &slips, &batches)
 }
 
 #[test]
-fn the_first_thing_that_differs_is_told(rt: HostRuntime) -> Result<(), Fail> {
+fn the_first_thing_that_differs_is_told(rt: HostRuntime) {
     for case in CASES {
-        assert_equal(&rt, answer_to(rt.alloc(), case)?.as_str(), case.3);
+        assert_equal(&rt, answer_to(&rt, rt.alloc(), case).as_str(), case.3);
     }
-    Ok(())
 }
 
-fn events_of(alloc: Global) -> Result<Vec<Event>, Fail> {
+fn events_of<R: Abort>(rt: &R, alloc: Global) -> Vec<Event> {
     let mut events = Vec::new(alloc);
     for (kind, number, at) in SCRIPT {
-        events.push(match *kind {
+        let event = match *kind {
             'r' => Event::Record {
                 recorder: 0,
                 instrument: 0,
@@ -271,9 +280,10 @@ fn events_of(alloc: Global) -> Result<Vec<Event>, Fail> {
                 instrument: 0,
                 now: *at,
             },
-        })?;
+        };
+        events.push(event).or_fail(rt);
     }
-    Ok(events)
+    events
 }
 
 // Recordings with their values, and collections with their readers and times.
@@ -286,32 +296,31 @@ const SCRIPT: &[(char, u32, u64)] = &[
     ('c', 1, 25),
 ];
 
-fn batches_told(alloc: Global, replies: Vec<Reply>) -> Result<Vec<Batch>, Fail> {
+fn batches_told<R: Abort>(rt: &R, alloc: Global, replies: Vec<Reply>) -> Vec<Batch> {
     let mut batches = Vec::new(alloc);
     for reply in replies {
         if let Reply::Collected(batch) = reply {
-            batches.push(batch)?;
+            batches.push(batch).or_fail(rt);
         }
     }
-    Ok(batches)
+    batches
 }
 
-fn answer_to_run(alloc: Global) -> Result<String, Fail> {
-    let plan = plan_of(alloc, CATALOGUE, CONFIG)?;
+fn answer_to_run<R: Abort>(rt: &R, alloc: Global) -> String {
+    let plan = plan_of(rt, alloc, CATALOGUE, CONFIG);
     let Ok(mut core) = Core::<Audited>::new(alloc, plan, 0) else {
-        return Err("memory".into());
+        panic!(rt; "memory");
     };
-    let replies = core.run(alloc, &events_of(alloc)?)?;
-    let batches = batches_told(alloc, replies)?;
+    let replies = core.run(alloc, &events_of(rt, alloc)).or_fail(rt);
+    let batches = batches_told(rt, alloc, replies);
     if core.plan().all_facts().is_empty() {
-        return Err("no such instrument".into());
+        panic!(rt; "no such instrument");
     }
-    let slips = [slips_of(alloc, &[5, 7])?];
-    answer(alloc, core.plan(), core.entries(0), &slips, &batches)
+    let slips = [slips_of(rt, alloc, &[5, 7])];
+    answer(rt, alloc, core.plan(), core.entries(0), &slips, &batches)
 }
 
 #[test]
-fn a_run_agrees_with_its_journal(rt: HostRuntime) -> Result<(), Fail> {
-    assert_equal(&rt, answer_to_run(rt.alloc())?.as_str(), "done");
-    Ok(())
+fn a_run_agrees_with_its_journal(rt: HostRuntime) {
+    assert_equal(&rt, answer_to_run(&rt, rt.alloc()).as_str(), "done");
 }

@@ -1,5 +1,5 @@
 //! A cell by its own calls.
-use crate::equal::assert_equal;
+use crate::asserted::{OrFail, assert_equal};
 use crate::plans::plan_of;
 use metric_contents::Refusal;
 use metric_core::Cell;
@@ -9,7 +9,7 @@ use metric_marked::Marked;
 use metric_plan::Plan;
 use metric_text::push_text;
 use std::alloc::Global;
-use std::test::Fail;
+use std::process::Abort;
 
 const SHOP: &str = "format = 2
 [[meter]]
@@ -62,14 +62,14 @@ point {} start=130 time=130 count=2 buckets=[2,0] sum=6 min=2 max=4
 ";
 
 // Makes a recording without attributes.
-fn record(cell: &mut Cell<Marked>, recorder: u32, value: i64) -> Result<(), Fail> {
+fn record<R: Abort>(rt: &R, cell: &mut Cell<Marked>, recorder: u32, value: i64) {
     let facts = cell.facts();
     let set = [0; 8];
     let is_known = (recorder as usize) < facts.budgets.len();
     if is_known && is_allowed_set(facts, &set) && facts.admits(&value) {
-        Ok(cell.record(recorder, set, value)?)
+        cell.record(recorder, set, value).or_fail(rt)
     } else {
-        Err("not of this instrument".into())
+        panic!(rt; "not of this instrument")
     }
 }
 
@@ -81,25 +81,26 @@ fn grant(cell: &mut Cell<Marked>, recorder: u32, amount: u64) -> Result<(), Refu
     cell.grant(recorder, amount)
 }
 
-fn push_collected(
+fn push_collected<R: Abort>(
     out: &mut Vec<u8>,
+    rt: &R,
     alloc: Global,
     plan: &Plan,
     cell: &mut Cell<Marked>,
     now: u64,
-) -> Result<(), Fail> {
+) {
     if cell.facts().delta.len() < 2 {
-        return Err("no such reader".into());
+        panic!(rt; "no such reader");
     }
-    let batch = cell.collect(alloc, 1, now)?;
+    let batch = cell.collect(alloc, 1, now).or_fail(rt);
     let numbers = [batch.from, batch.mark, batch.start, batch.time];
-    let covered = format!(in alloc; "{} {} {numbers:?}: ", batch.reader, batch.instrument)?;
-    push_text(out, &covered)?;
-    Ok(push_batch(out, plan.catalogue(), plan.config(), plan.streams(), &batch)?)
+    let covered = format!(in alloc; "{} {} {numbers:?}: ", batch.reader, batch.instrument);
+    push_text(out, &covered.or_fail(rt)).or_fail(rt);
+    push_batch(out, plan.catalogue(), plan.config(), plan.streams(), &batch).or_fail(rt);
 }
 
 // What the getters give; the numbers of other recorders and readers are 0.
-fn getters_text(alloc: Global, cell: &Cell<Marked>) -> Result<String, Fail> {
+fn getters_text<R: Abort>(rt: &R, alloc: Global, cell: &Cell<Marked>) -> String {
     let recorded = [cell.count(), cell.spent(0), cell.spent(1), cell.spent(2)];
     let marks = [cell.mark_of(0), cell.mark_of(1), cell.mark_of(2)];
     let own = [
@@ -113,45 +114,46 @@ fn getters_text(alloc: Global, cell: &Cell<Marked>) -> Result<String, Fail> {
         cell.granted(2),
         cell.spare(),
     ];
-    Ok(format!(in alloc; "{own:?} {recorded:?} {marks:?} {granted:?}\n")?)
+    format!(in alloc; "{own:?} {recorded:?} {marks:?} {granted:?}\n").or_fail(rt)
 }
 
-fn push_calls(
+fn push_calls<R: Abort>(
     out: &mut Vec<u8>,
+    rt: &R,
     alloc: Global,
     plan: &Plan,
     cell: &mut Cell<Marked>,
-) -> Result<(), Fail> {
-    record(cell, 0, 5)?;
-    record(cell, 1, 9)?;
-    push_collected(out, alloc, plan, cell, 130)?;
-    record(cell, 0, 2)?;
+) {
+    record(rt, cell, 0, 5);
+    record(rt, cell, 1, 9);
+    push_collected(out, rt, alloc, plan, cell, 130);
+    record(rt, cell, 0, 2);
     let open = [grant(cell, 1, 4), grant(cell, 1, 2), grant(cell, 1, 0)];
-    record(cell, 1, 4)?;
-    cell.close()?;
+    record(rt, cell, 1, 4);
+    cell.close().or_fail(rt);
     let closed = grant(cell, 0, 0);
-    push_collected(out, alloc, plan, cell, 120)?;
-    push_text(out, &getters_text(alloc, cell)?)?;
-    let grants = format!(in alloc; "{open:?} {closed:?}\n")?;
-    Ok(push_text(out, &grants)?)
+    push_collected(out, rt, alloc, plan, cell, 120);
+    push_text(out, &getters_text(rt, alloc, cell)).or_fail(rt);
+    let grants = format!(in alloc; "{open:?} {closed:?}\n").or_fail(rt);
+    push_text(out, &grants).or_fail(rt);
 }
 
-fn push_told(out: &mut Vec<u8>, alloc: Global, plan: &Plan) -> Result<(), Fail> {
+fn push_told<R: Abort>(out: &mut Vec<u8>, rt: &R, alloc: Global, plan: &Plan) {
     if plan.all_facts().len() < 2 {
-        return Err("no such instrument".into());
+        panic!(rt; "no such instrument");
     }
-    push_calls(out, alloc, plan, &mut Cell::new(alloc, plan, 1, 100)?)
+    let mut cell = Cell::new(alloc, plan, 1, 100).or_fail(rt);
+    push_calls(out, rt, alloc, plan, &mut cell);
 }
 
-fn told(alloc: Global) -> Result<String, Fail> {
-    let plan = plan_of(alloc, SHOP, CONFIG)?;
+fn told<R: Abort>(rt: &R, alloc: Global) -> String {
+    let plan = plan_of(rt, alloc, SHOP, CONFIG);
     let mut out = Vec::new(alloc);
-    push_told(&mut out, alloc, &plan)?;
-    Ok(String::from_utf8(out)?)
+    push_told(&mut out, rt, alloc, &plan);
+    String::from_utf8(out).or_fail(rt)
 }
 
 #[test]
-fn a_cell_answers_each_call(rt: HostRuntime) -> Result<(), Fail> {
-    assert_equal(&rt, told(rt.alloc())?.as_str(), TOLD);
-    Ok(())
+fn a_cell_answers_each_call(rt: HostRuntime) {
+    assert_equal(&rt, told(&rt, rt.alloc()).as_str(), TOLD);
 }

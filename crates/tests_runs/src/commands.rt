@@ -4,7 +4,7 @@ mod devices;
 mod grants;
 mod hostile;
 
-use crate::equal::assert_equal;
+use crate::asserted::{OrFail, assert_equal};
 use crate::inputs::{
     BUDGETED, HITS, MAIN, OUTPUT, Parts, READERS, READERS_OUTPUT, READERS_RUN, RUN, RUNS, SHOP,
     SHOP_OUTPUT, SHOP_RUN, SHOP_VIEWS,
@@ -15,8 +15,8 @@ use metric_commands::{KitFault, run_line};
 use metric_io::{CutSink, CutSource};
 use metric_provider::FinishFault;
 use std::alloc::Global;
+use std::process::Abort;
 use std::sync::Wait;
-use std::test::Fail;
 use std::thread::Threads;
 
 const TRIAL: Line = Line::Replay {
@@ -483,86 +483,82 @@ const AUDITS: &[(Line, Parts, &str, &str)] = &[
 ];
 
 // Writes the line that was told and the exit status, where the command was not done.
-fn write_stop(out: &mut String, told: &[u8], status: u8) -> Result<(), Fail> {
-    match str::from_utf8(told)?.strip_suffix("\n") {
-        Some(line) => Ok(write!(out, "{line}, {status}")?),
-        None if told.is_empty() && status == 0 => Ok(()),
-        None => Err(Fail::from("no line")),
+fn write_stop<R: Abort>(out: &mut String, rt: &R, told: &[u8], status: u8) {
+    match str::from_utf8(told).or_fail(rt).strip_suffix("\n") {
+        Some(line) => write!(out, "{line}, {status}").or_fail(rt),
+        None if told.is_empty() && status == 0 => {}
+        None => panic!(rt; "no line"),
     }
 }
 
 // What is written, and then the line and the status of the fault where there is one.
-fn told<R: Threads + Wait + Sync>(
+fn told<R: Abort + Threads + Wait + Sync>(
     rt: &R,
     alloc: Global,
     line: Result<Line, LineFault>,
     source: &mut CutSource<'_>,
     sink: &mut CutSink,
-) -> Result<String, Fail> {
+) -> String {
     let mut errors = CutSink::new(alloc, None);
     let status = run_line(rt, alloc, line, source, sink, &mut errors);
-    let mut out = String::from_str(alloc, str::from_utf8(sink.taken())?)?;
-    write_stop(&mut out, errors.taken(), status)?;
-    Ok(out)
+    let mut out = String::from_str(alloc, str::from_utf8(sink.taken()).or_fail(rt)).or_fail(rt);
+    write_stop(&mut out, rt, errors.taken(), status);
+    out
 }
 
-fn told_into<R: Threads + Wait + Sync>(
+fn told_into<R: Abort + Threads + Wait + Sync>(
     rt: &R,
     alloc: Global,
     line: Line,
     parts: Parts,
     sink: &mut CutSink,
-) -> Result<String, Fail> {
-    let input = parts.concat(alloc)?;
+) -> String {
+    let input = parts.concat(alloc).or_fail(rt);
     let mut source = CutSource::new(input.as_bytes(), None);
     told(rt, alloc, Ok(line), &mut source, sink)
 }
 
-fn told_whole<R: Threads + Wait + Sync>(
+fn told_whole<R: Abort + Threads + Wait + Sync>(
     rt: &R,
     alloc: Global,
     line: Line,
     parts: Parts,
-) -> Result<String, Fail> {
+) -> String {
     told_into(rt, alloc, line, parts, &mut CutSink::new(alloc, None))
 }
 
 #[test]
-fn each_input_is_answered(rt: HostRuntime) -> Result<(), Fail> {
+fn each_input_is_answered(rt: HostRuntime) {
     for (line, parts, wanted) in TOLD {
-        let told = told_whole(&rt, rt.alloc(), *line, parts)?;
+        let told = told_whole(&rt, rt.alloc(), *line, parts);
         assert_equal(&rt, told.as_str(), *wanted);
     }
-    Ok(())
 }
 
 #[test]
-fn a_trial_writes_its_replies(rt: HostRuntime) -> Result<(), Fail> {
+fn a_trial_writes_its_replies(rt: HostRuntime) {
     for (parts, wanted) in RUNS {
-        let told = told_whole(&rt, rt.alloc(), TRIAL, parts)?;
+        let told = told_whole(&rt, rt.alloc(), TRIAL, parts);
         assert_equal(&rt, told.as_str(), *wanted);
     }
-    Ok(())
 }
 
 #[test]
-fn an_audit_ends_with_a_line(rt: HostRuntime) -> Result<(), Fail> {
+fn an_audit_ends_with_a_line(rt: HostRuntime) {
     for (line, parts, replies, last) in AUDITS {
-        let told = told_whole(&rt, rt.alloc(), *line, parts)?;
+        let told = told_whole(&rt, rt.alloc(), *line, parts);
         assert_equal(&rt, told.strip_suffix(*last), Some(*replies));
     }
-    Ok(())
 }
 
 #[test]
-fn a_faulty_declaration_is_told(rt: HostRuntime) -> Result<(), Fail> {
+fn a_faulty_declaration_is_told(rt: HostRuntime) {
     for (parts, wanted) in DECLARED {
-        let tried = told_whole(&rt, rt.alloc(), TRIAL, parts)?;
+        let tried = told_whole(&rt, rt.alloc(), TRIAL, parts);
         assert_equal(&rt, tried.as_str(), *wanted);
-        let shown = told_whole(&rt, rt.alloc(), Line::Show, parts)?;
+        let shown = told_whole(&rt, rt.alloc(), Line::Show, parts);
         assert_equal(&rt, shown.as_str(), *wanted);
     }
-    Ok(())
 }
 
 // Faults that no input of these tests brings about, each with its line and its status.
@@ -591,20 +587,20 @@ const STOPS: &[(KitFault, &str)] = &[
 ];
 
 #[test]
-fn each_other_fault_has_a_line_and_a_status(rt: HostRuntime) -> Result<(), Fail> {
+fn each_other_fault_has_a_line_and_a_status(rt: HostRuntime) {
     for (fault, wanted) in STOPS {
-        let told = format!(in rt.alloc(); "{}, {}", fault.line(rt.alloc())?, fault.status())?;
+        let line = fault.line(rt.alloc()).or_fail(&rt);
+        let told = format!(in rt.alloc(); "{line}, {}", fault.status()).or_fail(&rt);
         assert_equal(&rt, told.as_str(), *wanted);
     }
-    Ok(())
 }
 
 // What is told where the words of the command line name no command.
-fn told_without<R: Threads + Wait + Sync>(
+fn told_without<R: Abort + Threads + Wait + Sync>(
     rt: &R,
     alloc: Global,
     fault: LineFault,
-) -> Result<String, Fail> {
+) -> String {
     let mut source = CutSource::new(b"", None);
     told(
         rt,
@@ -616,13 +612,12 @@ fn told_without<R: Threads + Wait + Sync>(
 }
 
 #[test]
-fn words_without_a_command_are_told(rt: HostRuntime) -> Result<(), Fail> {
+fn words_without_a_command_are_told(rt: HostRuntime) {
     for (fault, wanted) in [
         (LineFault::Usage, "refused: usage, 2"),
         (LineFault::Memory, "refused: memory, 4"),
     ] {
-        let told = told_without(&rt, rt.alloc(), fault)?;
+        let told = told_without(&rt, rt.alloc(), fault);
         assert_equal(&rt, told.as_str(), wanted);
     }
-    Ok(())
 }

@@ -1,22 +1,20 @@
 //! Cores over each book.
-use crate::equal::assert_equal;
+use crate::asserted::{OrFail, assert_equal};
 use crate::inputs::RUNS;
 use crate::runs::told;
 use metric_audit::Audited;
 use metric_journal::JournalBook;
 use metric_marked::Marked;
-use std::test::Fail;
 
 #[test]
-fn events_are_replied_to(rt: HostRuntime) -> Result<(), Fail> {
+fn events_are_replied_to(rt: HostRuntime) {
     for (parts, wanted) in RUNS {
-        let input = parts.concat(rt.alloc())?;
-        let listed = told::<JournalBook>(rt.alloc(), &input, usize::MAX)?;
+        let input = parts.concat(rt.alloc()).or_fail(&rt);
+        let listed = told::<_, JournalBook>(&rt, rt.alloc(), &input, usize::MAX);
         assert_equal(&rt, listed.as_str(), *wanted);
-        let running = told::<Marked>(rt.alloc(), &input, usize::MAX)?;
+        let running = told::<_, Marked>(&rt, rt.alloc(), &input, usize::MAX);
         assert_equal(&rt, running.as_str(), *wanted);
-        let kept = told::<Audited>(rt.alloc(), &input, usize::MAX)?;
+        let kept = told::<_, Audited>(&rt, rt.alloc(), &input, usize::MAX);
         assert_equal(&rt, kept.as_str(), *wanted);
     }
-    Ok(())
 }

@@ -1,13 +1,13 @@
 //! Dense tables: the ranks of sets, the points after them, and scripts over plans whose streams are all by product.
-ghost use Rattle.std.specs.Prelude.{◌≡◌, ◌==◌, true, OnOk};
+ghost use Rattle.std.specs.Prelude.{◌≡◌, ◌==◌, true};
 ghost use Rattle.std.specs.List.{list_all};
 ghost use Rattle.metric_facts.specs.Facts.{is_entry, is_full_set};
 ghost use Rattle.metric_facts.specs.Products.{AreDense};
 ghost use Rattle.tests_runs.specs.Taking.{TakesFullSets};
 
 use crate::agreement::{BOUNDARIES, COMBINED, KEYS, Lines, SMALL, push_lines, push_script};
+use crate::asserted::{OrFail, assert_equal};
 use crate::dice::Dice;
-use crate::equal::assert_equal;
 use crate::plans::dense_plan_of;
 use crate::runs::{Made, told, told_by};
 use metric_catalogue::Catalogue;
@@ -22,7 +22,7 @@ use metric_plan::Plan;
 use metric_series::Table;
 use metric_views::Config;
 use std::alloc::Global;
-use std::test::Fail;
+use std::process::Abort;
 
 const CATALOGUE: &str = "format = 1
 [[meter]]
@@ -97,122 +97,124 @@ fn is_full(keys: &[KeyFacts], entries: &[u16]) -> bool
 }
 
 // Makes a table ready for a value. An even one is put there, an odd one is put back and then added by one call.
-fn write_added(
+fn write_added<R: Abort>(
     out: &mut String,
+    rt: &R,
     table: &mut DenseTable,
     keys: &[KeyFacts],
     set: &SetKey,
     value: i64,
-) -> Result<(), Fail>
+)
     requires takes { TakesFullSets table.old keys.now }
     requires full { is_full_set keys.now set.now ≡ true }
-    ensures { OnOk result (TakesFullSets table.new keys.now) }
+    ensures { TakesFullSets table.new keys.now }
 {
     match table.ready(set, value) {
         Ok(place) if value % 2 == 0 => {
             table.put(place, value);
-            Ok(write!(out, "{place:?};")?)
+            write!(out, "{place:?};").or_fail(rt)
         }
         Ok(place) => {
             table.unready(place);
-            table.add(set, value)?;
-            Ok(write!(out, "{place:?};")?)
+            table.add(set, value).or_fail(rt);
+            write!(out, "{place:?};").or_fail(rt)
         }
-        Err(fault) => Err(fault.into()),
+        Err(fault) => Err(fault).or_fail(rt),
     }
 }
 
-fn write_all_added(
+fn write_all_added<R: Abort>(
     out: &mut String,
+    rt: &R,
     table: &mut DenseTable,
     keys: &[KeyFacts],
     added: &[(u16, u16, i64)],
-) -> Result<(), Fail>
+)
     requires { TakesFullSets table.old keys.now }
 {
     for (first, second, value) in added {
         let set = [*first, *second, 0, 0, 0, 0, 0, 0];
         if !is_full(keys, &set) {
-            return Err("no set of the instrument".into());
+            panic!(rt; "no set of the instrument");
         }
-        write_added(out, table, keys, &set, *value)?;
+        write_added(out, rt, table, keys, &set, *value);
     }
-    Ok(out.push_str("\n")?)
+    out.push_str("\n").or_fail(rt);
 }
 
 // The points, and how many there are once the table is emptied.
-fn write_points(out: &mut String, alloc: Global, table: &mut DenseTable) -> Result<(), Fail> {
-    for point in table.points(alloc)? {
-        write!(out, "{:?} {:?}\n", point.set, point.value)?;
+fn write_points<R: Abort>(out: &mut String, rt: &R, alloc: Global, table: &mut DenseTable) {
+    for point in table.points(alloc).or_fail(rt) {
+        write!(out, "{:?} {:?}\n", point.set, point.value).or_fail(rt);
     }
     table.reset();
-    let left = table.points(alloc)?.len();
-    Ok(write!(out, "{left}\n")?)
+    let left = table.points(alloc).or_fail(rt).len();
+    write!(out, "{left}\n").or_fail(rt);
 }
 
 // What the table of an instrument's first stream tells.
-fn write_table(
+fn write_table<R: Abort>(
     out: &mut String,
+    rt: &R,
     alloc: Global,
     facts: &Facts,
     added: &[(u16, u16, i64)],
-) -> Result<(), Fail>
+)
     requires { AreDense facts.now }
 {
     let keys = facts.keys.as_slice();
     let streams = facts.streams.as_slice();
     let [numbered, ..] = streams else {
-        return Err("no stream".into());
+        panic!(rt; "no stream");
     };
     if !numbered.by_product {
-        return Err("not by product".into());
+        panic!(rt; "not by product");
     }
-    let mut table = dense_table(alloc, keys, &numbered.stream)?;
-    write_all_added(out, &mut table, keys, added)?;
-    write_points(out, alloc, &mut table)
+    let mut table = dense_table(alloc, keys, &numbered.stream).or_fail(rt);
+    write_all_added(out, rt, &mut table, keys, added);
+    write_points(out, rt, alloc, &mut table);
 }
 
-fn write_instrument(
+fn write_instrument<R: Abort>(
     out: &mut String,
+    rt: &R,
     alloc: Global,
     plan: &Plan,
     instrument: u32,
     added: &[(u16, u16, i64)],
-) -> Result<(), Fail> {
+) {
     if instrument as usize >= plan.all_facts().len() {
-        return Err("no such instrument".into());
+        panic!(rt; "no such instrument");
     }
     // For the proof alone: the catalogue is sound.
     let _sound = plan.catalogue().instruments();
-    write_table(out, alloc, plan.facts(instrument), added)
+    write_table(out, rt, alloc, plan.facts(instrument), added);
 }
 
 // What the certificate says of each stream.
-fn write_sets(out: &mut String, alloc: Global) -> Result<(), Fail> {
-    let catalogue = Catalogue::read(alloc, CATALOGUE)?;
-    let config = Config::read(alloc, CONFIG)?;
-    let certificate = make(alloc, &catalogue, &config)?;
+fn write_sets<R: Abort>(out: &mut String, rt: &R, alloc: Global) {
+    let catalogue = Catalogue::read(alloc, CATALOGUE).or_fail(rt);
+    let config = Config::read(alloc, CONFIG).or_fail(rt);
+    let certificate = make(alloc, &catalogue, &config).or_fail(rt);
     for stream in certificate.claims().streams.as_slice() {
         let is_by_product = matches!(stream.by, By::Product);
-        writeln!(out, "{} sets, by product: {is_by_product}", stream.sets)?;
+        writeln!(out, "{} sets, by product: {is_by_product}", stream.sets).or_fail(rt);
     }
-    Ok(())
 }
 
-fn tables_told(alloc: Global) -> Result<String, Fail> {
-    let plan = dense_plan_of(alloc, CATALOGUE, CONFIG)?;
+fn tables_told<R: Abort>(rt: &R, alloc: Global) -> String {
+    let plan = dense_plan_of(rt, alloc, CATALOGUE, CONFIG);
     let mut out = String::new(alloc);
-    write_sets(&mut out, alloc)?;
+    write_sets(&mut out, rt, alloc);
     for (instrument, added) in ADDED {
-        write_instrument(&mut out, alloc, &plan, *instrument, added)?;
+        write_instrument(&mut out, rt, alloc, &plan, *instrument, added);
     }
-    Ok(out)
+    out
 }
 
 #[test]
-fn a_dense_table_has_a_place_for_each_series(rt: HostRuntime) -> Result<(), Fail> {
-    assert_equal(&rt, tables_told(rt.alloc())?.as_str(), TOLD);
-    Ok(())
+fn a_dense_table_has_a_place_for_each_series(rt: HostRuntime) {
+    assert_equal(&rt, tables_told(&rt, rt.alloc()).as_str(), TOLD);
 }
 
 // How many inputs there are.
@@ -272,34 +274,33 @@ const VIEW: &[Lines] = &[&[
     "[[view]]\naggregation = 'sum'\n",
 ]];
 
-fn push_input(out: &mut String, dice: &mut Dice) -> Result<(), Fail> {
-    push_lines(out, dice, DECLARED)?;
+fn push_input<R: Abort>(out: &mut String, rt: &R, dice: &mut Dice) {
+    push_lines(out, rt, dice, DECLARED);
     for number in 0..3 {
-        write!(out, "[[recorder]]\nname = 'p{number}'\n")?;
-        push_lines(out, dice, BUDGETS)?;
+        write!(out, "[[recorder]]\nname = 'p{number}'\n").or_fail(rt);
+        push_lines(out, rt, dice, BUDGETS);
     }
-    out.push_str("%% config\nformat = 1\n")?;
+    out.push_str("%% config\nformat = 1\n").or_fail(rt);
     for number in 0..16 {
-        write!(out, "[[reader]]\nname = 'q{number}'\n")?;
-        push_lines(out, dice, READER)?;
+        write!(out, "[[reader]]\nname = 'q{number}'\n").or_fail(rt);
+        push_lines(out, rt, dice, READER);
     }
-    push_lines(out, dice, VIEW)?;
-    push_script(out, dice)
+    push_lines(out, rt, dice, VIEW);
+    push_script(out, rt, dice);
 }
 
 // Whether dense tables give the replies of a book that keeps the whole journal.
-fn agrees(alloc: Global, seed: u64) -> Result<bool, Fail> {
+fn agrees<R: Abort>(rt: &R, alloc: Global, seed: u64) -> bool {
     let mut input = String::new(alloc);
-    push_input(&mut input, &mut Dice::new(seed))?;
-    let wanted = told::<JournalBook>(alloc, &input, usize::MAX)?;
-    let found = told_by::<Marked>(alloc, &input, Made::Dense, usize::MAX)?;
-    Ok(found.as_str() == wanted.as_str())
+    push_input(&mut input, rt, &mut Dice::new(seed));
+    let wanted = told::<R, JournalBook>(rt, alloc, &input, usize::MAX);
+    let found = told_by::<R, Marked>(rt, alloc, &input, Made::Dense, usize::MAX);
+    found.as_str() == wanted.as_str()
 }
 
 #[test]
-fn dense_tables_give_the_same_replies(rt: HostRuntime) -> Result<(), Fail> {
+fn dense_tables_give_the_same_replies(rt: HostRuntime) {
     for seed in 0..INPUTS {
-        assert_equal(&rt, (seed, agrees(rt.alloc(), seed)?), (seed, true));
+        assert_equal(&rt, (seed, agrees(&rt, rt.alloc(), seed)), (seed, true));
     }
-    Ok(())
 }

@@ -1,10 +1,10 @@
 //! What the run of each instrument depends on.
-use crate::equal::assert_equal;
+use crate::asserted::{OrFail, assert_equal};
 use crate::plans::plan_of;
 use metric_facts::{Facts, same_facts};
 use metric_plan::Plan;
 use std::alloc::Global;
-use std::test::Fail;
+use std::process::Abort;
 
 const SHOP: &str = "format = 2
 [[meter]]
@@ -65,50 +65,47 @@ const SHOWN: &str = "\
 [3, -1, 1] [] [0, 8, 0, 0] [false, false] 3 7
 ";
 
-fn write_allowed(out: &mut String, facts: &Facts) -> Result<(), Fail> {
+fn write_allowed<R: Abort>(out: &mut String, rt: &R, facts: &Facts) {
     if let Some(allowed) = &facts.allowed {
         let rows = allowed.rows();
-        write!(out, " {rows:?}")?;
+        write!(out, " {rows:?}").or_fail(rt);
     }
-    Ok(())
 }
 
-fn write_streams(out: &mut String, facts: &Facts) -> Result<(), Fail> {
+fn write_streams<R: Abort>(out: &mut String, rt: &R, facts: &Facts) {
     for stream in facts.streams.as_slice() {
         let number = stream.number;
-        write!(out, " {number}")?;
+        write!(out, " {number}").or_fail(rt);
     }
-    Ok(out.push_str("\n")?)
+    out.push_str("\n").or_fail(rt);
 }
 
-fn write_facts(out: &mut String, facts: &Facts) -> Result<(), Fail> {
+fn write_facts<R: Abort>(out: &mut String, rt: &R, facts: &Facts) {
     let numbers = [i64::from(facts.instrument), facts.lo, facts.hi];
     let keys = facts.keys.as_slice();
     let budgets = facts.budgets.as_slice();
     let delta = facts.delta.as_slice();
-    write!(out, "{numbers:?} {keys:?} {budgets:?} {delta:?}")?;
-    write_allowed(out, facts)?;
-    write_streams(out, facts)
+    write!(out, "{numbers:?} {keys:?} {budgets:?} {delta:?}").or_fail(rt);
+    write_allowed(out, rt, facts);
+    write_streams(out, rt, facts);
 }
 
-fn write_all(out: &mut String, all: &[Facts]) -> Result<(), Fail> {
+fn write_all<R: Abort>(out: &mut String, rt: &R, all: &[Facts]) {
     for facts in all {
-        write_facts(out, facts)?;
+        write_facts(out, rt, facts);
     }
-    Ok(())
 }
 
-fn shown(alloc: Global) -> Result<String, Fail> {
-    let plan = plan_of(alloc, SHOP, CONFIG)?;
+fn shown<R: Abort>(rt: &R, alloc: Global) -> String {
+    let plan = plan_of(rt, alloc, SHOP, CONFIG);
     let mut out = String::new(alloc);
-    write_all(&mut out, plan.all_facts())?;
-    Ok(out)
+    write_all(&mut out, rt, plan.all_facts());
+    out
 }
 
 #[test]
-fn each_instrument_has_its_facts(rt: HostRuntime) -> Result<(), Fail> {
-    assert_equal(&rt, shown(rt.alloc())?.as_str(), SHOWN);
-    Ok(())
+fn each_instrument_has_its_facts(rt: HostRuntime) {
+    assert_equal(&rt, shown(&rt, rt.alloc()).as_str(), SHOWN);
 }
 
 // What an instrument says of its combinations, what another says, and whether both have the same facts.
@@ -133,7 +130,7 @@ const LISTS: [(&str, &str, bool); 6] = [
     ),
 ];
 
-fn listed(alloc: Global, allowed: &str) -> Result<Plan, Fail> {
+fn listed<R: Abort>(rt: &R, alloc: Global, allowed: &str) -> Plan {
     let text = format!(in alloc;
         "format = 2
 [[meter]]
@@ -145,8 +142,9 @@ range = [0, 9]
 key = [{{ name = 'a', values = [1, 2] }}, {{ name = 'b', values = [1], optional = true }}]
 {allowed}
 "
-    )?;
-    plan_of(alloc, text.as_str(), CONFIG)
+    )
+    .or_fail(rt);
+    plan_of(rt, alloc, text.as_str(), CONFIG)
 }
 
 fn have_same_facts(plan: &Plan, other: &Plan) -> bool {
@@ -157,11 +155,10 @@ fn have_same_facts(plan: &Plan, other: &Plan) -> bool {
 }
 
 #[test]
-fn facts_tell_the_listed_combinations(rt: HostRuntime) -> Result<(), Fail> {
+fn facts_tell_the_listed_combinations(rt: HostRuntime) {
     for (allowed, other, same) in LISTS {
-        let plan = listed(rt.alloc(), allowed)?;
-        let others = listed(rt.alloc(), other)?;
-        assert_eq!(rt; have_same_facts(&plan, &others), same);
+        let plan = listed(&rt, rt.alloc(), allowed);
+        let others = listed(&rt, rt.alloc(), other);
+        assert_equal(&rt, have_same_facts(&plan, &others), same);
     }
-    Ok(())
 }

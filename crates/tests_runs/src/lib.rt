@@ -11,6 +11,8 @@ mod aggregates;
 #[cfg(test)]
 mod agreement;
 #[cfg(test)]
+mod asserted;
+#[cfg(test)]
 mod audits;
 #[cfg(test)]
 mod cells;
@@ -22,8 +24,6 @@ mod cores;
 mod dense;
 #[cfg(test)]
 mod dice;
-#[cfg(test)]
-mod equal;
 #[cfg(test)]
 mod facts;
 #[cfg(test)]

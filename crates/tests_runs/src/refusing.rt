@@ -2,7 +2,7 @@
 //!
 //! No test can have one allocation of its process refused, so a book refuses in its place, as it would where a
 //! table can not grow.
-use crate::equal::assert_equal;
+use crate::asserted::assert_equal;
 use crate::runs::told;
 use metric_book::{Book, Window};
 use metric_contents::Refusal;
@@ -11,7 +11,6 @@ use metric_marked::Marked;
 use metric_plan::Plan;
 use std::alloc::{AllocError, Global};
 use std::marker::Model;
-use std::test::Fail;
 
 /// A book of running tables that says `Memory` to the first recording and to the first collection, each once.
 #[derive(Drop)]
@@ -124,11 +123,10 @@ point {\"k\"=\"y\"} start=10 time=20 value=1
 ";
 
 #[test]
-fn what_memory_refused_changes_nothing(rt: HostRuntime) -> Result<(), Fail> {
+fn what_memory_refused_changes_nothing(rt: HostRuntime) {
     assert_equal(
         &rt,
-        told::<Refusing>(rt.alloc(), INPUT, usize::MAX)?.as_str(),
+        told::<_, Refusing>(&rt, rt.alloc(), INPUT, usize::MAX).as_str(),
         REPLIES,
     );
-    Ok(())
 }

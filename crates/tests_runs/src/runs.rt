@@ -1,4 +1,5 @@
 //! Runs of an input's script on a core, and the text of the replies, which is what a replay writes.
+use crate::asserted::OrFail;
 use crate::plans::{dense_plan_of, plan_of};
 use metric_book::Book;
 use metric_contents::Refusal;
@@ -10,53 +11,49 @@ use metric_plan::Plan;
 use metric_script::{ScriptEvents, events_of};
 use metric_text::{lines, push_text};
 use std::alloc::Global;
-use std::test::Fail;
+use std::process::Abort;
 
-fn push_refusal(out: &mut Vec<u8>, alloc: Global, refusal: Refusal) -> Result<(), Fail> {
-    let line = format!(in alloc; "refused {refusal}\n")?;
-    Ok(push_text(out, &line)?)
+fn push_refusal<R: Abort>(out: &mut Vec<u8>, rt: &R, alloc: Global, refusal: Refusal) {
+    let line = format!(in alloc; "refused {refusal}\n").or_fail(rt);
+    push_text(out, &line).or_fail(rt);
 }
 
-fn push_reply(out: &mut Vec<u8>, alloc: Global, plan: &Plan, reply: &Reply) -> Result<(), Fail> {
+fn push_reply<R: Abort>(out: &mut Vec<u8>, rt: &R, alloc: Global, plan: &Plan, reply: &Reply) {
     match reply {
-        Reply::Accepted => Ok(push_text(out, "accepted\n")?),
-        Reply::Done => Ok(push_text(out, "closed\n")?),
-        Reply::Granted => Ok(push_text(out, "granted\n")?),
-        Reply::Refused(refusal) => push_refusal(out, alloc, *refusal),
-        Reply::Collected(batch) => Ok(push_batch(
-            out,
-            plan.catalogue(),
-            plan.config(),
-            plan.streams(),
-            batch,
-        )?),
+        Reply::Accepted => push_text(out, "accepted\n").or_fail(rt),
+        Reply::Done => push_text(out, "closed\n").or_fail(rt),
+        Reply::Granted => push_text(out, "granted\n").or_fail(rt),
+        Reply::Refused(refusal) => push_refusal(out, rt, alloc, *refusal),
+        Reply::Collected(batch) => {
+            push_batch(out, plan.catalogue(), plan.config(), plan.streams(), batch).or_fail(rt)
+        }
     }
 }
 
-fn push_replies(
+fn push_replies<R: Abort>(
     out: &mut Vec<u8>,
+    rt: &R,
     alloc: Global,
     plan: &Plan,
     replies: &[Reply],
-) -> Result<(), Fail> {
+) {
     for reply in replies {
-        push_reply(out, alloc, plan, reply)?;
+        push_reply(out, rt, alloc, plan, reply);
     }
-    Ok(())
 }
 
-fn push_pieces<B: Book>(
+fn push_pieces<R: Abort, B: Book>(
     out: &mut Vec<u8>,
+    rt: &R,
     alloc: Global,
     core: &mut Core<B>,
     events: &[Event],
     size: usize,
-) -> Result<(), Fail> {
+) {
     for piece in events.chunks(size.max(1)) {
-        let replies = core.run(alloc, piece)?;
-        push_replies(out, alloc, core.plan(), &replies)?;
+        let replies = core.run(alloc, piece).or_fail(rt);
+        push_replies(out, rt, alloc, core.plan(), &replies);
     }
-    Ok(())
 }
 
 /// How the plan of a run is made.
@@ -69,41 +66,40 @@ pub(crate) enum Made {
 }
 
 impl Made {
-    fn plan_of(self, alloc: Global, parts: &Parts<'_>) -> Result<Plan, Fail> {
+    fn plan_of<R: Abort>(self, rt: &R, alloc: Global, parts: &Parts<'_>) -> Plan {
         let catalogue = parts.catalogue.as_str();
         let config = parts.config.as_str();
         match self {
-            Made::Tried => plan_of(alloc, catalogue, config),
-            Made::Dense => dense_plan_of(alloc, catalogue, config),
+            Made::Tried => plan_of(rt, alloc, catalogue, config),
+            Made::Dense => dense_plan_of(rt, alloc, catalogue, config),
         }
     }
 }
 
-fn core_of<B: Book>(alloc: Global, plan: Plan, start: u64) -> Result<Core<B>, Fail> {
+fn core_of<R: Abort, B: Book>(rt: &R, alloc: Global, plan: Plan, start: u64) -> Core<B> {
     match Core::new(alloc, plan, start) {
-        Ok(core) => Ok(core),
-        Err((_, refused)) => Err(Fail::from(refused)),
+        Ok(core) => core,
+        Err((_, refused)) => Err(refused).or_fail(rt),
     }
 }
 
-fn script_of(alloc: Global, parts: &Parts<'_>) -> Result<ScriptEvents, Fail> {
-    match &parts.script {
-        Some(script) => Ok(events_of(alloc, script)?),
-        None => Err("no script".into()),
-    }
+fn script_of<R: Abort>(rt: &R, alloc: Global, parts: &Parts<'_>) -> ScriptEvents {
+    let script = parts.script.as_ref().expect(rt, "no script");
+    events_of(alloc, script).or_fail(rt)
 }
 
-fn push_run<B: Book>(
+fn push_run<R: Abort, B: Book>(
     out: &mut Vec<u8>,
+    rt: &R,
     alloc: Global,
     parts: &Parts<'_>,
     made: Made,
     size: usize,
-) -> Result<(), Fail> {
-    let script = script_of(alloc, parts)?;
-    let plan = made.plan_of(alloc, parts)?;
-    let mut core: Core<B> = core_of(alloc, plan, script.start)?;
-    push_pieces(out, alloc, &mut core, script.events.as_slice(), size)
+) {
+    let script = script_of(rt, alloc, parts);
+    let plan = made.plan_of(rt, alloc, parts);
+    let mut core: Core<B> = core_of(rt, alloc, plan, script.start);
+    push_pieces(out, rt, alloc, &mut core, script.events.as_slice(), size);
 }
 
 const TRIAL: Needs = Needs {
@@ -111,31 +107,33 @@ const TRIAL: Needs = Needs {
     script: true,
 };
 
-fn push_input<B: Book>(
+fn push_input<R: Abort, B: Book>(
     out: &mut Vec<u8>,
+    rt: &R,
     alloc: Global,
     input: &[u8],
     made: Made,
     size: usize,
-) -> Result<(), Fail> {
-    let lines = lines(alloc, input)?;
-    let parts = parts_of(alloc, &lines, TRIAL)?;
-    push_run::<B>(out, alloc, &parts, made, size)
+) {
+    let lines = lines(alloc, input).or_fail(rt);
+    let parts = parts_of(alloc, &lines, TRIAL).or_fail(rt);
+    push_run::<R, B>(out, rt, alloc, &parts, made, size);
 }
 
 /// The replies of a new core to the script of an input, where each run has at most so many events.
-pub(crate) fn told<B: Book>(alloc: Global, input: &str, size: usize) -> Result<String, Fail> {
-    told_by::<B>(alloc, input, Made::Tried, size)
+pub(crate) fn told<R: Abort, B: Book>(rt: &R, alloc: Global, input: &str, size: usize) -> String {
+    told_by::<R, B>(rt, alloc, input, Made::Tried, size)
 }
 
 /// The same, where the plan is made in this way.
-pub(crate) fn told_by<B: Book>(
+pub(crate) fn told_by<R: Abort, B: Book>(
+    rt: &R,
     alloc: Global,
     input: &str,
     made: Made,
     size: usize,
-) -> Result<String, Fail> {
+) -> String {
     let mut out = Vec::new(alloc);
-    push_input::<B>(&mut out, alloc, input.as_bytes(), made, size)?;
-    Ok(String::from_utf8(out)?)
+    push_input::<R, B>(&mut out, rt, alloc, input.as_bytes(), made, size);
+    String::from_utf8(out).or_fail(rt)
 }

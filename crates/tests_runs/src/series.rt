@@ -1,10 +1,10 @@
 //! Tables of series: which are held, the order of their points, the overflow point, and what is put back or emptied.
-use crate::equal::assert_equal;
+use crate::asserted::{OrFail, assert_equal};
 use crate::plans::plan_of;
 use metric_series::{SeriesTable, Table};
 use metric_views::Stream;
 use std::alloc::Global;
-use std::test::Fail;
+use std::process::Abort;
 
 const CATALOGUE: &str = "format = 1
 [[meter]]
@@ -69,70 +69,69 @@ None Buckets { count: 2, counts: Items { items: [2, 0] }, sum: Some(5), min: 2, 
 
 // Makes a table ready for a value. An even one is put there, an odd one is put back and then added by one call.
 #[tactic(auto, using(crate::specs::Taking::takes_any))]
-fn write_added(
+fn write_added<R: Abort>(
     out: &mut String,
+    rt: &R,
     table: &mut SeriesTable,
     entry: u16,
     value: i64,
-) -> Result<(), Fail> {
+) {
     let set = [entry, 0, 0, 0, 0, 0, 0, 0];
     match table.ready(&set, value) {
         Ok(place) if value % 2 == 0 => {
             table.put(place, value);
-            Ok(write!(out, "{place:?};")?)
+            write!(out, "{place:?};").or_fail(rt)
         }
         Ok(place) => {
             table.unready(place);
-            table.add(&set, value)?;
-            Ok(write!(out, "{place:?};")?)
+            table.add(&set, value).or_fail(rt);
+            write!(out, "{place:?};").or_fail(rt)
         }
-        Err(fault) => Ok(write!(out, "{fault:?};")?),
+        Err(fault) => write!(out, "{fault:?};").or_fail(rt),
     }
 }
 
-fn write_all_added(
+fn write_all_added<R: Abort>(
     out: &mut String,
+    rt: &R,
     table: &mut SeriesTable,
     values: &[(u16, i64)],
-) -> Result<(), Fail> {
+) {
     for (entry, value) in values {
-        write_added(out, table, *entry, *value)?;
+        write_added(out, rt, table, *entry, *value);
     }
-    Ok(out.push_str("\n")?)
+    out.push_str("\n").or_fail(rt);
 }
 
-fn write_points(out: &mut String, alloc: Global, table: &SeriesTable) -> Result<(), Fail> {
-    for point in table.points(alloc)? {
-        write!(out, "{:?} {:?}\n", point.set, point.value)?;
+fn write_points<R: Abort>(out: &mut String, rt: &R, alloc: Global, table: &SeriesTable) {
+    for point in table.points(alloc).or_fail(rt) {
+        write!(out, "{:?} {:?}\n", point.set, point.value).or_fail(rt);
     }
-    Ok(())
 }
 
-fn write_table(out: &mut String, alloc: Global, table: &mut SeriesTable) -> Result<(), Fail> {
+fn write_table<R: Abort>(out: &mut String, rt: &R, alloc: Global, table: &mut SeriesTable) {
     for values in VALUES {
-        write_all_added(out, table, values)?;
-        write_points(out, alloc, table)?;
+        write_all_added(out, rt, table, values);
+        write_points(out, rt, alloc, table);
         table.reset();
     }
-    Ok(())
 }
 
-fn write_tables(out: &mut String, alloc: Global, streams: &[Stream]) -> Result<(), Fail> {
+fn write_tables<R: Abort>(out: &mut String, rt: &R, alloc: Global, streams: &[Stream]) {
     for stream in streams {
-        write_table(out, alloc, &mut SeriesTable::new(alloc, stream)?)?;
+        let mut table = SeriesTable::new(alloc, stream).or_fail(rt);
+        write_table(out, rt, alloc, &mut table);
     }
-    Ok(())
 }
 
-fn told(alloc: Global) -> Result<String, Fail> {
-    let plan = plan_of(alloc, CATALOGUE, CONFIG)?;
+fn told<R: Abort>(rt: &R, alloc: Global) -> String {
+    let plan = plan_of(rt, alloc, CATALOGUE, CONFIG);
     let mut out = String::new(alloc);
-    write_tables(&mut out, alloc, plan.streams())?;
-    Ok(out)
+    write_tables(&mut out, rt, alloc, plan.streams());
+    out
 }
 
 #[test]
-fn a_table_holds_the_first_series_up_to_the_limit(rt: HostRuntime) -> Result<(), Fail> {
-    assert_equal(&rt, told(rt.alloc())?.as_str(), TOLD);
-    Ok(())
+fn a_table_holds_the_first_series_up_to_the_limit(rt: HostRuntime) {
+    assert_equal(&rt, told(&rt, rt.alloc()).as_str(), TOLD);
 }

@@ -1,5 +1,5 @@
 //! What recorders and readers do in threads at once, audited after they have ended.
-use crate::equal::assert_equal;
+use crate::asserted::{OrFail, assert_equal};
 use crate::plans::certified_plan;
 use metric_audit::{Audited, audit};
 use metric_base::Items;
@@ -8,9 +8,9 @@ use metric_commands::{SeatsRun, ThreadsOptions, run_seats};
 use metric_history::{Batch, Entry};
 use metric_plan::Plan;
 use metric_provider::Totals;
-use std::alloc::{AllocError, Global};
+use std::alloc::Global;
+use std::process::Abort;
 use std::sync::Wait;
-use std::test::Fail;
 use std::thread::Threads;
 
 // Two counters; three more, each with one allowed combination: the first values of the required keys, their last values, and the
@@ -58,68 +58,71 @@ const TOLD: &str = "20 recordings of 60, batches at 1 2 3 4 5 6 7 8 1 2 3 4 5 6 
 ";
 
 // What the threads of a certified plan come to.
-fn run_of<R: Threads + Wait + Sync>(rt: &R, alloc: Global, plan: Plan) -> Result<SeatsRun, Fail> {
+fn run_of<R: Abort + Threads + Wait + Sync>(rt: &R, alloc: Global, plan: Plan) -> SeatsRun {
     if !plan.is_certified() {
-        return Err("a plan that is not certified".into());
+        panic!(rt; "a plan that is not certified");
     }
-    Ok(run_seats::<R, Audited>(rt, alloc, TWELVE_EACH, plan)?)
+    run_seats::<R, Audited>(rt, alloc, TWELVE_EACH, plan).or_fail(rt)
 }
 
 // The batches of each of so many instruments, in their order.
-fn by_instrument(
+fn by_instrument<R: Abort>(
+    rt: &R,
     alloc: Global,
     batches: Vec<Batch>,
     count: u32,
-) -> Result<Vec<Vec<Batch>>, AllocError> {
+) -> Vec<Vec<Batch>> {
     let mut lists: Vec<Vec<Batch>> = Vec::new(alloc);
     for _ in 0..count {
-        lists.push(Vec::new(alloc))?;
+        lists.push(Vec::new(alloc)).or_fail(rt);
     }
     for batch in batches {
         if let Some(own) = lists.get_mut(batch.instrument as usize) {
-            own.push(batch)?;
+            own.push(batch).or_fail(rt);
         }
     }
-    Ok(lists)
+    lists
 }
 
 // Writes what an audit of an instrument answers.
-fn write_audit(
+fn write_audit<R: Abort>(
     out: &mut String,
+    rt: &R,
     alloc: Global,
     plan: &Plan,
     instrument: u32,
     journal: &[Entry],
     slips: &[Items<Slip>],
     batches: &[Batch],
-) -> Result<(), Fail> {
+) {
     let is_one_each = slips.len() == plan.catalogue().recorders().len();
     if instrument as usize >= plan.all_facts().len() || !is_one_each {
-        return Err("no such instrument".into());
+        panic!(rt; "no such instrument");
     }
     match audit(alloc, plan, instrument, 0, journal, slips, batches) {
-        Ok(()) => Ok(out.push_str("done\n")?),
-        Err(fault) => Ok(writeln!(out, "{fault}")?),
+        Ok(()) => out.push_str("done\n").or_fail(rt),
+        Err(fault) => writeln!(out, "{fault}").or_fail(rt),
     }
 }
 
 // Writes the times of batches, and a colon.
-fn write_times(out: &mut String, batches: &[Batch]) -> Result<(), Fail> {
+fn write_times<R: Abort>(out: &mut String, rt: &R, batches: &[Batch]) {
     for batch in batches {
-        write!(out, " {}", batch.time)?;
+        write!(out, " {}", batch.time).or_fail(rt);
     }
-    Ok(out.push_str(": ")?)
+    out.push_str(": ").or_fail(rt);
 }
 
 // Writes what an instrument comes to, and its audit.
-fn write_instrument(
+fn write_instrument<R: Abort>(
     out: &mut String,
+    rt: &R,
     alloc: Global,
     plan: &Plan,
     instrument: u32,
     totals: &Totals,
     batches: &[Vec<Batch>],
-) -> Result<(), Fail> {
+) {
     let at = instrument as usize;
     let (Some(total), Some(journal), Some(slips), Some(batches)) = (
         totals.instruments.get(at),
@@ -127,40 +130,35 @@ fn write_instrument(
         totals.slips.get(at),
         batches.get(at),
     ) else {
-        return Err("no such instrument".into());
+        panic!(rt; "no such instrument");
     };
     write!(
         out,
         "{} recordings of {}, batches at",
         total.count, total.sum
-    )?;
-    write_times(out, batches)?;
+    )
+    .or_fail(rt);
+    write_times(out, rt, batches);
     let (journal, slips) = (journal.as_slice(), slips.as_slice());
-    write_audit(out, alloc, plan, instrument, journal, slips, batches)
+    write_audit(out, rt, alloc, plan, instrument, journal, slips, batches);
 }
 
-fn write_run<R: Threads + Wait + Sync>(
-    out: &mut String,
-    rt: &R,
-    alloc: Global,
-) -> Result<(), Fail> {
-    let run = run_of(rt, alloc, certified_plan(alloc, CATALOGUE, CONFIG)?)?;
+fn write_run<R: Abort + Threads + Wait + Sync>(out: &mut String, rt: &R, alloc: Global) {
+    let run = run_of(rt, alloc, certified_plan(rt, alloc, CATALOGUE, CONFIG));
     let SeatsRun { totals, batches } = run;
-    let plan = certified_plan(alloc, CATALOGUE, CONFIG)?;
+    let plan = certified_plan(rt, alloc, CATALOGUE, CONFIG);
     let count = plan.catalogue().instruments().len() as u32;
-    let batches = by_instrument(alloc, batches, count)?;
+    let batches = by_instrument(rt, alloc, batches, count);
     for instrument in 0..count {
-        write_instrument(out, alloc, &plan, instrument, &totals, &batches)?;
+        write_instrument(out, rt, alloc, &plan, instrument, &totals, &batches);
     }
-    Ok(())
 }
 
 #[test]
-fn what_threads_do_is_audited(rt: HostRuntime) -> Result<(), Fail> {
+fn what_threads_do_is_audited(rt: HostRuntime) {
     for run in 0..RUNS {
         let mut told = String::new(rt.alloc());
-        write_run(&mut told, &rt, rt.alloc())?;
+        write_run(&mut told, &rt, rt.alloc());
         assert_equal(&rt, (run, told.as_str()), (run, TOLD));
     }
-    Ok(())
 }

@@ -3,43 +3,38 @@ use super::{
     AUDITED, AUDITED_TRIAL, CERTIFICATE, COUNTED, COUNTED_FOUR_TIMES, FOUR_EACH, MADE, REPLAY,
     SAMPLE, SHOWN, SHOWN_OUTPUT, SHOWN_VIEWS, TRIAL, told, told_into,
 };
-use crate::equal::assert_equal;
+use crate::asserted::{OrFail, assert_equal};
 use crate::inputs::{BUDGETED, OUTPUT, Parts, READERS};
 use metric_command::Line;
 use metric_io::{CutSink, CutSource};
 use std::alloc::Global;
+use std::process::Abort;
 use std::sync::Wait;
-use std::test::Fail;
 use std::thread::Threads;
 
 const WRITE: &str = "refused: write, 5";
 
 // What is told by a sink with this room.
-fn told_within<R: Threads + Wait + Sync>(
-    rt: &R,
-    alloc: Global,
-    room: usize,
-) -> Result<String, Fail> {
+fn told_within<R: Abort + Threads + Wait + Sync>(rt: &R, alloc: Global, room: usize) -> String {
     let mut sink = CutSink::new(alloc, Some(room));
     told_into(rt, alloc, TRIAL, SAMPLE, &mut sink)
 }
 
 #[test]
-fn a_writer_that_fails_has_a_prefix(rt: HostRuntime) -> Result<(), Fail> {
+fn a_writer_that_fails_has_a_prefix(rt: HostRuntime) {
     for room in 0..OUTPUT.len() {
-        let told = told_within(&rt, rt.alloc(), room)?;
+        let told = told_within(&rt, rt.alloc(), room);
         assert_equal(&rt, told.strip_suffix(WRITE), OUTPUT.get(..room));
     }
-    Ok(())
 }
 
 // What is told by a sink that can not be flushed.
-fn told_unflushed<R: Threads + Wait + Sync>(
+fn told_unflushed<R: Abort + Threads + Wait + Sync>(
     rt: &R,
     alloc: Global,
     line: Line,
     parts: Parts,
-) -> Result<String, Fail> {
+) -> String {
     let mut sink = CutSink::new(alloc, None).with_failing_flush();
     told_into(rt, alloc, line, parts, &mut sink)
 }
@@ -54,43 +49,42 @@ const WRITTEN: &[(Line, Parts, &str)] = &[
 ];
 
 #[test]
-fn a_flush_that_fails_is_a_write(rt: HostRuntime) -> Result<(), Fail> {
+fn a_flush_that_fails_is_a_write(rt: HostRuntime) {
     for (line, parts, written) in WRITTEN {
-        let told = told_unflushed(&rt, rt.alloc(), *line, parts)?;
+        let told = told_unflushed(&rt, rt.alloc(), *line, parts);
         assert_equal(&rt, told.strip_suffix(WRITE), Some(*written));
     }
-    Ok(())
 }
 
 // What is told where this read fails.
-fn told_up_to<R: Threads + Wait + Sync>(
+fn told_up_to<R: Abort + Threads + Wait + Sync>(
     rt: &R,
     alloc: Global,
     line: Line,
     failing: u64,
-) -> Result<String, Fail> {
-    let input = SAMPLE.concat(alloc)?;
+) -> String {
+    let input = SAMPLE.concat(alloc).or_fail(rt);
     let mut source = CutSource::new(input.as_bytes(), Some(failing)).in_pieces(50);
     let mut sink = CutSink::new(alloc, None);
     told(rt, alloc, Ok(line), &mut source, &mut sink)
 }
 
 // The first failing read after which anything else than a failed read is told.
-fn first_untold<R: Threads + Wait + Sync>(
+fn first_untold<R: Abort + Threads + Wait + Sync>(
     rt: &R,
     alloc: Global,
     line: Line,
-) -> Result<Option<u64>, Fail> {
+) -> Option<u64> {
     for failing in 1..10 {
-        if told_up_to(rt, alloc, line, failing)?.as_str() != "refused: input, 3" {
-            return Ok(Some(failing));
+        if told_up_to(rt, alloc, line, failing).as_str() != "refused: input, 3" {
+            return Some(failing);
         }
     }
-    Ok(None)
+    None
 }
 
 #[test]
-fn a_reader_that_fails_writes_nothing(rt: HostRuntime) -> Result<(), Fail> {
+fn a_reader_that_fails_writes_nothing(rt: HostRuntime) {
     for line in [
         TRIAL,
         REPLAY,
@@ -101,7 +95,6 @@ fn a_reader_that_fails_writes_nothing(rt: HostRuntime) -> Result<(), Fail> {
         Line::Show,
         FOUR_EACH,
     ] {
-        assert_equal(&rt, first_untold(&rt, rt.alloc(), line)?, None);
+        assert_equal(&rt, first_untold(&rt, rt.alloc(), line), None);
     }
-    Ok(())
 }

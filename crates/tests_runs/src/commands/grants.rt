@@ -1,9 +1,8 @@
 //! Command lines on a catalogue with a spare budget.
 use super::{AUDITED, AUDITED_TRIAL, FOUR_EACH, REPLAY, told_whole};
-use crate::equal::assert_equal;
+use crate::asserted::assert_equal;
 use crate::inputs::{MAIN, Parts};
 use metric_command::Line;
-use std::test::Fail;
 
 // A counter with a spare of two recordings, a recorder with a budget of one, and one without.
 const SPARED: &str = "%% catalogue
@@ -132,10 +131,9 @@ const SPARES: &[(Line, Parts, &str, &str)] = &[
 ];
 
 #[test]
-fn grants_are_answered(rt: HostRuntime) -> Result<(), Fail> {
+fn grants_are_answered(rt: HostRuntime) {
     for (line, parts, replies, end) in SPARES {
-        let told = told_whole(&rt, rt.alloc(), *line, parts)?;
+        let told = told_whole(&rt, rt.alloc(), *line, parts);
         assert_equal(&rt, told.strip_suffix(*end), Some(*replies));
     }
-    Ok(())
 }

@@ -1,21 +1,21 @@
 //! Command lines on files that do not belong together, are cut, or are no text.
 use super::{CERTIFICATE, FOUR_EACH, MADE, REPLAY, TRIAL, told};
-use crate::equal::assert_equal;
+use crate::asserted::{OrFail, assert_equal};
 use crate::inputs::{BUDGETED, HITS, MAIN, READERS};
 use metric_command::Line;
 use metric_io::{CutSink, CutSource};
 use std::alloc::Global;
+use std::process::Abort;
 use std::sync::Wait;
-use std::test::Fail;
 use std::thread::Threads;
 
 // What is told of an input.
-fn told_of<R: Threads + Wait + Sync>(
+fn told_of<R: Abort + Threads + Wait + Sync>(
     rt: &R,
     alloc: Global,
     line: Line,
     input: &[u8],
-) -> Result<String, Fail> {
+) -> String {
     let mut source = CutSource::new(input, None);
     let mut sink = CutSink::new(alloc, None);
     told(rt, alloc, Ok(line), &mut source, &mut sink)
@@ -46,58 +46,50 @@ const OTHER_FILES: &[(&str, &str, &str)] = &[
 ];
 
 #[test]
-fn a_certificate_of_other_files_is_refused(rt: HostRuntime) -> Result<(), Fail> {
-    let own = [BUDGETED, READERS, CERTIFICATE].concat(rt.alloc())?;
+fn a_certificate_of_other_files_is_refused(rt: HostRuntime) {
+    let own = [BUDGETED, READERS, CERTIFICATE];
+    let own = own.concat(rt.alloc()).or_fail(&rt);
     for (old, new, due) in OTHER_FILES {
-        let input = own.replace(rt.alloc(), old, new)?;
-        let told = told_of(&rt, rt.alloc(), Line::Check, input.as_bytes())?;
+        let input = own.replace(rt.alloc(), old, new).or_fail(&rt);
+        let told = told_of(&rt, rt.alloc(), Line::Check, input.as_bytes());
         assert_equal(&rt, told.as_str(), *due);
     }
-    Ok(())
 }
 
 // What is told of so much of the certificate as it is written.
-fn told_of_part<R: Threads + Wait + Sync>(
-    rt: &R,
-    alloc: Global,
-    end: usize,
-) -> Result<String, Fail> {
+fn told_of_part<R: Abort + Threads + Wait + Sync>(rt: &R, alloc: Global, end: usize) -> String {
     let part = MADE.get(0..end).unwrap_or("");
-    let input = [BUDGETED, READERS, "%% certificate\n", part].concat(alloc)?;
+    let input = [BUDGETED, READERS, "%% certificate\n", part];
+    let input = input.concat(alloc).or_fail(rt);
     told_of(rt, alloc, Line::Check, input.as_bytes())
 }
 
 // A part is no certificate, or lacks the last stream. Without its last line feed the text is whole.
 #[test]
-fn a_written_certificate_that_is_cut_is_refused(rt: HostRuntime) -> Result<(), Fail> {
+fn a_written_certificate_that_is_cut_is_refused(rt: HostRuntime) {
     let whole = MADE.len().saturating_sub(1);
     for end in 0..whole {
-        let told = told_of_part(&rt, rt.alloc(), end)?;
-        assert!(rt; told.strip_prefix("refused: c").is_some());
+        let told = told_of_part(&rt, rt.alloc(), end);
+        assert_equal(&rt, told.strip_prefix("refused: c").is_some(), true);
     }
-    assert_equal(
-        &rt,
-        told_of_part(&rt, rt.alloc(), whole)?.as_str(),
-        "accepted\n",
-    );
-    Ok(())
+    let told = told_of_part(&rt, rt.alloc(), whole);
+    assert_equal(&rt, told.as_str(), "accepted\n");
 }
 
 // An input whose script begins with a byte that is no text, in line 21.
-fn with_strange_byte(alloc: Global, catalogue: &str) -> Result<Vec<u8>, Fail> {
-    let mut input = [catalogue, MAIN, "%% script\nstart 0\n"]
-        .concat(alloc)?
-        .into_bytes();
-    input.push(0xFF)?;
-    input.push(b'\n')?;
-    Ok(input)
+fn with_strange_byte<R: Abort>(rt: &R, alloc: Global, catalogue: &str) -> Vec<u8> {
+    let input = [catalogue, MAIN, "%% script\nstart 0\n"];
+    let mut input = input.concat(alloc).or_fail(rt).into_bytes();
+    input.push(0xFF).or_fail(rt);
+    input.push(b'\n').or_fail(rt);
+    input
 }
 
 // It is told before any fault of the catalogue, also where the script is not needed.
 #[test]
-fn a_byte_that_is_no_text_is_told_first(rt: HostRuntime) -> Result<(), Fail> {
+fn a_byte_that_is_no_text_is_told_first(rt: HostRuntime) {
     for catalogue in [HITS, "%% catalogue\n[a\n\n\n\n\n\n\n\n\n\n\n\n\n"] {
-        let input = with_strange_byte(rt.alloc(), catalogue)?;
+        let input = with_strange_byte(&rt, rt.alloc(), catalogue);
         for line in [
             TRIAL,
             REPLAY,
@@ -106,11 +98,10 @@ fn a_byte_that_is_no_text_is_told_first(rt: HostRuntime) -> Result<(), Fail> {
             Line::Make,
             Line::Show,
         ] {
-            let told = told_of(&rt, rt.alloc(), line, &input)?;
+            let told = told_of(&rt, rt.alloc(), line, &input);
             assert_equal(&rt, told.as_str(), due_of(line));
         }
     }
-    Ok(())
 }
 
 // Where a certificate is needed, its header is due in the place of the script's.
