@@ -1,14 +1,21 @@
-//! A service to copy from: workers record in threads of their own, while each reader of the config exports. It fails where the
-//! totals at its end are not what the workers counted. `metric_service CATALOGUE CONFIG` starts only where both are safe together.
+//! A service to copy from: workers record in threads of their own, while each reader of the config exports: the one that is named
+//! `new` as lines of JSON for machines, by an exporter of the service's own (`json_lines`), any other as text for people. It fails
+//! where the totals at its end are not what the workers counted. `metric_service CATALOGUE CONFIG` starts only where both are safe
+//! together.
 #![tactic(auto)]
 
+mod json;
+mod json_lines;
+
 use anyhow::{Error, Result, bail, ensure};
+use json::Times;
+use json_lines::JsonLines;
 use metric_sdk::{
     Attr, BoundCounter, ClockTicker, Collector, Counted, Counter, Gauge, Histogram, MeterProvider,
-    Periodic, Plan, Recorder, Refusal, Runs, ServiceFault, StdSink, StopFlag, TextExporter,
-    UpDownCounter, ValueRef, counter, gauge, histogram, now, open, up_down_counter,
+    MetricExporter, Periodic, Plan, Recorder, Refusal, Runs, ServiceFault, StdSink, StopFlag,
+    TextExporter, UpDownCounter, ValueRef, counter, gauge, histogram, now, open, up_down_counter,
 };
-use std::io::Stderr;
+use std::io::{Stderr, Stdout};
 use std::sync::Wait;
 use std::thread::{Threads, for_each_mut, join, map_vec};
 use std::time::Clock;
@@ -84,7 +91,8 @@ fn main(rt: HostRuntime) -> Result<()> {
     let (start, run) = (now(&rt)?, Runs::new().next());
     let (provider, recorders, readers) = open(&rt, rt.alloc(), &catalogue, &config, start, run)?;
     let mut seats = Vec::with_capacity(rt.alloc(), recorders.len())?;
-    let (workers, failed) = serve(&rt, rt.stderr(), &provider, recorders, readers)?;
+    let outputs = (rt.stdout(), rt.stderr());
+    let (workers, failed) = serve(&rt, outputs, &provider, recorders, readers)?;
     let (mut served, mut refused) = (0u64, [0u64; 7]);
     for (seat, own) in workers {
         for (number, refused) in (0..7).zip(&mut refused) {
@@ -113,7 +121,7 @@ fn main(rt: HostRuntime) -> Result<()> {
 // Serves until the workers have ended. They come back, and how many exports of each reader failed.
 fn serve<R: Threads + Wait + Clock + Sync + AllocGlobal>(
     rt: &R,
-    stderr: Stderr,
+    (stdout, stderr): (Stdout, Stderr),
     provider: &MeterProvider,
     recorders: Vec<Recorder>,
     readers: Vec<Collector>,
@@ -124,12 +132,15 @@ fn serve<R: Threads + Wait + Clock + Sync + AllocGlobal>(
         let seat = Counted::new(rt.alloc(), provider.plan(), seat);
         workers.push((seat.map_err(|(_, refused)| refused)?, 0))?;
     }
-    let export = |reader| {
-        // Once a second, for up to 136 years, and a last time when the workers have ended.
-        let mut ticker = ClockTicker::new(1_000, u64::MAX, &stop);
-        let log = Periodic::new(TextExporter::new(StdSink::new(stderr)), u32::MAX);
-        let end = log.run(rt, rt.alloc(), provider, reader, &mut ticker);
-        end.failed.saturating_add(end.refused)
+    let export = |reader: Collector| {
+        if is_for_machines(provider.plan(), &reader) {
+            // What takes the lines stamps each one.
+            let lines = JsonLines::new(StdSink::new(stdout), Times::LeftOut);
+            export_by(rt, lines, provider, reader, 60_000, &stop)
+        } else {
+            let text = TextExporter::new(StdSink::new(stderr));
+            export_by(rt, text, provider, reader, 1_000, &stop)
+        }
     };
     let work = |_, worker: &mut Worker| shop.serve(rt, provider, worker);
     let (failed, workers) = join(
@@ -142,4 +153,27 @@ fn serve<R: Threads + Wait + Clock + Sync + AllocGlobal>(
         },
     );
     Ok((workers, failed.map_err(Error::from)))
+}
+
+// Whether a reader's batches are written for machines.
+fn is_for_machines(plan: &Plan, reader: &Collector) -> bool {
+    match plan.config().readers().get(reader.number() as usize) {
+        Some(reader) => reader.name.as_str() == "new",
+        None => false,
+    }
+}
+
+// Exports every so many milliseconds, for 136 years or more, and a last time when the workers have ended. Tells what failed.
+fn export_by<R: Wait + Clock + AllocGlobal, E: MetricExporter + Drop>(
+    rt: &R,
+    exporter: E,
+    provider: &MeterProvider,
+    reader: Collector,
+    milliseconds: u64,
+    stop: &StopFlag,
+) -> u64 {
+    let mut ticker = ClockTicker::new(milliseconds, u64::MAX, stop);
+    let periodic = Periodic::new(exporter, u32::MAX);
+    let end = periodic.run(rt, rt.alloc(), provider, reader, &mut ticker);
+    end.failed.saturating_add(end.refused)
 }
