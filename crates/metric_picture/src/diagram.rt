@@ -19,7 +19,6 @@ pub(crate) enum Tone {
 }
 
 /// A box: a title, and lines below it.
-#[derive(Drop)]
 pub(crate) struct Node {
     /// The title.
     pub title: String,
@@ -27,6 +26,17 @@ pub(crate) struct Node {
     pub lines: Vec<String>,
     /// How it looks.
     pub tone: Tone,
+}
+
+impl Drop for Node {
+    // A call of its own: what owns a box would else have the steps of dropping each part on each of its ways out.
+    fn drop(self) {
+        let Node {
+            title: _title,
+            lines: _lines,
+            tone: _,
+        } = self;
+    }
 }
 
 impl Node {
@@ -39,9 +49,9 @@ impl Node {
         }
     }
 
-    /// Adds a line. Fails only where memory is refused.
-    pub(crate) fn add_line(&mut self, line: String) -> Result<(), AllocError> {
-        self.lines.push(line)?;
+    /// Adds a line, where it could be made. Fails only where memory is refused.
+    pub(crate) fn add_line(&mut self, line: Result<String, AllocError>) -> Result<(), AllocError> {
+        self.lines.push(line?)?;
         Ok(())
     }
 }
@@ -60,10 +70,19 @@ pub(crate) struct Link {
 }
 
 /// Columns of boxes, and links between them. A link to a box that is not there is not drawn.
-#[derive(Drop)]
 pub(crate) struct Diagram {
     /// The columns, from the left.
     pub columns: Vec<Vec<Node>>,
     /// The links.
     pub links: Vec<Link>,
+}
+
+impl Drop for Diagram {
+    // As that of a box.
+    fn drop(self) {
+        let Diagram {
+            columns: _columns,
+            links: _links,
+        } = self;
+    }
 }

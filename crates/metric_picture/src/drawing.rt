@@ -39,34 +39,46 @@ fn diagram_of(
 ) -> Result<Diagram, AllocError> {
     let red = red_flags(alloc, streams)?;
     let columns = columns_of(alloc, catalogue, config, streams.list(), &red)?;
-    let is_direct = config.views().is_empty();
-    let links = if is_direct {
-        direct_links(alloc, streams.list(), &red, &columns)?
-    } else {
-        links_of(alloc, catalogue, config, streams.list(), &red, &columns)?
-    };
-    let Columns {
-        instruments,
-        views,
-        streams,
-    } = columns;
-    let columns = listed(
-        alloc,
-        instruments.nodes,
-        views.nodes,
-        streams.nodes,
-        is_direct,
-    )?;
+    let links = links_of(alloc, catalogue, config, streams.list(), &red, &columns)?;
+    let columns = columns.into_nodes(alloc, config.views().is_empty())?;
     Ok(Diagram { columns, links })
 }
 
 // The columns, from the left.
-#[derive(Drop)]
 struct Columns {
     instruments: Slots,
     // Of each box of instruments, the lane of its default streams.
     views: Slots,
     streams: Slots,
+}
+
+impl Drop for Columns {
+    // As that of a box.
+    fn drop(self) {
+        let Columns {
+            instruments: _instruments,
+            views: _views,
+            streams: _streams,
+        } = self;
+    }
+}
+
+impl Columns {
+    // Their boxes. Without views there are two columns.
+    fn into_nodes(self, alloc: Global, is_direct: bool) -> Result<Vec<Vec<Node>>, AllocError> {
+        let Columns {
+            instruments,
+            views,
+            streams,
+        } = self;
+        let mut all = Vec::new(alloc);
+        all.push(instruments.into_nodes())?;
+        if !is_direct {
+            all.push(views.into_nodes())?;
+        }
+        all.push(streams.into_nodes())?;
+        Ok(all)
+    }
 }
 
 fn columns_of(
@@ -105,20 +117,20 @@ fn instrument_slots(
     }
 }
 
-fn listed(
+// The links between the columns.
+fn links_of(
     alloc: Global,
-    instruments: Vec<Node>,
-    views: Vec<Node>,
-    streams: Vec<Node>,
-    is_direct: bool,
-) -> Result<Vec<Vec<Node>>, AllocError> {
-    let mut columns = Vec::new(alloc);
-    columns.push(instruments)?;
-    if !is_direct {
-        columns.push(views)?;
+    catalogue: &Catalogue,
+    config: &Config,
+    streams: &[Stream],
+    red: &[bool],
+    columns: &Columns,
+) -> Result<Vec<Link>, AllocError> {
+    if config.views().is_empty() {
+        direct_links(alloc, streams, red, columns)
+    } else {
+        view_links(alloc, catalogue, config, streams, red, columns)
     }
-    columns.push(streams)?;
-    Ok(columns)
 }
 
 // Without views there are two columns, with links from instruments to streams.
@@ -139,7 +151,8 @@ fn direct_links(
     Ok(all)
 }
 
-fn links_of(
+// With views there are links from instruments to these, and from these to streams.
+fn view_links(
     alloc: Global,
     catalogue: &Catalogue,
     config: &Config,
@@ -149,14 +162,15 @@ fn links_of(
 ) -> Result<Vec<Link>, AllocError> {
     let (height, width) = (columns.instruments.nodes.len(), columns.views.nodes.len());
     let mut to_views = Links::new(alloc, INSTRUMENTS, height, width)?;
+    let views = config.views();
+    link_selected(&mut to_views, catalogue, views, &columns.instruments)?;
     let mut to_streams = Links::new(alloc, VIEWS, width, columns.streams.nodes.len())?;
-    link_selected(
-        &mut to_views,
-        catalogue,
-        config.views(),
-        &columns.instruments,
-    )?;
     link_streams(&mut to_views, &mut to_streams, columns, streams, red)?;
+    all_links(alloc, &to_views, &to_streams)
+}
+
+// The links to views, and then those to streams.
+fn all_links(alloc: Global, to_views: &Links, to_streams: &Links) -> Result<Vec<Link>, AllocError> {
     let mut links = Vec::new(alloc);
     to_views.push_to(&mut links)?;
     to_streams.push_to(&mut links)?;

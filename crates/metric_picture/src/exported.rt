@@ -57,21 +57,31 @@ fn stream_node(
     is_red: bool,
 ) -> Result<Node, AllocError> {
     let title = String::from_str(alloc, stream.name.get().as_str())?;
+    let mut node = Node::new(alloc, title, stream_tone(is_red, is_filtered(stream)));
+    let (kind, temporality) = (points_word(stream), temporality_word(stream.temporality));
+    node.add_line(format!(in alloc; "{kind}, {temporality}"))?;
+    add_kept(alloc, &mut node, catalogue, stream)?;
+    if is_red {
+        node.add_line(String::from_str(alloc, "collides: another stream has its identity"))?;
+    }
+    Ok(node)
+}
+
+// The keys that a stream keeps, where its instrument declares any.
+fn add_kept(
+    alloc: Global,
+    node: &mut Node,
+    catalogue: &Catalogue,
+    stream: &Stream,
+) -> Result<(), AllocError> {
     let keys = match catalogue.instruments().get(stream.instrument as usize) {
         Some(instrument) => instrument.keys.as_slice(),
         None => &[],
     };
-    let kept = stream.kept.get().as_slice();
-    let mut node = Node::new(alloc, title, stream_tone(is_red, is_filtered(stream)));
-    let (kind, temporality) = (points_word(stream), temporality_word(stream.temporality));
-    node.add_line(format!(in alloc; "{kind}, {temporality}")?)?;
-    if !keys.is_empty() {
-        node.add_line(kept_line(alloc, keys, kept)?)?;
+    if keys.is_empty() {
+        return Ok(());
     }
-    if is_red {
-        node.add_line(String::from_str(alloc, "collides: another stream has its identity")?)?;
-    }
-    Ok(node)
+    node.add_line(kept_line(alloc, keys, stream.kept.get().as_slice()))
 }
 
 // Whether the view of a stream leaves a key out.
@@ -148,15 +158,27 @@ pub(crate) fn grouped_streams(
     streams: &[Stream],
     red: &[bool],
 ) -> Result<Slots, AllocError> {
-    let width = config.views().len().saturating_add(1);
     let groups = groups_of(alloc, config, streams, red)?;
     let mut slots = Slots::new(alloc);
+    add_groups(alloc, catalogue, config, streams, &groups, &mut slots)?;
+    Ok(slots)
+}
+
+// Adds the boxes of groups, and puts each stream in its group's.
+fn add_groups(
+    alloc: Global,
+    catalogue: &Catalogue,
+    config: &Config,
+    streams: &[Stream],
+    groups: &[Group],
+    slots: &mut Slots,
+) -> Result<(), AllocError> {
+    let width = config.views().len().saturating_add(1);
     let mut boxes = Vec::new(alloc);
     for (place, group) in groups.iter().enumerate() {
         let (reader, view) = (place / width, place % width);
         if view == 0 {
-            let title = reader_node(alloc, config, reader)?;
-            slots.nodes.push(title)?;
+            slots.nodes.push(reader_node(alloc, config, reader)?)?;
         }
         boxes.push(slots.nodes.len())?;
         if group.count > 0 {
@@ -164,8 +186,7 @@ pub(crate) fn grouped_streams(
             slots.nodes.push(node)?;
         }
     }
-    put_in_boxes(&mut slots, &boxes, streams, width)?;
-    Ok(slots)
+    put_in_boxes(slots, &boxes, streams, width)
 }
 
 // Puts the number of the box of each stream last.
@@ -240,10 +261,10 @@ fn several_node(alloc: Global, view: usize, group: Group) -> Result<Node, AllocE
     let title = several_title(alloc, view, group.count)?;
     let mut node = Node::new(alloc, title, stream_tone(red > 0, filtered > 0));
     if filtered > 0 {
-        node.add_line(format!(in alloc; "{filtered} with keys left out")?)?;
+        node.add_line(format!(in alloc; "{filtered} with keys left out"))?;
     }
     if red > 0 {
-        node.add_line(format!(in alloc; "{red} in a collision")?)?;
+        node.add_line(format!(in alloc; "{red} in a collision"))?;
     }
     Ok(node)
 }

@@ -46,14 +46,25 @@ fn instrument_node(
 ) -> Result<Node, AllocError> {
     let title = String::from_str(alloc, instrument.name.get().as_str())?;
     let mut node = Node::new(alloc, title, instrument_tone(is_silent));
-    node.add_line(kind_line(alloc, instrument)?)?;
+    add_lines(alloc, &mut node, instrument, is_silent)?;
+    Ok(node)
+}
+
+// The kind of an instrument, its keys where it declares any, and that it gives no stream.
+fn add_lines(
+    alloc: Global,
+    node: &mut Node,
+    instrument: &Instrument,
+    is_silent: bool,
+) -> Result<(), AllocError> {
+    node.add_line(kind_line(alloc, instrument))?;
     if !instrument.keys.as_slice().is_empty() {
-        node.add_line(keys_line(alloc, instrument.keys.as_slice())?)?;
+        node.add_line(keys_line(alloc, instrument.keys.as_slice()))?;
     }
     if is_silent {
-        node.add_line(String::from_str(alloc, "gives no stream")?)?;
+        node.add_line(String::from_str(alloc, "gives no stream"))?;
     }
-    Ok(node)
+    Ok(())
 }
 
 fn instrument_tone(is_silent: bool) -> Tone {
@@ -114,15 +125,25 @@ pub(crate) fn grouped_instruments(
     counts: &[usize],
 ) -> Result<Slots, AllocError> {
     let mut slots = Slots::new(alloc);
-    let mut groups = Vec::new(alloc);
-    for (number, (instrument, count)) in catalogue.instruments().iter().zip(counts).enumerate() {
-        let place = joined_group(&mut groups, number, instrument, *count)?;
-        slots.of.push(place)?;
-    }
+    let groups = groups_of(alloc, catalogue.instruments(), counts, &mut slots.of)?;
     for group in groups.iter() {
         slots.nodes.push(group_node(alloc, catalogue, *group)?)?;
     }
     Ok(slots)
+}
+
+// The groups of instruments, of which so many streams come, and of each instrument the number of its group.
+fn groups_of(
+    alloc: Global,
+    instruments: &[Instrument],
+    counts: &[usize],
+    of: &mut Vec<usize>,
+) -> Result<Vec<Group>, AllocError> {
+    let mut groups = Vec::new(alloc);
+    for (number, (instrument, count)) in instruments.iter().zip(counts).enumerate() {
+        of.push(joined_group(&mut groups, number, instrument, *count)?)?;
+    }
+    Ok(groups)
 }
 
 // The number of the group that an instrument joins.
@@ -156,7 +177,7 @@ fn group_node(alloc: Global, catalogue: &Catalogue, group: Group) -> Result<Node
     match catalogue.instruments().get(group.first) {
         Some(instrument) if group.count == 1 => {
             let mut node = instrument_node(alloc, instrument, group.silent > 0)?;
-            node.add_line(meter)?;
+            node.add_line(Ok(meter))?;
             Ok(node)
         }
         _ => several_node(alloc, group, meter),
@@ -168,9 +189,9 @@ fn several_node(alloc: Global, group: Group, meter: String) -> Result<Node, Allo
     let kind = kind_word(group.kind);
     let title = format!(in alloc; "{count} {kind}s")?;
     let mut node = Node::new(alloc, title, instrument_tone(silent == count));
-    node.add_line(meter)?;
+    node.add_line(Ok(meter))?;
     if silent > 0 {
-        node.add_line(format!(in alloc; "{silent} without a stream")?)?;
+        node.add_line(format!(in alloc; "{silent} without a stream"))?;
     }
     Ok(node)
 }

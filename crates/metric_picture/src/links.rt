@@ -3,13 +3,25 @@ use crate::diagram::{Link, Tone};
 use std::alloc::{AllocError, Global};
 
 /// The links from a column to the next, with what was linked already, and which of it is red.
-#[derive(Drop)]
 pub(crate) struct Links {
     column: usize,
     width: usize,
     linked: Vec<bool>,
     red: Vec<bool>,
     links: Vec<Link>,
+}
+
+impl Drop for Links {
+    // As that of a box.
+    fn drop(self) {
+        let Links {
+            column: _,
+            width: _,
+            linked: _linked,
+            red: _red,
+            links: _links,
+        } = self;
+    }
 }
 
 impl Links {

@@ -3,10 +3,19 @@ use crate::diagram::Node;
 use std::alloc::{AllocError, Global};
 
 /// The boxes of a column, and of each of the things that they stand for, in order, the number of its box.
-#[derive(Drop)]
 pub(crate) struct Slots {
     pub nodes: Vec<Node>,
     pub of: Vec<usize>,
+}
+
+impl Drop for Slots {
+    // As that of a box.
+    fn drop(self) {
+        let Slots {
+            nodes: _nodes,
+            of: _of,
+        } = self;
+    }
 }
 
 impl Slots {
@@ -22,6 +31,12 @@ impl Slots {
         self.of.push(self.nodes.len())?;
         self.nodes.push(node)?;
         Ok(())
+    }
+
+    /// The boxes.
+    pub(crate) fn into_nodes(self) -> Vec<Node> {
+        let Slots { nodes, of: _of } = self;
+        nodes
     }
 
     /// The number of the box of a thing.

@@ -51,7 +51,7 @@ pub(crate) fn tone_of(settings: &Settings) -> Tone {
 fn add_criteria(alloc: Global, node: &mut Node, criteria: &Criteria) -> Result<(), AllocError> {
     if let Some(kind) = criteria.instrument_type {
         let kind = kind_word(kind);
-        node.add_line(format!(in alloc; "of kind {kind}")?)?;
+        node.add_line(format!(in alloc; "of kind {kind}"))?;
     }
     add_text(alloc, node, "of unit", &criteria.instrument_unit)?;
     add_text(alloc, node, "of meter", &criteria.meter_name)?;
@@ -67,7 +67,7 @@ fn add_text(
 ) -> Result<(), AllocError> {
     if let Some(text) = text {
         let text = text.as_str();
-        node.add_line(format!(in alloc; "{label} {text}")?)?;
+        node.add_line(format!(in alloc; "{label} {text}"))?;
     }
     Ok(())
 }
@@ -75,18 +75,18 @@ fn add_text(
 // What the view changes, but for keys.
 fn add_settings(alloc: Global, node: &mut Node, settings: &Settings) -> Result<(), AllocError> {
     if let Some(aggregation) = settings.aggregation {
-        node.add_line(String::from_str(alloc, aggregation_line(aggregation))?)?;
+        node.add_line(String::from_str(alloc, aggregation_line(aggregation)))?;
     }
     if let Some(name) = &settings.stream_name {
         let name = name.get().as_str();
-        node.add_line(format!(in alloc; "renames to {name}")?)?;
+        node.add_line(format!(in alloc; "renames to {name}"))?;
     }
     if let Some(boundaries) = &settings.boundaries {
         let count = boundaries.get().as_slice().len();
-        node.add_line(format!(in alloc; "{count} boundaries")?)?;
+        node.add_line(format!(in alloc; "{count} boundaries"))?;
     }
     if let Some(limit) = settings.limit {
-        node.add_line(format!(in alloc; "limit {limit}")?)?;
+        node.add_line(format!(in alloc; "limit {limit}"))?;
     }
     Ok(())
 }
@@ -104,10 +104,10 @@ fn aggregation_line(aggregation: Aggregation) -> &'static str {
 // Which keys the view keeps, and which it leaves out.
 fn add_keys(alloc: Global, node: &mut Node, settings: &Settings) -> Result<(), AllocError> {
     if let Some(keys) = &settings.keep {
-        node.add_line(keys_line(alloc, "keeps", keys.as_slice())?)?;
+        node.add_line(keys_line(alloc, "keeps", keys.as_slice()))?;
     }
     if let Some(keys) = &settings.exclude {
-        node.add_line(keys_line(alloc, "leaves out", keys.as_slice())?)?;
+        node.add_line(keys_line(alloc, "leaves out", keys.as_slice()))?;
     }
     Ok(())
 }
