@@ -1,5 +1,7 @@
 //! What a fault of a catalogue's or config's table is about.
 use crate::mistake::Mistake;
+use crate::sentence::{write_one, write_part, write_two};
+use crate::shown::Quoted;
 use std::fmt;
 
 // A table of a kind, with its number and, where it has one, its name.
@@ -52,11 +54,10 @@ impl<'v> Cause<'v> {
 
 impl fmt::Display for Named<'_> {
     fn fmt<W: fmt::Write>(&self, f: &mut fmt::Formatter<W>) -> fmt::Result {
-        let what = self.what;
-        let number = self.number;
+        write_two(f, ("", &self.what), (" ", &self.number), "")?;
         match self.name {
-            Some(name) => write!(f, "{what} {number} {name:?}"),
-            None => write!(f, "{what} {number}"),
+            Some(name) => write_part(f, (" ", &Quoted(name))),
+            None => Ok(()),
         }
     }
 }
@@ -64,13 +65,13 @@ impl fmt::Display for Named<'_> {
 impl fmt::Display for Cause<'_> {
     fn fmt<W: fmt::Write>(&self, f: &mut fmt::Formatter<W>) -> fmt::Result {
         if let Some(outer) = self.outer {
-            write!(f, "{outer}: ")?;
+            write_one(f, ("", &outer), ": ")?;
         }
         if let Some(inner) = self.inner {
-            write!(f, "{inner}: ")?;
+            write_one(f, ("", &inner), ": ")?;
         }
         match self.mistake {
-            Some(mistake) => write!(f, "{mistake}"),
+            Some(mistake) => f.write(mistake),
             None => f.write_str(self.otherwise),
         }
     }

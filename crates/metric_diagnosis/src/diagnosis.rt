@@ -2,6 +2,7 @@
 ghost use Rattle.std.specs.Prelude.{◌≡◌};
 
 use crate::excerpt::Excerpt;
+use crate::sentence::{write_part, write_two};
 use crate::sources::NamedText;
 use metric_advice::Position;
 use std::fmt;
@@ -50,12 +51,11 @@ impl<'t, F> Diagnosis<'t, F> {
 
 impl<F> fmt::Display for Diagnosis<'_, F> {
     fn fmt<W: fmt::Write>(&self, f: &mut fmt::Formatter<W>) -> fmt::Result {
-        let file = self.file;
-        let words = self.words.as_str();
-        match self.position {
-            Some(Position { line, column }) => write!(f, "{file}:{line}:{column}: {words}"),
-            None => write!(f, "{file}: {words}"),
+        f.write_str(self.file)?;
+        if let Some(Position { line, column }) = self.position {
+            write_two(f, (":", &line), (":", &column), "")?;
         }
+        write_part(f, (": ", &self.words.as_str()))
     }
 }
 

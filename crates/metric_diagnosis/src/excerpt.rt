@@ -1,4 +1,5 @@
 //! A line of a text with a mark.
+use crate::sentence::write_two;
 use metric_advice::Position;
 use std::fmt;
 
@@ -22,7 +23,8 @@ impl fmt::Display for Excerpt<'_> {
             Some(Position { line, column }) => {
                 let text = self.line;
                 let mark = Mark { text, column };
-                writeln!(f, "{line:>5} | {text}\n      | {mark}")
+                write!(f, "{line:>5}")?;
+                write_two(f, (" | ", &text), ("\n      | ", &mark), "\n")
             }
             None => Ok(()),
         }
@@ -38,12 +40,9 @@ struct Mark<'t> {
 
 impl fmt::Display for Mark<'_> {
     fn fmt<W: fmt::Write>(&self, f: &mut fmt::Formatter<W>) -> fmt::Result {
-        let before = self
-            .text
-            .as_bytes()
-            .iter()
-            .take(self.column.saturating_sub(1));
-        for byte in before {
+        let bytes = self.text.as_bytes();
+        let before = self.column.saturating_sub(1).min(bytes.len());
+        for byte in &bytes[..before] {
             write_blank(f, *byte)?;
         }
         f.write_str("^")

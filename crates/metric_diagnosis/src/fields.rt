@@ -4,6 +4,7 @@ use crate::fields::Holds::{
     Limits, Name, OneOf, Pattern, Range, Rows, Tables, Temporalities, Text, Unit, Values,
 };
 use crate::fields::Need::{Needed, Optional};
+use crate::sentence::write_part;
 use std::fmt;
 
 // A field of a table: its name, whether it may be left out, and what it holds.
@@ -72,8 +73,7 @@ impl fmt::Display for FieldNames {
     fn fmt<W: fmt::Write>(&self, f: &mut fmt::Formatter<W>) -> fmt::Result {
         let mut comma = "";
         for field in self.0 {
-            let name = field.0;
-            write!(f, "{comma}{name}")?;
+            write_part(f, (comma, &field.0))?;
             comma = ", ";
         }
         Ok(())

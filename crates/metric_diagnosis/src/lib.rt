@@ -35,6 +35,7 @@ mod places;
 mod remarks;
 mod room;
 mod rows;
+mod sentence;
 mod shown;
 mod sources;
 mod spot;

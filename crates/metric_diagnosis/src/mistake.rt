@@ -1,6 +1,7 @@
 //! What is wrong with a table of a catalogue or a config.
 use crate::fields::{Field, FieldNames};
-use crate::shown::{Shown, Words};
+use crate::sentence::{write_one, write_part, write_three, write_two};
+use crate::shown::{Quoted, Shown, Words};
 use std::fmt;
 use toml::Value;
 
@@ -68,14 +69,11 @@ impl<'v> Mistake<'v> {
 
 impl fmt::Display for Mistake<'_> {
     fn fmt<W: fmt::Write>(&self, f: &mut fmt::Formatter<W>) -> fmt::Result {
-        let field = self.field;
-        let part = self.part;
-        let wrong = self.wrong;
-        if part.is_empty() {
-            write!(f, "field {field:?}{wrong}")
-        } else {
-            write!(f, "field {field:?}, {part:?}{wrong}")
+        write_part(f, ("field ", &Quoted(self.field)))?;
+        if !self.part.is_empty() {
+            write_part(f, (", ", &Quoted(self.part)))?;
         }
+        f.write(self.wrong)
     }
 }
 
@@ -84,36 +82,35 @@ impl fmt::Display for Wrong<'_> {
         match *self {
             Wrong::Unknown(known) => {
                 let known = FieldNames(known);
-                write!(f, " is not known here; known are {known}")
+                write_part(f, (" is not known here; known are ", &known))
             }
             Wrong::Plain(words) => f.write_str(words),
-            Wrong::NotA(value, what) => write_not_a(f, value, what),
-            Wrong::NoneOf(text, names) => write_none_of(f, text, names),
+            Wrong::NotA(value, what) => write_two(f, (": ", &Shown(value)), (" is no ", &what), ""),
+            Wrong::NoneOf(text, names) => {
+                let names = Words(names);
+                write_two(f, (": ", &Quoted(text)), (" is none of ", &names), "")
+            }
             Wrong::Character(text, at, what) => write_character(f, text, at, what),
             Wrong::TooMany(count, most, what) => {
-                write!(f, " has {count} {what}, and {most} are the most")
+                write_three(
+                    f,
+                    (" has ", &count),
+                    (" ", &what),
+                    (", and ", &most),
+                    " are the most",
+                )
             }
-            Wrong::Taken(what, number, how) => write!(f, " is that of {what} {number}{how}"),
-            Wrong::Order(first, second, how) => write!(f, ": {first} and {second}: {how}"),
+            Wrong::Taken(what, number, how) => {
+                write_two(f, (" is that of ", &what), (" ", &number), how)
+            }
+            Wrong::Order(first, second, how) => {
+                write_three(f, (": ", &first), (" and ", &second), (": ", &how), "")
+            }
             Wrong::NoInstrument(number, count) => write_no_instrument(f, number, count),
-            Wrong::Repeated(value) => write_repeated(f, value),
-            Wrong::Row(number, wrong) => write!(f, ": row {number} {wrong}"),
+            Wrong::Repeated(value) => write_one(f, (": ", &Shown(value)), " stands twice"),
+            Wrong::Row(number, wrong) => write_two(f, (": row ", &number), (" ", &wrong), ""),
         }
     }
-}
-
-fn write_not_a<W: fmt::Write>(f: &mut fmt::Formatter<W>, value: &Value, what: &str) -> fmt::Result {
-    let value = Shown(value);
-    write!(f, ": {value} is no {what}")
-}
-
-fn write_none_of<W: fmt::Write>(
-    f: &mut fmt::Formatter<W>,
-    text: &str,
-    names: &'static [&'static str],
-) -> fmt::Result {
-    let names = Words(names);
-    write!(f, ": {text:?} is none of {names}")
 }
 
 fn write_character<W: fmt::Write>(
@@ -122,9 +119,12 @@ fn write_character<W: fmt::Write>(
     at: usize,
     what: &str,
 ) -> fmt::Result {
-    write!(
+    write_three(
         f,
-        ": {text:?} is no {what}: the character at {at}, counted from 0, may not be in one"
+        (": ", &Quoted(text)),
+        (" is no ", &what),
+        (": the character at ", &at),
+        ", counted from 0, may not be in one",
     )
 }
 
@@ -133,29 +133,25 @@ fn write_no_instrument<W: fmt::Write>(
     number: i64,
     count: usize,
 ) -> fmt::Result {
-    write!(
+    write_two(
         f,
-        ": there is no instrument {number}; there are {count}, counted from 0"
+        (": there is no instrument ", &number),
+        ("; there are ", &count),
+        ", counted from 0",
     )
-}
-
-fn write_repeated<W: fmt::Write>(f: &mut fmt::Formatter<W>, value: &Value) -> fmt::Result {
-    let value = Shown(value);
-    write!(f, ": {value} stands twice")
 }
 
 impl fmt::Display for WrongRow<'_> {
     fn fmt<W: fmt::Write>(&self, f: &mut fmt::Formatter<W>) -> fmt::Result {
         match *self {
             WrongRow::NotA(value, what) => {
-                let value = Shown(value);
-                write!(f, "has {value}, which is no {what}")
+                write_two(f, ("has ", &Shown(value)), (", which is no ", &what), "")
             }
             WrongRow::Length(entries, keys) => {
-                write!(f, "has {entries} entries for {keys} key(s)")
+                write_two(f, ("has ", &entries), (" entries for ", &keys), " key(s)")
             }
             WrongRow::Entry(key, entry, values) => write_entry(f, key, entry, values),
-            WrongRow::Repeated(row) => write!(f, "is the same as row {row}"),
+            WrongRow::Repeated(row) => write_part(f, ("is the same as row ", &row)),
         }
     }
 }
@@ -166,8 +162,11 @@ fn write_entry<W: fmt::Write>(
     entry: i64,
     values: usize,
 ) -> fmt::Result {
-    write!(
+    write_three(
         f,
-        "has the entry {entry} for key {key}, which takes 1 to {values}, and 0 where it is optional"
+        ("has the entry ", &entry),
+        (" for key ", &key),
+        (", which takes 1 to ", &values),
+        ", and 0 where it is optional",
     )
 }

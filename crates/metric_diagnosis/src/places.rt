@@ -15,6 +15,16 @@ pub(crate) enum Place {
     Config(ConfigPlace),
 }
 
+// Words, where they could be made, with the place that they are about.
+pub(crate) fn told(
+    place: Place,
+    words: Result<String, AllocError>,
+) -> Result<(Place, String), AllocError>
+    ensures { IfOk result (λ told. told.0 ≡ place) }
+{
+    Ok((place, words?))
+}
+
 // The text that a place is in.
 pub(crate) fn source_of(pair: Pair<'_>, place: Place) -> NamedText<'_> {
     match place {

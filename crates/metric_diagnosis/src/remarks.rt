@@ -3,7 +3,7 @@ ghost use Rattle.std.specs.Prelude.{◌≡◌, IfOk};
 ghost use Rattle.metric_diagnosis.specs.Places.{IsAbout, RemarkStands};
 
 use crate::diagnosis::Diagnosis;
-use crate::places::{Place, position_of, source_of};
+use crate::places::{Place, position_of, source_of, told};
 use crate::room::told_room;
 use crate::sources::Pair;
 use crate::told::{instrument_of, recorder_of};
@@ -35,46 +35,37 @@ fn told_of(alloc: Global, pair: Pair<'_>, remark: Remark) -> Result<(Place, Stri
     ensures { IfOk result (λ told. IsAbout remark told.0) }
 {
     match remark {
-        Remark::Unfit { view, instrument } => {
-            Ok((
-                place_of_view(view),
-                words_of_unfit(alloc, pair, view, instrument)?,
-            ))
-        }
+        Remark::Unfit { view, instrument } => told(
+            place_of_view(view),
+            words_of_unfit(alloc, pair, view, instrument),
+        ),
         Remark::Collision { first, later } => told_collision(alloc, pair, first, later),
-        Remark::SelectsNothing { view } => {
-            Ok((
-                place_of_view(view),
-                words_of_view(alloc, view, "selects no instrument")?,
-            ))
-        }
-        Remark::UnknownKey { view, list, place } => {
-            Ok((
-                place_of_view(view),
-                words_of_key(alloc, pair, view, list, place)?,
-            ))
-        }
+        Remark::SelectsNothing { view } => told(
+            place_of_view(view),
+            words_of_view(alloc, view, "selects no instrument"),
+        ),
+        Remark::UnknownKey { view, list, place } => told(
+            place_of_view(view),
+            words_of_key(alloc, pair, view, list, place),
+        ),
         Remark::UnusedBoundaries { view } => {
-            Ok((place_of_view(view), words_of_view(alloc, view, UNUSED)?))
+            told(place_of_view(view), words_of_view(alloc, view, UNUSED))
         }
         Remark::NoBudget {
             instrument,
             recorder,
-        } => {
-            let words = words_of_budget(alloc, pair, instrument, recorder)?;
-            Ok((Place::Catalogue(CataloguePlace::Recorder(recorder)), words))
-        }
-        Remark::OverBudget { instrument } => {
-            let words = told_room(alloc, pair, instrument, None)?;
-            Ok((
-                Place::Catalogue(CataloguePlace::Instrument(instrument)),
-                words,
-            ))
-        }
-        Remark::NoReader => Ok((
+        } => told(
+            Place::Catalogue(CataloguePlace::Recorder(recorder)),
+            words_of_budget(alloc, pair, instrument, recorder),
+        ),
+        Remark::OverBudget { instrument } => told(
+            Place::Catalogue(CataloguePlace::Instrument(instrument)),
+            told_room(alloc, pair, instrument, None),
+        ),
+        Remark::NoReader => told(
             Place::Config(ConfigPlace::Top),
-            String::from_str(alloc, NONE)?,
-        )),
+            String::from_str(alloc, NONE),
+        ),
     }
 }
 

@@ -1,6 +1,7 @@
 //! How often an instrument may be recorded, and why not more often.
 use crate::cause::Named;
-use crate::places::Place;
+use crate::places::{Place, told};
+use crate::sentence::{write_one, write_two};
 use crate::sources::Pair;
 use crate::told::{ToldStream, instrument_of, told_stream};
 use metric_advice::{Headroom, Limit, headrooms, sets_of};
@@ -77,11 +78,32 @@ fn amount_of(count: u64, instrument: &Instrument) -> Why {
 impl fmt::Display for Why {
     fn fmt<W: fmt::Write>(&self, f: &mut fmt::Formatter<W>) -> fmt::Result {
         match *self {
-            Why::Above(what, bound, most) => write!(f, "{what} may be {bound}, above {most}"),
-            Why::Low(bound) => write!(f, "a sum may fall to {bound}, below {}", i64::MIN),
-            Why::High(bound) => write!(f, "a sum may rise to {bound}, above {}", i64::MAX),
+            Why::Above(what, bound, most) => {
+                f.write_str(what)?;
+                write_two(f, (" may be ", &bound), (", above ", &most), "")
+            }
+            Why::Low(bound) => {
+                write_two(
+                    f,
+                    ("a sum may fall to ", &bound),
+                    (", below ", &i64::MIN),
+                    "",
+                )
+            }
+            Why::High(bound) => {
+                write_two(
+                    f,
+                    ("a sum may rise to ", &bound),
+                    (", above ", &i64::MAX),
+                    "",
+                )
+            }
             Why::Series(stream) => {
-                write!(f, "stream {stream} may have more series than its limit")
+                write_one(
+                    f,
+                    ("stream ", &stream),
+                    " may have more series than its limit",
+                )
             }
         }
     }
@@ -95,15 +117,32 @@ pub(crate) fn told_series(
     number: u32,
 ) -> Result<(Place, String), AllocError> {
     let streams = resolve_streams(alloc, pair.catalogue, pair.config)?;
-    match streams.as_slice().get(number as usize) {
-        Some(stream) => {
-            let words = words_of_series(alloc, pair, instrument, number, stream)?;
-            Ok((place_of(stream), words))
-        }
-        None => {
-            let words = format!(in alloc; "stream {number} may have more series than its limit")?;
-            Ok((place_of_reader(0), words))
-        }
+    told_stream_of(
+        alloc,
+        pair,
+        instrument,
+        number,
+        streams.as_slice().get(number as usize),
+    )
+}
+
+// The same of the stream of a number, where there is one.
+fn told_stream_of(
+    alloc: Global,
+    pair: Pair<'_>,
+    instrument: u32,
+    number: u32,
+    stream: Option<&Stream>,
+) -> Result<(Place, String), AllocError> {
+    match stream {
+        Some(stream) => told(
+            place_of(stream),
+            words_of_series(alloc, pair, instrument, number, stream),
+        ),
+        None => told(
+            place_of_reader(0),
+            format!(in alloc; "stream {number} may have more series than its limit"),
+        ),
     }
 }
 

@@ -1,4 +1,5 @@
 //! Values of a TOML text, as a person reads them.
+use crate::sentence::write_part;
 use std::fmt;
 use toml::Value;
 
@@ -9,10 +10,10 @@ pub(crate) struct Shown<'v>(pub(crate) &'v Value);
 impl fmt::Display for Shown<'_> {
     fn fmt<W: fmt::Write>(&self, f: &mut fmt::Formatter<W>) -> fmt::Result {
         match self.0 {
-            Value::String(text) => write_text(f, text.as_str()),
-            Value::Integer(number) => write!(f, "{number}"),
-            Value::Float(number) => write!(f, "{number}"),
-            Value::Boolean(flag) => write!(f, "{flag}"),
+            Value::String(text) => f.write(Quoted(text.as_str())),
+            Value::Integer(number) => f.write(number),
+            Value::Float(number) => f.write(number),
+            Value::Boolean(flag) => f.write(flag),
             Value::Datetime(_) => f.write_str("a date"),
             Value::Array(_) => f.write_str("a list"),
             Value::Table(_) => f.write_str("a table"),
@@ -21,8 +22,14 @@ impl fmt::Display for Shown<'_> {
 }
 
 // A text in quotes.
-fn write_text<W: fmt::Write>(f: &mut fmt::Formatter<W>, text: &str) -> fmt::Result {
-    write!(f, "{text:?}")
+#[derive(Clone, Copy)]
+pub(crate) struct Quoted<'t>(pub(crate) &'t str);
+
+impl fmt::Display for Quoted<'_> {
+    fn fmt<W: fmt::Write>(&self, f: &mut fmt::Formatter<W>) -> fmt::Result {
+        let text = self.0;
+        write!(f, "{text:?}")
+    }
 }
 
 // Words in a row, with commas between them.
@@ -33,7 +40,7 @@ impl fmt::Display for Words {
     fn fmt<W: fmt::Write>(&self, f: &mut fmt::Formatter<W>) -> fmt::Result {
         let mut comma = "";
         for word in self.0 {
-            write!(f, "{comma}{word}")?;
+            write_part(f, (comma, word))?;
             comma = ", ";
         }
         Ok(())

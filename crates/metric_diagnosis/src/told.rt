@@ -1,6 +1,7 @@
 //! Instruments, recorders, views and streams, as a person knows them.
 use crate::cause::Named;
 use crate::places::{Place, position_of};
+use crate::sentence::{write_one, write_part, write_three};
 use crate::sources::{NamedText, Pair};
 use metric_advice::Position;
 use metric_catalogue::Catalogue;
@@ -88,25 +89,35 @@ fn told_view<'t>(
 
 impl fmt::Display for ToldStream<'_> {
     fn fmt<W: fmt::Write>(&self, f: &mut fmt::Formatter<W>) -> fmt::Result {
-        let stream = self.stream;
-        let reader = self.reader;
-        let instrument = self.instrument;
+        let instrument = (" (", &self.instrument);
+        write_three(
+            f,
+            ("", &self.stream),
+            (" of ", &self.reader),
+            instrument,
+            ", ",
+        )?;
         match self.view {
-            Some(view) => write!(f, "{stream} of {reader} ({instrument}, {view})"),
-            None => write!(f, "{stream} of {reader} ({instrument}, no view)"),
+            Some(view) => write_one(f, ("", &view), ")"),
+            None => f.write_str("no view)"),
         }
     }
 }
 
 impl fmt::Display for ToldView<'_> {
     fn fmt<W: fmt::Write>(&self, f: &mut fmt::Formatter<W>) -> fmt::Result {
-        let number = self.number;
-        let file = self.source.name;
+        write_part(f, ("view ", &self.number))?;
         match self.position {
             Some(Position { line, column }) => {
-                write!(f, "view {number} at {file}:{line}:{column}")
+                write_three(
+                    f,
+                    (" at ", &self.source.name),
+                    (":", &line),
+                    (":", &column),
+                    "",
+                )
             }
-            None => write!(f, "view {number}"),
+            None => Ok(()),
         }
     }
 }

@@ -4,7 +4,7 @@ ghost use Rattle.metric_diagnosis.specs.Places.{IsAboutPart};
 ghost use Rattle.metric_diagnosis.specs.Unsafe.{IsPlaced, PartStands};
 
 use crate::diagnosis::Diagnosis;
-use crate::places::{Place, position_of, source_of};
+use crate::places::{Place, position_of, source_of, told};
 use crate::room::{told_room, told_series};
 use crate::sources::Pair;
 use crate::told::told_stream;
@@ -39,14 +39,14 @@ fn told_of(alloc: Global, pair: Pair<'_>, fault: MakeFault) -> Result<(Place, St
     ensures { IfOk result (λ told. fault ≢ MakeFault.Memory → IsPlaced pair.entry told.0) }
 {
     if is_memory(fault) {
-        return Ok((TOP, want_of_memory(alloc)?));
+        return told(TOP, want_of_memory(alloc));
     }
     match explain_unsafe(alloc, pair.catalogue, pair.config)? {
         Some(part) => told_part(alloc, pair, part),
-        None => Ok((
+        None => told(
             TOP,
-            String::from_str(alloc, "the catalogue and the config are safe")?,
-        )),
+            String::from_str(alloc, "the catalogue and the config are safe"),
+        ),
     }
 }
 
@@ -79,13 +79,10 @@ fn told_limit(
 {
     match limit {
         Limit::Series { stream } => told_series(alloc, pair, instrument, stream),
-        Limit::Count | Limit::Amount | Limit::SumLow | Limit::SumHigh => {
-            let words = told_room(alloc, pair, instrument, Some(limit))?;
-            Ok((
-                Place::Catalogue(CataloguePlace::Instrument(instrument)),
-                words,
-            ))
-        }
+        Limit::Count | Limit::Amount | Limit::SumLow | Limit::SumHigh => told(
+            Place::Catalogue(CataloguePlace::Instrument(instrument)),
+            told_room(alloc, pair, instrument, Some(limit)),
+        ),
     }
 }
 
@@ -97,16 +94,26 @@ pub(crate) fn told_collision(
     later: u32,
 ) -> Result<(Place, String), AllocError> {
     let streams = resolve_streams(alloc, pair.catalogue, pair.config)?;
-    let streams = streams.as_slice();
+    told_two(alloc, pair, streams.as_slice(), first, later)
+}
+
+// The same of two of these streams.
+fn told_two(
+    alloc: Global,
+    pair: Pair<'_>,
+    streams: &[Stream],
+    first: u32,
+    later: u32,
+) -> Result<(Place, String), AllocError> {
     match (streams.get(first as usize), streams.get(later as usize)) {
-        (Some(one), Some(other)) => {
-            let words = words_of_two(alloc, pair, (first, one), (later, other))?;
-            Ok((place_of_two(one, other), words))
-        }
-        _ => {
-            let words = format!(in alloc; "streams {first} and {later} have one identity")?;
-            Ok((TOP, words))
-        }
+        (Some(one), Some(other)) => told(
+            place_of_two(one, other),
+            words_of_two(alloc, pair, (first, one), (later, other)),
+        ),
+        _ => told(
+            TOP,
+            format!(in alloc; "streams {first} and {later} have one identity"),
+        ),
     }
 }
 
