@@ -1,7 +1,8 @@
 -- What one call of an exporter does.
-use Rattle.std.specs.Prelude.{◌≡◌, ◌≢◌, ℕ, List, Option, OnOk, Result, IsErrOf}
+use Rattle.std.specs.Prelude.{◌≡◌, ◌≢◌, ℕ, List, Option, OnOk, Result, Ok, Err, IsErrOf}
 use Rattle.std.specs.Io.KnownBytes.{Keeps}
 use Rattle.metric_io.specs.Counts.{HasFailed}
+use Rattle.metric_io.specs.declared.devices.Broken.{Broken}
 use Rattle.metric_history.specs.declared.batch.Batch.{Batch}
 use Rattle.metric_plan.specs.Plans.{PlanValue}
 use Rattle.metric_export.specs.Exports.{Exports, plan_text}
@@ -25,6 +26,19 @@ pub record IsExport {E : Type 0}
     (answer : Result (Unit {0}) ExportFault) : Type 0 where
   pub own : gives old new plan batch answer
   pub appends : Exports (contents old) (contents new) (text plan batch) answer
+  pub answers : Answers (state old) (HasFailed (failures old) (failures new)) answer
+  pub goes_on : GoesOn (state old) (state new) answer
+
+-- One call of `force_flush`, which hands on nothing.
+pub record IsFlush {E : Type 0}
+    (gives : E → E → Result (Unit {0}) ExportFault → Type 0)
+    (contents : E → Option (List ℕ))
+    (failures : E → ℕ)
+    (state : E → ExporterState)
+    (old new : E)
+    (answer : Result (Unit {0}) ExportFault) : Type 0 where
+  pub own : gives old new answer
+  pub keeps : Keeps (contents old) (contents new)
   pub answers : Answers (state old) (HasFailed (failures old) (failures new)) answer
   pub goes_on : GoesOn (state old) (state new) answer
 
@@ -57,14 +71,41 @@ pub record ExportsText {W : Type 0}
   pub unwritten : old.state ≢ Open → new ≡ old
   pub memory : IsErrOf answer fault.Memory → new ≡ old
 
--- One call of its `shutdown`.
+-- what is said of a flush of a sink: the sink before and after it, and the answer
+abbrev pub Flushing : Type 0 → Type 1
+Flushing W = W → W → Result (Unit {0}) Broken → Type 0
+
+-- what an exporter answers by the answer of its sink
+abbrev pub flush_answer : Result (Unit {0}) Broken → Result (Unit {0}) ExportFault
+flush_answer (Ok done) = Ok done
+flush_answer (Err broken) = Err fault.Write
+
+-- A sink was flushed once, and its answer passed on.
+pub record FlushesOnce {W : Type 0} (flushes : Flushing W) (old new : W)
+    (answer : Result (Unit {0}) ExportFault) : Type 0 where
+  pub told : Result (Unit {0}) Broken
+  pub call : flushes old new told
+  pub passed : answer ≡ flush_answer told
+
+-- One call of its `force_flush`: an open exporter flushes its sink once.
+pub record FlushesText {W : Type 0}
+    (flushes : Flushing W)
+    (old new : TextExporterValue W)
+    (answer : Result (Unit {0}) ExportFault) : Type 0 where
+  pub flushed : old.state ≡ Open → FlushesOnce flushes old.sink new.sink answer
+  pub state : new.state ≡ state_after old.state answer
+  pub unflushed : old.state ≢ Open → new ≡ old
+
+-- One call of its `shutdown`: an open exporter flushes its sink once.
 pub record ShutsTextDown {W : Type 0}
     (contents : W → Option (List ℕ))
     (failures : W → ℕ)
+    (flushes : Flushing W)
     (old new : TextExporterValue W)
     (answer : Result (Unit {0}) ExportFault) : Type 0 where
   pub keeps : Keeps (contents old.sink) (contents new.sink)
   pub answers : Answers old.state (HasFailed (failures old.sink) (failures new.sink)) answer
   pub state : new.state ≡ ShutDown
   pub counted : OnOk answer (failures new.sink ≡ failures old.sink)
-  pub unwritten : old.state ≢ Open → new.sink ≡ old.sink
+  pub flushed : old.state ≡ Open → FlushesOnce flushes old.sink new.sink answer
+  pub unflushed : old.state ≢ Open → new.sink ≡ old.sink

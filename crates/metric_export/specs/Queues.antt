@@ -93,12 +93,12 @@ abbrev pub PassesOn : {E : Type 0} → QueuedValue E → QueuedValue E
 PassesOn old new answer =
     new ≡ record old { inner = new.inner; failures = failures_after old.failures answer }
 
--- A shutdown shuts the exporter below down, and leaves what is kept.
-pub record ShutsQueueDown {E : Type 0}
-    (shuts_down : E → E → Result (Unit {0}) ExportFault → Type 0)
+-- A flush or a shutdown is passed on to the exporter below, once, and leaves what is kept.
+pub record PassesCallOn {E : Type 0}
+    (gives : E → E → Result (Unit {0}) ExportFault → Type 0)
     (old new : QueuedValue E)
     (answer : Result (Unit {0}) ExportFault) : Type 0 where
-  pub call : shuts_down old.inner new.inner answer
+  pub call : gives old.inner new.inner answer
   pub kept : PassesOn old new answer
 
 -- ---- many calls

@@ -3,12 +3,13 @@ use Rattle.std.specs.Prelude.{◌≡◌, ◌≢◌, ℕ, List, Option, Some, Non
 use Rattle.metric_io.specs.declared.devices.Broken.{Broken}
 use Rattle.metric_history.specs.declared.batch.Batch.{Batch}
 use Rattle.metric_plan.specs.Plans.{PlanValue}
+use Rattle.metric_export.specs.ExporterCalls.{Flushing, FlushesOnce}
 use Rattle.metric_export.specs.Exports.{Exports, plan_text}
 use Rattle.metric_export.specs.Queues.{failures_after}
 use Rattle.metric_export.specs.declared.fault.ExportFault.{ExportFault}
 use Rattle.metric_export.specs.declared.fault.ExportFault.TheVariants as fault
 use Rattle.metric_export.specs.declared.state.ExporterState.{ExporterState}
-use Rattle.metric_export.specs.declared.state.ExporterState.TheVariants.{Open}
+use Rattle.metric_export.specs.declared.state.ExporterState.TheVariants.{Open, ShutDown}
 
 -- such an exporter, as contracts see it: what opens sinks, the sink that is open, how
 -- often a call failed, and its state
@@ -74,3 +75,37 @@ pub record ExportsAnew {O W : Type 0}
     (answer : Result (Unit {0}) ExportFault) : Type 0 where
   pub writes : old.state ≡ Open → WritesAnew opens contents (plan_text plan batch) old new answer
   pub unwritten : old.state ≢ Open → new ≡ old
+
+-- the open sink was flushed once, and stays open unless that failed; where none is open, nothing is done
+abbrev pub FlushesOpen : {W : Type 0} → Flushing W → Option W → Option W
+    → Result (Unit {0}) ExportFault → Type 0
+FlushesOpen flushes None left answer = (left ≡ None) × (answer ≡ Ok tt)
+FlushesOpen {W} flushes (Some sink) left answer =
+    (after : W) × (FlushesOnce flushes sink after answer × (left ≡ left_open after answer))
+
+-- The sink of an exporter that takes calls was flushed, and nothing else was done.
+pub record FlushesAnew {O W : Type 0}
+    (flushes : Flushing W)
+    (old new : ReopeningValue O W)
+    (answer : Result (Unit {0}) ExportFault) : Type 0 where
+  pub flushed : FlushesOpen flushes old.sink new.sink answer
+  pub counted : new.failures ≡ failures_after old.failures answer
+  pub opener : new.opener ≡ old.opener
+
+-- One call of `force_flush`: where the exporter was shut down, nothing is done.
+pub record FlushesReopening {O W : Type 0}
+    (flushes : Flushing W)
+    (old new : ReopeningValue O W)
+    (answer : Result (Unit {0}) ExportFault) : Type 0 where
+  pub flushed : old.state ≡ Open → FlushesAnew flushes old new answer
+  pub state : new.state ≡ old.state
+  pub unflushed : old.state ≢ Open → new ≡ old
+
+-- One call of `shutdown`: the same, and the exporter is shut down.
+pub record ShutsReopeningDown {O W : Type 0}
+    (flushes : Flushing W)
+    (old new : ReopeningValue O W)
+    (answer : Result (Unit {0}) ExportFault) : Type 0 where
+  pub flushed : old.state ≡ Open → FlushesAnew flushes old new answer
+  pub state : new.state ≡ ShutDown
+  pub unflushed : old.state ≢ Open → new ≡ record old { state = ShutDown }

@@ -39,7 +39,3 @@ state_after state (Ok done) = state
 state_after state (Err fault.Write) = Broken
 state_after state (Err fault.ShutDown) = state
 state_after state (Err fault.Memory) = state
-
--- an exporter that was shut down
-abbrev pub IsShutDown : ExporterState → Type 0
-IsShutDown state = state ≡ ShutDown

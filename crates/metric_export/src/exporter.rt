@@ -38,6 +38,10 @@ pub trait MetricExporter {
     // What an export does to the exporter, by the plan, the batch and the answer.
     ghost export_gives: { Self → Self → PlanValue → Batch → Result (Unit {0}) ExportFault → Type 0 };
 
+    // What a flush does to it, by the answer.
+    ghost flush_gives: { Self → Self → Result (Unit {0}) ExportFault → Type 0 } =
+        { λ _ _ _. Unit {0} };
+
     // What a shutdown does to it, by the answer.
     ghost shutdown_gives: { Self → Self → Result (Unit {0}) ExportFault → Type 0 };
 
@@ -63,7 +67,8 @@ pub trait MetricExporter {
         ensures text { Keeps (contents self.old) (contents self.new) }
         ensures answer { Answers (state self.old)
             (HasFailed (failures self.old) (failures self.new)) result }
-        ensures state { GoesOn (state self.old) (state self.new) result };
+        ensures state { GoesOn (state self.old) (state self.new) result }
+        ensures gives { flush_gives self.old self.new result };
 
     /// Flushes, and takes no call from then on, whatever it answers. No text is added. The errors are
     /// those of [`export`](MetricExporter::export).

@@ -69,6 +69,8 @@ impl MetricExporter for KeepingExporter {
 
     ghost export_gives = { λ old new _ batch answer. KeepsBatch old new batch answer };
 
+    ghost flush_gives = { λ old new _. new ≡ old };
+
     ghost shutdown_gives = { λ old new _. OnlyShutDown old new };
 
     fn export(&mut self, alloc: Global, _plan: &Plan, batch: &Batch) -> Result<(), ExportFault> {

@@ -1,11 +1,8 @@
 //! An exporter that keeps the batches which another one refused.
 ghost use Rattle.std.specs.Prelude.{◌≡◌, true, ◌<◌, ◌≤◌, ◌+◌, ◌-◌, [], ◌∷◌, ◌++◌, None, drop, length, vec_len};
-ghost use Rattle.std.specs.Io.KnownBytes.{Keeps};
-ghost use Rattle.metric_io.specs.Counts.{HasFailed};
-ghost use Rattle.metric_export.specs.ExporterCalls.{IsExport, IsShutdown};
-ghost use Rattle.metric_export.specs.Queues.{HandsIn, IsAccounted, PassesOn, ShutsQueueDown, TriesInOrder};
+ghost use Rattle.metric_export.specs.ExporterCalls.{IsExport, IsFlush, IsShutdown};
+ghost use Rattle.metric_export.specs.Queues.{HandsIn, IsAccounted, PassesCallOn, TriesInOrder};
 ghost use Rattle.metric_export.specs.Queues.{entered, failures_after, kept_out};
-ghost use Rattle.metric_export.specs.States.{Answers, GoesOn};
 
 use crate::copies::push_copy;
 use crate::exporter::MetricExporter;
@@ -143,7 +140,10 @@ impl<E: MetricExporter> MetricExporter for Queued<E> {
         HandsIn (IsExport E.export_gives E.text E.contents E.failures E.state plan)
         old new batch answer };
 
-    ghost shutdown_gives = { ShutsQueueDown
+    ghost flush_gives = { PassesCallOn
+        (IsFlush E.flush_gives E.contents E.failures E.state) };
+
+    ghost shutdown_gives = { PassesCallOn
         (IsShutdown E.shutdown_gives E.contents E.failures E.state) };
 
     fn export(&mut self, alloc: Global, plan: &Plan, batch: &Batch) -> Result<(), ExportFault> {
@@ -156,14 +156,7 @@ impl<E: MetricExporter> MetricExporter for Queued<E> {
         answer
     }
 
-    fn force_flush(&mut self) -> Result<(), ExportFault>
-        ensures kept { PassesOn self.old self.new result }
-
-        ensures text { Keeps None None }
-        ensures answer { Answers (E.state self.old.inner)
-            (HasFailed self.old.failures self.new.failures) result }
-        ensures state { GoesOn (E.state self.old.inner) (E.state self.new.inner) result }
-    {
+    fn force_flush(&mut self) -> Result<(), ExportFault> {
         let answer = self.inner.force_flush();
         self.failures = failures_after(self.failures, &answer);
         answer

@@ -2,8 +2,8 @@
 ghost use Rattle.std.specs.Prelude.{◌≡◌, ◌≢◌, IsErrOf, IsOkUnless, None, Result};
 ghost use Rattle.metric_io.specs.declared.devices.Broken.{Broken};
 ghost use Rattle.metric_export.specs.Exports.{plan_text};
-ghost use Rattle.metric_export.specs.Reopens.{ExportsAnew, FindsSink, WritesText, WritesToFound};
-ghost use Rattle.metric_export.specs.States.{IsShutDown};
+ghost use Rattle.metric_export.specs.Reopens.{ExportsAnew, FindsSink, FlushesOpen, FlushesReopening, ShutsReopeningDown};
+ghost use Rattle.metric_export.specs.Reopens.{WritesText, WritesToFound};
 
 use crate::batch::write_batch;
 use crate::exporter::MetricExporter;
@@ -100,7 +100,9 @@ impl<O: OpenSink<W>, W: Sink + Drop> MetricExporter for ReopeningExporter<O, W> 
 
     ghost export_gives = { ExportsAnew O.opens W.contents };
 
-    ghost shutdown_gives = { λ _ new _. IsShutDown new.state };
+    ghost flush_gives = { FlushesReopening W.flush_gives };
+
+    ghost shutdown_gives = { ShutsReopeningDown W.flush_gives };
 
     fn export(&mut self, alloc: Global, plan: &Plan, batch: &Batch) -> Result<(), ExportFault> {
         self.state.admit()?;
@@ -175,7 +177,8 @@ fn write_to<W: Sink + Drop>(
 
 // Flushes the sink that is open, which stays open unless that fails.
 fn flush<W: Sink + Drop>(sink: Option<W>) -> (Option<W>, Result<(), ExportFault>)
-    ensures { IsOkUnless result.1 ExportFault.Write }
+    ensures flushed { FlushesOpen W.flush_gives sink result.0 result.1 }
+    ensures write { IsOkUnless result.1 ExportFault.Write }
 {
     let Some(mut sink) = sink else {
         return (None, Ok(()));

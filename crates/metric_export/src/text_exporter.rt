@@ -2,7 +2,7 @@
 ghost use Rattle.std.specs.Prelude.{◌≡◌, ◌≢◌, IsErrOf, IsOkUnless, OnOk};
 ghost use Rattle.std.specs.Io.KnownBytes.{Keeps};
 ghost use Rattle.metric_io.specs.Counts.{HasFailed, CountsFlush};
-ghost use Rattle.metric_export.specs.ExporterCalls.{ExportsText, ShutsTextDown};
+ghost use Rattle.metric_export.specs.ExporterCalls.{ExportsText, FlushesOnce, FlushesText, ShutsTextDown};
 ghost use Rattle.metric_export.specs.Exports.{Exports, plan_text};
 ghost use Rattle.metric_export.specs.States.{Answers, state_after};
 
@@ -80,7 +80,9 @@ impl<W: Sink> MetricExporter for TextExporter<W> {
 
     ghost export_gives = { ExportsText W.contents W.failures };
 
-    ghost shutdown_gives = { ShutsTextDown W.contents W.failures };
+    ghost flush_gives = { FlushesText W.flush_gives };
+
+    ghost shutdown_gives = { ShutsTextDown W.contents W.failures W.flush_gives };
 
     fn export(&mut self, alloc: Global, plan: &Plan, batch: &Batch) -> Result<(), ExportFault>
         ensures text { Exports (W.contents self.old.sink) (W.contents self.new.sink)
@@ -111,6 +113,8 @@ impl<W: Sink> MetricExporter for TextExporter<W> {
             (W.failures self.new.sink ≡ W.failures self.old.sink) }
         ensures unwritten { self.old.state ≢ ExporterState.Open → self.new ≡ self.old }
         ensures memory { IsErrOf result ExportFault.Memory → ⊥ }
+        ensures flushed { self.old.state ≡ ExporterState.Open →
+            FlushesOnce W.flush_gives self.old.sink self.new.sink result }
     {
         self.state.admit()?;
         let answer = flushed(&mut self.sink);
@@ -129,6 +133,8 @@ impl<W: Sink> MetricExporter for TextExporter<W> {
         ensures unwritten { self.old.state ≢ ExporterState.Open →
             self.new.sink ≡ self.old.sink }
         ensures memory { IsErrOf result ExportFault.Memory → ⊥ }
+        ensures flushed { self.old.state ≡ ExporterState.Open →
+            FlushesOnce W.flush_gives self.old.sink self.new.sink result }
     {
         let answer = self.force_flush();
         self.state = ExporterState::ShutDown;
@@ -141,7 +147,10 @@ fn flushed<W: Sink>(sink: &mut W) -> Result<(), ExportFault>
     ensures text { Keeps (W.contents sink.old) (W.contents sink.new) }
     ensures failures { CountsFlush (W.failures sink.old) (W.failures sink.new) result }
     ensures write { IsOkUnless result ExportFault.Write }
+    ensures flushed { FlushesOnce W.flush_gives sink.old sink.new result }
 {
-    sink.flush()?;
-    Ok(())
+    match sink.flush() {
+        Ok(()) => Ok(()),
+        Err(_) => Err(ExportFault::Write),
+    }
 }

@@ -1,9 +1,10 @@
 //! What a device promises that bytes are read from or written to.
-ghost use Rattle.std.specs.Prelude.{◌≡◌, ℕ, List, Option};
+ghost use Rattle.std.specs.Prelude.{◌≡◌, ℕ, List, Option, Result};
 ghost use Rattle.std.specs.Io.{ReadsAtMost, WritesAtMost};
 ghost use Rattle.std.specs.Io.KnownBytes.{Keeps, ReadConsumes, WriteAppends};
 ghost use Rattle.metric_io.specs.Counts.{CountsFlush, CountsWrite, counts_after};
 ghost use Rattle.metric_io.specs.declared.counts.ReadCounts.{ReadCounts};
+ghost use Rattle.metric_io.specs.declared.devices.Broken.{Broken};
 
 use thiserror::Error;
 
@@ -42,13 +43,18 @@ pub trait Source {
 
 /// What bytes are written to, in the shape of `std::io::Write`.
 ///
-/// Contracts see the bytes that the sink holds, where it knows them, and the count of its
-/// failures, which stops at 2^64 - 1. A write that takes nothing of something is a failure too. A
-/// write that a signal interrupts is tried again within the sink, and no caller sees it.
+/// Contracts see the bytes that the sink holds, where it knows them; the count of its failures,
+/// which stops at 2^64 - 1; and what it says of its flushes, by which a caller can promise that it
+/// flushes. A write that takes nothing of something is a failure too. A write that a signal
+/// interrupts is tried again within the sink, and no caller sees it.
 pub trait Sink {
     ghost contents: { Self → Option (List ℕ) };
 
     ghost failures: { Self → ℕ };
+
+    // What a flush does to the sink, by the answer.
+    ghost flush_gives: { Self → Self → Result (Unit {0}) Broken → Type 0 } =
+        { λ _ _ _. Unit {0} };
 
     /// Takes bytes from the front of `buf`, and answers how many. [`Broken`] takes none.
     fn write(&mut self, buf: &[u8]) -> Result<usize, Broken>
@@ -59,5 +65,6 @@ pub trait Sink {
     /// Passes on what the sink may still hold back. It takes no byte, nor loses one.
     fn flush(&mut self) -> Result<(), Broken>
         ensures bytes { Keeps (contents self.old) (contents self.new) }
-        ensures failures { CountsFlush (failures self.old) (failures self.new) result };
+        ensures failures { CountsFlush (failures self.old) (failures self.new) result }
+        ensures gives { flush_gives self.old self.new result };
 }

@@ -1,4 +1,6 @@
 //! The counts of a running reader.
+ghost use Rattle.std.specs.Prelude.{ℕ};
+
 use std::sync::atomic::{AtomicU64, Ordering};
 
 /// What a periodic reader has done so far, for other threads to read while it runs. Threads share it by reference; each count
@@ -37,9 +39,23 @@ impl RunningCounts {
     pub fn refused(&self) -> u64 {
         self.refused.load(Ordering::SeqCst)
     }
+}
 
-    /// Sets the three counts.
-    pub(crate) fn set(&self, exported: u64, failed: u64, refused: u64) {
+/// Who is told the counts of a running reader. As a trait, so that a run cannot but tell them, all three and each
+/// in its place.
+pub(crate) trait Listener {
+    // That it was told these counts: of the batches that the exporter took, of its calls that failed, and of the
+    // collections that were refused.
+    ghost told: { Self → ℕ → ℕ → ℕ → Type 0 };
+
+    fn tell(&self, exported: u64, failed: u64, refused: u64)
+        ensures { told self.now exported failed refused };
+}
+
+impl Listener for RunningCounts {
+    ghost told = { λ _ _ _ _. Unit {0} };
+
+    fn tell(&self, exported: u64, failed: u64, refused: u64) {
         self.exported.store(exported, Ordering::SeqCst);
         self.failed.store(failed, Ordering::SeqCst);
         self.refused.store(refused, Ordering::SeqCst);

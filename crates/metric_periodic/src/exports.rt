@@ -4,7 +4,7 @@ ghost use Rattle.metric_export.specs.ExporterCalls.{IsExport, IsShutdown};
 ghost use Rattle.metric_periodic.specs.Counts.{IsCounted};
 ghost use Rattle.metric_periodic.specs.Exported.{ExportsCollected, ExportsEach, ExportsOne, ShutsDown, with_collection};
 
-use crate::counts::RunningCounts;
+use crate::counts::Listener;
 use metric_export::{ExportFault, MetricExporter};
 use metric_history::Batch;
 use metric_plan::Plan;
@@ -113,8 +113,10 @@ impl<E: MetricExporter> Exports<E> {
     }
 
     /// Tells the counts to who reads them while the reader runs.
-    pub(crate) fn tell(&self, counts: &RunningCounts) {
-        counts.set(self.exported, self.failed, self.refused);
+    pub(crate) fn tell<L: Listener>(&self, listener: &L)
+        ensures { L.told listener.now self.now.exported self.now.failed self.now.refused }
+    {
+        listener.tell(self.exported, self.failed, self.refused);
     }
 
     /// Shuts the exporter down, and counts its failure.

@@ -133,7 +133,7 @@ impl<E: MetricExporter> Periodic<E> {
         let reading = Reading {
             seat: collector,
             exports: Exports::new(exporter),
-            counts,
+            listener: counts,
         };
         let plan = provider.plan();
         let ended = read_to_end(rt, alloc, plan, provider, turns, reading, ticker);

@@ -5,18 +5,18 @@ ghost use Rattle.metric_export.specs.ExporterCalls.{IsExport, IsShutdown};
 ghost use Rattle.metric_periodic.specs.Runs.{IsRun};
 ghost use Rattle.metric_periodic.specs.Turns.{IsCollectedAt, MakesTurns, is_stop, progress};
 
-use crate::counts::RunningCounts;
+use crate::counts::Listener;
 use crate::exports::Exports;
 use crate::seat::Seat;
 use metric_export::{MetricExporter, Tick, Ticker};
 use metric_plan::Plan;
 use std::alloc::Global;
 
-/// A seat, the exporter that its batches are handed on to, and who is told of its counts while it runs.
-pub(crate) struct Reading<'a, C, E> {
+/// A seat, the exporter that its batches are handed on to, and who is told the counts while it runs.
+pub(crate) struct Reading<'a, C, E, L> {
     pub seat: C,
     pub exports: Exports<E>,
-    pub counts: &'a RunningCounts,
+    pub listener: &'a L,
 }
 
 /// What a run leaves: the exporter with the counts, whether the ticker said that the run was to stop,
@@ -30,13 +30,13 @@ pub(crate) struct Ended<C, E> {
 /// Collects at each tick and hands on what was collected, until the ticker stops or was asked so many
 /// times; then once more, at the moment of the last tick, 0 where there was none; and shuts the exporter
 /// down.
-pub(crate) fn read_to_end<R, P, C: Seat<R, P>, E: MetricExporter, T: Ticker<R>>(
+pub(crate) fn read_to_end<R, P, C: Seat<R, P>, E: MetricExporter, T: Ticker<R>, L: Listener>(
     rt: &R,
     alloc: Global,
     plan: &Plan,
     provider: &P,
     turns: u32,
-    reading: Reading<'_, C, E>,
+    reading: Reading<'_, C, E, L>,
     ticker: &mut T,
 ) -> Ended<C, E>
     ensures run { let exports =
@@ -49,19 +49,22 @@ pub(crate) fn read_to_end<R, P, C: Seat<R, P>, E: MetricExporter, T: Ticker<R>>(
     ensures asked { T.asked ticker.new ≤ T.asked ticker.old + turns }
     ensures all_turns { result.stopped ≡ false →
         higher_count (T.asked ticker.old) turns ≤ T.asked ticker.new }
+    ensures told { L.told reading.entry.listener.now
+        result.exports.exported result.exports.failed result.exports.refused }
 {
+    let listener = reading.listener;
     let mut reading = reading;
     let last = make_turns(rt, alloc, plan, provider, turns, &mut reading, ticker);
     let Reading {
         seat,
         exports,
-        counts,
+        listener: _,
     } = reading;
     let (collected, kept) = seat.collect_last_at(rt, alloc, provider, last.moment());
     let mut exports = exports;
     exports.hand_on_collected(alloc, plan, &collected);
     exports.shut_down();
-    exports.tell(counts);
+    exports.tell(listener);
     Ended {
         exports,
         stopped: stops(last),
@@ -80,13 +83,13 @@ fn stops(last: Tick) -> bool
 }
 
 // Makes the turns. The last tick: a stop, or that of the last turn, at 0 where there was none.
-fn make_turns<R, P, C: Seat<R, P>, E: MetricExporter, T: Ticker<R>>(
+fn make_turns<R, P, C: Seat<R, P>, E: MetricExporter, T: Ticker<R>, L: Listener>(
     rt: &R,
     alloc: Global,
     plan: &Plan,
     provider: &P,
     turns: u32,
-    reading: &mut Reading<'_, C, E>,
+    reading: &mut Reading<'_, C, E, L>,
     ticker: &mut T,
 ) -> Tick
     ensures turns { let exports =
@@ -112,20 +115,22 @@ fn make_turns<R, P, C: Seat<R, P>, E: MetricExporter, T: Ticker<R>>(
 }
 
 // Collects at a moment, and hands on what was collected.
-fn collect_and_export<R, P, C: Seat<R, P>, E: MetricExporter>(
+fn collect_and_export<R, P, C: Seat<R, P>, E: MetricExporter, L: Listener>(
     rt: &R,
     alloc: Global,
     plan: &Plan,
     provider: &P,
     now: u64,
-    reading: &mut Reading<'_, C, E>,
+    reading: &mut Reading<'_, C, E, L>,
 )
-    ensures { let exports =
+    ensures collected { let exports =
         IsExport E.export_gives E.text E.contents E.failures E.state plan.now in
         IsCollectedAt (C.collects provider.now) exports now
         reading.old.seat reading.new.seat reading.old.exports reading.new.exports }
+    ensures told { L.told reading.old.listener.now reading.new.exports.exported
+        reading.new.exports.failed reading.new.exports.refused }
 {
     let collected = reading.seat.collect_at(rt, alloc, provider, now);
     reading.exports.hand_on_collected(alloc, plan, &collected);
-    reading.exports.tell(reading.counts);
+    reading.exports.tell(reading.listener);
 }

@@ -7,7 +7,7 @@ loop-turn-preserved g c = record {
   most = search rules;
   least = search rules;
   turns = one_more_turn _ _ _ c.loop-turn._turn _ _ _ c.loop-turn.invariant.turns
-      (record { tick = c.in-At.ensures.gives; collected_at = c.collect_and_export.ensures });
+      (record { tick = c.in-At.ensures.gives; collected_at = c.collect_and_export.ensures.collected });
 }
 
 pub returns-in-Stop-clause-turns : goal.returns-in-Stop-clause-turns

@@ -4,3 +4,6 @@ use Rattle.metric_export.proofs.text_exporter.TextExporterMetricExporter.shutdow
 
 pub returns-clause-state : goal.returns-clause-state
 returns-clause-state g c = search rules
+
+pub returns-clause-flushed : goal.returns-clause-flushed
+returns-clause-flushed g c = rw (← c.self.view_is) at c.force_flush-answer.ensures.flushed

@@ -1,0 +1,13 @@
+-- the sink that was open is flushed
+use Rattle.std.proofs.Common.{Ok, Err, refl}
+use Rattle.metric_export.proofs.reopening_exporter.flush.Goals as goal
+
+pub returns-in-Ok-clause-flushed : goal.returns-in-Ok-clause-flushed
+returns-in-Ok-clause-flushed g c =
+    rw c.in-Some.is
+    (c.flush.new.self, (record { told = Ok tt; call = c.in-Ok.ensures.gives; passed = refl }, refl))
+
+pub returns-in-Err-clause-flushed : goal.returns-in-Err-clause-flushed
+returns-in-Err-clause-flushed g c =
+    rw c.in-Some.is
+    (c.flush.new.self, (record { told = Err c.in-Err.field-0; call = c.in-Err.ensures.gives; passed = refl }, refl))
