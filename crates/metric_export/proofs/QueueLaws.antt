@@ -125,7 +125,7 @@ goes_on_by s s' t (Err fault.Write) e (inr g) = inr g
 goes_on_by s s' t (Err fault.ShutDown) e g = g ∙ e
 goes_on_by s s' t (Err fault.Memory) e g = g ∙ e
 
-takes_state : {E : Type 0} (gives : E → E → PlanValue → Batch → Result (Unit {0}) ExportFault → Type 0) (text : PlanValue → Batch → List ℕ)
+takes_state : {E : Type 0} (gives : E → E → PlanValue → Batch → Result (Unit {0}) ExportFault → Type 0) (text : E → PlanValue → Batch → List ℕ)
     (contents : E → Option (List ℕ)) (failures : E → ℕ) (state : E → ExporterState) (plan : PlanValue) (a b : E) (xs : List Batch)
     → TakesEach (IsExport gives text contents failures state plan) a b xs → state b ≡ state a
 takes_state gives text contents failures state plan a b [] p = ap state p
@@ -133,13 +133,13 @@ takes_state gives text contents failures state plan a b (x ∷ xs) p =
     takes_state gives text contents failures state plan p.0 b xs p.1.1 ∙ p.1.0.goes_on
 
 -- what takes a batch is open
-takes_open : {E : Type 0} (gives : E → E → PlanValue → Batch → Result (Unit {0}) ExportFault → Type 0) (text : PlanValue → Batch → List ℕ)
+takes_open : {E : Type 0} (gives : E → E → PlanValue → Batch → Result (Unit {0}) ExportFault → Type 0) (text : E → PlanValue → Batch → List ℕ)
     (contents : E → Option (List ℕ)) (failures : E → ℕ) (state : E → ExporterState) (plan : PlanValue) (a b : E) (xs : List Batch) (last : Batch)
     → TakesEach (IsExport gives text contents failures state plan) a b (xs ++ last ∷ []) → state a ≡ Open
 takes_open gives text contents failures state plan a b [] last p = p.1.0.answers
 takes_open gives text contents failures state plan a b (x ∷ xs) last p = p.1.0.answers
 
-at_stop : {E : Type 0} (gives : E → E → PlanValue → Batch → Result (Unit {0}) ExportFault → Type 0) (text : PlanValue → Batch → List ℕ)
+at_stop : {E : Type 0} (gives : E → E → PlanValue → Batch → Result (Unit {0}) ExportFault → Type 0) (text : E → PlanValue → Batch → List ℕ)
     (contents : E → Option (List ℕ)) (failures : E → ℕ) (state : E → ExporterState) (plan : PlanValue) (b c : E) (left : List Batch)
     (answer : Result (Unit {0}) ExportFault) (s : ExporterState) (own : Type 0) → state b ≡ s → (left ≡ [] → s ≡ Open)
     → (answer ≡ Err fault.Write → own) → StopsBefore (IsExport gives text contents failures state plan) b c left answer
@@ -153,7 +153,7 @@ at_stop gives text contents failures state plan b c (x ∷ left) answer s own e 
 
 -- The answer and the state of an exporter that tried batches in order, by its own count of failures.
 pub tries_answer : {E : Type 0} (gives : E → E → PlanValue → Batch → Result (Unit {0}) ExportFault → Type 0)
-    (text : PlanValue → Batch → List ℕ) (contents : E → Option (List ℕ)) (failures : E → ℕ) (state : E → ExporterState) (plan : PlanValue)
+    (text : E → PlanValue → Batch → List ℕ) (contents : E → Option (List ℕ)) (failures : E → ℕ) (state : E → ExporterState) (plan : PlanValue)
     (a c : E) (xs : List Batch) (last : Batch) (sent : ℕ) (answer : Result (Unit {0}) ExportFault) (own : Type 0)
     → TriesInOrder (IsExport gives text contents failures state plan) a c (xs ++ last ∷ []) sent answer → (answer ≡ Err fault.Write → own)
     → Answers (state a) own answer × GoesOn (state a) (state c) answer

@@ -5,7 +5,7 @@ use Rattle.metric_io.specs.Counts.{HasFailed}
 use Rattle.metric_io.specs.declared.devices.Broken.{Broken}
 use Rattle.metric_history.specs.declared.batch.Batch.{Batch}
 use Rattle.metric_plan.specs.Plans.{PlanValue}
-use Rattle.metric_export.specs.Exports.{Exports, plan_text}
+use Rattle.metric_export.specs.Exports.{Exports}
 use Rattle.metric_export.specs.States.{Answers, GoesOn, TextExporterValue, state_after}
 use Rattle.metric_export.specs.declared.fault.ExportFault.{ExportFault}
 use Rattle.metric_export.specs.declared.fault.ExportFault.TheVariants as fault
@@ -16,7 +16,7 @@ use Rattle.metric_export.specs.declared.state.ExporterState.TheVariants.{Open, S
 -- what was appended, the answer, and the state after it.
 pub record IsExport {E : Type 0}
     (gives : E → E → PlanValue → Batch → Result (Unit {0}) ExportFault → Type 0)
-    (text : PlanValue → Batch → List ℕ)
+    (text : E → PlanValue → Batch → List ℕ)
     (contents : E → Option (List ℕ))
     (failures : E → ℕ)
     (state : E → ExporterState)
@@ -25,13 +25,15 @@ pub record IsExport {E : Type 0}
     (batch : Batch)
     (answer : Result (Unit {0}) ExportFault) : Type 0 where
   pub own : gives old new plan batch answer
-  pub appends : Exports (contents old) (contents new) (text plan batch) answer
+  pub appends : Exports (contents old) (contents new) (text old plan batch) answer
+  pub same_text : text new ≡ text old
   pub answers : Answers (state old) (HasFailed (failures old) (failures new)) answer
   pub goes_on : GoesOn (state old) (state new) answer
 
 -- One call of `force_flush`, which hands on nothing.
 pub record IsFlush {E : Type 0}
     (gives : E → E → Result (Unit {0}) ExportFault → Type 0)
+    (text : E → PlanValue → Batch → List ℕ)
     (contents : E → Option (List ℕ))
     (failures : E → ℕ)
     (state : E → ExporterState)
@@ -39,6 +41,7 @@ pub record IsFlush {E : Type 0}
     (answer : Result (Unit {0}) ExportFault) : Type 0 where
   pub own : gives old new answer
   pub keeps : Keeps (contents old) (contents new)
+  pub same_text : text new ≡ text old
   pub answers : Answers (state old) (HasFailed (failures old) (failures new)) answer
   pub goes_on : GoesOn (state old) (state new) answer
 
@@ -57,14 +60,16 @@ pub record IsShutdown {E : Type 0}
 
 -- One call of `export` of an exporter of texts: Ok tells that no write failed, and
 -- without a write the sink is as it was.
-pub record ExportsText {W : Type 0}
+pub record ExportsText {W E : Type 0}
+    (text : E → PlanValue → Batch → List ℕ)
     (contents : W → Option (List ℕ))
     (failures : W → ℕ)
-    (old new : TextExporterValue W)
+    (old new : TextExporterValue W E)
     (plan : PlanValue)
     (batch : Batch)
     (answer : Result (Unit {0}) ExportFault) : Type 0 where
-  pub appends : Exports (contents old.sink) (contents new.sink) (plan_text plan batch) answer
+  pub encoding : new.encoding ≡ old.encoding
+  pub appends : Exports (contents old.sink) (contents new.sink) (text old.encoding plan batch) answer
   pub answers : Answers old.state (HasFailed (failures old.sink) (failures new.sink)) answer
   pub state : new.state ≡ state_after old.state answer
   pub counted : OnOk answer (failures new.sink ≡ failures old.sink)
@@ -88,21 +93,23 @@ pub record FlushesOnce {W : Type 0} (flushes : Flushing W) (old new : W)
   pub passed : answer ≡ flush_answer told
 
 -- One call of its `force_flush`: an open exporter flushes its sink once.
-pub record FlushesText {W : Type 0}
+pub record FlushesText {W E : Type 0}
     (flushes : Flushing W)
-    (old new : TextExporterValue W)
+    (old new : TextExporterValue W E)
     (answer : Result (Unit {0}) ExportFault) : Type 0 where
+  pub encoding : new.encoding ≡ old.encoding
   pub flushed : old.state ≡ Open → FlushesOnce flushes old.sink new.sink answer
   pub state : new.state ≡ state_after old.state answer
   pub unflushed : old.state ≢ Open → new ≡ old
 
 -- One call of its `shutdown`: an open exporter flushes its sink once.
-pub record ShutsTextDown {W : Type 0}
+pub record ShutsTextDown {W E : Type 0}
     (contents : W → Option (List ℕ))
     (failures : W → ℕ)
     (flushes : Flushing W)
-    (old new : TextExporterValue W)
+    (old new : TextExporterValue W E)
     (answer : Result (Unit {0}) ExportFault) : Type 0 where
+  pub encoding : new.encoding ≡ old.encoding
   pub keeps : Keeps (contents old.sink) (contents new.sink)
   pub answers : Answers old.state (HasFailed (failures old.sink) (failures new.sink)) answer
   pub state : new.state ≡ ShutDown

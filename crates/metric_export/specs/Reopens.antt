@@ -4,16 +4,17 @@ use Rattle.metric_io.specs.declared.devices.Broken.{Broken}
 use Rattle.metric_history.specs.declared.batch.Batch.{Batch}
 use Rattle.metric_plan.specs.Plans.{PlanValue}
 use Rattle.metric_export.specs.ExporterCalls.{Flushing, FlushesOnce}
-use Rattle.metric_export.specs.Exports.{Exports, plan_text}
+use Rattle.metric_export.specs.Exports.{Exports}
 use Rattle.metric_export.specs.Queues.{failures_after}
 use Rattle.metric_export.specs.declared.fault.ExportFault.{ExportFault}
 use Rattle.metric_export.specs.declared.fault.ExportFault.TheVariants as fault
 use Rattle.metric_export.specs.declared.state.ExporterState.{ExporterState}
 use Rattle.metric_export.specs.declared.state.ExporterState.TheVariants.{Open, ShutDown}
 
--- such an exporter, as contracts see it: what opens sinks, the sink that is open, how
--- often a call failed, and its state
-pub record ReopeningValue (O W : Type 0) : Type 0 where
+-- such an exporter, as contracts see it: its encoding, what opens sinks, the sink that is open,
+-- how often a call failed, and its state
+pub record ReopeningValue (O W E : Type 0) : Type 0 where
+  pub encoding : E
   pub opener : O
   pub sink : Option W
   pub failures : ℕ
@@ -53,27 +54,29 @@ WritesToFound contents text (Ok sink) left answer = WritesText contents text sin
 WritesToFound contents text (Err broken) left answer = (left ≡ None) × (answer ≡ Err fault.Write)
 
 -- One text was handed on by an exporter that takes calls.
-pub record WritesAnew {O W : Type 0}
+pub record WritesAnew {O W E : Type 0}
     (opens : Opening O W)
     (contents : W → Option (List ℕ))
     (text : List ℕ)
-    (old new : ReopeningValue O W)
+    (old new : ReopeningValue O W E)
     (answer : Result (Unit {0}) ExportFault) : Type 0 where
   pub found : Result W Broken
   pub finds : FindsSink opens old.opener new.opener old.sink found
   pub writes : WritesToFound contents text found new.sink answer
   pub counted : new.failures ≡ failures_after old.failures answer
   pub state : new.state ≡ old.state
+  pub encoding : new.encoding ≡ old.encoding
 
 -- One call of `export`: where the exporter was shut down, nothing is done.
-pub record ExportsAnew {O W : Type 0}
+pub record ExportsAnew {O W E : Type 0}
+    (text : E → PlanValue → Batch → List ℕ)
     (opens : Opening O W)
     (contents : W → Option (List ℕ))
-    (old new : ReopeningValue O W)
+    (old new : ReopeningValue O W E)
     (plan : PlanValue)
     (batch : Batch)
     (answer : Result (Unit {0}) ExportFault) : Type 0 where
-  pub writes : old.state ≡ Open → WritesAnew opens contents (plan_text plan batch) old new answer
+  pub writes : old.state ≡ Open → WritesAnew opens contents (text old.encoding plan batch) old new answer
   pub unwritten : old.state ≢ Open → new ≡ old
 
 -- the open sink was flushed once, and stays open unless that failed; where none is open, nothing is done
@@ -84,27 +87,28 @@ FlushesOpen {W} flushes (Some sink) left answer =
     (after : W) × (FlushesOnce flushes sink after answer × (left ≡ left_open after answer))
 
 -- The sink of an exporter that takes calls was flushed, and nothing else was done.
-pub record FlushesAnew {O W : Type 0}
+pub record FlushesAnew {O W E : Type 0}
     (flushes : Flushing W)
-    (old new : ReopeningValue O W)
+    (old new : ReopeningValue O W E)
     (answer : Result (Unit {0}) ExportFault) : Type 0 where
   pub flushed : FlushesOpen flushes old.sink new.sink answer
   pub counted : new.failures ≡ failures_after old.failures answer
   pub opener : new.opener ≡ old.opener
+  pub encoding : new.encoding ≡ old.encoding
 
 -- One call of `force_flush`: where the exporter was shut down, nothing is done.
-pub record FlushesReopening {O W : Type 0}
+pub record FlushesReopening {O W E : Type 0}
     (flushes : Flushing W)
-    (old new : ReopeningValue O W)
+    (old new : ReopeningValue O W E)
     (answer : Result (Unit {0}) ExportFault) : Type 0 where
   pub flushed : old.state ≡ Open → FlushesAnew flushes old new answer
   pub state : new.state ≡ old.state
   pub unflushed : old.state ≢ Open → new ≡ old
 
 -- One call of `shutdown`: the same, and the exporter is shut down.
-pub record ShutsReopeningDown {O W : Type 0}
+pub record ShutsReopeningDown {O W E : Type 0}
     (flushes : Flushing W)
-    (old new : ReopeningValue O W)
+    (old new : ReopeningValue O W E)
     (answer : Result (Unit {0}) ExportFault) : Type 0 where
   pub flushed : old.state ≡ Open → FlushesAnew flushes old new answer
   pub state : new.state ≡ ShutDown

@@ -5,8 +5,9 @@ use Rattle.metric_export.specs.declared.fault.ExportFault.TheVariants as fault
 use Rattle.metric_export.specs.declared.state.ExporterState.{ExporterState}
 use Rattle.metric_export.specs.declared.state.ExporterState.TheVariants.{Open, Broken, ShutDown}
 
--- an exporter over a sink, as contracts see it
-pub record TextExporterValue (W : Type 0) : Type 0 where
+-- an exporter over a sink, in an encoding, as contracts see it
+pub record TextExporterValue (W E : Type 0) : Type 0 where
+  pub encoding : E
   pub sink : W
   pub state : ExporterState
 

@@ -1,12 +1,12 @@
-//! The text of one batch, written to a sink.
+//! The bytes of one batch, written to a sink.
 ghost use Rattle.std.specs.Prelude.{◌≡◌, ◌++◌, [], IfOk, IsErrOf, OnOk};
 ghost use Rattle.metric_io.specs.Counts.{HasFailed};
 ghost use Rattle.metric_export.specs.Exports.{Exports, plan_text};
 
+use crate::encoding::{Encoding, Plain};
 use crate::fault::ExportFault;
 use metric_history::Batch;
 use metric_io::{Sink, write_all};
-use metric_lines::push_batch;
 use metric_plan::Plan;
 use std::alloc::{AllocError, Global};
 
@@ -31,21 +31,44 @@ pub fn write_batch<W: Sink>(
     ensures memory { IsErrOf result ExportFault.Memory → sink.new ≡ sink.old }
     ensures not_shut_down { IsErrOf result ExportFault.ShutDown → ⊥ }
 {
-    let text = text_of(alloc, plan, batch)?;
+    write_encoded(alloc, sink, &Plain, plan, batch)
+}
+
+/// [`write_batch`] in another encoding.
+///
+/// # Errors
+///
+/// Those of [`write_batch`].
+pub fn write_encoded<W: Sink, E: Encoding>(
+    alloc: Global,
+    sink: &mut W,
+    encoding: &E,
+    plan: &Plan,
+    batch: &Batch,
+) -> Result<(), ExportFault>
+    ensures text { Exports (W.contents sink.old) (W.contents sink.new)
+        (E.text encoding.now plan.now batch.now) result }
+    ensures counted { OnOk result (W.failures sink.new ≡ W.failures sink.old) }
+    ensures failed { IsErrOf result ExportFault.Write →
+        HasFailed (W.failures sink.old) (W.failures sink.new) }
+    ensures memory { IsErrOf result ExportFault.Memory → sink.new ≡ sink.old }
+    ensures not_shut_down { IsErrOf result ExportFault.ShutDown → ⊥ }
+{
+    let text = text_of(alloc, encoding, plan, batch)?;
     write_all(sink, &text)?;
     Ok(())
 }
 
-fn text_of(alloc: Global, plan: &Plan, batch: &Batch) -> Result<Vec<u8>, AllocError>
-    ensures { IfOk result (λ text. text.items ≡ plan_text plan.now batch.now) }
+fn text_of<E: Encoding>(
+    alloc: Global,
+    encoding: &E,
+    plan: &Plan,
+    batch: &Batch,
+) -> Result<Vec<u8>, AllocError>
+    ensures { IfOk result (λ text.
+        text.items ≡ E.text encoding.now plan.now batch.now) }
 {
     let mut text = Vec::new(alloc);
-    push_batch(
-        &mut text,
-        plan.catalogue(),
-        plan.config(),
-        plan.streams(),
-        batch,
-    )?;
+    encoding.push(alloc, &mut text, plan, batch)?;
     Ok(text)
 }

@@ -23,8 +23,8 @@ use std::alloc::Global;
 /// [`ExportFault::ShutDown`]. An exporter may go on after a failure, as one over a network does, or be
 /// broken by it, as a [`TextExporter`](crate::TextExporter) is.
 pub trait MetricExporter {
-    // The text in which a batch is handed on.
-    ghost text: { PlanValue → Batch → List ℕ };
+    // The text in which a batch is handed on. No call changes it.
+    ghost text: { Self → PlanValue → Batch → List ℕ };
 
     // What was handed on, where the exporter knows it.
     ghost contents: { Self → Option (List ℕ) };
@@ -39,8 +39,7 @@ pub trait MetricExporter {
     ghost export_gives: { Self → Self → PlanValue → Batch → Result (Unit {0}) ExportFault → Type 0 };
 
     // What a flush does to it, by the answer.
-    ghost flush_gives: { Self → Self → Result (Unit {0}) ExportFault → Type 0 } =
-        { λ _ _ _. Unit {0} };
+    ghost flush_gives: { Self → Self → Result (Unit {0}) ExportFault → Type 0 } = { λ _ _ _. Unit {0} };
 
     // What a shutdown does to it, by the answer.
     ghost shutdown_gives: { Self → Self → Result (Unit {0}) ExportFault → Type 0 };
@@ -55,7 +54,8 @@ pub trait MetricExporter {
     /// - [`ExportFault::Memory`], and nothing was handed on.
     fn export(&mut self, alloc: Global, plan: &Plan, batch: &Batch) -> Result<(), ExportFault>
         ensures text { Exports (contents self.old) (contents self.new)
-            (text plan.now batch.now) result }
+            (text self.old plan.now batch.now) result }
+        ensures same_text { text self.new ≡ text self.old }
         ensures answer { Answers (state self.old)
             (HasFailed (failures self.old) (failures self.new)) result }
         ensures state { GoesOn (state self.old) (state self.new) result }
@@ -65,6 +65,7 @@ pub trait MetricExporter {
     /// [`export`](MetricExporter::export).
     fn force_flush(&mut self) -> Result<(), ExportFault>
         ensures text { Keeps (contents self.old) (contents self.new) }
+        ensures same_text { text self.new ≡ text self.old }
         ensures answer { Answers (state self.old)
             (HasFailed (failures self.old) (failures self.new)) result }
         ensures state { GoesOn (state self.old) (state self.new) result }

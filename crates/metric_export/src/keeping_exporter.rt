@@ -59,7 +59,7 @@ impl KeepingExporter {
 }
 
 impl MetricExporter for KeepingExporter {
-    ghost text = { λ _ _. [] };
+    ghost text = { λ _ _ _. [] };
 
     ghost contents = { λ _. Some [] };
 

@@ -1,8 +1,8 @@
 //! Exporters, to which batches are handed on, and the tickers that say when.
 //!
-//! [`write_batch`] writes the text of one batch to a sink, [`copy_batch`] copies one, and [`attributes`] are those of a point. A
-//! [`MetricExporter`] takes batch after batch until it is shut down (Metrics SDK, push metric exporter); [`TextExporter`] writes their
-//! texts to a sink, a [`KeepingExporter`] keeps the batches in memory, and a [`Queued`] keeps those that the exporter below it
+//! [`write_batch`] writes the text of one batch to a sink, [`write_encoded`] its bytes in another [`Encoding`], [`copy_batch`]
+//! copies one, and [`attributes`] are those of a point. A [`MetricExporter`] takes batch after batch until it is shut down
+//! (Metrics SDK, push metric exporter); [`TextExporter`] writes them to a sink, a [`KeepingExporter`] keeps the batches in memory, and a [`Queued`] keeps those that the exporter below it
 //! refused and tries them again. A [`Ticker`] gives the moments of a periodic reader: [`ListTicker`] those of a list,
 //! [`ClockTicker`] those of a clock, until a [`StopFlag`] is set.
 #![tactic(auto)]
@@ -10,6 +10,7 @@
 mod batch;
 mod clock_ticker;
 mod copies;
+mod encoding;
 mod exporter;
 mod fault;
 mod keeping_exporter;
@@ -24,9 +25,10 @@ mod text_exporter;
 mod tick;
 mod watch;
 
-pub use batch::write_batch;
+pub use batch::{write_batch, write_encoded};
 pub use clock_ticker::ClockTicker;
 pub use copies::copy_batch;
+pub use encoding::{Encoding, Plain};
 pub use exporter::MetricExporter;
 pub use fault::ExportFault;
 pub use keeping_exporter::KeepingExporter;

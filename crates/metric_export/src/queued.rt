@@ -127,9 +127,9 @@ impl<E: MetricExporter> Queued<E> {
 }
 
 impl<E: MetricExporter> MetricExporter for Queued<E> {
-    ghost text = { E.text };
+    // What was kept goes out before the batch, so an export appends more than its text: neither is known.
+    ghost text = { λ _ _ _. [] };
 
-    // What was kept goes out before the batch, so an export appends more than its text.
     ghost contents = { λ _. None };
 
     ghost failures = { λ q. q.failures };
@@ -141,7 +141,7 @@ impl<E: MetricExporter> MetricExporter for Queued<E> {
         old new batch answer };
 
     ghost flush_gives = { PassesCallOn
-        (IsFlush E.flush_gives E.contents E.failures E.state) };
+        (IsFlush E.flush_gives E.text E.contents E.failures E.state) };
 
     ghost shutdown_gives = { PassesCallOn
         (IsShutdown E.shutdown_gives E.contents E.failures E.state) };

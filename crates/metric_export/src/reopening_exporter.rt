@@ -1,11 +1,11 @@
 //! An exporter of texts that opens a new sink after a failure.
 ghost use Rattle.std.specs.Prelude.{◌≡◌, ◌≢◌, IsErrOf, IsOkUnless, None, Result};
 ghost use Rattle.metric_io.specs.declared.devices.Broken.{Broken};
-ghost use Rattle.metric_export.specs.Exports.{plan_text};
 ghost use Rattle.metric_export.specs.Reopens.{ExportsAnew, FindsSink, FlushesOpen, FlushesReopening, ShutsReopeningDown};
 ghost use Rattle.metric_export.specs.Reopens.{WritesText, WritesToFound};
 
-use crate::batch::write_batch;
+use crate::batch::write_encoded;
+use crate::encoding::{Encoding, Plain};
 use crate::exporter::MetricExporter;
 use crate::fault::ExportFault;
 use crate::queued::failures_after;
@@ -29,25 +29,29 @@ pub trait OpenSink<W> {
         ensures { opens self.old self.new result };
 }
 
-/// An exporter that writes the text of each batch to a sink, and after a failure opens a new one at the next export.
+/// An exporter that writes each batch to a sink, as its text or in another encoding, and after a failure opens a
+/// new one at the next export.
 ///
 /// A sink that failed is let go, so what was written to a sink is whole texts, one after the other, but for the last, which
 /// may be a prefix. A batch whose export failed is not written again: a [`Queued`](crate::Queued) over this exporter tries
-/// that. Contracts see what opens the sinks, the open sink, the count of the calls that failed, and the state.
+/// that. Contracts see the encoding, what opens the sinks, the open sink, the count of the calls that failed, and the
+/// state.
 #[derive(Drop)]
-pub struct ReopeningExporter<O, W> {
+pub struct ReopeningExporter<O, W, E = Plain> {
+    encoding: E,
     opener: O,
     sink: Option<W>,
     failures: u64,
     state: ExporterState,
 }
 
-impl<O, W> Model for ReopeningExporter<O, W> {
+impl<O, W, E> Model for ReopeningExporter<O, W, E> {
     ghost use Rattle.metric_export.specs.Reopens.{ReopeningValue};
 
-    ghost Value = { ReopeningValue O W };
+    ghost Value = { ReopeningValue O W E };
 
     ghost view = { λ e. record {
+      encoding = e.encoding;
       opener = e.opener;
       sink = e.sink;
       failures = e.failures;
@@ -55,10 +59,26 @@ impl<O, W> Model for ReopeningExporter<O, W> {
     } };
 }
 
-impl<O: OpenSink<W>, W: Sink + Drop> ReopeningExporter<O, W> {
-    /// An exporter that opens its sinks by this opener, the first one at the first export.
-    pub fn new(opener: O) -> ReopeningExporter<O, W>
+impl<O: OpenSink<W>, W: Sink + Drop> ReopeningExporter<O, W, Plain> {
+    /// An exporter of texts that opens its sinks by this opener, the first one at the first export.
+    pub fn new(opener: O) -> ReopeningExporter<O, W, Plain>
         ensures { result ≡ record {
+          encoding = record {};
+          opener = opener;
+          sink = None;
+          failures = 0;
+          state = ExporterState.Open;
+        } }
+    {
+        ReopeningExporter::of(Plain, opener)
+    }
+}
+
+impl<O: OpenSink<W>, W: Sink + Drop, E: Encoding + Drop> ReopeningExporter<O, W, E> {
+    /// An exporter in this encoding that opens its sinks by this opener, the first one at the first export.
+    pub fn of(encoding: E, opener: O) -> ReopeningExporter<O, W, E>
+        ensures { result ≡ record {
+          encoding = encoding;
           opener = opener;
           sink = None;
           failures = 0;
@@ -66,6 +86,7 @@ impl<O: OpenSink<W>, W: Sink + Drop> ReopeningExporter<O, W> {
         } }
     {
         ReopeningExporter {
+            encoding,
             opener,
             sink: None,
             failures: 0,
@@ -79,6 +100,7 @@ impl<O: OpenSink<W>, W: Sink + Drop> ReopeningExporter<O, W> {
         ensures sink { result.1 ≡ self.sink }
     {
         let ReopeningExporter {
+            encoding: _,
             opener,
             sink,
             failures: _,
@@ -88,8 +110,9 @@ impl<O: OpenSink<W>, W: Sink + Drop> ReopeningExporter<O, W> {
     }
 }
 
-impl<O: OpenSink<W>, W: Sink + Drop> MetricExporter for ReopeningExporter<O, W> {
-    ghost text = { plan_text };
+impl<O: OpenSink<W>, W: Sink + Drop, E: Encoding + Drop> MetricExporter
+    for ReopeningExporter<O, W, E> {
+    ghost text = { λ e. E.text e.encoding };
 
     // One sink comes after the other.
     ghost contents = { λ _. None };
@@ -98,7 +121,7 @@ impl<O: OpenSink<W>, W: Sink + Drop> MetricExporter for ReopeningExporter<O, W> 
 
     ghost state = { λ e. e.state };
 
-    ghost export_gives = { ExportsAnew O.opens W.contents };
+    ghost export_gives = { ExportsAnew E.text O.opens W.contents };
 
     ghost flush_gives = { FlushesReopening W.flush_gives };
 
@@ -107,7 +130,7 @@ impl<O: OpenSink<W>, W: Sink + Drop> MetricExporter for ReopeningExporter<O, W> 
     fn export(&mut self, alloc: Global, plan: &Plan, batch: &Batch) -> Result<(), ExportFault> {
         self.state.admit()?;
         let found = take_sink(&mut self.opener, &mut self.sink);
-        let (left, answer) = write_to_found(alloc, plan, batch, found);
+        let (left, answer) = write_to_found(alloc, &self.encoding, plan, batch, found);
         self.sink = left;
         self.failures = failures_after(self.failures, &answer);
         answer
@@ -138,36 +161,38 @@ fn take_sink<O: OpenSink<W>, W>(opener: &mut O, sink: &mut Option<W>) -> Result<
     }
 }
 
-// Writes the text of a batch to the sink that was found. The sink that stays open, and the answer.
-fn write_to_found<W: Sink + Drop>(
+// Writes a batch to the sink that was found. The sink that stays open, and the answer.
+fn write_to_found<W: Sink + Drop, E: Encoding>(
     alloc: Global,
+    encoding: &E,
     plan: &Plan,
     batch: &Batch,
     found: Result<W, Broken>,
 ) -> (Option<W>, Result<(), ExportFault>)
-    ensures written { WritesToFound W.contents (plan_text plan.now batch.now)
+    ensures written { WritesToFound W.contents (E.text encoding.now plan.now batch.now)
         found result.0 result.1 }
     ensures not_shut_down { IsErrOf result.1 ExportFault.ShutDown → ⊥ }
 {
     match found {
-        Ok(sink) => write_to(alloc, plan, batch, sink),
+        Ok(sink) => write_to(alloc, encoding, plan, batch, sink),
         Err(_) => (None, Err(ExportFault::Write)),
     }
 }
 
-// Writes the text of a batch to a sink, which stays open unless it failed.
-fn write_to<W: Sink + Drop>(
+// Writes a batch to a sink, which stays open unless it failed.
+fn write_to<W: Sink + Drop, E: Encoding>(
     alloc: Global,
+    encoding: &E,
     plan: &Plan,
     batch: &Batch,
     sink: W,
 ) -> (Option<W>, Result<(), ExportFault>)
-    ensures written { WritesText W.contents (plan_text plan.now batch.now)
+    ensures written { WritesText W.contents (E.text encoding.now plan.now batch.now)
         sink result.0 result.1 }
     ensures not_shut_down { IsErrOf result.1 ExportFault.ShutDown → ⊥ }
 {
     let mut sink = sink;
-    match write_batch(alloc, &mut sink, plan, batch) {
+    match write_encoded(alloc, &mut sink, encoding, plan, batch) {
         Ok(()) => (Some(sink), Ok(())),
         Err(ExportFault::Write) => (None, Err(ExportFault::Write)),
         Err(ExportFault::ShutDown) => (Some(sink), Err(ExportFault::ShutDown)),

@@ -1,12 +1,13 @@
-//! An exporter that writes the texts of batches.
+//! An exporter that writes batches to a sink.
 ghost use Rattle.std.specs.Prelude.{◌≡◌, ◌≢◌, IsErrOf, IsOkUnless, OnOk};
 ghost use Rattle.std.specs.Io.KnownBytes.{Keeps};
 ghost use Rattle.metric_io.specs.Counts.{HasFailed, CountsFlush};
 ghost use Rattle.metric_export.specs.ExporterCalls.{ExportsText, FlushesOnce, FlushesText, ShutsTextDown};
-ghost use Rattle.metric_export.specs.Exports.{Exports, plan_text};
+ghost use Rattle.metric_export.specs.Exports.{Exports};
 ghost use Rattle.metric_export.specs.States.{Answers, state_after};
 
-use crate::batch::write_batch;
+use crate::batch::write_encoded;
+use crate::encoding::{Encoding, Plain};
 use crate::exporter::MetricExporter;
 use crate::fault::ExportFault;
 use crate::state::ExporterState;
@@ -16,31 +17,50 @@ use metric_plan::Plan;
 use std::alloc::Global;
 use std::marker::Model;
 
-/// An exporter that writes the text of each batch to a sink.
+/// An exporter that writes each batch to a sink, as its text or in another encoding.
 ///
 /// After a write or a flush that failed it asks the sink no more: what the sink holds ends with a
-/// prefix of a text, and each later call answers [`ExportFault::Write`]. Contracts see it as the sink
-/// and its state.
+/// prefix of a text, and each later call answers [`ExportFault::Write`]. Contracts see it as the
+/// encoding, the sink and its state.
 #[derive(Drop)]
-pub struct TextExporter<W> {
+pub struct TextExporter<W, E = Plain> {
+    encoding: E,
     sink: W,
     state: ExporterState,
 }
 
-impl<W> Model for TextExporter<W> {
+impl<W, E> Model for TextExporter<W, E> {
     ghost use Rattle.metric_export.specs.States.{TextExporterValue};
 
-    ghost Value = { TextExporterValue W };
+    ghost Value = { TextExporterValue W E };
 
-    ghost view = { λ e. record { sink = e.sink; state = e.state } };
+    ghost view = { λ e. record { encoding = e.encoding; sink = e.sink; state = e.state } };
 }
 
-impl<W: Sink> TextExporter<W> {
-    /// An exporter that writes to this sink.
-    pub fn new(sink: W) -> TextExporter<W>
-        ensures { result ≡ record { sink = sink; state = ExporterState.Open } }
+impl<W: Sink> TextExporter<W, Plain> {
+    /// An exporter that writes texts to this sink.
+    pub fn new(sink: W) -> TextExporter<W, Plain>
+        ensures { result ≡ record {
+          encoding = record {};
+          sink = sink;
+          state = ExporterState.Open;
+        } }
+    {
+        TextExporter::of(Plain, sink)
+    }
+}
+
+impl<W: Sink, E: Encoding + Drop> TextExporter<W, E> {
+    /// An exporter that writes in this encoding to this sink.
+    pub fn of(encoding: E, sink: W) -> TextExporter<W, E>
+        ensures { result ≡ record {
+          encoding = encoding;
+          sink = sink;
+          state = ExporterState.Open;
+        } }
     {
         TextExporter {
+            encoding,
             sink,
             state: ExporterState::Open,
         }
@@ -50,7 +70,11 @@ impl<W: Sink> TextExporter<W> {
     pub fn into_inner(self) -> W
         ensures { result ≡ self.sink }
     {
-        let TextExporter { sink, state: _ } = self;
+        let TextExporter {
+            encoding: _,
+            sink,
+            state: _,
+        } = self;
         sink
     }
 
@@ -69,8 +93,8 @@ impl<W: Sink> TextExporter<W> {
     }
 }
 
-impl<W: Sink> MetricExporter for TextExporter<W> {
-    ghost text = { plan_text };
+impl<W: Sink, E: Encoding + Drop> MetricExporter for TextExporter<W, E> {
+    ghost text = { λ e. E.text e.encoding };
 
     ghost contents = { λ e. W.contents e.sink };
 
@@ -78,7 +102,7 @@ impl<W: Sink> MetricExporter for TextExporter<W> {
 
     ghost state = { λ e. e.state };
 
-    ghost export_gives = { ExportsText W.contents W.failures };
+    ghost export_gives = { ExportsText E.text W.contents W.failures };
 
     ghost flush_gives = { FlushesText W.flush_gives };
 
@@ -86,7 +110,8 @@ impl<W: Sink> MetricExporter for TextExporter<W> {
 
     fn export(&mut self, alloc: Global, plan: &Plan, batch: &Batch) -> Result<(), ExportFault>
         ensures text { Exports (W.contents self.old.sink) (W.contents self.new.sink)
-            (plan_text plan.now batch.now) result }
+            (E.text self.old.encoding plan.now batch.now) result }
+        ensures encoding { self.new.encoding ≡ self.old.encoding }
         ensures answer { Answers self.old.state
             (HasFailed (W.failures self.old.sink) (W.failures self.new.sink)) result }
         ensures state { self.new.state ≡ state_after self.old.state result }
@@ -98,13 +123,14 @@ impl<W: Sink> MetricExporter for TextExporter<W> {
         ensures memory { IsErrOf result ExportFault.Memory → self.new ≡ self.old }
     {
         self.state.admit()?;
-        let answer = write_batch(alloc, &mut self.sink, plan, batch);
+        let answer = write_encoded(alloc, &mut self.sink, &self.encoding, plan, batch);
         self.state = self.state.after(&answer);
         answer
     }
 
     fn force_flush(&mut self) -> Result<(), ExportFault>
         ensures text { Keeps (W.contents self.old.sink) (W.contents self.new.sink) }
+        ensures encoding { self.new.encoding ≡ self.old.encoding }
         ensures answer { Answers self.old.state
             (HasFailed (W.failures self.old.sink) (W.failures self.new.sink)) result }
         ensures state { self.new.state ≡ state_after self.old.state result }
@@ -124,6 +150,7 @@ impl<W: Sink> MetricExporter for TextExporter<W> {
 
     fn shutdown(&mut self) -> Result<(), ExportFault>
         ensures text { Keeps (W.contents self.old.sink) (W.contents self.new.sink) }
+        ensures encoding { self.new.encoding ≡ self.old.encoding }
         ensures answer { Answers self.old.state
             (HasFailed (W.failures self.old.sink) (W.failures self.new.sink)) result }
         ensures state { self.new.state ≡ ExporterState.ShutDown }

@@ -53,8 +53,7 @@ pub trait Sink {
     ghost failures: { Self → ℕ };
 
     // What a flush does to the sink, by the answer.
-    ghost flush_gives: { Self → Self → Result (Unit {0}) Broken → Type 0 } =
-        { λ _ _ _. Unit {0} };
+    ghost flush_gives: { Self → Self → Result (Unit {0}) Broken → Type 0 } = { λ _ _ _. Unit {0} };
 
     /// Takes bytes from the front of `buf`, and answers how many. [`Broken`] takes none.
     fn write(&mut self, buf: &[u8]) -> Result<usize, Broken>

@@ -32,39 +32,57 @@ hands_on_more text a b c p q = record { batches = p.batches ++ q.batches; are = 
 abbrev pub shown : {E : Type 0} → (E → Option (List ℕ)) → Tally E → Handed
 shown contents counts = handed (contents counts.exporter) counts.exported counts.failed
 
--- what is said of a call of `export` tells what was appended
-abbrev pub Appending : {E : Type 0} → Exporting E → (Batch → List ℕ) → (E → Option (List ℕ)) → Type 0
+-- what is said of a call of `export` tells what was appended, and that the exporter's text stays what it was
+abbrev pub Appending : {E : Type 0} → Exporting E → (E → Batch → List ℕ) → (E → Option (List ℕ)) → Type 0
 Appending {E} exports text contents = (old new : E) (batch : Batch) (answer : Result (Unit {0}) ExportFault) → exports old new batch answer
-    → Exports (contents old) (contents new) (text batch) answer
+    → Exports (contents old) (contents new) (text old batch) answer × (text new ≡ text old)
 
-handed_each : {E : Type 0} (exports : Exporting E) (text : Batch → List ℕ) (contents : E → Option (List ℕ)) → Appending exports text contents
-    → (a b : Tally E) (batches : List Batch) → ExportsEach exports a b batches → AreHandedOn text (shown contents a) (shown contents b) batches
-handed_each exports text contents appending a b [] p = ap (shown contents) p
-handed_each exports text contents appending a b (batch ∷ batches) p =
-    let one = p.1.0 in (
-      shown contents p.0,
+handed_each : {E : Type 0} (exports : Exporting E) (text : E → Batch → List ℕ) (contents : E → Option (List ℕ)) → Appending exports text contents
+    → (t : Batch → List ℕ) (a b : Tally E) (batches : List Batch) → text a.exporter ≡ t → ExportsEach exports a b batches
+    → AreHandedOn t (shown contents a) (shown contents b) batches × (text b.exporter ≡ t)
+handed_each {E} exports text contents appending t a b [] is p =
+    (ap (shown contents) p, ap (λ (counts : Tally E). text counts.exporter) p ∙ is)
+handed_each exports text contents appending t a b (batch ∷ batches) is p =
+    let one = p.1.0 in
+    let call = appending _ _ _ _ one.call in
+    let rest = handed_each exports text contents appending t p.0 b batches (call.1 ∙ is) p.1.1 in (
       (
-        record { answer = one.answer; exports = appending _ _ _ _ one.call; counted = one.counted },
-        handed_each exports text contents appending p.0 b batches p.1.1,
+        shown contents p.0,
+        (
+          record {
+            answer = one.answer;
+            exports = subst (λ (f : Batch → List ℕ). Exports (contents a.exporter) (contents p.0.exporter) (f batch) one.answer) is call.0;
+            counted = one.counted;
+          },
+          rest.0,
+        ),
       ),
+      rest.1,
     )
 
-handed_collected : {E : Type 0} (exports : Exporting E) (text : Batch → List ℕ) (contents : E → Option (List ℕ)) → Appending exports text contents
-    → (a b : Tally E) (collected : Collected) → ExportsCollected exports a b collected → HandsOn text (shown contents a) (shown contents b)
-handed_collected exports text contents appending a b (Ok batches) p =
-    record { batches = batches.items; are = handed_each exports text contents appending a b batches.items p }
-handed_collected exports text contents appending a b (Err fault) p =
-    record { batches = fault.done.items; are = handed_each exports text contents appending _ b fault.done.items p }
+handed_collected : {E : Type 0} (exports : Exporting E) (text : E → Batch → List ℕ) (contents : E → Option (List ℕ)) → Appending exports text contents
+    → (t : Batch → List ℕ) (a b : Tally E) (collected : Collected) → text a.exporter ≡ t → ExportsCollected exports a b collected
+    → HandsOn t (shown contents a) (shown contents b) × (text b.exporter ≡ t)
+handed_collected exports text contents appending t a b (Ok batches) is p =
+    let each = handed_each exports text contents appending t a b batches.items is p in
+    (record { batches = batches.items; are = each.0 }, each.1)
+handed_collected exports text contents appending t a b (Err fault) is p =
+    let each = handed_each exports text contents appending t (record a { refused = next_count a.refused }) b fault.done.items is p in
+    (record { batches = fault.done.items; are = each.0 }, each.1)
 
-handed_turns : {T C E : Type 0} (gives : Giving T) (collects : Collecting C) (exports : Exporting E) (text : Batch → List ℕ)
-    (contents : E → Option (List ℕ)) → Appending exports text contents → (made : ℕ) (start end : Progress T C E)
-    → AreTurns gives collects exports made start end → HandsOn text (shown contents start.counts) (shown contents end.counts)
-handed_turns {T} {C} {E} gives collects exports text contents appending zero start end p =
-    subst (λ (e : Progress T C E). HandsOn text (shown contents start.counts) (shown contents e.counts)) (sym p) (hands_on_none text _)
-handed_turns gives collects exports text contents appending (suc made) start end p =
+handed_turns : {T C E : Type 0} (gives : Giving T) (collects : Collecting C) (exports : Exporting E) (text : E → Batch → List ℕ)
+    (contents : E → Option (List ℕ)) → Appending exports text contents → (t : Batch → List ℕ) (made : ℕ) (start end : Progress T C E)
+    → text start.counts.exporter ≡ t → AreTurns gives collects exports made start end
+    → HandsOn t (shown contents start.counts) (shown contents end.counts) × (text end.counts.exporter ≡ t)
+handed_turns {T} {C} {E} gives collects exports text contents appending t zero start end is p = (
+  subst (λ (e : Progress T C E). HandsOn t (shown contents start.counts) (shown contents e.counts)) (sym p) (hands_on_none t _),
+  ap (λ (e : Progress T C E). text e.counts.exporter) p ∙ is,
+)
+handed_turns gives collects exports text contents appending t (suc made) start end is p =
     let turn = p.1.1.collected_at in
-    hands_on_more text _ _ _ (handed_turns gives collects exports text contents appending made start p.0 p.1.0)
-    (handed_collected exports text contents appending p.0.counts end.counts turn.collected turn.exported)
+    let before = handed_turns gives collects exports text contents appending t made start p.0 is p.1.0 in
+    let last = handed_collected exports text contents appending t p.0.counts end.counts turn.collected before.1 turn.exported in
+    (hands_on_more t _ _ _ before.0 last.0, last.1)
 
 -- a shutdown that failed is one failure more
 failed_or_not : (old new : ℕ) (answer : Result (Unit {0}) ExportFault) → new ≡ failed_after old answer → (new ≡ old) ⊎ (new ≡ next_count old)
@@ -72,22 +90,23 @@ failed_or_not old new (Ok done) p = inl p
 failed_or_not old new (Err fault) p = inr p
 
 pub run_hands_on : {T C E : Type 0} (gives : Giving T) (collects : Collecting C) (last : CollectingLast C)
-    (exports : Exporting E) (shuts_down : ShuttingDown E) (text : Batch → List ℕ)
+    (exports : Exporting E) (shuts_down : ShuttingDown E) (text : E → Batch → List ℕ)
     (contents : E → Option (List ℕ)) → Appending exports text contents
     → ((old new : E) (answer : Result (Unit {0}) ExportFault) → shuts_down old new answer → Keeps (contents old) (contents new))
     → (most : ℕ) (start : Progress T C E) (ticker : T) (stopped : Bool) (kept : Option C) (counts : Tally E)
     → IsRun gives collects last exports shuts_down most start ticker stopped kept counts
-    → HandsOnToEnd text (shown contents start.counts) (shown contents counts)
-run_hands_on gives collects last exports shuts_down text contents appending keeping most start ticker stopped kept counts run = record {
-  before = shown contents run.before_shutdown;
-  hands_on =
-      hands_on_more text _ _ _
-      (handed_turns gives collects exports text contents appending run.turns.made start _ run.turns.turns)
-      (handed_collected exports text contents appending run.after_turns run.before_shutdown run.collected run.exported);
-  kept = keeping _ _ _ run.shut_down.call;
-  exported = run.shut_down.exported;
-  failed = failed_or_not _ _ run.shut_down.answer run.shut_down.failed;
-}
+    → HandsOnToEnd (text start.counts.exporter) (shown contents start.counts) (shown contents counts)
+run_hands_on gives collects last exports shuts_down text contents appending keeping most start ticker stopped kept counts run =
+    let t = text start.counts.exporter in
+    let turns = handed_turns gives collects exports text contents appending t run.turns.made start _ refl run.turns.turns in
+    let after = handed_collected exports text contents appending t run.after_turns run.before_shutdown run.collected turns.1 run.exported in
+    record {
+      before = shown contents run.before_shutdown;
+      hands_on = hands_on_more t _ _ _ turns.0 after.0;
+      kept = keeping _ _ _ run.shut_down.call;
+      exported = run.shut_down.exported;
+      failed = failed_or_not _ _ run.shut_down.answer run.shut_down.failed;
+    }
 
 -- ---- a seat that is kept was refused
 

@@ -86,7 +86,7 @@ impl<E: MetricExporter> Periodic<E> {
         ensures asked { T.asked ticker.new ≤ T.asked ticker.old + self.turns }
         ensures all_turns { result.stopped ≡ false →
             higher_count (T.asked ticker.old) self.turns ≤ T.asked ticker.new }
-        ensures handed { HandsOnToEnd (E.text provider.now.plan)
+        ensures handed { HandsOnToEnd (E.text self.exporter provider.now.plan)
             (handed (E.contents self.exporter) 0 0)
             (handed (E.contents result.exporter) result.exported result.failed) }
         ensures shut_down { E.state result.exporter ≡ ExporterState.ShutDown }
@@ -123,7 +123,7 @@ impl<E: MetricExporter> Periodic<E> {
         ensures asked { T.asked ticker.new ≤ T.asked ticker.old + self.turns }
         ensures all_turns { result.stopped ≡ false →
             higher_count (T.asked ticker.old) self.turns ≤ T.asked ticker.new }
-        ensures handed { HandsOnToEnd (E.text provider.now.plan)
+        ensures handed { HandsOnToEnd (E.text self.exporter provider.now.plan)
             (handed (E.contents self.exporter) 0 0)
             (handed (E.contents result.exporter) result.exported result.failed) }
         ensures shut_down { E.state result.exporter ≡ ExporterState.ShutDown }

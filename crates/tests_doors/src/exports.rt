@@ -1,13 +1,14 @@
 //! Tests of exporters that keep, try again and tell.
-ghost use Rattle.std.specs.Prelude.{[], None};
+ghost use Rattle.std.specs.Prelude.{[], ◌∷◌, None};
 
 use crate::asserted::{OrFail, assert_equal};
 use metric_sdk::{
-    Batch, Broken, ClockTicker, Collector, CutSink, ExportFault, ExporterState, KeepingExporter,
-    ListTicker, Marked, MeterProvider, MetricExporter, NoGate, OpenSink, Periodic, PeriodicEnd,
-    Plan, Queued, ReopeningExporter, RunningCounts, StopFlag, Tick, certified_plan, start,
+    Batch, Broken, ClockTicker, Collector, CutSink, Encoding, ExportFault, ExporterState,
+    KeepingExporter, ListTicker, Marked, MeterProvider, MetricExporter, NoGate, OpenSink, Periodic,
+    PeriodicEnd, Plan, Queued, ReopeningExporter, RunningCounts, StopFlag, TextExporter, Tick,
+    certified_plan, start,
 };
-use std::alloc::Global;
+use std::alloc::{AllocError, Global};
 use std::process::Abort;
 use std::sync::Wait;
 use std::thread::{self, Threads, join};
@@ -45,7 +46,7 @@ struct Failing {
 }
 
 impl MetricExporter for Failing {
-    ghost text = { λ _ _. [] };
+    ghost text = { λ _ _ _. [] };
 
     ghost contents = { λ _. None };
 
@@ -268,6 +269,86 @@ fn a_queue_writes_to_a_sink_that_is_opened_anew(rt: HostRuntime) {
         };
         assert_equal(&rt, is_held, true);
     }
+}
+
+// Opens sinks in memory of which each flush fails.
+#[derive(Drop)]
+struct Unflushable {
+    alloc: Global,
+}
+
+impl OpenSink<CutSink> for Unflushable {
+    ghost opens = { λ _ _ _. Unit {0} };
+
+    fn open(&mut self) -> Result<CutSink, Broken> {
+        Ok(CutSink::new(self.alloc, None).with_failing_flush())
+    }
+}
+
+#[test]
+fn a_sink_that_fails_to_flush_is_let_go(rt: HostRuntime) {
+    let alloc = rt.alloc();
+    let (provider, mut collector) = hit_once(&rt, alloc, 74);
+    let batch = collector.collect(&rt, alloc, &provider, 0, 10).or_fail(&rt);
+    let plan = provider.plan();
+    let mut exporter = ReopeningExporter::new(Unflushable { alloc });
+    let answers = [
+        exporter.force_flush(),
+        exporter.export(alloc, plan, &batch),
+        exporter.force_flush(),
+        exporter.export(alloc, plan, &batch),
+        exporter.shutdown(),
+        exporter.force_flush(),
+    ];
+    let failed = Err(ExportFault::Write);
+    assert_equal(
+        &rt,
+        answers,
+        [
+            Ok(()),
+            Ok(()),
+            failed,
+            Ok(()),
+            failed,
+            Err(ExportFault::ShutDown),
+        ],
+    );
+}
+
+// An encoding by which a batch is one point.
+#[derive(Drop)]
+struct Dots;
+
+impl Encoding for Dots {
+    ghost text = { λ _ _ _. 46 ∷ [] };
+
+    fn push(
+        &self,
+        _alloc: Global,
+        out: &mut Vec<u8>,
+        _plan: &Plan,
+        _batch: &Batch,
+    ) -> Result<(), AllocError> {
+        Ok(out.push(b'.')?)
+    }
+}
+
+#[test]
+fn batches_are_written_in_an_encoding(rt: HostRuntime) {
+    let alloc = rt.alloc();
+    let end = end_of(
+        &rt,
+        alloc,
+        TextExporter::of(Dots, CutSink::new(alloc, None)),
+        75,
+    );
+    assert_equal(&rt, end.exporter.sink().taken(), b"...");
+    let opener = Rooms {
+        alloc,
+        rooms: &[1, 9],
+    };
+    let end = end_of(&rt, alloc, ReopeningExporter::of(Dots, opener), 76);
+    assert_equal(&rt, (end.exported, end.failed), (2, 1));
 }
 
 // Wakes the reader, waits until it has exported a batch, and stops it.

@@ -28,7 +28,7 @@ struct WaveringExporter {
 }
 
 impl MetricExporter for WaveringExporter {
-    ghost text = { λ _ _. [] };
+    ghost text = { λ _ _ _. [] };
 
     ghost contents = { λ _. None };
 

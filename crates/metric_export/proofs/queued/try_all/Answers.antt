@@ -16,6 +16,7 @@ returns-in-Ok-export g c =
     (record {
       own = c.in-Ok-export.ensures.gives;
       appends = c.in-Ok-export.ensures.text;
+      same_text = c.in-Ok-export.ensures.same_text;
       answers = c.in-Ok-export.ensures.answer;
       goes_on = c.in-Ok-export.ensures.state;
     })

@@ -17,6 +17,7 @@ loop-batch-preserved g c =
           (record {
             own = c.in-Ok.ensures.gives;
             appends = c.in-Ok.ensures.text;
+            same_text = c.in-Ok.ensures.same_text;
             answers = c.in-Ok.ensures.answer;
             goes_on = c.in-Ok.ensures.state;
           });
@@ -32,6 +33,7 @@ returns-in-Err g c =
     (record {
       own = c.in-Err.ensures.gives;
       appends = c.in-Err.ensures.text;
+      same_text = c.in-Err.ensures.same_text;
       answers = c.in-Err.ensures.answer;
       goes_on = c.in-Err.ensures.state;
     }))

@@ -11,6 +11,7 @@ loop-taken-preserved g c =
     (record {
       own = c.in-Ok.ensures.gives;
       appends = c.in-Ok.ensures.text;
+      same_text = c.in-Ok.ensures.same_text;
       answers = c.in-Ok.ensures.answer;
       goes_on = c.in-Ok.ensures.state;
     })

@@ -12,6 +12,7 @@ returns-clause-gives g c =
         writes = c.write_to_found-left.ensures.written;
         counted = c.failures_after-self-inside.ensures;
         state = refl;
+        encoding = refl;
       };
       unwritten = λ shut. absurd (shut c.in_ok-admit.ensures);
     })

@@ -1,3 +1,6 @@
+use Rattle.std.proofs.Common.{ℕ, List, ap}
+use Rattle.metric_history.specs.declared.batch.Batch.{Batch}
+use Rattle.metric_plan.specs.Plans.{PlanValue}
 use Rattle.metric_periodic.proofs.Handing.{run_hands_on, run_keeps_refused}
 use Rattle.metric_periodic.proofs.periodic.Periodic.run_counted.Goals as goal
 
@@ -7,8 +10,12 @@ returns-clause-run g c =
 
 pub returns-clause-handed : goal.returns-clause-handed
 returns-clause-handed g c =
+    let e = g.E.MetricExporter in
+    let plan = c.args.provider.now.plan in
     rw (← c.self.view_is)
-    (run_hands_on _ _ _ _ _ _ _ (λ old new batch answer call. call.appends) (λ old new answer call. call.keeps) _ _ _ _ _ _
+    (run_hands_on _ _ _ _ _ (λ exporter. e.text exporter plan) e.contents
+    (λ old new batch answer call. (call.appends, ap (λ (f : PlanValue → Batch → List ℕ). f plan) call.same_text))
+    (λ old new answer call. call.keeps) _ _ _ _ _ _
     (rw (c.plan-plan.ensures, c.new.ensures, ← c.exports.view_is) at c.read_to_end-ended.ensures.run))
 
 pub returns-clause-shut_down : goal.returns-clause-shut_down
