@@ -1,5 +1,5 @@
 -- What a run hands on, by the calls of the exporter that it makes.
-use Rattle.std.proofs.Common.{◌≡◌, ◌⊎◌, ℕ, ◌<◌, zero, suc, List, [], ◌∷◌, ◌++◌, Bool, Option, Some, None, IsSome, Result, Ok, Err, inl, inr, ap, sym, ◌∙◌, subst, refl, arith, rules}
+use Rattle.std.proofs.Common.{◌≡◌, ◌⊎◌, ℕ, ◌<◌, zero, suc, List, [], ◌∷◌, ◌++◌, Bool, Option, Some, None, IsSome, map, Result, Ok, Err, inl, inr, ap, sym, ◌∙◌, subst, refl, arith, rules}
 use Rattle.metric_io.specs.Counts.{next_count}
 use Rattle.std.specs.Io.KnownBytes.{Keeps}
 use Rattle.metric_export.specs.Exports.{Exports}
@@ -7,26 +7,33 @@ use Rattle.metric_export.specs.declared.fault.ExportFault.{ExportFault}
 use Rattle.metric_history.specs.declared.batch.Batch.{Batch}
 use Rattle.metric_provider.specs.Seats.{CollectorValue, ProviderValue}
 use Rattle.metric_periodic.specs.Collections.{Collected, Collecting, CollectingLast, CollectsLast}
-use Rattle.metric_periodic.specs.Counts.{AreHandedOn, Handed, HandsOn, HandsOnToEnd, handed}
-use Rattle.metric_periodic.specs.Exported.{Exporting, ExportsCollected, ExportsEach, ShuttingDown, Tally, failed_after}
+use Rattle.metric_periodic.specs.Counts.{AreCalls, Handed, HandsOn, HandsOnNothing, HandsOnToEnd, handed}
+use Rattle.metric_periodic.specs.Exported.{Answering, Exporting, ExportsCollected, ExportsEach, HandsOnCollected, IsFlushed, Tally, failed_after}
 use Rattle.metric_periodic.specs.Runs.{IsRun}
 use Rattle.metric_periodic.specs.Turns.{AreTurns, Giving, Progress}
 
--- ---- batches that are handed on one after the other
+-- ---- calls one after the other
 
 hands_on_none : (text : Batch → List ℕ) (a : Handed) → HandsOn text a a
-hands_on_none text a = record { batches = []; are = refl }
+hands_on_none text a = record { calls = []; are = refl }
 
 -- some, and then others
-all_handed : (text : Batch → List ℕ) (a b c : Handed) (xs ys : List Batch) → AreHandedOn text a b xs → AreHandedOn text b c ys
-    → AreHandedOn text a c (xs ++ ys)
-all_handed text a b c [] ys p q = subst (λ (h : Handed). AreHandedOn text h c ys) p q
-all_handed text a b c (x ∷ xs) ys p q = (p.0, (p.1.0, all_handed text p.0 b c xs ys p.1.1 q))
+all_calls : (text : Batch → List ℕ) (a b c : Handed) (xs ys : List (Option Batch)) → AreCalls text a b xs → AreCalls text b c ys
+    → AreCalls text a c (xs ++ ys)
+all_calls text a b c [] ys p q = subst (λ (h : Handed). AreCalls text h c ys) p q
+all_calls text a b c (x ∷ xs) ys p q = (p.0, (p.1.0, all_calls text p.0 b c xs ys p.1.1 q))
 
 hands_on_more : (text : Batch → List ℕ) (a b c : Handed) → HandsOn text a b → HandsOn text b c → HandsOn text a c
-hands_on_more text a b c p q = record { batches = p.batches ++ q.batches; are = all_handed text a b c p.batches q.batches p.are q.are }
+hands_on_more text a b c p q = record { calls = p.calls ++ q.calls; are = all_calls text a b c p.calls q.calls p.are q.are }
+
+hands_on_nothing : (text : Batch → List ℕ) (a b : Handed) → HandsOnNothing a b → HandsOn text a b
+hands_on_nothing text a b p = record { calls = None ∷ []; are = (b, (p, refl)) }
 
 -- ---- the calls of an exporter hand on
+
+-- the calls for these batches
+abbrev pub for_each : List Batch → List (Option Batch)
+for_each batches = map (λ (batch : Batch). Some batch) batches
 
 -- what an exporter handed on, with its counts
 abbrev pub shown : {E : Type 0} → (E → Option (List ℕ)) → Tally E → Handed
@@ -39,7 +46,7 @@ Appending {E} exports text contents = (old new : E) (batch : Batch) (answer : Re
 
 handed_each : {E : Type 0} (exports : Exporting E) (text : E → Batch → List ℕ) (contents : E → Option (List ℕ)) → Appending exports text contents
     → (t : Batch → List ℕ) (a b : Tally E) (batches : List Batch) → text a.exporter ≡ t → ExportsEach exports a b batches
-    → AreHandedOn t (shown contents a) (shown contents b) batches × (text b.exporter ≡ t)
+    → AreCalls t (shown contents a) (shown contents b) (for_each batches) × (text b.exporter ≡ t)
 handed_each {E} exports text contents appending t a b [] is p =
     (ap (shown contents) p, ap (λ (counts : Tally E). text counts.exporter) p ∙ is)
 handed_each exports text contents appending t a b (batch ∷ batches) is p =
@@ -65,23 +72,47 @@ handed_collected : {E : Type 0} (exports : Exporting E) (text : E → Batch → 
     → HandsOn t (shown contents a) (shown contents b) × (text b.exporter ≡ t)
 handed_collected exports text contents appending t a b (Ok batches) is p =
     let each = handed_each exports text contents appending t a b batches.items is p in
-    (record { batches = batches.items; are = each.0 }, each.1)
+    (record { calls = for_each batches.items; are = each.0 }, each.1)
 handed_collected exports text contents appending t a b (Err fault) is p =
     let each = handed_each exports text contents appending t (record a { refused = next_count a.refused }) b fault.done.items is p in
-    (record { batches = fault.done.items; are = each.0 }, each.1)
+    (record { calls = for_each fault.done.items; are = each.0 }, each.1)
 
-handed_turns : {T C E : Type 0} (gives : Giving T) (collects : Collecting C) (exports : Exporting E) (text : E → Batch → List ℕ)
-    (contents : E → Option (List ℕ)) → Appending exports text contents → (t : Batch → List ℕ) (made : ℕ) (start end : Progress T C E)
-    → text start.counts.exporter ≡ t → AreTurns gives collects exports made start end
+-- what is said of a call for no batch tells that nothing was appended
+abbrev pub Keeping : {E : Type 0} → Answering E → (E → Option (List ℕ)) → Type 0
+Keeping {E} gives contents = (old new : E) (answer : Result (Unit {0}) ExportFault) → gives old new answer → Keeps (contents old) (contents new)
+
+handed_nothing : {E : Type 0} (flushes : Answering E) (contents : E → Option (List ℕ)) → Keeping flushes contents
+    → (a b : Tally E) → IsFlushed flushes a b → HandsOnNothing (shown contents a) (shown contents b)
+handed_nothing flushes contents keeping a b p =
+    record { kept = keeping _ _ _ p.call; exported = p.exported; failed = p.failed }
+
+-- nor that the exporter's text changed
+abbrev pub SameText : {E : Type 0} → Answering E → (E → Batch → List ℕ) → Type 0
+SameText {E} gives text = (old new : E) (answer : Result (Unit {0}) ExportFault) → gives old new answer → text new ≡ text old
+
+handed_and_flushed : {E : Type 0} (exports : Exporting E) (flushes : Answering E) (text : E → Batch → List ℕ) (contents : E → Option (List ℕ))
+    → Appending exports text contents → Keeping flushes contents → SameText flushes text
+    → (t : Batch → List ℕ) (a b : Tally E) (collected : Collected) → text a.exporter ≡ t → HandsOnCollected exports flushes a b collected
+    → HandsOn t (shown contents a) (shown contents b) × (text b.exporter ≡ t)
+handed_and_flushed exports flushes text contents appending keeping same t a b collected is p =
+    let first = handed_collected exports text contents appending t a p.between collected is p.exported in (
+      hands_on_more t _ _ _ first.0 (hands_on_nothing t _ _ (handed_nothing flushes contents keeping p.between b p.flushed)),
+      same _ _ _ p.flushed.call ∙ first.1,
+    )
+
+handed_turns : {T C E : Type 0} (gives : Giving T) (collects : Collecting C) (exports : Exporting E) (flushes : Answering E)
+    (text : E → Batch → List ℕ) (contents : E → Option (List ℕ)) → Appending exports text contents → Keeping flushes contents
+    → SameText flushes text → (t : Batch → List ℕ) (made : ℕ) (start end : Progress T C E)
+    → text start.counts.exporter ≡ t → AreTurns gives collects exports flushes made start end
     → HandsOn t (shown contents start.counts) (shown contents end.counts) × (text end.counts.exporter ≡ t)
-handed_turns {T} {C} {E} gives collects exports text contents appending t zero start end is p = (
+handed_turns {T} {C} {E} gives collects exports flushes text contents appending keeping same t zero start end is p = (
   subst (λ (e : Progress T C E). HandsOn t (shown contents start.counts) (shown contents e.counts)) (sym p) (hands_on_none t _),
   ap (λ (e : Progress T C E). text e.counts.exporter) p ∙ is,
 )
-handed_turns gives collects exports text contents appending t (suc made) start end is p =
+handed_turns gives collects exports flushes text contents appending keeping same t (suc made) start end is p =
     let turn = p.1.1.collected_at in
-    let before = handed_turns gives collects exports text contents appending t made start p.0 is p.1.0 in
-    let last = handed_collected exports text contents appending t p.0.counts end.counts turn.collected before.1 turn.exported in
+    let before = handed_turns gives collects exports flushes text contents appending keeping same t made start p.0 is p.1.0 in
+    let last = handed_and_flushed exports flushes text contents appending keeping same t p.0.counts end.counts turn.collected before.1 turn.exported in
     (hands_on_more t _ _ _ before.0 last.0, last.1)
 
 -- a shutdown that failed is one failure more
@@ -90,20 +121,20 @@ failed_or_not old new (Ok done) p = inl p
 failed_or_not old new (Err fault) p = inr p
 
 pub run_hands_on : {T C E : Type 0} (gives : Giving T) (collects : Collecting C) (last : CollectingLast C)
-    (exports : Exporting E) (shuts_down : ShuttingDown E) (text : E → Batch → List ℕ)
-    (contents : E → Option (List ℕ)) → Appending exports text contents
-    → ((old new : E) (answer : Result (Unit {0}) ExportFault) → shuts_down old new answer → Keeps (contents old) (contents new))
+    (exports : Exporting E) (flushes shuts_down : Answering E) (text : E → Batch → List ℕ)
+    (contents : E → Option (List ℕ)) → Appending exports text contents → Keeping flushes contents → SameText flushes text
+    → Keeping shuts_down contents
     → (most : ℕ) (start : Progress T C E) (ticker : T) (stopped : Bool) (kept : Option C) (counts : Tally E)
-    → IsRun gives collects last exports shuts_down most start ticker stopped kept counts
+    → IsRun gives collects last exports flushes shuts_down most start ticker stopped kept counts
     → HandsOnToEnd (text start.counts.exporter) (shown contents start.counts) (shown contents counts)
-run_hands_on gives collects last exports shuts_down text contents appending keeping most start ticker stopped kept counts run =
+run_hands_on gives collects last exports flushes shuts_down text contents appending keeping same ending most start ticker stopped kept counts run =
     let t = text start.counts.exporter in
-    let turns = handed_turns gives collects exports text contents appending t run.turns.made start _ refl run.turns.turns in
+    let turns = handed_turns gives collects exports flushes text contents appending keeping same t run.turns.made start _ refl run.turns.turns in
     let after = handed_collected exports text contents appending t run.after_turns run.before_shutdown run.collected turns.1 run.exported in
     record {
       before = shown contents run.before_shutdown;
       hands_on = hands_on_more t _ _ _ turns.0 after.0;
-      kept = keeping _ _ _ run.shut_down.call;
+      kept = ending _ _ _ run.shut_down.call;
       exported = run.shut_down.exported;
       failed = failed_or_not _ _ run.shut_down.answer run.shut_down.failed;
     }
@@ -129,11 +160,11 @@ refused_kept exports p now seat kept a b (Err fault) collects exported some =
     refused_some a.refused b.refused (refused_each exports _ b fault.done.items exported)
 
 pub run_keeps_refused : {T E : Type 0} (gives : Giving T) (collects : Collecting CollectorValue) (exports : Exporting E)
-    (shuts_down : ShuttingDown E) (p : ProviderValue) (most : ℕ) (start : Progress T CollectorValue E) (ticker : T)
+    (flushes shuts_down : Answering E) (p : ProviderValue) (most : ℕ) (start : Progress T CollectorValue E) (ticker : T)
     (stopped : Bool) (kept : Option CollectorValue) (counts : Tally E)
-    → IsRun gives collects (CollectsLast p) exports shuts_down most start ticker stopped kept counts
+    → IsRun gives collects (CollectsLast p) exports flushes shuts_down most start ticker stopped kept counts
     → IsSome kept → 0 < counts.refused
-run_keeps_refused gives collects exports shuts_down p most start ticker stopped kept counts run some =
+run_keeps_refused gives collects exports flushes shuts_down p most start ticker stopped kept counts run some =
     let refused : 0 < run.before_shutdown.refused =
     refused_kept exports p _ run.seat kept run.after_turns run.before_shutdown run.collected run.collects_at run.exported some in
     rw run.shut_down.refused refused

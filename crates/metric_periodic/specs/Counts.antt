@@ -1,5 +1,5 @@
 -- What a periodic reader hands on, and how it counts that.
-use Rattle.std.specs.Prelude.{◌≡◌, ◌⊎◌, ℕ, List, [], ◌∷◌, Option, Result, Ok, Err}
+use Rattle.std.specs.Prelude.{◌≡◌, ◌⊎◌, ℕ, List, [], ◌∷◌, Option, Some, None, Result, Ok, Err}
 use Rattle.std.specs.Io.KnownBytes.{Keeps}
 use Rattle.metric_io.specs.Counts.{next_count}
 use Rattle.metric_history.specs.declared.batch.Batch.{Batch}
@@ -30,19 +30,30 @@ pub record HandsOnOne (text : Batch → List ℕ) (old new : Handed) (batch : Ba
   pub exports : Exports old.contents new.contents (text batch) answer
   pub counted : IsCounted old.exported old.failed new.exported new.failed answer
 
--- batches were handed on one after the other
-abbrev pub AreHandedOn : (Batch → List ℕ) → Handed → Handed → List Batch → Type 0
-AreHandedOn text old new [] = new ≡ old
-AreHandedOn text old new (batch ∷ batches) =
-    (mid : Handed) × (HandsOnOne text old mid batch × AreHandedOn text mid new batches)
+-- A flush hands on nothing.
+pub record HandsOnNothing (old new : Handed) : Type 0 where
+  pub kept : Keeps old.contents new.contents
+  pub exported : new.exported ≡ old.exported
+  pub failed : new.failed ≡ old.failed
 
--- some batches were
+-- one call of the exporter, for a batch or a flush
+abbrev pub IsCall : (Batch → List ℕ) → Handed → Handed → Option Batch → Type 0
+IsCall text old new (Some batch) = HandsOnOne text old new batch
+IsCall text old new None = HandsOnNothing old new
+
+-- calls one after the other
+abbrev pub AreCalls : (Batch → List ℕ) → Handed → Handed → List (Option Batch) → Type 0
+AreCalls text old new [] = new ≡ old
+AreCalls text old new (call ∷ calls) =
+    (mid : Handed) × (IsCall text old mid call × AreCalls text mid new calls)
+
+-- some batches were handed on, each once and in order, with flushes between them
 pub record HandsOn (text : Batch → List ℕ) (old new : Handed) : Type 0 where
-  pub batches : List Batch
-  pub are : AreHandedOn text old new batches
+  pub calls : List (Option Batch)
+  pub are : AreCalls text old new calls
 
--- Some batches were handed on, each once and in order, and then the exporter was shut down: that
--- hands on nothing, and where it failed it counts as one failure more.
+-- Batches were handed on, and then the exporter was shut down: that hands on nothing, and where it
+-- failed it counts as one failure more.
 pub record HandsOnToEnd (text : Batch → List ℕ) (old new : Handed) : Type 0 where
   pub before : Handed
   pub hands_on : HandsOn text old before

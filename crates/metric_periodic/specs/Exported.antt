@@ -6,26 +6,32 @@ use Rattle.metric_export.specs.declared.fault.ExportFault.{ExportFault}
 use Rattle.metric_periodic.specs.Collections.{Collected, batches_of}
 use Rattle.metric_periodic.specs.Counts.{IsCounted}
 
--- an exporter, with the counts of its exports, of its failed calls, and of
--- the collections that were refused
+-- an exporter, with the counts of its exports, of those and of its shutdown that failed, of the
+-- collections that were refused, and of its flushes that failed
 pub record Tally (E : Type 0) : Type 0 where
   pub exporter : E
   pub exported : ℕ
   pub failed : ℕ
   pub refused : ℕ
+  pub unflushed : ℕ
 
-abbrev pub tally : {E : Type 0} → E → ℕ → ℕ → ℕ → Tally E
-tally exporter exported failed refused =
-    record { exporter = exporter; exported = exported; failed = failed; refused = refused }
+abbrev pub tally : {E : Type 0} → E → ℕ → ℕ → ℕ → ℕ → Tally E
+tally exporter exported failed refused unflushed = record {
+  exporter = exporter;
+  exported = exported;
+  failed = failed;
+  refused = refused;
+  unflushed = unflushed;
+}
 
 -- what is said of a call of an exporter for a batch: the exporter before and
 -- after it, the batch and the answer
 abbrev pub Exporting : Type 0 → Type 1
 Exporting E = E → E → Batch → Result (Unit {0}) ExportFault → Type 0
 
--- the same of its shutdown
-abbrev pub ShuttingDown : Type 0 → Type 1
-ShuttingDown E = E → E → Result (Unit {0}) ExportFault → Type 0
+-- what is said of a call of it for no batch, as a flush or its shutdown
+abbrev pub Answering : Type 0 → Type 1
+Answering E = E → E → Result (Unit {0}) ExportFault → Type 0
 
 -- The exporter was called once, for a batch, and its answer counted.
 pub record ExportsOne {E : Type 0}
@@ -36,6 +42,7 @@ pub record ExportsOne {E : Type 0}
   pub call : exports old.exporter new.exporter batch answer
   pub counted : IsCounted old.exported old.failed new.exported new.failed answer
   pub refused : new.refused ≡ old.refused
+  pub unflushed : new.unflushed ≡ old.unflushed
 
 -- it was called once for each batch, in order, and for no other
 abbrev pub ExportsEach : {E : Type 0} → Exporting E → Tally E → Tally E → List Batch → Type 0
@@ -58,12 +65,34 @@ abbrev pub failed_after : ℕ → Result (Unit {0}) ExportFault → ℕ
 failed_after failed (Ok done) = failed
 failed_after failed (Err fault) = next_count failed
 
+-- The exporter was flushed once, and a failure counted.
+pub record IsFlushed {E : Type 0}
+    (flushes : Answering E)
+    (old new : Tally E) : Type 0 where
+  pub answer : Result (Unit {0}) ExportFault
+  pub call : flushes old.exporter new.exporter answer
+  pub exported : new.exported ≡ old.exported
+  pub failed : new.failed ≡ old.failed
+  pub refused : new.refused ≡ old.refused
+  pub unflushed : new.unflushed ≡ failed_after old.unflushed answer
+
 -- The exporter was shut down, and a failure counted.
 pub record ShutsDown {E : Type 0}
-    (shuts_down : ShuttingDown E)
+    (shuts_down : Answering E)
     (old new : Tally E) : Type 0 where
   pub answer : Result (Unit {0}) ExportFault
   pub call : shuts_down old.exporter new.exporter answer
   pub exported : new.exported ≡ old.exported
   pub failed : new.failed ≡ failed_after old.failed answer
   pub refused : new.refused ≡ old.refused
+  pub unflushed : new.unflushed ≡ old.unflushed
+
+-- A collection was counted, the exporter called for each batch that it gave, and then flushed.
+pub record HandsOnCollected {E : Type 0}
+    (exports : Exporting E)
+    (flushes : Answering E)
+    (old new : Tally E)
+    (collected : Collected) : Type 0 where
+  pub between : Tally E
+  pub exported : ExportsCollected exports old between collected
+  pub flushed : IsFlushed flushes between new

@@ -3,8 +3,7 @@ use Rattle.std.specs.Prelude.{◌≡◌, ℕ, Bool, Option}
 use Rattle.metric_export.specs.Ticks.{moment_of}
 use Rattle.metric_export.specs.declared.tick.Tick.{Tick}
 use Rattle.metric_periodic.specs.Collections.{Collected, Collecting, CollectingLast}
-use Rattle.metric_periodic.specs.Exported.{Exporting, ExportsCollected, ShutsDown, ShuttingDown}
-use Rattle.metric_periodic.specs.Exported.{Tally}
+use Rattle.metric_periodic.specs.Exported.{Answering, Exporting, ExportsCollected, ShutsDown, Tally}
 use Rattle.metric_periodic.specs.Turns.{Giving, MakesTurns, Progress, is_stop}
 
 -- After its turns a run makes the last collection, at the moment of the last tick, calls the
@@ -15,7 +14,8 @@ pub record IsRun {T C E : Type 0}
     (collects : Collecting C)
     (collects_last : CollectingLast C)
     (exports : Exporting E)
-    (shuts_down : ShuttingDown E)
+    (flushes : Answering E)
+    (shuts_down : Answering E)
     (most : ℕ)
     (start : Progress T C E)
     (ticker : T)
@@ -25,7 +25,8 @@ pub record IsRun {T C E : Type 0}
   pub last : Tick
   pub seat : C
   pub after_turns : Tally E
-  pub turns : MakesTurns gives collects exports most start ticker last seat after_turns
+  pub turns : MakesTurns gives collects exports flushes most start ticker last seat
+      after_turns
   pub is_stopped : stopped ≡ is_stop last
   pub collected : Collected
   pub collects_at : collects_last (moment_of last) seat kept collected

@@ -3,7 +3,7 @@ use Rattle.std.specs.Prelude.{◌≡◌, ◌<◌, ℕ, zero, suc, Bool, true, fa
 use Rattle.metric_export.specs.declared.tick.Tick.{Tick}
 use Rattle.metric_export.specs.declared.tick.Tick.TheVariants.{At, Stop}
 use Rattle.metric_periodic.specs.Collections.{Collected, Collecting}
-use Rattle.metric_periodic.specs.Exported.{Exporting, ExportsCollected, Tally}
+use Rattle.metric_periodic.specs.Exported.{Answering, Exporting, HandsOnCollected, Tally}
 
 -- a reader that was not run: its exporter, and how often it asks its ticker at most
 pub record PeriodicValue (E : Type 0) : Type 0 where
@@ -31,34 +31,38 @@ progress ticker moment seat counts =
 abbrev pub Giving : Type 0 → Type 1
 Giving T = T → T → Tick → Type 0
 
--- A collection was made at a moment, and the exporter called for each batch that it gave.
+-- A collection was made at a moment, the exporter called for each batch that it gave, and then
+-- flushed.
 pub record IsCollectedAt {C E : Type 0}
     (collects : Collecting C)
     (exports : Exporting E)
+    (flushes : Answering E)
     (moment : ℕ)
     (old new : C)
     (before after : Tally E) : Type 0 where
   pub collected : Collected
   pub collects_at : collects moment old new collected
-  pub exported : ExportsCollected exports before after collected
+  pub exported : HandsOnCollected exports flushes before after collected
 
 -- One turn: the ticker gave a moment, and a collection was made at it.
 pub record IsTurn {T C E : Type 0}
     (gives : Giving T)
     (collects : Collecting C)
     (exports : Exporting E)
+    (flushes : Answering E)
     (old new : Progress T C E) : Type 0 where
   pub tick : gives old.ticker new.ticker (At new.moment)
-  pub collected_at : IsCollectedAt collects exports new.moment old.seat new.seat
+  pub collected_at : IsCollectedAt collects exports flushes new.moment old.seat new.seat
       old.counts new.counts
 
 -- so many turns, one after the other
-abbrev pub AreTurns : {T C E : Type 0} → Giving T → Collecting C → Exporting E → ℕ → Progress T C E
-    → Progress T C E → Type 0
-AreTurns gives collects exports zero old new = new ≡ old
-AreTurns {T} {C} {E} gives collects exports (suc turns) old new =
+abbrev pub AreTurns : {T C E : Type 0} → Giving T → Collecting C → Exporting E → Answering E → ℕ
+    → Progress T C E → Progress T C E → Type 0
+AreTurns gives collects exports flushes zero old new = new ≡ old
+AreTurns {T} {C} {E} gives collects exports flushes (suc turns) old new =
     (mid : Progress T C E)
-    × (AreTurns gives collects exports turns old mid × IsTurn gives collects exports mid new)
+    × (AreTurns gives collects exports flushes turns old mid
+    × IsTurn gives collects exports flushes mid new)
 
 -- How the turns end: all are made and the moment is that of the last tick, or fewer are made
 -- and the ticker then gave a stop.
@@ -72,6 +76,7 @@ pub record MakesTurns {T C E : Type 0}
     (gives : Giving T)
     (collects : Collecting C)
     (exports : Exporting E)
+    (flushes : Answering E)
     (most : ℕ)
     (start : Progress T C E)
     (ticker : T)
@@ -81,5 +86,6 @@ pub record MakesTurns {T C E : Type 0}
   pub made : ℕ
   pub before : T
   pub moment : ℕ
-  pub turns : AreTurns gives collects exports made start (progress before moment seat counts)
+  pub turns : AreTurns gives collects exports flushes made start
+      (progress before moment seat counts)
   pub ends : EndsTurns gives most made moment before ticker last

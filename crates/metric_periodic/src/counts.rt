@@ -13,6 +13,7 @@ pub struct RunningCounts {
     exported: AtomicU64,
     failed: AtomicU64,
     refused: AtomicU64,
+    unflushed: AtomicU64,
 }
 
 impl RunningCounts {
@@ -22,6 +23,7 @@ impl RunningCounts {
             exported: AtomicU64::new(0),
             failed: AtomicU64::new(0),
             refused: AtomicU64::new(0),
+            unflushed: AtomicU64::new(0),
         }
     }
 
@@ -39,25 +41,31 @@ impl RunningCounts {
     pub fn refused(&self) -> u64 {
         self.refused.load(Ordering::SeqCst)
     }
+
+    /// The flushes of the exporter that failed.
+    pub fn unflushed(&self) -> u64 {
+        self.unflushed.load(Ordering::SeqCst)
+    }
 }
 
-/// Who is told the counts of a running reader. As a trait, so that a run cannot but tell them, all three and each
-/// in its place.
+/// Who is told the counts of a running reader. As a trait, so that a run cannot but tell them, all and each in
+/// its place.
 pub(crate) trait Listener {
-    // That it was told these counts: of the batches that the exporter took, of its calls that failed, and of the
-    // collections that were refused.
-    ghost told: { Self → ℕ → ℕ → ℕ → Type 0 };
+    // That it was told these counts: of the batches that the exporter took, of those and of the shutdown that failed, of the
+    // collections that were refused, and of the flushes that failed.
+    ghost told: { Self → ℕ → ℕ → ℕ → ℕ → Type 0 };
 
-    fn tell(&self, exported: u64, failed: u64, refused: u64)
-        ensures { told self.now exported failed refused };
+    fn tell(&self, exported: u64, failed: u64, refused: u64, unflushed: u64)
+        ensures { told self.now exported failed refused unflushed };
 }
 
 impl Listener for RunningCounts {
-    ghost told = { λ _ _ _ _. Unit {0} };
+    ghost told = { λ _ _ _ _ _. Unit {0} };
 
-    fn tell(&self, exported: u64, failed: u64, refused: u64) {
+    fn tell(&self, exported: u64, failed: u64, refused: u64, unflushed: u64) {
         self.exported.store(exported, Ordering::SeqCst);
         self.failed.store(failed, Ordering::SeqCst);
         self.refused.store(refused, Ordering::SeqCst);
+        self.unflushed.store(unflushed, Ordering::SeqCst);
     }
 }

@@ -1,8 +1,8 @@
 //! Collections handed on to an exporter, and counted.
 ghost use Rattle.std.specs.Prelude.{◌≡◌};
-ghost use Rattle.metric_export.specs.ExporterCalls.{IsExport, IsShutdown};
+ghost use Rattle.metric_export.specs.ExporterCalls.{IsExport, IsFlush, IsShutdown};
 ghost use Rattle.metric_periodic.specs.Counts.{IsCounted};
-ghost use Rattle.metric_periodic.specs.Exported.{ExportsCollected, ExportsEach, ExportsOne, ShutsDown, with_collection};
+ghost use Rattle.metric_periodic.specs.Exported.{ExportsCollected, ExportsEach, ExportsOne, IsFlushed, ShutsDown, with_collection};
 
 use crate::counts::Listener;
 use metric_export::{ExportFault, MetricExporter};
@@ -18,10 +18,12 @@ pub(crate) struct Exports<E> {
     pub exporter: E,
     /// The batches that it took.
     pub exported: u64,
-    /// Its calls that failed.
+    /// Those that it did not take, and 1 where its shutdown failed.
     pub failed: u64,
     /// The collections that were refused.
     pub refused: u64,
+    /// Its flushes that failed.
+    pub unflushed: u64,
 }
 
 impl<E> Model for Exports<E> {
@@ -34,19 +36,27 @@ impl<E> Model for Exports<E> {
       exported = e.exported;
       failed = e.failed;
       refused = e.refused;
+      unflushed = e.unflushed;
     } };
 }
 
 impl<E: MetricExporter> Exports<E> {
     /// An exporter that was handed nothing yet.
     pub(crate) fn new(exporter: E) -> Exports<E>
-        ensures { result ≡ record { exporter = exporter; exported = 0; failed = 0; refused = 0 } }
+        ensures { result ≡ record {
+          exporter = exporter;
+          exported = 0;
+          failed = 0;
+          refused = 0;
+          unflushed = 0;
+        } }
     {
         Exports {
             exporter,
             exported: 0,
             failed: 0,
             refused: 0,
+            unflushed: 0,
         }
     }
 
@@ -105,6 +115,7 @@ impl<E: MetricExporter> Exports<E> {
             self.new.exported self.new.failed answer.now }
         ensures exporter { self.new.exporter ≡ self.old.exporter }
         ensures refused { self.new.refused ≡ self.old.refused }
+        ensures unflushed { self.new.unflushed ≡ self.old.unflushed }
     {
         match answer {
             Ok(()) => self.exported = self.exported.saturating_add(1),
@@ -114,9 +125,22 @@ impl<E: MetricExporter> Exports<E> {
 
     /// Tells the counts to who reads them while the reader runs.
     pub(crate) fn tell<L: Listener>(&self, listener: &L)
-        ensures { L.told listener.now self.now.exported self.now.failed self.now.refused }
+        ensures { L.told listener.now self.now.exported self.now.failed self.now.refused
+            self.now.unflushed }
     {
-        listener.tell(self.exported, self.failed, self.refused);
+        listener.tell(self.exported, self.failed, self.refused, self.unflushed);
+    }
+
+    /// Flushes the exporter, and counts its failure.
+    #[tactic(auto, using(crate::proofs::Calling::flushed_counted))]
+    pub(crate) fn flush(&mut self)
+        ensures { let flushes =
+            IsFlush E.flush_gives E.text E.contents E.failures E.state in
+            IsFlushed flushes self.old self.new }
+    {
+        if self.exporter.force_flush().is_err() {
+            self.unflushed = self.unflushed.saturating_add(1);
+        }
     }
 
     /// Shuts the exporter down, and counts its failure.

@@ -1,7 +1,7 @@
 //! The periodic reader.
 ghost use Rattle.std.specs.Prelude.{◌≡◌, ◌+◌, ◌<◌, ◌≤◌, IsSome, false};
 ghost use Rattle.metric_io.specs.Counts.{higher_count};
-ghost use Rattle.metric_export.specs.ExporterCalls.{IsExport, IsShutdown};
+ghost use Rattle.metric_export.specs.ExporterCalls.{IsExport, IsFlush, IsShutdown};
 ghost use Rattle.metric_export.specs.declared.state.ExporterState.{ExporterState};
 ghost use Rattle.metric_periodic.specs.Collections.{Collects, CollectsLast};
 ghost use Rattle.metric_periodic.specs.Counts.{HandsOnToEnd, handed};
@@ -46,6 +46,8 @@ pub struct PeriodicEnd<E> {
     pub failed: u64,
     /// The collections that were refused.
     pub refused: u64,
+    /// The flushes of the exporter that failed.
+    pub unflushed: u64,
     /// Whether the ticker said that the reader was to stop.
     pub stopped: bool,
     /// The collector, where its last collection was refused.
@@ -60,13 +62,13 @@ impl<E: MetricExporter> Periodic<E> {
         Periodic { exporter, turns }
     }
 
-    /// Collects at each tick and hands on each batch in order. Where a collection is refused, what was
-    /// collected before is handed on. An export that fails is not tried again. Contracts see that each turn
-    /// makes one collection, at the moment of its tick, and calls the exporter once for each batch that the
-    /// collection gave.
+    /// Collects at each tick, hands on each batch in order, and then flushes the exporter, so that one which holds
+    /// batches back can tell where a collection ends. Where a collection is refused, what was collected before is
+    /// handed on. An export that fails is not tried again. Contracts see that each turn makes one collection, at
+    /// the moment of its tick, calls the exporter once for each batch that the collection gave, and flushes it once.
     ///
     /// When the ticker stops, or was asked as often as it may be, a last collection is made, at the
-    /// moment of the last tick, 0 where there was none; then the exporter is shut down.
+    /// moment of the last tick, 0 where there was none; then the exporter is shut down, which flushes it.
     pub fn run<R: Wait, B: Book, G: Gate, T: Ticker<R>>(
         self,
         rt: &R,
@@ -77,12 +79,14 @@ impl<E: MetricExporter> Periodic<E> {
     ) -> PeriodicEnd<E>
         ensures run { let exports = IsExport E.export_gives E.text E.contents E.failures
             E.state provider.now.plan in
+            let flushes = IsFlush E.flush_gives E.text E.contents E.failures E.state in
             let shuts_down = IsShutdown E.shutdown_gives E.contents E.failures E.state in
             IsRun T.next_gives (Collects provider.now) (CollectsLast provider.now)
-            exports shuts_down self.turns
-            (progress ticker.old 0 collector (tally self.exporter 0 0 0))
+            exports flushes shuts_down self.turns
+            (progress ticker.old 0 collector (tally self.exporter 0 0 0 0))
             ticker.new result.stopped result.kept
-            (tally result.exporter result.exported result.failed result.refused) }
+            (tally result.exporter result.exported result.failed result.refused
+            result.unflushed) }
         ensures asked { T.asked ticker.new ≤ T.asked ticker.old + self.turns }
         ensures all_turns { result.stopped ≡ false →
             higher_count (T.asked ticker.old) self.turns ≤ T.asked ticker.new }
@@ -114,12 +118,14 @@ impl<E: MetricExporter> Periodic<E> {
     ) -> PeriodicEnd<E>
         ensures run { let exports = IsExport E.export_gives E.text E.contents E.failures
             E.state provider.now.plan in
+            let flushes = IsFlush E.flush_gives E.text E.contents E.failures E.state in
             let shuts_down = IsShutdown E.shutdown_gives E.contents E.failures E.state in
             IsRun T.next_gives (Collects provider.now) (CollectsLast provider.now)
-            exports shuts_down self.turns
-            (progress ticker.old 0 collector (tally self.exporter 0 0 0))
+            exports flushes shuts_down self.turns
+            (progress ticker.old 0 collector (tally self.exporter 0 0 0 0))
             ticker.new result.stopped result.kept
-            (tally result.exporter result.exported result.failed result.refused) }
+            (tally result.exporter result.exported result.failed result.refused
+            result.unflushed) }
         ensures asked { T.asked ticker.new ≤ T.asked ticker.old + self.turns }
         ensures all_turns { result.stopped ≡ false →
             higher_count (T.asked ticker.old) self.turns ≤ T.asked ticker.new }
@@ -147,6 +153,7 @@ impl<E: MetricExporter> Periodic<E> {
             exported: exports.exported,
             failed: exports.failed,
             refused: exports.refused,
+            unflushed: exports.unflushed,
             stopped,
             kept,
         }

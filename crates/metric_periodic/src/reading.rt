@@ -1,7 +1,7 @@
 //! The turns of a periodic reader, with any ticker, seat and exporter.
 ghost use Rattle.std.specs.Prelude.{◌≡◌, ◌+◌, ◌≤◌, false};
 ghost use Rattle.metric_io.specs.Counts.{higher_count};
-ghost use Rattle.metric_export.specs.ExporterCalls.{IsExport, IsShutdown};
+ghost use Rattle.metric_export.specs.ExporterCalls.{IsExport, IsFlush, IsShutdown};
 ghost use Rattle.metric_periodic.specs.Runs.{IsRun};
 ghost use Rattle.metric_periodic.specs.Turns.{IsCollectedAt, MakesTurns, is_stop, progress};
 
@@ -27,9 +27,9 @@ pub(crate) struct Ended<C, E> {
     pub kept: Option<C>,
 }
 
-/// Collects at each tick and hands on what was collected, until the ticker stops or was asked so many
-/// times; then once more, at the moment of the last tick, 0 where there was none; and shuts the exporter
-/// down.
+/// Collects at each tick, hands on what was collected and flushes the exporter, until the ticker stops or
+/// was asked so many times; then collects once more, at the moment of the last tick, 0 where there was none;
+/// and shuts the exporter down.
 pub(crate) fn read_to_end<R, P, C: Seat<R, P>, E: MetricExporter, T: Ticker<R>, L: Listener>(
     rt: &R,
     alloc: Global,
@@ -41,16 +41,18 @@ pub(crate) fn read_to_end<R, P, C: Seat<R, P>, E: MetricExporter, T: Ticker<R>, 
 ) -> Ended<C, E>
     ensures run { let exports =
         IsExport E.export_gives E.text E.contents E.failures E.state plan.now in
+        let flushes = IsFlush E.flush_gives E.text E.contents E.failures E.state in
         let shuts_down = IsShutdown E.shutdown_gives E.contents E.failures E.state in
         IsRun T.next_gives (C.collects provider.now) (C.collects_last provider.now)
-        exports shuts_down turns
+        exports flushes shuts_down turns
         (progress ticker.old 0 reading.entry.seat reading.entry.exports)
         ticker.new result.stopped result.kept result.exports }
     ensures asked { T.asked ticker.new ≤ T.asked ticker.old + turns }
     ensures all_turns { result.stopped ≡ false →
         higher_count (T.asked ticker.old) turns ≤ T.asked ticker.new }
     ensures told { L.told reading.entry.listener.now
-        result.exports.exported result.exports.failed result.exports.refused }
+        result.exports.exported result.exports.failed result.exports.refused
+        result.exports.unflushed }
 {
     let listener = reading.listener;
     let mut reading = reading;
@@ -94,7 +96,8 @@ fn make_turns<R, P, C: Seat<R, P>, E: MetricExporter, T: Ticker<R>, L: Listener>
 ) -> Tick
     ensures turns { let exports =
         IsExport E.export_gives E.text E.contents E.failures E.state plan.now in
-        MakesTurns T.next_gives (C.collects provider.now) exports turns
+        let flushes = IsFlush E.flush_gives E.text E.contents E.failures E.state in
+        MakesTurns T.next_gives (C.collects provider.now) exports flushes turns
         (progress ticker.old 0 reading.old.seat reading.old.exports)
         ticker.new result reading.new.seat reading.new.exports }
     ensures asked { T.asked ticker.new ≤ T.asked ticker.old + turns }
@@ -114,7 +117,7 @@ fn make_turns<R, P, C: Seat<R, P>, E: MetricExporter, T: Ticker<R>, L: Listener>
     Tick::At(last)
 }
 
-// Collects at a moment, and hands on what was collected.
+// Collects at a moment, hands on what was collected, and flushes the exporter.
 fn collect_and_export<R, P, C: Seat<R, P>, E: MetricExporter, L: Listener>(
     rt: &R,
     alloc: Global,
@@ -125,12 +128,14 @@ fn collect_and_export<R, P, C: Seat<R, P>, E: MetricExporter, L: Listener>(
 )
     ensures collected { let exports =
         IsExport E.export_gives E.text E.contents E.failures E.state plan.now in
-        IsCollectedAt (C.collects provider.now) exports now
+        let flushes = IsFlush E.flush_gives E.text E.contents E.failures E.state in
+        IsCollectedAt (C.collects provider.now) exports flushes now
         reading.old.seat reading.new.seat reading.old.exports reading.new.exports }
     ensures told { L.told reading.old.listener.now reading.new.exports.exported
-        reading.new.exports.failed reading.new.exports.refused }
+        reading.new.exports.failed reading.new.exports.refused reading.new.exports.unflushed }
 {
     let collected = reading.seat.collect_at(rt, alloc, provider, now);
     reading.exports.hand_on_collected(alloc, plan, &collected);
+    reading.exports.flush();
     reading.exports.tell(reading.listener);
 }

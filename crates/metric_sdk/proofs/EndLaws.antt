@@ -4,9 +4,9 @@ use Rattle.std.specs.Prelude.{slice_get}
 use Rattle.std.proofs.lemmas.List.{append-nil, take_all, take_more}
 use Rattle.metric_history.specs.declared.batch.Batch.{Batch}
 use Rattle.metric_export.specs.declared.fault.ExportFault.{ExportFault}
-use Rattle.metric_periodic.specs.Exported.{Exporting}
+use Rattle.metric_periodic.specs.Exported.{Answering, Exporting}
 use Rattle.metric_provider.specs.Seats.{CollectorValue, ProviderValue}
-use Rattle.metric_sdk.specs.Endings.{EndsEach, EndsReader, EndsSome, TakesEach}
+use Rattle.metric_sdk.specs.Endings.{EndsEach, EndsReader, EndsSome, FlushesAtEnd, TakesEach}
 use Rattle.metric_sdk.specs.declared.ended.ReaderEnd.{ReaderEnd}
 
 -- some batches that were taken, and then others
@@ -36,22 +36,28 @@ next_ended p now exports a b c (first ∷ seats) (told ∷ ends) seat end before
     (before.0, (before.1.0, next_ended p now exports before.0 b c seats ends seat end before.1.1 one))
 
 -- no reader was asked
-pub none_asked : {E : Type 0} (p : ProviderValue) (now : ℕ) (exports : Exporting E) (e : E) (seats : List CollectorValue) (ends : List ReaderEnd)
-    → ends ≡ [] → EndsSome p now exports e e seats ends seats
-none_asked p now exports e seats ends is = record {
+pub none_asked : {E : Type 0} (p : ProviderValue) (now : ℕ) (exports : Exporting E) (flushes : Answering E) (a b : E) (seats : List CollectorValue)
+    (ends : List ReaderEnd) (unflushed : Option ExportFault) → ends ≡ [] → FlushesAtEnd flushes a b unflushed
+    → EndsSome p now exports flushes a b seats ends seats unflushed
+none_asked p now exports flushes a b seats ends unflushed is flushed = record {
   asked = [];
   all = refl;
-  each = subst (λ (told : List ReaderEnd). EndsEach p now exports e e [] told) (sym is) refl;
+  between = a;
+  each = subst (λ (told : List ReaderEnd). EndsEach p now exports a a [] told) (sym is) refl;
+  flushed = flushed;
 }
 
 -- each reader was
-pub all_asked : {E : Type 0} (p : ProviderValue) (now : ℕ) (exports : Exporting E) (a b : E) (seats : List CollectorValue) (ends left : List ReaderEnd)
-    (unasked : List CollectorValue) → EndsEach p now exports a b seats ends → left ≡ ends → unasked ≡ []
-    → EndsSome p now exports a b seats left unasked
-all_asked p now exports a b seats ends left unasked each is none = record {
+pub all_asked : {E : Type 0} (p : ProviderValue) (now : ℕ) (exports : Exporting E) (flushes : Answering E) (a b c : E) (seats : List CollectorValue)
+    (ends left : List ReaderEnd) (unasked : List CollectorValue) (told unflushed : Option ExportFault)
+    → EndsEach p now exports a b seats ends → left ≡ ends → unasked ≡ [] → FlushesAtEnd flushes b c told → unflushed ≡ told
+    → EndsSome p now exports flushes a c seats left unasked unflushed
+all_asked p now exports flushes a b c seats ends left unasked told unflushed each is none flushed same = record {
   asked = seats;
   all = subst (λ (rest : List CollectorValue). seats ≡ seats ++ rest) (sym none) (sym (append-nil seats));
+  between = b;
   each = subst (λ (told : List ReaderEnd). EndsEach p now exports a b seats told) (sym is) each;
+  flushed = subst (FlushesAtEnd flushes b c) (sym same) flushed;
 }
 
 -- what holds anyway holds where it is asked for

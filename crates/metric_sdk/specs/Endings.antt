@@ -6,7 +6,7 @@ use Rattle.std.specs.List.{list_all}
 use Rattle.metric_history.specs.declared.batch.Batch.{Batch}
 use Rattle.metric_export.specs.declared.fault.ExportFault.{ExportFault}
 use Rattle.metric_periodic.specs.Collections.{AreNextBatches}
-use Rattle.metric_periodic.specs.Exported.{Exporting}
+use Rattle.metric_periodic.specs.Exported.{Answering, Exporting}
 use Rattle.metric_provider.specs.Collections.{AllRefused, with_all_seen}
 use Rattle.metric_provider.specs.Seats.{CollectorValue, ProviderValue, RecorderValue}
 use Rattle.metric_provider.specs.Totals.{Finishes, RefusesFinish, seated}
@@ -79,12 +79,19 @@ abbrev pub IsTotal : Bool → ProviderValue → List RecorderValue → Totals �
 IsTotal keeps p seats totals =
     Finishes keeps p.plan seats totals.instruments.items totals.journals.items totals.slips.items
 
--- Each reader ended, and nothing is left of any.
+-- the exporter was flushed once, and where it failed its fault is told
+abbrev pub FlushesAtEnd : {E : Type 0} → Answering E → E → E → Option ExportFault → Type 0
+FlushesAtEnd flushes old new None = flushes old new (Ok tt)
+FlushesAtEnd flushes old new (Some fault) = flushes old new (Err fault)
+
+-- Each reader ended, nothing is left of any, and the exporter was then flushed.
 pub record EndsClean {E : Type 0} (p : ProviderValue) (now : ℕ) (exports : Exporting E)
-    (old new : E) (seats : List CollectorValue) : Type 0 where
+    (flushes : Answering E) (old new : E) (seats : List CollectorValue) : Type 0 where
   pub ends : List ReaderEnd
-  pub each : EndsEach p now exports old new seats ends
+  pub between : E
+  pub each : EndsEach p now exports old between seats ends
   pub clean : list_all is_clean ends ≡ true
+  pub flushed : FlushesAtEnd flushes between new None
 
 -- why a provider is not finished, where also the list of the readers' ends may have wanted memory
 abbrev pub IsUnfinished : Result (Unit {0}) FinishFault → FinishFault → Type 0
@@ -92,10 +99,13 @@ IsUnfinished ended Memory = Unit {0}
 IsUnfinished ended fault = RefusesFinish ended fault
 
 -- The first readers ended as is told of each, and the others were not asked, which are none
--- where the provider is finished.
-pub record EndsSome {E : Type 0} (p : ProviderValue) (now : ℕ) (exports : Exporting E) (old new : E)
-    (seats : List CollectorValue)
-    (ends : List ReaderEnd) (unasked : List CollectorValue) : Type 0 where
+-- where the provider is finished. The exporter was then flushed.
+pub record EndsSome {E : Type 0} (p : ProviderValue) (now : ℕ) (exports : Exporting E)
+    (flushes : Answering E) (old new : E) (seats : List CollectorValue)
+    (ends : List ReaderEnd) (unasked : List CollectorValue)
+    (unflushed : Option ExportFault) : Type 0 where
   pub asked : List CollectorValue
   pub all : seats ≡ asked ++ unasked
-  pub each : EndsEach p now exports old new asked ends
+  pub between : E
+  pub each : EndsEach p now exports old between asked ends
+  pub flushed : FlushesAtEnd flushes between new unflushed

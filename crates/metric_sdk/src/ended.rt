@@ -53,8 +53,10 @@ pub struct EndFault<B: Book, G: Gate> {
     pub finished: Result<Totals, Unfinished<B, G>>,
     /// How each reader ended, in order.
     pub readers: Vec<ReaderEnd>,
-    /// All readers, where there was no memory to tell how they end: then nothing was done.
+    /// All readers, where there was no memory to tell how they end: then none was asked.
     pub unasked: Vec<Collector>,
+    /// Why the exporter was not flushed at the end, where it was not.
+    pub unflushed: Option<ExportFault>,
 }
 
 impl<B: Book, G: Gate> fmt::Display for EndFault<B, G> {
@@ -66,7 +68,10 @@ impl<B: Book, G: Gate> fmt::Display for EndFault<B, G> {
         for (place, end) in self.readers.iter().enumerate() {
             write_end(f, place, end)?;
         }
-        Ok(())
+        match self.unflushed {
+            Some(fault) => write!(f, "; not flushed: {fault}"),
+            None => Ok(()),
+        }
     }
 }
 

@@ -1,9 +1,9 @@
 //! The end of a service.
-ghost use Rattle.std.specs.Prelude.{◌≡◌, IfErr, IfOk, IfNone, IfSome, MatchResult, [], Ok, OnOk, false, true, vec_capacity, vec_len, ◌≤◌};
+ghost use Rattle.std.specs.Prelude.{◌≡◌, ◌&&◌, IfErr, IfOk, IfNone, IfSome, MatchResult, [], None, Ok, OnOk, false, true, is_none, vec_capacity, vec_len, ◌≤◌};
 ghost use Rattle.std.specs.List.{list_all};
-ghost use Rattle.metric_export.specs.ExporterCalls.{IsExport};
+ghost use Rattle.metric_export.specs.ExporterCalls.{IsExport, IsFlush};
 ghost use Rattle.metric_provider.specs.Totals.{seated};
-ghost use Rattle.metric_sdk.specs.Endings.{CollectsToEnd, EndsClean, EndsEach, EndsReader, EndsSome, HandsOn, IsTotal, IsUnfinished, RefusesOne, TakesEach, is_clean};
+ghost use Rattle.metric_sdk.specs.Endings.{CollectsToEnd, EndsClean, EndsEach, EndsReader, EndsSome, FlushesAtEnd, HandsOn, IsTotal, IsUnfinished, RefusesOne, TakesEach, is_clean};
 
 use crate::ended::{EndFault, ReaderEnd, Uncollected, Unexported, Unfinished};
 use metric_book::Book;
@@ -15,14 +15,14 @@ use std::alloc::Global;
 use std::sync::Wait;
 
 /// Ends a service: each reader that is given collects a last time at a moment, its batches are handed on to an exporter in order,
-/// up to the first that it refuses, and the provider is finished by the seats of all its recorders, whatever was refused before.
-/// The exporter stays open.
+/// up to the first that it refuses, the exporter is flushed, and the provider is finished by the seats of all its recorders,
+/// whatever was refused before. The exporter stays open.
 ///
 /// # Errors
 ///
 /// An [`EndFault`] has each cause, and hands back what is left: batches that were not taken, seats whose last collection was
 /// refused, and the provider with the seats of its recorders where it is not finished. Where there is no memory to tell how the
-/// readers end, nothing was done, and the fault of the provider is `Memory`.
+/// readers end, the exporter is only flushed, and the fault of the provider is `Memory`.
 pub fn shutdown_all<R: Wait, B: Book, G: Gate, E: MetricExporter>(
     rt: &R,
     alloc: Global,
@@ -35,7 +35,8 @@ pub fn shutdown_all<R: Wait, B: Book, G: Gate, E: MetricExporter>(
     ensures totals { IfOk result (IsTotal B.KEEPS_ENTRIES provider recorders.items) }
     ensures ended { OnOk result (let exports = IsExport E.export_gives E.text E.contents
         E.failures E.state provider.plan in
-        EndsClean provider now exports exporter.old exporter.new readers.items) }
+        let flushes = IsFlush E.flush_gives E.text E.contents E.failures E.state in
+        EndsClean provider now exports flushes exporter.old exporter.new readers.items) }
     ensures finished { IfErr result (λ left. MatchResult left.finished
         (IsTotal B.KEEPS_ENTRIES provider recorders.items)
         (λ unfinished. (unfinished.provider ≡ provider)
@@ -43,11 +44,12 @@ pub fn shutdown_all<R: Wait, B: Book, G: Gate, E: MetricExporter>(
         × IsUnfinished (seated provider recorders.items) unfinished.fault)) }
     ensures readers { IfErr result (λ left. let exports = IsExport E.export_gives E.text
         E.contents E.failures E.state provider.plan in
-        EndsSome provider now exports exporter.old exporter.new
-        readers.items left.readers.items left.unasked.items) }
+        let flushes = IsFlush E.flush_gives E.text E.contents E.failures E.state in
+        EndsSome provider now exports flushes exporter.old exporter.new
+        readers.items left.readers.items left.unasked.items left.unflushed) }
     ensures asked { IfErr result (λ left. OnOk left.finished (left.unasked.items ≡ [])) }
     ensures some_left { IfErr result (λ left. OnOk left.finished
-        (list_all is_clean left.readers.items ≡ false)) }
+        ((list_all is_clean left.readers.items && is_none left.unflushed) ≡ false)) }
 {
     let Ok(mut ends) = Vec::with_capacity(alloc, readers.len()) else {
         return Err(EndFault {
@@ -58,11 +60,13 @@ pub fn shutdown_all<R: Wait, B: Book, G: Gate, E: MetricExporter>(
             }),
             readers: Vec::new(alloc),
             unasked: readers,
+            unflushed: flush(exporter),
         });
     };
     end_each(rt, alloc, &provider, readers, exporter, now, &mut ends);
+    let unflushed = flush(exporter);
     let finished = finished(rt, alloc, provider, recorders);
-    match told(alloc, finished, ends) {
+    match told(alloc, finished, ends, unflushed) {
         Ok(totals) => Ok(totals),
         Err(left) => Err(left),
     }
@@ -73,22 +77,37 @@ fn told<B: Book, G: Gate>(
     alloc: Global,
     finished: Result<Totals, Unfinished<B, G>>,
     ends: Vec<ReaderEnd>,
+    unflushed: Option<ExportFault>,
 ) -> Result<Totals, EndFault<B, G>>
     ensures ok { IfOk result (λ totals. finished ≡ Ok totals) }
     ensures clean { OnOk result (list_all is_clean ends.items ≡ true) }
+    ensures flushed { OnOk result (unflushed ≡ None) }
     ensures left { IfErr result (λ left. (left.finished ≡ finished)
         × (left.readers.items ≡ ends.items) × (left.unasked.items ≡ [])) }
+    ensures unflushed { IfErr result (λ left. left.unflushed ≡ unflushed) }
     ensures some_left { IfErr result (λ left. OnOk left.finished
-        (list_all is_clean ends.items ≡ false)) }
+        ((list_all is_clean ends.items && is_none unflushed) ≡ false)) }
 {
-    let clean = are_clean(ends.as_slice());
+    let clean = are_clean(ends.as_slice()) && unflushed.is_none();
     match finished {
         Ok(totals) if clean => Ok(totals),
         finished => Err(EndFault {
             finished,
             readers: ends,
             unasked: Vec::new(alloc),
+            unflushed,
         }),
+    }
+}
+
+// Flushes the exporter. Why it failed, where it did.
+fn flush<E: MetricExporter>(exporter: &mut E) -> Option<ExportFault>
+    ensures { let flushes = IsFlush E.flush_gives E.text E.contents E.failures E.state in
+        FlushesAtEnd flushes exporter.old exporter.new result }
+{
+    match exporter.force_flush() {
+        Ok(()) => None,
+        Err(fault) => Some(fault),
     }
 }
 

@@ -22,15 +22,15 @@
 //!    `Recorder::admits` gives the [`SetKey`] of attributes, `Recorder::record_set` records by it, and `Recorder::record_sets` a
 //!    list of [`Measurement`]s, up to a [`SetsFault`].
 //! 5. **Export.** [`Periodic`] collects at each [`Tick`] of a [`Ticker`], a [`ClockTicker`] until its [`StopFlag`] is set or a
-//!    [`ListTicker`]; it hands each batch on to a [`MetricExporter`], as a [`TextExporter`] is, and at its end collects a last
-//!    time. What it did is a [`PeriodicEnd`], and what it has done so far other threads read of its [`RunningCounts`];
-//!    `StopFlag::wake` lets it export now. An exporter's fault is an [`ExportFault`]: a [`Queued`] keeps what was refused and
-//!    tries it again before the next, so that the window of a delta reader is not lost, and a
-//!    [`ReopeningExporter`] of texts opens its sink anew. An exporter of one's own takes a batch
-//!    apart: it has the [`StreamPoints`] of each [`Stream`], a [`Point`] the [`PointValue`] of one series, whose [`attributes`]
+//!    [`ListTicker`]; it hands each batch on to a [`MetricExporter`], as a [`TextExporter`] is, flushes that after each
+//!    collection, and at its end collects a last time. What it did is a [`PeriodicEnd`], and what it has done so far other
+//!    threads read of its [`RunningCounts`]; `StopFlag::wake` lets it export now. An [`Encoding`] says what a batch is as
+//!    bytes, [`Plain`] its text; `TextExporter::of` and `ReopeningExporter::of` write in any. An exporter's fault is an
+//!    [`ExportFault`]: a [`Queued`] keeps what was refused and tries it again before the next, so that the window of a delta
+//!    reader is not lost, and a [`ReopeningExporter`] opens its sink anew. An exporter of one's own takes a batch apart: it has the [`StreamPoints`] of each [`Stream`], a [`Point`] the [`PointValue`] of one series, whose [`attributes`]
 //!    the plan knows. By hand: a [`Collector`] collects the [`Batch`] of one instrument or of all, up to an [`AllFault`], and
-//!    [`write_batch`] writes its text. (A collection takes 23 to 54 ns a point.)
-//! 6. **End.** [`shutdown_all`] lets readers collect a last time, exports what they give, and finishes the provider; an
+//!    [`write_batch`] writes its text, [`write_encoded`] its bytes. (A collection takes 23 to 54 ns a point.)
+//! 6. **End.** [`shutdown_all`] lets readers collect a last time, exports what they give, flushes, and finishes the provider; an
 //!    [`EndFault`] has each cause, and hands back what is left. `Provider::finish` alone gives the [`Totals`], a [`Total`] for
 //!    each instrument, exactly what the recorders were told, or a [`FinishFault`]; `Provider::finish_keeping` also the plan. Calls
 //!    that hand things back have them in a tuple with the fault: `?` makes a [`ServiceFault`] of each.

@@ -202,15 +202,15 @@ fn rolled<R: Abort + Wait>(
     }
 }
 
-// Ends a service with an exporter of texts over a sink with some room, and writes what is told and what the sink holds.
+// Ends a service with an exporter of texts over a sink, and writes what is told and what the sink holds.
 fn write_end<R: Abort + Wait>(
     out: &mut String,
     rt: &R,
     alloc: Global,
     service: Service,
-    room: Option<usize>,
+    sink: CutSink,
 ) {
-    let mut exporter = TextExporter::new(CutSink::new(alloc, room));
+    let mut exporter = TextExporter::new(sink);
     let Service {
         provider,
         recorders,
@@ -288,11 +288,18 @@ fn a_service_goes_over_into_its_next_run(rt: HostRuntime) {
         next.recorders.as_mut_slice(),
         1,
     );
-    write_end(&mut told, &rt, rt.alloc(), next, None);
+    write_end(
+        &mut told,
+        &rt,
+        rt.alloc(),
+        next,
+        CutSink::new(rt.alloc(), None),
+    );
     assert_equal(&rt, told.as_str(), ROLLED);
 }
 
-// How many of the two recorders' seats are kept, how much room the sink of the exporter has, and what is told.
+// How many of the two recorders' seats are kept, how much room the sink of the exporter has, whose flushes fail, and what is
+// told.
 struct End {
     kept: usize,
     room: Option<usize>,
@@ -303,15 +310,27 @@ const ENDS: &[End] = &[
     End {
         kept: 2,
         room: Some(0),
-        told: "finished; reader 0, 2 batches not exported: 1 Write; reader 1, 2 batches not exported: 1 Write
+        told: "finished; reader 0, 2 batches not exported: 1 Write; reader 1, 2 batches not exported: 1 Write; not flushed: 1 Write
 0 recordings, sum 0
 0 recordings, sum 0
 ",
     },
     End {
+        kept: 2,
+        room: None,
+        told: "finished; not flushed: 1 Write
+0 recordings, sum 0
+0 recordings, sum 0
+collected 200 0
+collected 200 0
+collected 200 0
+collected 200 0
+",
+    },
+    End {
         kept: 1,
         room: Some(0),
-        told: "not finished: 1 RecorderMissing; reader 0, 2 batches not exported: 1 Write; reader 1, 2 batches not exported: 1 Write
+        told: "not finished: 1 RecorderMissing; reader 0, 2 batches not exported: 1 Write; reader 1, 2 batches not exported: 1 Write; not flushed: 1 Write
 1 seats
 ",
     },
@@ -323,7 +342,8 @@ fn an_end_tells_each_cause(rt: HostRuntime) {
         let mut told = String::new(rt.alloc());
         let mut service = opened(&rt, rt.alloc());
         service.recorders.truncate(end.kept);
-        write_end(&mut told, &rt, rt.alloc(), service, end.room);
+        let sink = CutSink::new(rt.alloc(), end.room).with_failing_flush();
+        write_end(&mut told, &rt, rt.alloc(), service, sink);
         assert_equal(&rt, told.as_str(), end.told);
     }
 }

@@ -6,7 +6,7 @@ use crate::seats::{Seats, hit_once, seats_of};
 use crate::texts::write_numbers;
 use metric_export::{ListTicker, TextExporter, Tick};
 use metric_io::CutSink;
-use metric_periodic::{Periodic, PeriodicEnd};
+use metric_periodic::{Periodic, PeriodicEnd, RunningCounts};
 use metric_provider::Collector;
 use metric_sdk::MeterProvider;
 use std::alloc::Global;
@@ -60,7 +60,7 @@ const RUNS: &[Run] = &[
         turns: 9,
         room: None,
         flushes: true,
-        told: "exported 3 failed 0 refused 0 true false true",
+        told: "exported 3 failed 0 refused 0 unflushed 0 true false true",
         first: FIVE,
         rest: "collected 20 0\ncollected 30 0\n",
     },
@@ -70,7 +70,7 @@ const RUNS: &[Run] = &[
         turns: 2,
         room: None,
         flushes: true,
-        told: "exported 3 failed 0 refused 0 false false true",
+        told: "exported 3 failed 0 refused 0 unflushed 0 false false true",
         first: FIVE,
         rest: "collected 20 0\ncollected 20 0\n",
     },
@@ -80,7 +80,7 @@ const RUNS: &[Run] = &[
         turns: 1,
         room: None,
         flushes: true,
-        told: "exported 2 failed 0 refused 0 false false true",
+        told: "exported 2 failed 0 refused 0 unflushed 0 false false true",
         first: FIVE,
         rest: "collected 10 0\n",
     },
@@ -90,7 +90,7 @@ const RUNS: &[Run] = &[
         turns: 0,
         room: None,
         flushes: true,
-        told: "exported 1 failed 0 refused 0 false false true",
+        told: "exported 1 failed 0 refused 0 unflushed 0 false false true",
         first: AT_START,
         rest: "",
     },
@@ -100,9 +100,9 @@ const RUNS: &[Run] = &[
         turns: 9,
         room: None,
         flushes: false,
-        told: "exported 3 failed 1 refused 0 true false true",
+        told: "exported 1 failed 3 refused 0 unflushed 2 true false true",
         first: FIVE,
-        rest: "collected 20 0\ncollected 30 0\n",
+        rest: "",
     },
     Run {
         of: Of::Own,
@@ -110,7 +110,7 @@ const RUNS: &[Run] = &[
         turns: 9,
         room: Some(20),
         flushes: true,
-        told: "exported 0 failed 4 refused 0 true false true",
+        told: "exported 0 failed 4 refused 0 unflushed 2 true false true",
         first: "collected 10 1\nstrea",
         rest: "",
     },
@@ -120,7 +120,7 @@ const RUNS: &[Run] = &[
         turns: 9,
         room: None,
         flushes: true,
-        told: "exported 0 failed 0 refused 3 true true true",
+        told: "exported 0 failed 0 refused 3 unflushed 0 true true true",
         first: "",
         rest: "",
     },
@@ -130,7 +130,7 @@ const RUNS: &[Run] = &[
         turns: 9,
         room: None,
         flushes: true,
-        told: "exported 3 failed 0 refused 3 true true true",
+        told: "exported 3 failed 0 refused 3 unflushed 0 true true true",
         first: FIRST,
         rest: "collected 20 0\ncollected 30 0\n",
     },
@@ -140,7 +140,7 @@ const RUNS: &[Run] = &[
         turns: 9,
         room: None,
         flushes: true,
-        told: "exported 1 failed 0 refused 0 true false true",
+        told: "exported 1 failed 0 refused 0 unflushed 0 true false true",
         first: FIVE,
         rest: "",
     },
@@ -148,7 +148,8 @@ const RUNS: &[Run] = &[
 
 type End = PeriodicEnd<TextExporter<CutSink>>;
 
-fn end_of<R: Wait>(
+// The end of a run, which tells the same counts to other threads.
+fn end_of<R: Abort + Wait>(
     rt: &R,
     alloc: Global,
     provider: &MeterProvider,
@@ -157,7 +158,26 @@ fn end_of<R: Wait>(
 ) -> End {
     let exporter = TextExporter::new(sink_of(alloc, run.room, run.flushes));
     let mut ticker = ListTicker::new(run.ticks);
-    Periodic::new(exporter, run.turns).run(rt, alloc, provider, reader, &mut ticker)
+    let counts = RunningCounts::new();
+    let end = Periodic::new(exporter, run.turns).run_counted(
+        rt,
+        alloc,
+        provider,
+        reader,
+        &mut ticker,
+        &counts,
+    );
+    assert_equal(
+        rt,
+        [
+            counts.exported(),
+            counts.failed(),
+            counts.refused(),
+            counts.unflushed(),
+        ],
+        [end.exported, end.failed, end.refused, end.unflushed],
+    );
+    end
 }
 
 // The end of a run with the provider of another run.
@@ -213,6 +233,7 @@ fn write_end<R: Abort>(out: &mut String, rt: &R, end: &End, run: &Run) {
             ("exported ", end.exported),
             (" failed ", end.failed),
             (" refused ", end.refused),
+            (" unflushed ", end.unflushed),
         ],
     );
     let (stopped, is_kept) = (end.stopped, end.kept.is_some());

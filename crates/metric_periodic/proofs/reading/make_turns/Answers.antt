@@ -6,7 +6,7 @@ pub loop-turn-preserved : goal.loop-turn-preserved
 loop-turn-preserved g c = record {
   most = search rules;
   least = search rules;
-  turns = one_more_turn _ _ _ c.loop-turn._turn _ _ _ c.loop-turn.invariant.turns
+  turns = one_more_turn _ _ _ _ c.loop-turn._turn _ _ _ c.loop-turn.invariant.turns
       (record { tick = c.in-At.ensures.gives; collected_at = c.collect_and_export.ensures.collected });
 }
 
