@@ -1,9 +1,9 @@
-//! A flag that stops a ticker, or makes it tick at once.
+//! A flag that stops a ticker, and whoever else asks it, or makes a ticker tick at once.
 use std::sync::{Condvar, Mutex, Wait};
 use std::time::{Clock, Duration};
 
 /// A flag that stops a [`ClockTicker`](crate::ClockTicker), also one that waits, or makes it tick at once. Threads share it by
-/// reference.
+/// reference; those that are to stop with the reader ask it too, or wait on it.
 #[derive(Drop)]
 pub struct StopFlag {
     asked: Mutex<Asked>,
@@ -38,12 +38,27 @@ impl StopFlag {
     }
 
     /// Makes the next tick of each ticker of this flag come at once and not after its period, so that its reader collects and
-    /// exports now (Metrics SDK, force flush). It stops none. A ticker that does not wait just now leaves out its next wait;
+    /// exports now, and flushes its exporter (Metrics SDK, force flush). It stops none. A ticker that does not wait just now leaves out its next wait;
     /// several calls before one tick are answered by that tick.
     pub fn wake<R: Wait>(&self, rt: &R) {
         let mut asked = self.asked.lock(rt);
         asked.ticks = asked.ticks.wrapping_add(1);
         self.changed.notify_all();
+    }
+
+    /// Whether the flag is set.
+    pub fn is_set<R: Wait>(&self, rt: &R) -> bool {
+        self.asked.lock(rt).stop
+    }
+
+    /// Waits for so many milliseconds, or until the flag is set. Whether it is set then. A tick that is asked for ends no such
+    /// wait.
+    pub fn wait<R: Wait + Clock>(&self, rt: &R, milliseconds: u64) -> bool {
+        let time = Duration::from_millis(milliseconds);
+        let (asked, _) = self
+            .changed
+            .wait_timeout_while(rt, self.asked.lock(rt), time, |asked| !asked.stop);
+        asked.stop
     }
 
     /// Waits for so long, or until the flag is set or a tick is asked for that `seen` does not count yet. Whether it was set.

@@ -1,6 +1,7 @@
 //! What a clock's ticker waits for and reads, by a clock of the tests' own.
 use crate::asserted::assert_equal;
 use metric_export::{ClockTicker, StopFlag, Tick, Ticker};
+use metric_sdk::now;
 use std::cell::Cell;
 use std::io;
 use std::process::Abort;
@@ -82,17 +83,42 @@ fn assert_ticks<R: Abort + Wait>(
     }
 }
 
+fn clock_of<'a, R>(rt: &'a R, moments: &'static [u64]) -> SteppingClock<'a, R> {
+    SteppingClock {
+        _rt: rt,
+        readings: Cell::new(0),
+        moments: Cell::new(moments),
+    }
+}
+
 #[test]
 fn a_clock_is_read_after_each_period(rt: HostRuntime) {
     for case in CASES {
         let flag = StopFlag::new();
-        let clock = SteppingClock {
-            _rt: &rt,
-            readings: Cell::new(0),
-            moments: Cell::new(case.moments),
-        };
+        let clock = clock_of(&rt, case.moments);
         let mut ticker = ClockTicker::new(case.period, case.most, &flag);
         assert_ticks(&rt, &clock, &mut ticker, case.ticks);
         assert_equal(&rt, clock.readings.get(), case.readings);
     }
+}
+
+#[test]
+fn a_run_starts_at_the_clocks_moment(rt: HostRuntime) {
+    let clock = clock_of(&rt, &[7, 1_600_000_000_000_000_000]);
+    for moment in [Some(7), Some(1_600_000_000_000_000_000), None] {
+        assert_equal(&rt, now(&clock).ok(), moment);
+    }
+}
+
+#[test]
+fn a_flag_is_asked_and_waited_on(rt: HostRuntime) {
+    let flag = StopFlag::new();
+    let clock = clock_of(&rt, &[]);
+    assert_equal(
+        &rt,
+        (flag.is_set(&rt), flag.wait(&clock, 3)),
+        (false, false),
+    );
+    flag.set(&rt);
+    assert_equal(&rt, (flag.is_set(&rt), flag.wait(&clock, 3)), (true, true));
 }
