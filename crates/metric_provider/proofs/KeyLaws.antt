@@ -2,7 +2,7 @@
 use Rattle.std.proofs.Common.{◌≡◌, ◌<◌, ◌≤◌, ℕ, ◌+◌, ℤ, Bool, true, false, ◌&&◌, List, [], ◌∷◌, ◌++◌, Option, Some, None, Result, Ok, Err, All, get_or, length, pos, take, refl, sym, ap, subst, ◌∙◌, arith}
 use Rattle.std.specs.Prelude.{IfSome, slice_get, slice_set, ◌==◌, nat_lt}
 use Rattle.std.specs.Option.{option_map_or}
-use Rattle.std.proofs.lemmas.List.{get_or-set_same, get_or_read, length-set, set-get_or, set-set, take_all, take_more}
+use Rattle.std.proofs.lemmas.List.{get_or-set_same, get_or-take, get_or_read, length-set, length-take-le, set-get_or, set-set, take-take, take_all, take_more}
 use Rattle.std.proofs.lemmas.List.Elements.{All-more, All-take}
 use Rattle.std.proofs.lemmas.Option.{get_or_from_slice_get, same_Some, slice_get-get_or, slice_get_past, slice_get_within}
 use Rattle.metric_base.specs.StepLaws.{ok_is, require_ok}
@@ -16,7 +16,7 @@ use Rattle.metric_plan.specs.Plans.{PlanValue}
 use Rattle.metric_provider.specs.AdmitLaws.{IsDeclared, knows, of_key, told_there}
 use Rattle.metric_provider.specs.declared.fault.SetsFault.{SetsFault}
 use Rattle.metric_provider.specs.declared.keys.Measurement.{Measurement}
-use Rattle.metric_provider.specs.KeyRecordings.{AreAccepted, AreAdmitted, IsAdmitted, IsRecordable, IsRefusedAfter, IsRefusedUnder, IsUnadmittedAfter, KnowsEach, admitted_key, declared_key, key_of, told_each, told_of, told_of_all}
+use Rattle.metric_provider.specs.KeyRecordings.{AnswersKey, AreAccepted, AreAdmitted, IsAdmitted, IsRecordable, IsRefusedAfter, IsRefusedUnder, IsUnadmittedAfter, KnowsEach, admitted_key, declared_key, key_of, told_each, told_of, told_of_all}
 use Rattle.metric_provider.specs.Recordings.{AnswersSeat, RefusesRecording, told_at, with_recording}
 use Rattle.metric_provider.specs.Seats.{ProviderValue, RecorderValue, is_recorder_of, nothing_told}
 use Rattle.metric_slot.specs.declared.told.Told.{Told}
@@ -170,6 +170,36 @@ refused_before spares p seat i all fault of =
       found = of.found;
       answer = subst (λ (r : Result (List ℕ) Refusal). AnswersSeat spares r p.plan later i (Err fault.refusal))
           (sym (admitted_same p later seat i of.one.set of.one.value (all_same p.plan seat i (take fault.place all)) ∙ of.refused)) refl;
+    }
+
+-- ---- the first so many of a list
+
+pub unadmitted_there : (p : ProviderValue) (seat : RecorderValue) (i : ℕ) (all : List Measurement) (fault : SetsFault) → IsUnadmittedAfter p seat i all fault → fault.place < length all
+unadmitted_there p seat i all fault of = slice_get_within all fault.place of.one of.found
+
+refused_below : (spares : Facts → Type 0) (p : ProviderValue) (seat : RecorderValue) (i n : ℕ) (all : List Measurement) (fault : SetsFault) → n ≤ length all
+    → IsRefusedAfter spares p seat i (take n all) fault → fault.place < n
+refused_below spares p seat i n all fault le of = omega (arith, slice_get_within (take n all) fault.place of.one of.found, length-take-le n all le)
+
+pub same_before : (spares : Facts → Type 0) (p : ProviderValue) (seat : RecorderValue) (i n : ℕ) (all : List Measurement) (fault : SetsFault) → n ≤ length all
+    → IsRefusedAfter spares p seat i (take n all) fault → take fault.place (take n all) ≡ take fault.place all
+same_before spares p seat i n all fault le of =
+    let below : fault.place < n = refused_below spares p seat i n all fault le of in
+    take-take fault.place n all (omega (arith, below))
+
+-- what is refused of them is refused of the list
+pub refused_within : (spares : Facts → Type 0) (p : ProviderValue) (seat : RecorderValue) (i n : ℕ) (all : List Measurement) (fault : SetsFault) → n ≤ length all
+    → IsRefusedAfter spares p seat i (take n all) fault → IsRefusedAfter spares p seat i all fault
+refused_within spares p seat i n all fault le of =
+    let below : fault.place < n = refused_below spares p seat i n all fault le of in
+    let same : take fault.place (take n all) ≡ take fault.place all = same_before spares p seat i n all fault le of in
+    let here : get_or all fault.place of.one ≡ of.one =
+    sym (get_or-take n all fault.place of.one below) ∙ get_or_from_slice_get (take n all) fault.place of.one of.one of.found in
+    record {
+      before = subst (λ (made : List Measurement). AreAccepted spares p seat i made) same of.before;
+      one = of.one;
+      found = slice_get-get_or all fault.place of.one (omega (arith, below, le)) ∙ ap (λ (x : Measurement). Some x) here;
+      answer = subst (λ (made : List Measurement). AnswersKey spares p (told_of_all p.plan seat i made) i of.one (Err fault.refusal)) same of.answer;
     }
 
 pub knows_each : (p : ProviderValue) (seat : RecorderValue) (i : ℕ) (all : List Measurement) → AreAdmitted p seat i all → KnowsEach p.plan i seat.number all

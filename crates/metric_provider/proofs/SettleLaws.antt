@@ -10,11 +10,13 @@ use Rattle.metric_base.specs.StepLaws.{require_ok}
 use Rattle.metric_base.specs.Steps.{◌>>=◌, require}
 use Rattle.metric_core.specs.Cells.{CellValue}
 use Rattle.metric_facts.specs.declared.facts.Facts.{Facts}
-use Rattle.metric_provider.specs.declared.fault.FinishFault.TheVariants.{RecorderMissing, Stranger}
+use Rattle.metric_history.specs.declared.entry.Entry.{Entry}
+use Rattle.metric_provider.specs.declared.fault.FinishFault.{FinishFault}
+use Rattle.metric_provider.specs.declared.fault.FinishFault.TheVariants.{RecorderMissing, Stranger, AuditMismatch, Memory}
 use Rattle.metric_provider.specs.declared.totals.Total.{Total}
 use Rattle.metric_provider.specs.Recordings.{told_at}
 use Rattle.metric_provider.specs.Seats.{ProviderValue, RecorderValue, is_recorder_of}
-use Rattle.metric_provider.specs.Totals.{AreAllSeats, AreOneEach, are_distinct, has_each, seated, told_amount, told_count, told_sum, told_total, told_totals}
+use Rattle.metric_provider.specs.Totals.{AreAllSeats, AreOneEach, RefusesFinish, RefusesTotals, are_distinct, has_each, seated, told_amount, told_count, told_sum, told_total, told_totals}
 use Rattle.metric_provider.proofs.SeatSums.{sum_by_seats}
 
 -- what a test of each element gives where a weaker one is asked
@@ -113,3 +115,13 @@ pub totals_end : (seats : List RecorderValue) (number : ℕ) (all : List Facts) 
     → length all ≤ number → totals ++ told_totals seats number (drop number all) ≡ whole → totals ≡ whole
 totals_end seats number all totals whole past so_far =
     sym (append-nil totals) ∙ ap (λ (rest : List Facts). totals ++ told_totals seats number rest) (sym (drop_all number all past)) ∙ so_far
+
+-- ---- refusals
+
+-- what refuses the totals refuses to finish
+pub finish_refused : {B : Type 0} (kept : B → List Entry) (instruments : List Facts) (cells : List (CellValue B)) (seats : List RecorderValue) (fault : FinishFault)
+    → RefusesTotals kept instruments cells seats fault → RefusesFinish (Ok tt) fault
+finish_refused kept instruments cells seats AuditMismatch why = tt
+finish_refused kept instruments cells seats Memory why = tt
+finish_refused kept instruments cells seats RecorderMissing why = absurd why
+finish_refused kept instruments cells seats Stranger why = absurd why

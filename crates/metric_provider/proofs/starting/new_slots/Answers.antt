@@ -26,3 +26,23 @@ loop-instrument-preserved g c =
       each = subst (λ (all : List (CellValue g.row.B.Denot)). AreNewSlots g.B.Book.stands own c.args.start all) (sym c.in_ok-push.ensures.items)
           (at_each_push (λ (n : ℕ) (slot : CellValue g.row.B.Denot). IsNewSlot g.B.Book.stands own c.args.start n slot) done c.in_ok-slot.slot c.loop-instrument.invariant.each here);
     }
+
+pub overflow_cast-count : goal.overflow_cast-count
+overflow_cast-count g c = record { fits = omega (arith, c.instruments.ensures.few, ap length c.instruments.ensures.instruments) }
+
+pub loop-instrument-init : goal.loop-instrument-init
+loop-instrument-init g c = record {
+  count = c.new-slots.ensures.len;
+  long = ap (λ (slots : List (CellValue g.row.B.Denot)). length slots) c.new-slots.ensures.items;
+  each = subst (λ (slots : List (CellValue g.row.B.Denot)). AreNewSlots g.B.Book.stands c.args.plan.now.facts.instruments c.args.start slots) (sym c.new-slots.ensures.items)
+      (λ number slot found. absurd cc);
+}
+
+pub returns-clause-all : goal.returns-clause-all
+returns-clause-all g c =
+    let all : length c.args.plan.now.facts.instruments ≡ length c.instruments.result.now =
+    c.catalogue.ensures.one_each ∙ ap (λ (xs : List Instrument). length xs) (sym c.instruments.ensures.instruments) in
+    omega (arith, all, c.loop-instrument.invariant.count, c.loop-instrument.auto.instrument-end, c.loop-instrument-test.false)
+
+pub returns-clause-each : goal.returns-clause-each
+returns-clause-each g c = c.loop-instrument.invariant.each

@@ -1,11 +1,13 @@
 -- all are accepted, or one is refused before the lock
-use Rattle.std.proofs.Common.{◌≡◌, Result, OnOk, IfErr, sym, subst, ◌∙◌}
-use Rattle.std.proofs.lemmas.Result.{IfErr-weaker, on_ok_weaker}
+use Rattle.std.proofs.Common.{◌≡◌, ◌≤◌, ℕ, List, Result, OnOk, IfErr, length, take, sym, ap, subst, ◌∙◌, arith}
+use Rattle.std.proofs.lemmas.List.{length-take-le, take_all}
+use Rattle.std.proofs.lemmas.Result.{IfErr-weaker, err_from_is_err_and, on_ok_weaker}
 use Rattle.metric_provider.specs.declared.fault.SetsFault.{SetsFault}
-use Rattle.metric_provider.specs.KeyRecordings.{AreAccepted, AreAdmitted, IsRefusedAfter, IsUnadmittedAfter}
+use Rattle.metric_provider.specs.declared.keys.Measurement.{Measurement}
+use Rattle.metric_provider.specs.KeyRecordings.{AreAccepted, AreAdmitted, IsRefusedAfter, IsUnadmittedAfter, noted_of_all}
 use Rattle.metric_provider.specs.Recordings.{SeatSpares}
 use Rattle.metric_provider.specs.Seats.{ProviderValue, provider_of}
-use Rattle.metric_provider.proofs.KeyLaws.{all_accepted, refused_before}
+use Rattle.metric_provider.proofs.KeyLaws.{all_accepted, refused_before, refused_within, same_before, unadmitted_there}
 use Rattle.metric_provider.proofs.recorder.Recorder.record_sets.Goals as goal
 use Rattle.metric_provider.proofs.recorder.Recorder.record_sets.Goals.{in-Ok, in-Err}
 
@@ -34,3 +36,105 @@ returns-clause-refused g c =
     (IfErr-weaker c.admit_each-admitted.result (IsUnadmittedAfter (provider_of c.plan.result.now c.run.result) seat c.args.instrument all) (IsRefusedAfter (SeatSpares g.B.Book.KEEPS_ENTRIES g.B.Book.spares_memory) p seat c.args.instrument all)
     (λ fault refused. refused_before (SeatSpares g.B.Book.KEEPS_ENTRIES g.B.Book.spares_memory) p seat c.args.instrument all fault (subst (λ (q : ProviderValue). IsUnadmittedAfter q seat c.args.instrument all fault) same refused))
     c.admit_each-admitted.ensures.refused)
+
+-- ---- those that are brought under the lock
+
+pub slice_bounds-record_each_known-end : goal.slice_bounds-record_each_known-end
+slice_bounds-record_each_known-end g c =
+    let within : c.match-admitted.count ≤ length c.args.all.now =
+    elim c.match-admitted.branch [
+      | in-Ok w ↦ omega (arith, w.count-is)
+      | in-Err w ↦ omega (arith, w.count-is, unadmitted_there (provider_of c.plan.result.now c.run.result) c.args.self.now c.args.instrument c.args.all.now w.in-Err.fault w.in-Err.ensures.refused)
+    ] in
+    sym (length-take-le c.match-admitted.count c.args.all.now within)
+
+pub record_each_known-requires : goal.record_each_known-requires
+record_each_known-requires g c =
+    let seat = c.args.self.now in
+    let all = c.args.all.now in
+    let q : ProviderValue = provider_of c.plan.result.now c.run.result in
+    let same : q ≡ c.args.provider.now = λ i. record { plan = c.plan.ensures i; run = c.run.ensures i } in
+    let admitted : AreAdmitted q seat c.args.instrument (take c.match-admitted.count all) =
+    elim c.match-admitted.branch [
+      | in-Ok w ↦ subst (λ (some : List Measurement). AreAdmitted q seat c.args.instrument some) (sym (take_all c.match-admitted.count all (omega (arith, w.count-is)))) w.in-Ok.ensures.admitted
+      | in-Err w ↦ subst (λ (n : ℕ). AreAdmitted q seat c.args.instrument (take n all)) (sym w.count-is) w.in-Err.ensures.refused.before
+    ] in
+    subst (λ (p : ProviderValue). AreAdmitted p seat c.args.instrument (take c.match-admitted.count all)) same admitted
+
+pub returns-in_err-record_each_known-clause-accepted : goal.returns-in_err-record_each_known-clause-accepted
+returns-in_err-record_each_known-clause-accepted g c =
+    let first = err_from_is_err_and c.from_residual.result c.from_residual.ensures.1 in
+    subst (λ (r : Result (Unit {0}) SetsFault). OnOk r (AreAccepted (SeatSpares g.B.Book.KEEPS_ENTRIES g.B.Book.spares_memory) c.args.provider.now c.args.self.now c.args.instrument c.args.all.now))
+    (sym first.1) tt
+
+pub returns-in_err-record_each_known-clause-told : goal.returns-in_err-record_each_known-clause-told
+returns-in_err-record_each_known-clause-told g c =
+    let first = err_from_is_err_and c.from_residual.result c.from_residual.ensures.1 in
+    subst (λ (r : Result (Unit {0}) SetsFault). OnOk r (c.record_each_known.new.self ≡ noted_of_all g.B.Book.KEEPS_ENTRIES c.args.provider.now.plan c.args.self.now c.args.instrument c.args.all.now))
+    (sym first.1) tt
+
+pub returns-in_err-record_each_known-clause-refused : goal.returns-in_err-record_each_known-clause-refused
+returns-in_err-record_each_known-clause-refused g c =
+    let seat = c.args.self.now in
+    let all = c.args.all.now in
+    let first = err_from_is_err_and c.from_residual.result c.from_residual.ensures.1 in
+    let within : c.match-admitted.count ≤ length c.args.all.now =
+    elim c.match-admitted.branch [
+      | in-Ok w ↦ omega (arith, w.count-is)
+      | in-Err w ↦ omega (arith, w.count-is, unadmitted_there (provider_of c.plan.result.now c.run.result) c.args.self.now c.args.instrument c.args.all.now w.in-Err.fault w.in-Err.ensures.refused)
+    ] in
+    subst (λ (r : Result (Unit {0}) SetsFault). IfErr r (IsRefusedAfter (SeatSpares g.B.Book.KEEPS_ENTRIES g.B.Book.spares_memory) c.args.provider.now seat c.args.instrument all)) (sym first.1)
+    (subst (λ (fault : SetsFault). IsRefusedAfter (SeatSpares g.B.Book.KEEPS_ENTRIES g.B.Book.spares_memory) c.args.provider.now seat c.args.instrument all fault) (sym first.2)
+    (refused_within (SeatSpares g.B.Book.KEEPS_ENTRIES g.B.Book.spares_memory) c.args.provider.now seat c.args.instrument c.match-admitted.count all c.in_err-record_each_known.field-0.0 within
+    c.in_err-record_each_known.ensures.refused))
+
+pub returns-in_err-record_each_known-clause-told_before : goal.returns-in_err-record_each_known-clause-told_before
+returns-in_err-record_each_known-clause-told_before g c =
+    let seat = c.args.self.now in
+    let all = c.args.all.now in
+    let plan = c.args.provider.now.plan in
+    let new = c.record_each_known.new.self in
+    let first = err_from_is_err_and c.from_residual.result c.from_residual.ensures.1 in
+    let within : c.match-admitted.count ≤ length c.args.all.now =
+    elim c.match-admitted.branch [
+      | in-Ok w ↦ omega (arith, w.count-is)
+      | in-Err w ↦ omega (arith, w.count-is, unadmitted_there (provider_of c.plan.result.now c.run.result) c.args.self.now c.args.instrument c.args.all.now w.in-Err.fault w.in-Err.ensures.refused)
+    ] in
+    subst (λ (r : Result (Unit {0}) SetsFault). IfErr r (λ (fault : SetsFault). new ≡ noted_of_all g.B.Book.KEEPS_ENTRIES plan seat c.args.instrument (take fault.place all))) (sym first.1)
+    (subst (λ (fault : SetsFault). new ≡ noted_of_all g.B.Book.KEEPS_ENTRIES plan seat c.args.instrument (take fault.place all)) (sym first.2)
+    (c.in_err-record_each_known.ensures.told_before
+    ∙ ap (λ (made : List Measurement). noted_of_all g.B.Book.KEEPS_ENTRIES plan seat c.args.instrument made)
+    (same_before (SeatSpares g.B.Book.KEEPS_ENTRIES g.B.Book.spares_memory) c.args.provider.now seat c.args.instrument c.match-admitted.count all c.in_err-record_each_known.field-0.0 within
+    c.in_err-record_each_known.ensures.refused)))
+
+-- ---- those of which the seat was told
+
+pub returns-clause-told : goal.returns-clause-told
+returns-clause-told g c =
+    let seat = c.args.self.now in
+    let all = c.args.all.now in
+    let plan = c.args.provider.now.plan in
+    let new = c.record_each_known.new.self in
+    let told = c.in_ok-record_each_known.ensures.told in
+    elim c.match-admitted.branch [
+      | in-Ok w ↦
+          subst (λ (r : Result (Unit {0}) SetsFault). OnOk r (new ≡ noted_of_all g.B.Book.KEEPS_ENTRIES plan seat c.args.instrument all)) (sym (w.admitted-is ∙ w.in-Ok.is))
+          (told ∙ ap (λ (made : List Measurement). noted_of_all g.B.Book.KEEPS_ENTRIES plan seat c.args.instrument made) (take_all c.match-admitted.count all (omega (arith, w.count-is))))
+      | in-Err w ↦ subst (λ (r : Result (Unit {0}) SetsFault). OnOk r (new ≡ noted_of_all g.B.Book.KEEPS_ENTRIES plan seat c.args.instrument all)) (sym w.admitted-is) tt
+    ]
+
+pub returns-clause-told_before : goal.returns-clause-told_before
+returns-clause-told_before g c =
+    let seat = c.args.self.now in
+    let all = c.args.all.now in
+    let plan = c.args.provider.now.plan in
+    let new = c.record_each_known.new.self in
+    let told = c.in_ok-record_each_known.ensures.told in
+    elim c.match-admitted.branch [
+      | in-Ok w ↦
+          subst (λ (r : Result (Unit {0}) SetsFault). IfErr r (λ (fault : SetsFault). new ≡ noted_of_all g.B.Book.KEEPS_ENTRIES plan seat c.args.instrument (take fault.place all)))
+          (sym (w.admitted-is ∙ w.in-Ok.is)) tt
+      | in-Err w ↦
+          subst (λ (r : Result (Unit {0}) SetsFault). IfErr r (λ (fault : SetsFault). new ≡ noted_of_all g.B.Book.KEEPS_ENTRIES plan seat c.args.instrument (take fault.place all)))
+          (sym w.admitted-is) (told ∙ ap (λ (n : ℕ). noted_of_all g.B.Book.KEEPS_ENTRIES plan seat c.args.instrument (take n all)) w.count-is)
+    ]
