@@ -1,9 +1,11 @@
-//! A provider that is finished with the seats of another one, of the same plan and number of the run.
+//! A provider that is to end with the seats of another one of the same plan, and goes on.
 use crate::agreement::script_of;
 use crate::asserted::{OrFail, assert_equal};
 use crate::runs::write_finish;
 use crate::samples::MAIN;
 use crate::seats::{Seats, seats_of};
+use metric_provider::{Recorder, RollFault};
+use metric_sdk::MeterProvider;
 use std::alloc::Global;
 use std::process::Abort;
 use std::sync::Wait;
@@ -30,29 +32,80 @@ record 0 1 50
 collect 0 0 10
 ";
 
-// What the other provider's seat records: another sum of either counter, and other numbers of recordings.
-const OTHERS: &[&str] = &[
-    "%% catalogue
+// How a provider is to end: for good, or over into the next run.
+#[derive(Clone, Copy)]
+enum End {
+    Finish,
+    RollOver,
+}
+
+// The seats that are brought to the end of a run of number 1: those of another provider, of the run of a number, after a
+// script, none where there are to be none; and what that is refused for.
+struct Brought {
+    run: u64,
+    script: &'static str,
+    has_seats: bool,
+    refused: &'static str,
+}
+
+const AS_FIRST: &str = "%% catalogue
+%% config
+%% script
+start 7
+record 0 0 5
+record 0 1 50
+";
+
+// Seats of a run with the same number come with another sum of either counter, or with other numbers of recordings.
+const CASES: &[Brought] = &[
+    Brought {
+        run: 1,
+        script: "%% catalogue
 %% config
 %% script
 start 7
 record 0 0 4
 record 0 1 50
 ",
-    "%% catalogue
+        has_seats: true,
+        refused: "3 AuditMismatch, 1 seats",
+    },
+    Brought {
+        run: 1,
+        script: "%% catalogue
 %% config
 %% script
 start 7
 record 0 0 5
 record 0 1 49
 ",
-    "%% catalogue
+        has_seats: true,
+        refused: "3 AuditMismatch, 1 seats",
+    },
+    Brought {
+        run: 1,
+        script: "%% catalogue
 %% config
 %% script
 start 7
 record 0 0 5
 record 0 0 0
 ",
+        has_seats: true,
+        refused: "3 AuditMismatch, 1 seats",
+    },
+    Brought {
+        run: 2,
+        script: AS_FIRST,
+        has_seats: true,
+        refused: "2 Stranger, 1 seats",
+    },
+    Brought {
+        run: 1,
+        script: AS_FIRST,
+        has_seats: false,
+        refused: "1 RecorderMissing, 0 seats",
+    },
 ];
 
 const LAST: &str = "%% catalogue
@@ -64,12 +117,15 @@ record 0 1 30
 collect 0 1 20
 ";
 
-const TOLD: &str = "accepted
+// What is told before the refusal, and after it.
+const BEFORE: &str = "accepted
 accepted
 0 0, 0 to 1, 7 to 10: stream 0 [0 0] 5
 accepted
 accepted
-3 AuditMismatch, 1 seats
+";
+
+const AFTER: &str = "
 accepted
 accepted
 0 1, 0 to 2, 7 to 20: stream 1 [0 0] 80
@@ -88,53 +144,106 @@ fn write_script<R: Abort + Wait>(
     seats.write_answers(out, rt, alloc, script.events.as_slice());
 }
 
-// The seats of a provider since 7, after the events of a script.
-fn seats_after<R: Abort + Wait>(out: &mut String, rt: &R, alloc: Global, script: &str) -> Seats {
-    let mut seats: Seats = seats_of(rt, alloc, UNLIKE, MAIN, 7, 1);
+// The seats of a provider since 7, in the run of a number, after the events of a script.
+fn seats_after<R: Abort + Wait>(
+    out: &mut String,
+    rt: &R,
+    alloc: Global,
+    run: u64,
+    script: &str,
+) -> Seats {
+    let mut seats: Seats = seats_of(rt, alloc, UNLIKE, MAIN, 7, run);
     write_script(out, rt, alloc, &mut seats, script);
     seats
 }
 
-// Writes why a provider is not finished with the other's seats, and hands it back with its own.
+// The seats that are brought.
+fn brought_seats<R: Abort + Wait>(
+    out: &mut String,
+    rt: &R,
+    alloc: Global,
+    case: &Brought,
+) -> Vec<Recorder> {
+    let other = seats_after(out, rt, alloc, case.run, case.script);
+    let mut seats = other.recorders;
+    seats.truncate(if case.has_seats { 1 } else { 0 });
+    seats
+}
+
+// The provider that does not end with these seats, with them and the fault.
+fn not_ended<R: Abort + Wait>(
+    rt: &R,
+    alloc: Global,
+    provider: MeterProvider,
+    seats: Vec<Recorder>,
+    end: End,
+) -> (MeterProvider, Vec<Recorder>, RollFault) {
+    match end {
+        End::Finish => match provider.finish(rt, alloc, seats) {
+            Ok(_) => panic!(rt; "finished"),
+            Err((provider, seats, fault)) => (provider, seats, RollFault::Finish(fault)),
+        },
+        End::RollOver => match provider.roll_over(rt, alloc, seats, 100, 3) {
+            Ok(_) => panic!(rt; "rolled over"),
+            Err(refused) => refused,
+        },
+    }
+}
+
+// Writes why a provider does not end with the seats that are brought, and hands it back with its own.
 fn refused<R: Abort + Wait>(
     out: &mut String,
     rt: &R,
     alloc: Global,
     own: Seats,
-    other: Seats,
+    brought: Vec<Recorder>,
+    end: End,
 ) -> Seats {
     let Seats {
         provider,
         recorders,
         collectors,
     } = own;
-    match provider.finish(rt, alloc, other.recorders) {
-        Ok(_) => panic!(rt; "finished"),
-        Err((provider, others, fault)) => {
-            writeln!(out, "{fault}, {} seats", others.len()).or_fail(rt);
-            Seats {
-                provider,
-                recorders,
-                collectors,
-            }
-        }
+    let (provider, brought, fault) = not_ended(rt, alloc, provider, brought, end);
+    writeln!(out, "{fault}, {} seats", brought.len()).or_fail(rt);
+    Seats {
+        provider,
+        recorders,
+        collectors,
     }
 }
 
-// Writes what a provider answers its own seats before and after it is to be finished with the other's.
-fn write_crossed<R: Abort + Wait>(out: &mut String, rt: &R, alloc: Global, others: &str) {
-    let own = seats_after(out, rt, alloc, FIRST);
-    let other = seats_after(out, rt, alloc, others);
-    let mut own = refused(out, rt, alloc, own, other);
+// Writes what a provider answers its own seats before and after it is to end with others.
+fn write_crossed<R: Abort + Wait>(
+    out: &mut String,
+    rt: &R,
+    alloc: Global,
+    case: &Brought,
+    end: End,
+) {
+    let own = seats_after(out, rt, alloc, 1, FIRST);
+    let brought = brought_seats(out, rt, alloc, case);
+    let mut own = refused(out, rt, alloc, own, brought, end);
     write_script(out, rt, alloc, &mut own, LAST);
     write_finish(out, rt, alloc, own);
 }
 
+// What is to be told.
+fn wanted<R: Abort>(rt: &R, alloc: Global, case: &Brought) -> String {
+    let mut wanted = String::from_str(alloc, BEFORE).or_fail(rt);
+    wanted.push_str(case.refused).or_fail(rt);
+    wanted.push_str(AFTER).or_fail(rt);
+    wanted
+}
+
 #[test]
 fn a_provider_goes_on_after_the_seats_of_another(rt: HostRuntime) {
-    for others in OTHERS {
-        let mut told = String::new(rt.alloc());
-        write_crossed(&mut told, &rt, rt.alloc(), others);
-        assert_equal(&rt, told.as_str(), TOLD);
+    for case in CASES {
+        for end in [End::Finish, End::RollOver] {
+            let mut told = String::new(rt.alloc());
+            write_crossed(&mut told, &rt, rt.alloc(), case, end);
+            let wanted = wanted(&rt, rt.alloc(), case);
+            assert_equal(&rt, told.as_str(), wanted.as_str());
+        }
     }
 }

@@ -1,5 +1,5 @@
-//! What is done inside a lock: a recording, or a list of them, that is held there, and a second one of another instrument or
-//! of the same; and that each step of a provider is told there.
+//! What is done inside a lock: a step that is held there, and a recording of another instrument or of the same meanwhile; and
+//! that each step of a provider is told there.
 use crate::asserted::{OrFail, assert_equal};
 use crate::samples::{MAIN, PAIR};
 use metric_contents::Refusal;
@@ -13,25 +13,53 @@ use std::sync::atomic::{AtomicBool, AtomicU64, Ordering};
 use std::thread;
 use std::thread::{Threads, join};
 
-// How often a thread looks at most at a flag that is to be set.
+// How often a thread looks at most at what is to come.
 const TURNS: u32 = 1_000_000;
 
-// How often at one that is not: each look hands the processor on, and on a busy machine takes long.
-const HELD_TURNS: u32 = 20_000;
+// How often at what is not: each look hands the processor on, and on a busy machine takes long.
+const HELD_TURNS: u32 = 5_000;
 
-// Whether the first instrument was entered, whether the second recording was answered, whether that was seen inside, and
-// how often it is looked for there.
+// How many steps were made, whether the first instrument was entered, whether the second thread was answered, and whether a
+// step that was held saw another one or that answer; how many steps are held, and how often each looks.
 #[derive(Drop)]
 struct Flags {
+    steps: AtomicU64,
     is_inside: AtomicBool,
     is_answered: AtomicBool,
     is_seen: AtomicBool,
+    held: u64,
     turns: u32,
 }
 
-fn is_set_in_time(flag: &AtomicBool, turns: u32) -> bool {
-    for _ in 0..turns {
-        if flag.load(Ordering::SeqCst) {
+fn flags_for(case: &Case) -> Flags {
+    Flags {
+        steps: AtomicU64::new(0),
+        is_inside: AtomicBool::new(false),
+        is_answered: AtomicBool::new(false),
+        is_seen: AtomicBool::new(false),
+        held: if matches!(case.step, Step::List) {
+            2
+        } else {
+            1
+        },
+        turns: if case.is_seen { TURNS } else { HELD_TURNS },
+    }
+}
+
+// Waits until the first instrument is entered.
+fn wait_inside(flags: &Flags) {
+    for _ in 0..TURNS {
+        if flags.is_inside.load(Ordering::SeqCst) {
+            return;
+        }
+        thread::yield_now();
+    }
+}
+
+// Whether a step after those so far is made in time, or the second thread is answered.
+fn is_passed(flags: &Flags, so_far: u64) -> bool {
+    for _ in 0..flags.turns {
+        if flags.is_answered.load(Ordering::SeqCst) || flags.steps.load(Ordering::SeqCst) > so_far {
             return true;
         }
         thread::yield_now();
@@ -39,7 +67,7 @@ fn is_set_in_time(flag: &AtomicBool, turns: u32) -> bool {
     false
 }
 
-// Holds a step on the first instrument until the second recording was answered, so many turns at most.
+// Holds the first steps, which are on the first instrument, until another one is made, so many turns at most.
 #[derive(Clone, Copy, Drop)]
 struct Holding<'a> {
     flags: &'a Flags,
@@ -47,15 +75,27 @@ struct Holding<'a> {
 
 impl Gate for Holding<'_> {
     fn inside<R: Wait>(&self, _rt: &R, instrument: u32) {
-        if instrument == 0 {
+        let before = self.flags.steps.fetch_add(1, Ordering::SeqCst);
+        if instrument == 0 && before < self.flags.held {
             self.flags.is_inside.store(true, Ordering::SeqCst);
-            let is_seen = is_set_in_time(&self.flags.is_answered, self.flags.turns);
-            self.flags.is_seen.store(is_seen, Ordering::SeqCst);
+            if is_passed(self.flags, before.wrapping_add(1)) {
+                self.flags.is_seen.store(true, Ordering::SeqCst);
+            }
         }
     }
 }
 
 type Held<'a> = Provider<Marked, Holding<'a>>;
+
+// A step on the first instrument: a recording, a list of two, a collection, its end, or a grant.
+#[derive(Clone, Copy)]
+enum Step {
+    Record,
+    List,
+    Collect,
+    Close,
+    Grant,
+}
 
 fn record<R: Wait>(
     rt: &R,
@@ -67,16 +107,7 @@ fn record<R: Wait>(
     seat.record(rt, provider, instrument, &[], 1)
 }
 
-// Records on the first instrument, once or by a list of two.
-fn record_first<R: Wait>(
-    rt: &R,
-    provider: &Held<'_>,
-    seat: Recorder,
-    is_list: bool,
-) -> Result<(), Refusal> {
-    if !is_list {
-        return record(rt, provider, seat, 0);
-    }
+fn record_list<R: Wait>(rt: &R, provider: &Held<'_>, seat: Recorder) -> Result<(), Refusal> {
     let mut seat = seat;
     let one = Measurement {
         set: [0; 8],
@@ -88,6 +119,36 @@ fn record_first<R: Wait>(
     }
 }
 
+fn collect<R: Wait>(
+    rt: &R,
+    alloc: Global,
+    provider: &Held<'_>,
+    reader: Collector,
+) -> Result<(), Refusal> {
+    let mut reader = reader;
+    match reader.collect(rt, alloc, provider, 0, 10) {
+        Ok(_) => Ok(()),
+        Err(refusal) => Err(refusal),
+    }
+}
+
+// Makes a step on the first instrument.
+fn make_first<R: Wait>(
+    rt: &R,
+    alloc: Global,
+    provider: &Held<'_>,
+    (seat, reader): (Recorder, Collector),
+    step: Step,
+) -> Result<(), Refusal> {
+    match step {
+        Step::Record => record(rt, provider, seat, 0),
+        Step::List => record_list(rt, provider, seat),
+        Step::Collect => collect(rt, alloc, provider, reader),
+        Step::Close => provider.close(rt, 0),
+        Step::Grant => provider.grant(rt, 0, 0, 0),
+    }
+}
+
 // Records on an instrument while the first one is held, and tells that it was answered.
 fn record_second<R: Wait>(
     rt: &R,
@@ -96,7 +157,7 @@ fn record_second<R: Wait>(
     instrument: u32,
     flags: &Flags,
 ) -> Result<(), Refusal> {
-    is_set_in_time(&flags.is_inside, TURNS);
+    wait_inside(flags);
     let answer = record(rt, provider, seat, instrument);
     flags.is_answered.store(true, Ordering::SeqCst);
     answer
@@ -104,20 +165,25 @@ fn record_second<R: Wait>(
 
 type Answers = (Result<(), Refusal>, Result<(), Refusal>);
 
-// What the threads of the two recorders are answered.
+// What both threads are answered.
 fn both_answers<R: Abort + Threads + Wait + Sync>(
     rt: &R,
+    alloc: Global,
     provider: &Held<'_>,
-    mut seats: Vec<Recorder>,
-    (is_list, instrument): (bool, u32),
+    (mut seats, mut readers): (Vec<Recorder>, Vec<Collector>),
+    case: &Case,
     flags: &Flags,
 ) -> Answers {
     let (Some(second), Some(first)) = (seats.pop(), seats.pop()) else {
         panic!(rt; "no two recorders");
     };
+    let Some(reader) = readers.pop() else {
+        panic!(rt; "no reader");
+    };
+    let (step, instrument) = (case.step, case.instrument);
     join(
         rt,
-        move || record_first(rt, provider, first, is_list),
+        move || make_first(rt, alloc, provider, (first, reader), step),
         move || record_second(rt, provider, second, instrument, flags),
     )
 }
@@ -126,32 +192,77 @@ fn both_answers<R: Abort + Threads + Wait + Sync>(
 fn answers<R: Abort + Threads + Wait + Sync>(
     rt: &R,
     alloc: Global,
-    recordings: (bool, u32),
+    case: &Case,
     flags: &Flags,
 ) -> Answers {
     let plan = certified_plan(alloc, PAIR, MAIN).or_fail(rt);
     match start(rt, alloc, plan, 0, 0, Holding { flags }) {
-        Ok((provider, recorders, _)) => both_answers(rt, &provider, recorders, recordings, flags),
+        Ok((provider, recorders, readers)) => {
+            both_answers(rt, alloc, &provider, (recorders, readers), case, flags)
+        }
         Err((_, _, refused)) => Err(refused).or_fail(rt),
     }
 }
 
-// Whether the first recorder brings a list, the instrument of the second recording, and whether that is answered while the
-// first one is held: for a list, at its last recording.
-const CASES: &[(bool, u32, bool)] = &[(false, 1, true), (false, 0, false), (true, 0, false)];
+// The step of the first thread, the instrument of the second one's recording with its answer, and whether that is made while
+// the first one is held: for a list, at its last recording.
+struct Case {
+    step: Step,
+    instrument: u32,
+    answer: Result<(), Refusal>,
+    is_seen: bool,
+}
+
+const CASES: &[Case] = &[
+    Case {
+        step: Step::Record,
+        instrument: 1,
+        answer: Ok(()),
+        is_seen: true,
+    },
+    Case {
+        step: Step::Record,
+        instrument: 0,
+        answer: Ok(()),
+        is_seen: false,
+    },
+    Case {
+        step: Step::List,
+        instrument: 0,
+        answer: Ok(()),
+        is_seen: false,
+    },
+    Case {
+        step: Step::Collect,
+        instrument: 0,
+        answer: Ok(()),
+        is_seen: false,
+    },
+    Case {
+        step: Step::Close,
+        instrument: 0,
+        answer: Err(Refusal::Closed),
+        is_seen: false,
+    },
+    Case {
+        step: Step::Grant,
+        instrument: 0,
+        answer: Ok(()),
+        is_seen: false,
+    },
+];
 
 #[test]
-fn a_held_instrument_keeps_its_own_recordings(rt: HostRuntime) {
-    for (is_list, instrument, wanted) in CASES {
-        let flags = Flags {
-            is_inside: AtomicBool::new(false),
-            is_answered: AtomicBool::new(false),
-            is_seen: AtomicBool::new(false),
-            turns: if *wanted { TURNS } else { HELD_TURNS },
-        };
-        let answers = answers(&rt, rt.alloc(), (*is_list, *instrument), &flags);
+fn a_held_instrument_keeps_its_own_steps(rt: HostRuntime) {
+    for case in CASES {
+        let flags = flags_for(case);
+        let answers = answers(&rt, rt.alloc(), case, &flags);
         let is_seen = flags.is_seen.load(Ordering::SeqCst);
-        assert_equal(&rt, (answers, is_seen), ((Ok(()), Ok(())), *wanted));
+        assert_equal(
+            &rt,
+            (answers, is_seen),
+            ((Ok(()), case.answer), case.is_seen),
+        );
     }
 }
 
