@@ -4,7 +4,7 @@ ghost use Rattle.metric_commands.specs.Declarations.{IsDeclaredFault};
 ghost use Rattle.metric_console.specs.Answers.{AreRooms};
 
 use crate::fleet::fleet_limit;
-use crate::rows::instrument_word;
+use crate::rows::{instrument_word, push_text};
 use crate::time::lasting;
 use metric_advice::{Headroom, Limit, headrooms};
 use metric_base::Items;
@@ -116,18 +116,36 @@ impl RoomSheet<'_> {
     ) -> Result<Vec<Cell>, AllocError> {
         let mut row = Vec::new(alloc);
         row.push(Cell::Number(number as u128))?;
-        row.push(Cell::text(alloc, instrument.name.get().as_str())?)?;
-        row.push(Cell::text(alloc, instrument_word(instrument.kind))?)?;
-        self.push_lasting(alloc, &mut row, room.total)?;
-        self.push_lasting(alloc, &mut row, u128::from(room.most))?;
-        row.push(Cell::text(alloc, limit_word(room.limit))?)?;
+        self.push_room(alloc, &mut row, room, instrument)?;
+        push_text(alloc, &mut row, self.fleet_word(number, room, instrument))?;
+        Ok(row)
+    }
+
+    // What the instrument is, how often it may be recorded, and what would fail first.
+    fn push_room(
+        &self,
+        alloc: Global,
+        row: &mut Vec<Cell>,
+        room: &Headroom,
+        instrument: &Instrument,
+    ) -> Result<(), AllocError> {
+        push_text(alloc, row, instrument.name.get().as_str())?;
+        push_text(alloc, row, instrument_word(instrument.kind))?;
+        self.push_lasting(alloc, row, room.total)?;
+        self.push_lasting(alloc, row, u128::from(room.most))?;
+        push_text(alloc, row, limit_word(room.limit))
+    }
+
+    // Whether the sums of the fleet fit, or what does not.
+    fn fleet_word(&self, number: usize, room: &Headroom, instrument: &Instrument) -> &'static str {
         let is_summed = self.rooms.summed.as_slice().get(number) == Some(&true);
         let fleet = room
             .total
             .saturating_mul(u128::from(self.options.instances));
-        let word = fleet_word(fleet_limit(fleet, instrument, is_summed));
-        row.push(Cell::text(alloc, word)?)?;
-        Ok(row)
+        match fleet_limit(fleet, instrument, is_summed) {
+            None => "fits",
+            Some(limit) => limit_word(limit),
+        }
     }
 
     // A number of recordings, and how long they last.
@@ -156,13 +174,5 @@ fn limit_word(limit: Limit) -> &'static str {
         Limit::SumLow => "SumLow",
         Limit::SumHigh => "SumHigh",
         Limit::Series { .. } => "LimitExceeded",
-    }
-}
-
-// Whether the sums of a fleet fit, or what does not.
-fn fleet_word(limit: Option<Limit>) -> &'static str {
-    match limit {
-        None => "fits",
-        Some(limit) => limit_word(limit),
     }
 }

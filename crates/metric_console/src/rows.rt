@@ -66,10 +66,15 @@ fn push_names(
 ) -> Result<(), AllocError> {
     let reader = reader_name(declared, stream);
     let instrument = instrument_name(&declared.catalogue, stream.instrument);
-    row.push(Cell::text(alloc, reader)?)?;
-    row.push(Cell::text(alloc, instrument)?)?;
-    row.push(Cell::text(alloc, stream.name.get().as_str())?)?;
-    row.push(Cell::text(alloc, stream.unit.get().as_str())?)?;
+    push_text(alloc, row, reader)?;
+    push_text(alloc, row, instrument)?;
+    push_text(alloc, row, stream.name.get().as_str())?;
+    push_text(alloc, row, stream.unit.get().as_str())
+}
+
+/// Puts a text last.
+pub(crate) fn push_text(alloc: Global, row: &mut Vec<Cell>, text: &str) -> Result<(), AllocError> {
+    row.push(Cell::text(alloc, text)?)?;
     Ok(())
 }
 
@@ -80,8 +85,8 @@ fn push_kinds(
     declared: &Declared,
     stream: &Stream,
 ) -> Result<(), AllocError> {
-    row.push(Cell::text(alloc, kind_word(stream))?)?;
-    row.push(Cell::text(alloc, temporality_word(stream.temporality))?)?;
+    push_text(alloc, row, kind_word(stream))?;
+    push_text(alloc, row, temporality_word(stream.temporality))?;
     let instruments = declared.catalogue.instruments();
     row.push(match instruments.get(stream.instrument as usize) {
         Some(instrument) => kept_cell(alloc, instrument, stream)?,
@@ -104,7 +109,7 @@ fn push_bounds(
     let series = sets.min(total).min(u128::from(stream.limit));
     row.push(Cell::Number(sets))?;
     row.push(Cell::Number(u128::from(stream.limit)))?;
-    row.push(Cell::text(alloc, within.word())?)?;
+    push_text(alloc, row, within.word())?;
     row.push(Cell::Number(table_bytes(series, stream)))?;
     Ok(())
 }

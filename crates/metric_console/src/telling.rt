@@ -129,13 +129,11 @@ fn told_kit(
     match fault {
         KitFault::Catalogue(fault) => {
             let source = source_of(&files.catalogue, &texts.parts.catalogue);
-            let told = diagnose_catalogue(alloc, source, fault)?;
-            spelled(alloc, &told)
+            spelled(alloc, diagnose_catalogue(alloc, source, fault))
         }
         KitFault::Config(fault) => {
             let source = source_of(&files.config, &texts.parts.config);
-            let told = diagnose_config(alloc, source, fault)?;
-            spelled(alloc, &told)
+            spelled(alloc, diagnose_config(alloc, source, fault))
         }
         KitFault::Make(fault) => told_make(alloc, files, texts, fault),
         KitFault::Input { line } => told_script(alloc, files, texts, line),
@@ -158,12 +156,12 @@ fn told_certificate(
     };
     match fault {
         KitFault::Certificate(fault) => {
-            let told = diagnose_certificate(alloc, source_of(path, text), fault)?;
-            spelled(alloc, &told)
+            let source = source_of(path, text);
+            spelled(alloc, diagnose_certificate(alloc, source, fault))
         }
         KitFault::Check(fault) => {
-            let told = diagnose_check(alloc, source_of(path, text), fault)?;
-            spelled(alloc, &told)
+            let source = source_of(path, text);
+            spelled(alloc, diagnose_check(alloc, source, fault))
         }
         _ => told_plain(alloc, fault),
     }
@@ -178,8 +176,8 @@ fn told_make(
 ) -> Result<String, AllocError> {
     match declared_of(alloc, &texts.parts) {
         Ok(declared) => {
-            let told = diagnose_make(alloc, pair_of(files, texts, &declared), fault)?;
-            spelled(alloc, &told)
+            let pair = pair_of(files, texts, &declared);
+            spelled(alloc, diagnose_make(alloc, pair, fault))
         }
         Err(fault) => told_plain(alloc, fault),
     }
@@ -201,8 +199,12 @@ fn pair_of<'t>(files: &'t Files, texts: &'t Texts, declared: &'t Declared) -> Pa
     }
 }
 
-// What is told of a fault, with the line that it is in.
-fn spelled<F>(alloc: Global, told: &Diagnosis<'_, F>) -> Result<String, AllocError> {
+// What is told of a fault, with the line that it is in, where both could be made.
+fn spelled<F: Drop>(
+    alloc: Global,
+    told: Result<Diagnosis<'_, F>, AllocError>,
+) -> Result<String, AllocError> {
+    let told = told?;
     let excerpt = told.excerpt();
     format!(in alloc; "{told}\n{excerpt}")
 }
@@ -233,7 +235,7 @@ pub(crate) fn push_note(
     notes: &Notes,
     remark: Remark,
 ) -> Result<(), AllocError> {
-    let told = diagnose_remark(alloc, pair_of(files, texts, &notes.declared), remark)?;
-    let text = spelled(alloc, &told)?;
+    let pair = pair_of(files, texts, &notes.declared);
+    let text = spelled(alloc, diagnose_remark(alloc, pair, remark))?;
     note.push_str(text.as_str())
 }
