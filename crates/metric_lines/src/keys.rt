@@ -60,8 +60,8 @@ fn push_attributes(
     }
 }
 
-// The attribute of a key, where it is kept and its entry names a value.
-fn attribute_of(key: &Key, keep: bool, entry: u16) -> Option<Pair<'_>>
+/// The attribute of a key in a series, where the stream keeps the key and the entry of the set key names a value of it.
+pub fn attribute_of(key: &Key, keep: bool, entry: u16) -> Option<Pair<'_>>
     ensures { option_map (λ pair. (pair.key.now, pair.value.now)) result
         ≡ attribute_of key.now keep entry }
 {

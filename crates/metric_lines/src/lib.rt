@@ -11,4 +11,5 @@ mod point;
 mod stream;
 
 pub use batch::push_batch;
+pub use keys::attribute_of;
 pub use stream::{push_shown, push_warning};

@@ -1,0 +1,8 @@
+-- what is written so far
+use Rattle.std.proofs.Common.{◌≡◌, ◌++◌, take}
+use Rattle.std.specs.List.{flat_map}
+use Rattle.metric_otlp.specs.Json.{escape}
+use Rattle.metric_otlp.proofs.json.push_escaped.Given as goal
+
+abbrev pub invariant-loop-byte : goal.invariant-loop-byte
+invariant-loop-byte l = l.out.items ≡ l.fn.out.items ++ flat_map escape (take l.byte-index l.text)

@@ -1,0 +1,14 @@
+pub mod Resources
+pub mod Series
+pub mod Fields
+pub mod Points
+pub mod Reports
+pub mod Reported
+pub mod Metrics
+pub mod Scopes
+pub mod Requests
+pub mod Json
+pub mod Members
+pub mod SeriesJson
+pub mod PointsJson
+pub mod Lines

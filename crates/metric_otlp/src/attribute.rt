@@ -1,0 +1,99 @@
+//! Attributes.
+ghost use Rattle.std.specs.Prelude.{◌≡◌, ◌++◌, OnOk};
+ghost use Rattle.std.specs.List.{flat_map};
+ghost use Rattle.metric_lines.specs.Keys.{attributes_of};
+ghost use Rattle.metric_wire.specs.Wire.{block};
+ghost use Rattle.metric_otlp.specs.Series.{any_value, attribute_field, series_fields};
+
+use crate::field::push_text;
+use metric_contents::{Key, SetKey};
+use metric_lines::attribute_of;
+use metric_names::AttrValue;
+use metric_wire::{push_block, push_varint_field};
+use std::alloc::{AllocError, Global};
+
+/// The key of the overflow point's only attribute (Metrics SDK, overflow attribute).
+pub(crate) const OVERFLOW_KEY: &str = "otel.metric.overflow";
+
+/// Writes the attributes of a series, or the mark of the overflow series, which has no set key.
+#[tactic(auto, unfolding(crate::specs::Series::series_fields))]
+pub(crate) fn push_series(
+    alloc: Global,
+    out: &mut Vec<u8>,
+    field: u32,
+    keys: &[Key],
+    kept: &[bool],
+    set: &Option<SetKey>,
+) -> Result<(), AllocError>
+    ensures { OnOk result (out.new.items
+        ≡ out.old.items ++ series_fields field keys.now kept.now set.now) }
+{
+    match set {
+        Some(set) => push_attributes(alloc, out, field, keys, kept, set.as_slice()),
+        None => push_attribute(alloc, out, field, OVERFLOW_KEY, &AttrValue::Flag(true)),
+    }
+}
+
+// Writes the attributes that are kept and present.
+fn push_attributes(
+    alloc: Global,
+    out: &mut Vec<u8>,
+    field: u32,
+    keys: &[Key],
+    kept: &[bool],
+    set: &[u16],
+) -> Result<(), AllocError>
+    ensures { OnOk result (out.new.items ≡ out.old.items
+        ++ flat_map (attribute_field field) (attributes_of keys.now kept.now set.now)) }
+{
+    let Some((key, keys)) = keys.split_first() else {
+        return Ok(());
+    };
+    let Some((keep, kept)) = kept.split_first() else {
+        return Ok(());
+    };
+    let Some((entry, set)) = set.split_first() else {
+        return Ok(());
+    };
+    if let Some(pair) = attribute_of(key, *keep, *entry) {
+        push_attribute(alloc, out, field, pair.key, pair.value)?;
+    }
+    push_attributes(alloc, out, field, keys, kept, set)
+}
+
+/// Writes an attribute: a message `KeyValue`.
+#[tactic(auto, unfolding(crate::specs::Series::attribute_field))]
+pub(crate) fn push_attribute(
+    alloc: Global,
+    out: &mut Vec<u8>,
+    field: u32,
+    key: &str,
+    value: &AttrValue,
+) -> Result<(), AllocError>
+    ensures { OnOk result (out.new.items
+        ≡ out.old.items ++ attribute_field field (key.now, value.now)) }
+{
+    let mut message = Vec::new(alloc);
+    push_text(&mut message, 1, key)?;
+    push_value(alloc, &mut message, value)?;
+    push_block(out, field, message.as_slice())
+}
+
+// Writes the value of an attribute: a message `AnyValue`.
+fn push_value(alloc: Global, out: &mut Vec<u8>, value: &AttrValue) -> Result<(), AllocError>
+    ensures { OnOk result (out.new.items ≡ out.old.items ++ block 2 (any_value value.now)) }
+{
+    let mut message = Vec::new(alloc);
+    push_any_value(&mut message, value)?;
+    push_block(out, 2, message.as_slice())
+}
+
+fn push_any_value(out: &mut Vec<u8>, value: &AttrValue) -> Result<(), AllocError>
+    ensures { OnOk result (out.new.items ≡ out.old.items ++ any_value value.now) }
+{
+    match value {
+        AttrValue::Text(text) => push_block(out, 1, text.as_str().as_bytes()),
+        AttrValue::Flag(flag) => push_varint_field(out, 2, u64::from(*flag)),
+        AttrValue::Whole(number) => push_varint_field(out, 3, number.cast_unsigned()),
+    }
+}

@@ -1,0 +1,172 @@
+//! Metrics, and the scope that they are of.
+ghost use Rattle.std.specs.Prelude.{◌≡◌, ◌++◌, OnOk, map};
+ghost use Rattle.std.specs.List.{flat_map};
+ghost use Rattle.metric_otlp.specs.Metrics.{bounds_of, covers, data_message, data_number, metric_field};
+ghost use Rattle.metric_otlp.specs.Metrics.{points_fields, rises, temporality_number};
+ghost use Rattle.metric_otlp.specs.Reported.{report_by, reported_by};
+ghost use Rattle.metric_otlp.specs.Scopes.{meter_message, metrics_fields, scope_message};
+ghost use Rattle.metric_otlp.specs.Series.{text_field};
+ghost use Rattle.metric_wire.specs.Wire.{block};
+
+use crate::field::{Field, push_message, push_number, push_text};
+use crate::point::push_point;
+use crate::report::{Report, Reported};
+use metric_contents::{Key, Kind, Meter};
+use metric_history::{Batch, Point};
+use metric_views::{Stream, StreamAggregation, Temporality};
+use std::alloc::{AllocError, Global};
+
+/// Writes what a batch reports: its meter, a metric for each stream, and the meter's schema URL.
+#[tactic(auto, unfolding(crate::specs::Scopes::scope_message))]
+pub(crate) fn push_scope(
+    alloc: Global,
+    out: &mut Vec<u8>,
+    batch: &Batch,
+    report: &Report<'_>,
+) -> Result<(), AllocError>
+    ensures { OnOk result (out.new.items
+        ≡ out.old.items ++ scope_message batch.now (report_by report.now)) }
+{
+    push_meter(alloc, out, report.meter)?;
+    push_metrics(alloc, out, report.keys, batch, report.streams.as_slice())?;
+    push_text(out, 3, report.meter.schema_url.as_str())
+}
+
+#[tactic(auto, unfolding(crate::specs::Scopes::meter_message))]
+fn push_meter(alloc: Global, out: &mut Vec<u8>, meter: &Meter) -> Result<(), AllocError>
+    ensures { OnOk result (out.new.items ≡ out.old.items ++ block 1 (meter_message meter.now)) }
+{
+    let fields = [
+        Field::Text(1, meter.name.as_str()),
+        Field::Text(2, meter.version.as_str()),
+    ];
+    push_message(alloc, out, 1, &fields)
+}
+
+fn push_metrics(
+    alloc: Global,
+    out: &mut Vec<u8>,
+    keys: &[Key],
+    batch: &Batch,
+    streams: &[Reported<'_>],
+) -> Result<(), AllocError>
+    ensures { OnOk result (out.new.items ≡ out.old.items
+        ++ metrics_fields keys.now batch.now (map reported_by streams.now)) }
+{
+    let Some((reported, streams)) = streams.split_first() else {
+        return Ok(());
+    };
+    push_metric(alloc, out, keys, batch, reported.stream, reported.points)?;
+    push_metrics(alloc, out, keys, batch, streams)
+}
+
+// Writes a message `Metric`.
+#[tactic(auto, unfolding(crate::specs::Metrics::metric_message))]
+fn push_metric(
+    alloc: Global,
+    out: &mut Vec<u8>,
+    keys: &[Key],
+    batch: &Batch,
+    stream: &Stream,
+    points: &[Point],
+) -> Result<(), AllocError>
+    ensures { OnOk result (out.new.items ≡ out.old.items
+        ++ metric_field keys.now batch.now (record { stream = stream.now; points = points.now })) }
+{
+    let mut data = Vec::new(alloc);
+    push_data(alloc, &mut data, keys, batch, stream, points)?;
+    let fields = [
+        Field::Text(1, stream.name.get().as_str()),
+        Field::Text(2, stream.description.get().as_str()),
+        Field::Text(3, stream.unit.get().as_str()),
+        Field::Message(data_number(&stream.aggregation), data.as_slice()),
+    ];
+    push_message(alloc, out, 2, &fields)
+}
+
+// Writes the points of a stream, and what they are.
+fn push_data(
+    alloc: Global,
+    out: &mut Vec<u8>,
+    keys: &[Key],
+    batch: &Batch,
+    stream: &Stream,
+    points: &[Point],
+) -> Result<(), AllocError>
+    ensures { OnOk result (out.new.items ≡ out.old.items
+        ++ data_message keys.now batch.now stream.now points.now) }
+{
+    push_points(alloc, out, keys, batch, stream, points)?;
+    push_number(out, 2, covers(stream.temporality, &stream.aggregation))?;
+    push_number(out, 3, u64::from(rises(stream.kind, &stream.aggregation)))
+}
+
+#[tactic(auto, using(metric_text::specs::ListLaws::steps))]
+fn push_points(
+    alloc: Global,
+    out: &mut Vec<u8>,
+    keys: &[Key],
+    batch: &Batch,
+    stream: &Stream,
+    points: &[Point],
+) -> Result<(), AllocError>
+    ensures { OnOk result (out.new.items ≡ out.old.items
+        ++ points_fields keys.now batch.now stream.now points.now) }
+{
+    let kept = stream.kept.get().as_slice();
+    let bounds = bounds_of(&stream.aggregation);
+    for point in points {
+        push_point(alloc, out, keys, kept, bounds, batch, point)?;
+    }
+    Ok(())
+}
+
+/// The boundaries of a histogram, none of another stream.
+pub(crate) fn bounds_of(aggregation: &StreamAggregation) -> &[i64]
+    ensures { result.now ≡ bounds_of aggregation.entry.now }
+{
+    match aggregation {
+        StreamAggregation::Sum | StreamAggregation::LastValue => &[],
+        StreamAggregation::Histogram(boundaries) => boundaries.get().as_slice(),
+    }
+}
+
+/// What the points of sums and histograms cover, as the number of an aggregation temporality; 0 for last values.
+pub(crate) fn covers(temporality: Temporality, aggregation: &StreamAggregation) -> u64
+    ensures { result ≡ covers temporality aggregation.now }
+{
+    match aggregation {
+        StreamAggregation::Sum | StreamAggregation::Histogram(_) => temporality_number(temporality),
+        StreamAggregation::LastValue => 0,
+    }
+}
+
+fn temporality_number(temporality: Temporality) -> u64
+    ensures { result ≡ temporality_number temporality }
+{
+    match temporality {
+        Temporality::Delta => 1,
+        Temporality::Cumulative => 2,
+    }
+}
+
+/// Whether points are sums that only rise.
+pub(crate) fn rises(kind: Kind, aggregation: &StreamAggregation) -> bool
+    ensures { result ≡ rises kind aggregation.now }
+{
+    match aggregation {
+        StreamAggregation::Sum => kind.is_monotonic(),
+        StreamAggregation::Histogram(_) | StreamAggregation::LastValue => false,
+    }
+}
+
+// The field of a metric that has its points.
+fn data_number(aggregation: &StreamAggregation) -> u32
+    ensures { result ≡ data_number aggregation.now }
+{
+    match aggregation {
+        StreamAggregation::LastValue => 5,
+        StreamAggregation::Sum => 7,
+        StreamAggregation::Histogram(_) => 9,
+    }
+}
