@@ -33,9 +33,14 @@ impl Model for Resource {
 
 impl Resource {
     /// The resource of copies of these attributes, or the first fault that they have.
+    #[tactic(auto, unfolding(crate::specs::Resources::resource_of))]
     pub fn new(alloc: Global, attributes: &[Attr<'_>]) -> Result<Resource, ResourceFault>
         ensures { Gives ResourceFault.Memory result (resource_of (map owned_by attributes.now)) }
     {
+        // Copies are made one below the other, so no list is copied that is refused.
+        if attributes.len() > MOST {
+            return Err(ResourceFault::TooMany);
+        }
         let mut owned = Vec::new(alloc);
         push_owned(alloc, &mut owned, attributes)?;
         Resource::from_items(Items::from_vec(owned))
