@@ -25,10 +25,12 @@
 //!    [`ListTicker`]; it hands each batch on to a [`MetricExporter`], as a [`TextExporter`] is, flushes that after each
 //!    collection, and at its end collects a last time. What it did is a [`PeriodicEnd`], and what it has done so far other
 //!    threads read of its [`RunningCounts`]; `StopFlag::wake` lets it export now. An [`Encoding`] says what a batch is as
-//!    bytes, [`Plain`] its text; `TextExporter::of` and `ReopeningExporter::of` write in any. An exporter's fault is an
-//!    [`ExportFault`]: a [`Queued`] keeps what was refused and tries it again before the next, so that the window of a delta
-//!    reader is not lost, and a [`ReopeningExporter`] opens its sink anew. An exporter of one's own takes a batch apart: it has the [`StreamPoints`] of each [`Stream`], a [`Point`] the [`PointValue`] of one series, whose [`attributes`]
-//!    the plan knows. By hand: a [`Collector`] collects the [`Batch`] of one instrument or of all, up to an [`AllFault`], and
+//!    bytes, [`Plain`] its text, [`OtlpLines`] the lines that the OpenTelemetry Collector reads of a file, [`OtlpBytes`] what
+//!    an OTLP receiver takes, both with the attributes of a [`Resource`] (or a [`ResourceFault`]); `TextExporter::of` and
+//!    `ReopeningExporter::of` write in any. An exporter's fault is an [`ExportFault`]: a [`Queued`] keeps what was refused and
+//!    tries it again before the next, so that the window of a delta reader is not lost, and a [`ReopeningExporter`] opens its
+//!    sink anew. An exporter of one's own takes a batch apart: it has the [`StreamPoints`] of each [`Stream`], a [`Point`] the
+//!    [`PointValue`] of one series, whose [`attributes`] the plan knows. By hand: a [`Collector`] collects the [`Batch`] of one instrument or of all, up to an [`AllFault`], and
 //!    [`write_batch`] writes its text, [`write_encoded`] its bytes. (A collection takes 23 to 54 ns a point.)
 //! 6. **End.** [`shutdown_all`] lets readers collect a last time, exports what they give, flushes, and finishes the provider; an
 //!    [`EndFault`] has each cause, and hands back what is left. `Provider::finish` alone gives the [`Totals`], a [`Total`] for
@@ -195,6 +197,10 @@ pub use metric_make::make;
 pub use metric_marked::Marked;
 pub use metric_names::AttrValue;
 pub use metric_names::ValueRef;
+pub use metric_otlp::Resource;
+pub use metric_otlp::ResourceFault;
+pub use metric_outlets::OtlpBytes;
+pub use metric_outlets::OtlpLines;
 pub use metric_periodic::Periodic;
 pub use metric_periodic::PeriodicEnd;
 pub use metric_periodic::RunningCounts;
