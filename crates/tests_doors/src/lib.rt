@@ -14,3 +14,5 @@ mod faults;
 mod handles;
 #[cfg(test)]
 mod life;
+#[cfg(test)]
+mod outlets;
