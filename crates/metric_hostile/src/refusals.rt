@@ -33,9 +33,10 @@ pub(crate) fn print_answers<R: Print + Wait>(
 ) -> anyhow::Result<()> {
     let words = words::words_of(words)?;
     let answers = calls::answers_of(rt, alloc, &words)?;
+    let (first, second, state) = (&answers.first, &answers.second, &answers.state);
     print!(rt;
         "first\n{}second\n{}state\n{}",
-        answers.first, answers.second, answers.state
+        first.text, second.text, state.text
     )?;
     Ok(())
 }

@@ -24,6 +24,7 @@ use anyhow::bail;
 use metric_book::Book;
 use metric_sdk::{Audited, Marked};
 use std::alloc::Global;
+use std::io;
 use std::sync::Wait;
 use std::thread::{Threads, available_parallelism};
 use std::time::{Clock, Instant};
@@ -102,7 +103,8 @@ fn soak<R: Threads + Wait + Clock + Print + Sync>(
     }
     println!(rt; "{} recorders and 2 readers", setup.recorders)?;
     print_figures(rt, "marked", &marked)?;
-    print_figures(rt, "audited", &audited)
+    print_figures(rt, "audited", &audited)?;
+    Ok(())
 }
 
 // Makes a round, whose number of a run no other has, and adds its figures.
@@ -119,18 +121,34 @@ fn add_round<R: Threads + Wait + Clock + Sync, B: Book + Send + Sync>(
     }
 }
 
-fn print_figures<R: Print>(rt: &R, book: &str, figures: &Figures) -> anyhow::Result<()> {
-    println!(rt;
-        "{book}: {} rounds, {} recordings accepted, {} refused as closed, {} beyond a budget",
-        figures.rounds, figures.accepted, figures.closed, figures.beyond
-    )?;
-    println!(rt;
-        "{book}: {} grants, {} delta and {} cumulative collections, {} points",
-        figures.grants, figures.deltas, figures.cumulatives, figures.points
-    )?;
-    println!(rt;
-        "{book}: {} totals settled, {} batches of {} recordings audited, nothing is off",
-        figures.settled, figures.batches, figures.entries
-    )?;
-    Ok(())
+fn print_figures<R: Print>(rt: &R, book: &str, figures: &Figures) -> io::Result<()> {
+    let recordings = [
+        (figures.rounds, " rounds, "),
+        (figures.accepted, " recordings accepted, "),
+        (figures.closed, " refused as closed, "),
+        (figures.beyond, " beyond a budget"),
+    ];
+    let collections = [
+        (figures.grants, " grants, "),
+        (figures.deltas, " delta and "),
+        (figures.cumulatives, " cumulative collections, "),
+        (figures.points, " points"),
+    ];
+    let compared = [
+        (figures.settled, " totals settled, "),
+        (figures.batches, " batches of "),
+        (figures.entries, " recordings audited, nothing is off"),
+    ];
+    print_line(rt, book, &recordings)?;
+    print_line(rt, book, &collections)?;
+    print_line(rt, book, &compared)
+}
+
+// Prints a line of what a book did: each figure, and what stands behind it.
+fn print_line<R: Print>(rt: &R, book: &str, figures: &[(u64, &str)]) -> io::Result<()> {
+    print!(rt; "{book}: ")?;
+    for (figure, name) in figures {
+        print!(rt; "{}{}", *figure, *name)?;
+    }
+    println!(rt; "")
 }

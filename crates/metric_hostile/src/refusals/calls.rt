@@ -2,6 +2,7 @@
 use crate::refusals::answers::Answers;
 use crate::refusals::words::{BookName, Booked, Call, Plain, Words};
 use crate::refusals::{certificates, collections, cores, ends, recordings, replays};
+use anyhow::bail;
 use metric_book::Book;
 use metric_journal::JournalBook;
 use metric_sdk::{Audited, Marked};
@@ -10,48 +11,64 @@ use std::sync::Wait;
 
 /// What the call answers that the words name.
 pub(crate) fn answers_of<R: Wait>(rt: &R, alloc: Global, words: &Words) -> anyhow::Result<Answers> {
+    let mut answers = Answers::new(alloc);
+    answer(&mut answers, rt, alloc, words)?;
+    if !answers.are_whole() {
+        bail!("what a call answered could not be told");
+    }
+    Ok(answers)
+}
+
+fn answer<R: Wait>(
+    answers: &mut Answers,
+    rt: &R,
+    alloc: Global,
+    words: &Words,
+) -> anyhow::Result<()> {
     match words.call {
-        Call::Plain(plain) => plain_answers(rt, alloc, plain, words),
+        Call::Plain(plain) => answer_plain(answers, rt, alloc, plain, words),
         Call::Booked(booked) => match words.book {
-            BookName::Journal => booked_answers::<R, JournalBook>(rt, alloc, booked, words),
-            BookName::Marked => booked_answers::<R, Marked>(rt, alloc, booked, words),
-            BookName::Audited => booked_answers::<R, Audited>(rt, alloc, booked, words),
+            BookName::Journal => answer_booked::<R, JournalBook>(answers, rt, alloc, booked, words),
+            BookName::Marked => answer_booked::<R, Marked>(answers, rt, alloc, booked, words),
+            BookName::Audited => answer_booked::<R, Audited>(answers, rt, alloc, booked, words),
         },
     }
 }
 
-fn plain_answers<R: Wait>(
+fn answer_plain<R: Wait>(
+    answers: &mut Answers,
     rt: &R,
     alloc: Global,
     plain: Plain,
     words: &Words,
-) -> anyhow::Result<Answers> {
+) -> anyhow::Result<()> {
     match plain {
-        Plain::Make => certificates::made(alloc, words.data),
-        Plain::Write => certificates::written(alloc, words.data),
-        Plain::Read => certificates::read(alloc, words.data),
-        Plain::Check => certificates::checked(alloc, words.data),
-        Plain::Trial => certificates::tried(alloc, words.data),
-        Plain::Audit => ends::audited(rt, alloc, words.data),
-        Plain::Replay => replays::replayed(alloc, words.data),
+        Plain::Make => certificates::answer_make(answers, alloc, words.data),
+        Plain::Write => certificates::answer_write(answers, alloc, words.data),
+        Plain::Read => certificates::answer_read(answers, alloc, words.data),
+        Plain::Check => certificates::answer_check(answers, alloc, words.data),
+        Plain::Trial => certificates::answer_trial(answers, alloc, words.data),
+        Plain::Audit => ends::answer_audit(answers, rt, alloc, words.data),
+        Plain::Replay => replays::answer_replay(answers, alloc, words.data),
     }
 }
 
-fn booked_answers<R: Wait, B: Book>(
+fn answer_booked<R: Wait, B: Book>(
+    answers: &mut Answers,
     rt: &R,
     alloc: Global,
     booked: Booked,
     words: &Words,
-) -> anyhow::Result<Answers> {
+) -> anyhow::Result<()> {
     match booked {
-        Booked::New => cores::begun::<B>(alloc, words.data),
-        Booked::Run => cores::ran::<B>(alloc, words),
-        Booked::Start => recordings::begun::<R, B>(rt, alloc, words.data),
-        Booked::Record => recordings::recorded::<R, B>(rt, alloc, words),
-        Booked::Collect => collections::collected::<R, B>(rt, alloc, words),
-        Booked::CollectAll => collections::all_collected::<R, B>(rt, alloc, words),
-        Booked::Shutdown => collections::shut_down::<R, B>(rt, alloc, words),
-        Booked::Finish => ends::finished::<R, B>(rt, alloc, words.data),
-        Booked::Grant => cores::granted::<B>(alloc, words),
+        Booked::New => cores::answer_new::<B>(answers, alloc, words.data),
+        Booked::Run => cores::answer_run::<B>(answers, alloc, words),
+        Booked::Start => recordings::answer_start::<R, B>(answers, rt, alloc, words.data),
+        Booked::Record => recordings::answer_record::<R, B>(answers, rt, alloc, words),
+        Booked::Collect => collections::answer_collect::<R, B>(answers, rt, alloc, words),
+        Booked::CollectAll => collections::answer_collect_all::<R, B>(answers, rt, alloc, words),
+        Booked::Shutdown => collections::answer_shutdown::<R, B>(answers, rt, alloc, words),
+        Booked::Finish => ends::answer_finish::<R, B>(answers, rt, alloc, words.data),
+        Booked::Grant => cores::answer_grant::<B>(answers, alloc, words),
     }
 }

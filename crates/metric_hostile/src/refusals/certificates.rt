@@ -1,5 +1,5 @@
 //! The calls that lead to a plan.
-use crate::refusals::answers::Answers;
+use crate::refusals::answers::{Answers, Told};
 use crate::refusals::inputs::Data;
 use crate::refusals::mark::mark;
 use crate::refusals::prepared::{Declared, certificate_of, declared_of};
@@ -12,111 +12,111 @@ use std::alloc::{AllocError, Global};
 type Checked = Result<Plan, (Catalogue, Config, CheckFault)>;
 
 /// Makes a certificate.
-pub(crate) fn made(alloc: Global, data: &Data) -> anyhow::Result<Answers> {
-    let mut answers = Answers::new(alloc);
+pub(crate) fn answer_make(answers: &mut Answers, alloc: Global, data: &Data) -> anyhow::Result<()> {
     let declared = declared_of(alloc, data)?;
     mark(alloc);
     let first = make(alloc, &declared.catalogue, &declared.config);
     mark(alloc);
-    push_made(&mut answers.first, alloc, first)?;
+    push_made(&mut answers.first, alloc, first);
     let second = make(alloc, &declared.catalogue, &declared.config);
-    push_made(&mut answers.second, alloc, second)?;
-    Ok(answers)
+    push_made(&mut answers.second, alloc, second);
+    Ok(())
 }
 
-fn push_made(
-    out: &mut String,
-    alloc: Global,
-    answer: Result<Certificate, MakeFault>,
-) -> Result<(), AllocError> {
+fn push_made(out: &mut Told, alloc: Global, answer: Result<Certificate, MakeFault>) {
     match answer {
         Ok(certificate) => push_written(out, certificate.write(alloc)),
-        Err(fault) => writeln!(out, "fault {fault}"),
+        Err(fault) => out.push_line("fault", &fault),
     }
 }
 
 /// Writes a certificate.
-pub(crate) fn written(alloc: Global, data: &Data) -> anyhow::Result<Answers> {
-    let mut answers = Answers::new(alloc);
+pub(crate) fn answer_write(
+    answers: &mut Answers,
+    alloc: Global,
+    data: &Data,
+) -> anyhow::Result<()> {
     let certificate = certificate_of(alloc, data)?;
     mark(alloc);
     let first = certificate.write(alloc);
     mark(alloc);
-    push_written(&mut answers.first, first)?;
-    push_written(&mut answers.second, certificate.write(alloc))?;
-    Ok(answers)
+    push_written(&mut answers.first, first);
+    push_written(&mut answers.second, certificate.write(alloc));
+    Ok(())
 }
 
-fn push_written(out: &mut String, answer: Result<String, AllocError>) -> Result<(), AllocError> {
+fn push_written(out: &mut Told, answer: Result<String, AllocError>) {
     match answer {
-        Ok(text) => out.push_str(&text),
-        Err(_) => out.push_str("fault memory\n"),
+        Ok(text) => out.push(&text),
+        Err(_) => out.push("fault memory\n"),
     }
 }
 
 /// Reads a certificate.
-pub(crate) fn read(alloc: Global, data: &Data) -> anyhow::Result<Answers> {
-    let mut answers = Answers::new(alloc);
+pub(crate) fn answer_read(answers: &mut Answers, alloc: Global, data: &Data) -> anyhow::Result<()> {
     let text = certificate_of(alloc, data)?.write(alloc)?;
     mark(alloc);
     let first = Certificate::read(alloc, &text);
     mark(alloc);
-    push_read(&mut answers.first, alloc, first)?;
-    push_read(&mut answers.second, alloc, Certificate::read(alloc, &text))?;
-    Ok(answers)
+    push_read(&mut answers.first, alloc, first);
+    push_read(&mut answers.second, alloc, Certificate::read(alloc, &text));
+    Ok(())
 }
 
-fn push_read(
-    out: &mut String,
-    alloc: Global,
-    answer: Result<Certificate, CertFault>,
-) -> Result<(), AllocError> {
+fn push_read(out: &mut Told, alloc: Global, answer: Result<Certificate, CertFault>) {
     match answer {
         Ok(certificate) => push_written(out, certificate.write(alloc)),
-        Err(fault) => writeln!(out, "fault {fault}"),
+        Err(fault) => out.push_line("fault", &fault),
     }
 }
 
 /// Checks a certificate.
-pub(crate) fn checked(alloc: Global, data: &Data) -> anyhow::Result<Answers> {
-    let mut answers = Answers::new(alloc);
+pub(crate) fn answer_check(
+    answers: &mut Answers,
+    alloc: Global,
+    data: &Data,
+) -> anyhow::Result<()> {
     let certificate = certificate_of(alloc, data)?;
     let Declared { catalogue, config } = declared_of(alloc, data)?;
     mark(alloc);
     let first = check(alloc, catalogue, config, &certificate);
     mark(alloc);
-    if let Some(back) = push_plan(&mut answers.first, first)? {
+    if let Some(back) = push_plan(&mut answers.first, first) {
         let second = check(alloc, back.catalogue, back.config, &certificate);
-        push_plan(&mut answers.second, second)?;
+        push_plan(&mut answers.second, second);
     }
-    Ok(answers)
+    Ok(())
 }
 
 /// Tries a catalogue and a config without a certificate.
-pub(crate) fn tried(alloc: Global, data: &Data) -> anyhow::Result<Answers> {
-    let mut answers = Answers::new(alloc);
+pub(crate) fn answer_trial(
+    answers: &mut Answers,
+    alloc: Global,
+    data: &Data,
+) -> anyhow::Result<()> {
     let Declared { catalogue, config } = declared_of(alloc, data)?;
     mark(alloc);
     let first = Plan::trial(alloc, catalogue, config);
     mark(alloc);
-    if let Some(back) = push_plan(&mut answers.first, first)? {
+    if let Some(back) = push_plan(&mut answers.first, first) {
         let second = Plan::trial(alloc, back.catalogue, back.config);
-        push_plan(&mut answers.second, second)?;
+        push_plan(&mut answers.second, second);
     }
-    Ok(answers)
+    Ok(())
 }
 
 // What a plan has, or else what was handed back.
-fn push_plan(out: &mut String, answer: Checked) -> Result<Option<Declared>, AllocError> {
+fn push_plan(out: &mut Told, answer: Checked) -> Option<Declared> {
     match answer {
         Ok(plan) => {
             let (count, certified) = (plan.streams().len(), plan.is_certified());
-            writeln!(out, "plan of {count} streams, certified: {certified}")?;
-            Ok(None)
+            let added = writeln!(out.text, "plan of {count} streams, certified: {certified}");
+            out.note(added);
+            None
         }
         Err((catalogue, config, fault)) => {
-            writeln!(out, "fault {fault}")?;
-            Ok(Some(Declared { catalogue, config }))
+            out.push_line("fault", &fault);
+            Some(Declared { catalogue, config })
         }
     }
 }

@@ -1,5 +1,5 @@
 //! The end of a provider, and the audit of what it comes to.
-use crate::refusals::answers::Answers;
+use crate::refusals::answers::{Answers, Told};
 use crate::refusals::inputs::Data;
 use crate::refusals::mark::mark;
 use crate::refusals::prepared::{events_but, plan_of};
@@ -8,79 +8,89 @@ use anyhow::{Context, bail};
 use metric_book::Book;
 use metric_history::Reply;
 use metric_sdk::{
-    AuditFault, Audited, Batch, FinishFault, NoGate, Plan, Provider, Recorder, Totals, audit,
+    AuditFault, Audited, Batch, FinishFault, Items, NoGate, Plan, Provider, Recorder, Slip, Totals,
+    audit,
 };
 use std::alloc::{AllocError, Global};
 use std::sync::Wait;
+
+// What is handed back where a provider is not finished.
+type Back<B> = (Provider<B, NoGate>, Vec<Recorder>);
 
 // Totals, or what was handed in and the fault.
 type Finished<B> = Result<Totals, (Provider<B, NoGate>, Vec<Recorder>, FinishFault)>;
 
 /// Ends a provider after the script.
-pub(crate) fn finished<R: Wait, B: Book>(
+pub(crate) fn answer_finish<R: Wait, B: Book>(
+    answers: &mut Answers,
     rt: &R,
     alloc: Global,
     data: &Data,
-) -> anyhow::Result<Answers> {
+) -> anyhow::Result<()> {
     let mut seats: Seats<B> = seats_of(rt, alloc, data)?;
     let events = events_but(alloc, data, None)?;
     played(rt, alloc, &mut seats, events.as_slice())?;
-    finish(rt, alloc, seats)
+    finish(answers, rt, alloc, seats);
+    Ok(())
 }
 
-fn finish<R: Wait, B: Book>(rt: &R, alloc: Global, seats: Seats<B>) -> anyhow::Result<Answers> {
-    let mut answers = Answers::new(alloc);
+fn finish<R: Wait, B: Book>(answers: &mut Answers, rt: &R, alloc: Global, seats: Seats<B>) {
     let (provider, recorders) = seats.into_parts();
     mark(alloc);
     let first: Finished<B> = provider.finish(rt, alloc, recorders);
     mark(alloc);
-    match first {
-        Ok(totals) => push_totals(&mut answers.first, &totals)?,
-        Err((provider, recorders, fault)) => {
-            writeln!(answers.first, "fault {fault}")?;
-            push_finished(&mut answers.second, provider.finish(rt, alloc, recorders))?;
-        }
+    if let Some((provider, recorders)) = push_finished(&mut answers.first, first) {
+        let second = provider.finish(rt, alloc, recorders);
+        push_finished(&mut answers.second, second);
     }
-    Ok(answers)
 }
 
-fn push_finished<B: Book>(out: &mut String, answer: Finished<B>) -> Result<(), AllocError> {
+// What the totals are, or else what was handed back.
+fn push_finished<B: Book>(out: &mut Told, answer: Finished<B>) -> Option<Back<B>> {
     match answer {
-        Ok(totals) => push_totals(out, &totals),
-        Err((_provider, _recorders, fault)) => writeln!(out, "fault {fault}"),
+        Ok(totals) => {
+            push_totals(out, &totals);
+            None
+        }
+        Err((provider, recorders, fault)) => {
+            out.push_line("fault", &fault);
+            Some((provider, recorders))
+        }
     }
 }
 
 // Adds the total of each instrument, its journal, and the slips of each recorder.
-fn push_totals(out: &mut String, totals: &Totals) -> Result<(), AllocError> {
-    for total in &totals.instruments {
-        writeln!(out, "{total:?}")?;
-    }
+fn push_totals(out: &mut Told, totals: &Totals) {
+    out.push_each(&totals.instruments);
     for journal in &totals.journals {
-        for entry in journal.as_slice() {
-            writeln!(out, "{entry:?}")?;
-        }
+        out.push_each(journal.as_slice());
     }
     for instrument in &totals.slips {
-        for recorder in instrument.as_slice() {
-            writeln!(out, "recorder")?;
-            for slip in recorder.as_slice() {
-                writeln!(out, "{slip:?}")?;
-            }
-        }
+        push_slips(out, instrument.as_slice());
     }
-    Ok(())
+}
+
+fn push_slips(out: &mut Told, recorders: &[Items<Slip>]) {
+    for slips in recorders {
+        out.push("recorder\n");
+        out.push_each(slips.as_slice());
+    }
 }
 
 /// Audits the first instrument after the script.
-pub(crate) fn audited<R: Wait>(rt: &R, alloc: Global, data: &Data) -> anyhow::Result<Answers> {
+pub(crate) fn answer_audit<R: Wait>(
+    answers: &mut Answers,
+    rt: &R,
+    alloc: Global,
+    data: &Data,
+) -> anyhow::Result<()> {
     let mut seats: Seats<Audited> = seats_of(rt, alloc, data)?;
     let events = events_but(alloc, data, None)?;
     let replies = played(rt, alloc, &mut seats, events.as_slice())?;
     let batches = first_batches(alloc, replies)?;
     let (provider, recorders) = seats.into_parts();
     match provider.finish(rt, alloc, recorders) {
-        Ok(totals) => audit_first(alloc, &plan_of(alloc, data)?, &totals, &batches),
+        Ok(totals) => audit_first(answers, alloc, &plan_of(alloc, data)?, &totals, &batches),
         Err((_provider, _recorders, fault)) => bail!("{fault}"),
     }
 }
@@ -99,12 +109,12 @@ fn first_batches(alloc: Global, replies: Vec<Reply>) -> anyhow::Result<Vec<Batch
 }
 
 fn audit_first(
+    answers: &mut Answers,
     alloc: Global,
     plan: &Plan,
     totals: &Totals,
     batches: &[Batch],
-) -> anyhow::Result<Answers> {
-    let mut answers = Answers::new(alloc);
+) -> anyhow::Result<()> {
     let entries = totals.journals.first().context("no journal")?.as_slice();
     let slips = totals.slips.first().context("no slips")?.as_slice();
     if plan.all_facts().is_empty() || slips.len() != plan.catalogue().recorders().len() {
@@ -113,15 +123,15 @@ fn audit_first(
     mark(alloc);
     let first = audit(alloc, plan, 0, START, entries, slips, batches);
     mark(alloc);
-    push_audit(&mut answers.first, first)?;
+    push_audited(&mut answers.first, first);
     let second = audit(alloc, plan, 0, START, entries, slips, batches);
-    push_audit(&mut answers.second, second)?;
-    Ok(answers)
+    push_audited(&mut answers.second, second);
+    Ok(())
 }
 
-fn push_audit(out: &mut String, answer: Result<(), AuditFault>) -> Result<(), AllocError> {
+fn push_audited(out: &mut Told, answer: Result<(), AuditFault>) {
     match answer {
-        Ok(()) => out.push_str("audited\n"),
-        Err(fault) => writeln!(out, "fault {fault}"),
+        Ok(()) => out.push("audited\n"),
+        Err(fault) => out.push_line("fault", &fault),
     }
 }

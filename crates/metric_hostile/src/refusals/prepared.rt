@@ -79,14 +79,27 @@ fn input_but(
     certificate: &str,
     left: Option<usize>,
 ) -> Result<String, AllocError> {
-    let mut input = String::from_str(alloc, "%% catalogue\n")?;
-    input.push_str(data.catalogue)?;
-    input.push_str("%% config\n")?;
-    input.push_str(data.config)?;
-    input.push_str(certificate)?;
-    input.push_str("%% script\nstart 0\n")?;
+    let mut input = declarations(alloc, data.catalogue, data.config, certificate)?;
     push_script(&mut input, data.script, left.unwrap_or(0))?;
     Ok(input)
+}
+
+// The parts before the events.
+fn declarations(
+    alloc: Global,
+    catalogue: &str,
+    config: &str,
+    certificate: &str,
+) -> Result<String, AllocError> {
+    let parts = [
+        "%% catalogue\n",
+        catalogue,
+        "%% config\n",
+        config,
+        certificate,
+        "%% script\nstart 0\n",
+    ];
+    parts.concat(alloc)
 }
 
 // Adds the lines of a script, but the one of a number, from 1.

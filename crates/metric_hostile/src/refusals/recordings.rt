@@ -1,5 +1,5 @@
 //! The start of a provider, and a recording by a seat.
-use crate::refusals::answers::Answers;
+use crate::refusals::answers::{Answers, Told};
 use crate::refusals::inputs::Data;
 use crate::refusals::mark::mark;
 use crate::refusals::prepared::{events_but, plan_of};
@@ -16,27 +16,26 @@ use std::alloc::Global;
 use std::sync::Wait;
 
 /// Starts a provider, and plays the script by its seats.
-pub(crate) fn begun<R: Wait, B: Book>(
+pub(crate) fn answer_start<R: Wait, B: Book>(
+    answers: &mut Answers,
     rt: &R,
     alloc: Global,
     data: &Data,
-) -> anyhow::Result<Answers> {
-    let mut answers = Answers::new(alloc);
+) -> anyhow::Result<()> {
     let plan = plan_of(alloc, data)?;
     mark(alloc);
     let first: Result<Seats<B>, Plan> = started(rt, alloc, plan);
     mark(alloc);
     match first {
         Ok(mut seats) => {
-            push_seats(&mut answers.first, &seats)?;
-            push_played(&mut answers.state, rt, alloc, data, &mut seats)?;
+            push_seats(&mut answers.first, &seats);
+            push_played(&mut answers.state, rt, alloc, data, &mut seats)
         }
         Err(plan) => {
-            answers.first.push_str("fault memory\n")?;
-            begin_again::<R, B>(&mut answers, rt, alloc, data, plan)?;
+            answers.first.push("fault memory\n");
+            begin_again::<R, B>(answers, rt, alloc, data, plan)
         }
     }
-    Ok(answers)
 }
 
 fn begin_again<R: Wait, B: Book>(
@@ -52,22 +51,25 @@ fn begin_again<R: Wait, B: Book>(
     let second: Result<Seats<B>, Plan> = started(rt, alloc, plan);
     match second {
         Ok(mut seats) => {
-            push_seats(&mut answers.second, &seats)?;
+            push_seats(&mut answers.second, &seats);
             push_played(&mut answers.state, rt, alloc, data, &mut seats)
         }
         Err(_) => bail!("no memory for a provider"),
     }
 }
 
-fn push_seats<B: Book>(out: &mut String, seats: &Seats<B>) -> anyhow::Result<()> {
+fn push_seats<B: Book>(out: &mut Told, seats: &Seats<B>) {
     let (recorders, readers) = (seats.recorders.len(), seats.collectors.len());
-    writeln!(out, "seats of {recorders} recorders and {readers} readers")?;
-    Ok(())
+    let added = writeln!(
+        out.text,
+        "seats of {recorders} recorders and {readers} readers"
+    );
+    out.note(added);
 }
 
 // What the seats are answered that play the script.
 fn push_played<R: Wait, B: Book>(
-    out: &mut String,
+    out: &mut Told,
     rt: &R,
     alloc: Global,
     data: &Data,
@@ -75,7 +77,8 @@ fn push_played<R: Wait, B: Book>(
 ) -> anyhow::Result<()> {
     let events = events_but(alloc, data, None)?;
     let replies = played(rt, alloc, seats, events.as_slice())?;
-    push_replies(out, alloc, seats.provider.plan(), &replies)
+    push_replies(out, alloc, seats.provider.plan(), &replies);
+    Ok(())
 }
 
 // A recording that a seat may make.
@@ -99,11 +102,12 @@ impl Recording<'_> {
 }
 
 /// Makes the last recording of the script after what stands before it.
-pub(crate) fn recorded<R: Wait, B: Book>(
+pub(crate) fn answer_record<R: Wait, B: Book>(
+    answers: &mut Answers,
     rt: &R,
     alloc: Global,
     words: &Words,
-) -> anyhow::Result<Answers> {
+) -> anyhow::Result<()> {
     let events = events_but(alloc, words.data, None)?;
     let events = events.as_slice();
     let at = last_recording(events);
@@ -111,42 +115,40 @@ pub(crate) fn recorded<R: Wait, B: Book>(
     let recording = recording_of(alloc, event)?;
     let mut seats: Seats<B> = seats_of(rt, alloc, words.data)?;
     played(rt, alloc, &mut seats, &events[..at.min(events.len())])?;
-    record_last(rt, alloc, words, &mut seats, &recording)
+    record_last(answers, rt, alloc, words, &mut seats, &recording)
 }
 
 fn record_last<R: Wait, B: Book>(
+    answers: &mut Answers,
     rt: &R,
     alloc: Global,
     words: &Words,
     seats: &mut Seats<B>,
     recording: &Recording<'_>,
-) -> anyhow::Result<Answers> {
-    let mut answers = Answers::new(alloc);
+) -> anyhow::Result<()> {
     let seat = recorder_of(&mut seats.recorders, recording.recorder)?;
     mark(alloc);
     let first = recording.make(rt, &seats.provider, seat);
     mark(alloc);
     let plan = seats.provider.plan();
-    push_reply(
-        &mut answers.first,
-        alloc,
-        plan,
-        &reply_to(first, Reply::Accepted),
-    )?;
+    let first = reply_to(first, Reply::Accepted);
+    push_reply(&mut answers.first, alloc, plan, &first);
     if !words.is_once {
         let second = recording.make(rt, &seats.provider, seat);
-        push_reply(
-            &mut answers.second,
-            alloc,
-            plan,
-            &reply_to(second, Reply::Accepted),
-        )?;
+        let second = reply_to(second, Reply::Accepted);
+        push_reply(&mut answers.second, alloc, plan, &second);
     }
-    if let Some(told) = seat.accepted(recording.instrument) {
-        writeln!(answers.state, "told {} {}", told.count, told.amount)?;
+    push_accepted(&mut answers.state, seat, recording.instrument);
+    push_state(&mut answers.state, rt, alloc, seats);
+    Ok(())
+}
+
+// Adds what the seat was told of an instrument.
+fn push_accepted(out: &mut Told, seat: &Recorder, instrument: u32) {
+    if let Some(told) = seat.accepted(instrument) {
+        let added = writeln!(out.text, "told {} {}", told.count, told.amount);
+        out.note(added);
     }
-    push_state(&mut answers.state, rt, alloc, seats)?;
-    Ok(answers)
 }
 
 // The place of the last recording, or the number of events.

@@ -1,9 +1,8 @@
 //! A script replayed.
-use crate::refusals::answers::Answers;
+use crate::refusals::answers::{Answers, Told};
 use crate::refusals::inputs::Data;
 use crate::refusals::mark::mark;
 use crate::refusals::prepared::input_of;
-use anyhow::bail;
 use metric_commands::{KitFault, ReplayOptions, replay};
 use metric_sdk::{CutSource, StdSink};
 use std::alloc::{AllocError, Global};
@@ -21,20 +20,23 @@ const OPTIONS: ReplayOptions = ReplayOptions {
 type Held = StdSink<Vec<u8>>;
 
 /// Replays the input that a data is.
-pub(crate) fn replayed(alloc: Global, data: &Data) -> anyhow::Result<Answers> {
-    let mut answers = Answers::new(alloc);
+pub(crate) fn answer_replay(
+    answers: &mut Answers,
+    alloc: Global,
+    data: &Data,
+) -> anyhow::Result<()> {
     let input = input_of(alloc, data)?;
     let mut sink = sink_with_room(alloc)?;
     let mut source = CutSource::new(input.as_bytes(), None);
     mark(alloc);
     let first = replay(alloc, OPTIONS, &mut source, &mut sink);
     mark(alloc);
-    push_replayed(&mut answers.first, first, sink)?;
+    push_replayed(&mut answers.first, first, sink);
     let mut sink = sink_with_room(alloc)?;
     let mut source = CutSource::new(input.as_bytes(), None);
     let second = replay(alloc, OPTIONS, &mut source, &mut sink);
-    push_replayed(&mut answers.second, second, sink)?;
-    Ok(answers)
+    push_replayed(&mut answers.second, second, sink);
+    Ok(())
 }
 
 fn sink_with_room(alloc: Global) -> Result<Held, AllocError> {
@@ -42,15 +44,14 @@ fn sink_with_room(alloc: Global) -> Result<Held, AllocError> {
 }
 
 // Adds what was written, and how the replay ended.
-fn push_replayed(out: &mut String, answer: Result<(), KitFault>, sink: Held) -> anyhow::Result<()> {
+fn push_replayed(out: &mut Told, answer: Result<(), KitFault>, sink: Held) {
     let written = sink.into_inner();
-    let Ok(text) = str::from_utf8(written.as_slice()) else {
-        bail!("replies that are no text");
-    };
-    out.push_str(text)?;
-    match answer {
-        Ok(()) => out.push_str("all replayed\n")?,
-        Err(fault) => writeln!(out, "fault {fault}")?,
+    match str::from_utf8(written.as_slice()) {
+        Ok(text) => out.push(text),
+        Err(_) => out.note_gap(),
     }
-    Ok(())
+    match answer {
+        Ok(()) => out.push("all replayed\n"),
+        Err(fault) => out.push_line("fault", &fault),
+    }
 }

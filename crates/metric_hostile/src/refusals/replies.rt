@@ -1,60 +1,45 @@
 //! The texts of replies and batches.
-use anyhow::bail;
+use crate::refusals::answers::Told;
 use metric_history::Reply;
 use metric_sdk::{Batch, CutSink, Plan, Refusal, write_batch};
 use std::alloc::Global;
 
 /// Adds the text of each reply.
-pub(crate) fn push_replies(
-    out: &mut String,
-    alloc: Global,
-    plan: &Plan,
-    replies: &[Reply],
-) -> anyhow::Result<()> {
+pub(crate) fn push_replies(out: &mut Told, alloc: Global, plan: &Plan, replies: &[Reply]) {
     for reply in replies {
-        push_reply(out, alloc, plan, reply)?;
+        push_reply(out, alloc, plan, reply);
     }
-    Ok(())
 }
 
 /// Adds the text of a reply, whose first line begins with a word that no line of a batch begins with.
-pub(crate) fn push_reply(
-    out: &mut String,
-    alloc: Global,
-    plan: &Plan,
-    reply: &Reply,
-) -> anyhow::Result<()> {
+pub(crate) fn push_reply(out: &mut Told, alloc: Global, plan: &Plan, reply: &Reply) {
     match reply {
-        Reply::Accepted => out.push_str("reply accepted\n")?,
-        Reply::Collected(batch) => push_batch(out, alloc, plan, batch)?,
-        Reply::Done => out.push_str("reply closed\n")?,
-        Reply::Granted => out.push_str("reply granted\n")?,
-        Reply::Refused(refusal) => writeln!(out, "reply refused {refusal}")?,
+        Reply::Accepted => out.push("reply accepted\n"),
+        Reply::Collected(batch) => push_batch(out, alloc, plan, batch),
+        Reply::Done => out.push("reply closed\n"),
+        Reply::Granted => out.push("reply granted\n"),
+        Reply::Refused(refusal) => out.push_line("reply refused", refusal),
     }
-    Ok(())
 }
 
 /// Adds the text of each batch.
-pub(crate) fn push_batches(
-    out: &mut String,
-    alloc: Global,
-    plan: &Plan,
-    batches: &[Batch],
-) -> anyhow::Result<()> {
+pub(crate) fn push_batches(out: &mut Told, alloc: Global, plan: &Plan, batches: &[Batch]) {
     for batch in batches {
-        push_batch(out, alloc, plan, batch)?;
+        push_batch(out, alloc, plan, batch);
     }
-    Ok(())
 }
 
-fn push_batch(out: &mut String, alloc: Global, plan: &Plan, batch: &Batch) -> anyhow::Result<()> {
+fn push_batch(out: &mut Told, alloc: Global, plan: &Plan, batch: &Batch) {
     let mut sink = CutSink::new(alloc, None);
-    write_batch(alloc, &mut sink, plan, batch)?;
-    let Ok(text) = str::from_utf8(sink.taken()) else {
-        bail!("a batch that is no text");
-    };
-    write!(out, "reply batch {} to {}\n{text}", batch.from, batch.mark)?;
-    Ok(())
+    let is_written = write_batch(alloc, &mut sink, plan, batch).is_ok();
+    match str::from_utf8(sink.taken()) {
+        Ok(text) if is_written => {
+            let (from, mark) = (batch.from, batch.mark);
+            let added = write!(out.text, "reply batch {from} to {mark}\n{text}");
+            out.note(added);
+        }
+        _ => out.note_gap(),
+    }
 }
 
 /// The reply to a step that answers this.

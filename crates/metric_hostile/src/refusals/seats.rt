@@ -1,6 +1,7 @@
 //! A provider with its seats, and events that they play.
 ghost use Rattle.std.specs.Prelude.{IsTrue};
 
+use crate::refusals::answers::Told;
 use crate::refusals::inputs::Data;
 use crate::refusals::prepared::plan_of;
 use crate::refusals::replies::{push_reply, reply_to, reply_with};
@@ -171,17 +172,16 @@ pub(crate) fn attributes(alloc: Global, owned: &[OwnedAttr]) -> Result<Vec<Attr<
 
 /// Adds what each reader collects of each instrument at the end.
 pub(crate) fn push_state<R: Wait, B: Book>(
-    out: &mut String,
+    out: &mut Told,
     rt: &R,
     alloc: Global,
     seats: &mut Seats<B>,
-) -> anyhow::Result<()> {
+) {
     let count = seats.provider.plan().catalogue().instruments().len() as u32;
     for seat in &mut seats.collectors {
         for instrument in 0..count {
             let reply = reply_with(seat.collect(rt, alloc, &seats.provider, instrument, END));
-            push_reply(out, alloc, seats.provider.plan(), &reply)?;
+            push_reply(out, alloc, seats.provider.plan(), &reply);
         }
     }
-    Ok(())
 }

@@ -27,12 +27,24 @@ fn line_of<R: Wait>(
     for (name, book) in BOOKS {
         if matches!(call, Call::Booked(_)) || matches!(book, BookName::Marked) {
             let words = words_for(call, *book, data);
-            let answers = answers_of(rt, alloc, &words)?;
-            let told = told_of(call, &answers);
-            write!(line, ", {}: {told}", *name)?;
+            push_told(&mut line, rt, alloc, *name, &words)?;
         }
     }
     Ok(line)
+}
+
+// Makes a call, and adds whether it answers as is due.
+fn push_told<R: Wait>(
+    line: &mut String,
+    rt: &R,
+    alloc: Global,
+    book: &str,
+    words: &Words,
+) -> anyhow::Result<()> {
+    let answers = answers_of(rt, alloc, words)?;
+    let told = told_of(words.call, &answers);
+    write!(line, ", {book}: {told}")?;
+    Ok(())
 }
 
 fn words_for(call: Call, book: BookName, data: &'static Data) -> Words {

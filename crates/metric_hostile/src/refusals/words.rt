@@ -93,8 +93,8 @@ pub(crate) fn words_of(owned: &[String]) -> anyhow::Result<Words> {
 
 fn asked(call: &str, book: &str, of: &str) -> anyhow::Result<Words> {
     Ok(Words {
-        call: call_of(call).context("no such call")?,
-        book: book_of(book).context("no such book")?,
+        call: named(CALLS, call).context("no such call")?,
+        book: named(BOOKS, book).context("no such book")?,
         data: data_of(of).context("no such data")?,
         left: None,
         is_once: false,
@@ -118,19 +118,11 @@ fn made(words: Words, how: &str) -> anyhow::Result<Words> {
     }
 }
 
-fn call_of(word: &str) -> Option<Call> {
-    for (name, call) in CALLS {
+// What a word stands for.
+fn named<T: Copy>(table: &[(&str, T)], word: &str) -> Option<T> {
+    for (name, what) in table {
         if *name == word {
-            return Some(*call);
-        }
-    }
-    None
-}
-
-fn book_of(word: &str) -> Option<BookName> {
-    for (name, book) in BOOKS {
-        if *name == word {
-            return Some(*book);
+            return Some(*what);
         }
     }
     None

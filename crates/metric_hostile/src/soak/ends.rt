@@ -1,13 +1,13 @@
 //! What a round came to, compared.
 use crate::soak::figures::{Figures, add};
 use crate::soak::inputs::INSTRUMENTS;
-use crate::soak::reading::Watcher;
+use crate::soak::reading::{Off, Watcher};
 use crate::soak::recording::{Tally, Worker};
 use crate::soak::rounds::START;
-use anyhow::{Context, bail};
+use anyhow::bail;
 use metric_book::Book;
-use metric_sdk::{Batch, Kind, NoGate, Plan, Provider, Recorder, Totals, audit};
-use std::alloc::{AllocError, Global};
+use metric_sdk::{Batch, Kind, NoGate, Plan, Provider, Recorder, Refusal, Total, Totals, audit};
+use std::alloc::Global;
 use std::mem;
 use std::sync::Wait;
 
@@ -48,11 +48,7 @@ pub(crate) fn settle<R: Wait, B: Book>(
         Ok(totals) => totals,
         Err((_provider, _recorders, fault)) => bail!("the totals are not settled: {fault}"),
     };
-    compare_totals(&totals, &told, figures)?;
-    for watcher in &watchers {
-        compare_watcher(plan, &totals, watcher)?;
-        watcher.add_to(figures);
-    }
+    compare(plan, &totals.instruments, &told, &watchers, figures)?;
     if B::KEEPS_ENTRIES {
         audit_all(alloc, plan, &totals, &mut watchers, figures)?;
     }
@@ -76,46 +72,65 @@ fn recorders_of(
 }
 
 // Adds what a recorder counted, which has to be what its seat says.
-fn add_tallies(told: &mut [Tally; INSTRUMENTS], worker: &Worker) -> anyhow::Result<()> {
-    for (instrument, (all, own)) in told.iter_mut().zip(worker.told.iter()).enumerate() {
-        let seat = worker.recorder.accepted(instrument as u32);
-        if seat.context("no such instrument")?.count != own.count {
-            bail!("a seat was told of other recordings of instrument {instrument}");
+fn add_tallies(told: &mut [Tally; INSTRUMENTS], worker: &Worker) -> Result<(), Off> {
+    let mut number = 0;
+    for (all, own) in told.iter_mut().zip(&worker.told) {
+        match worker.recorder.accepted(number) {
+            Some(seat) if seat.count == own.count => {}
+            _ => return Err(Off::Of(number, "a seat was told of other recordings")),
         }
         add(&mut all.count, own.count);
         all.sum = all.sum.wrapping_add(own.sum);
+        number = number.wrapping_add(1);
     }
     Ok(())
 }
 
-// The totals have to be what the recorders counted.
-fn compare_totals(
-    totals: &Totals,
+// Compares the totals with what the recorders were told and what each reader saw.
+fn compare(
+    plan: &Plan,
+    totals: &[Total],
     told: &[Tally; INSTRUMENTS],
+    watchers: &[Watcher],
     figures: &mut Figures,
-) -> anyhow::Result<()> {
-    for (instrument, tally) in told.iter().enumerate() {
-        let total = totals.instruments.get(instrument).context("no total")?;
-        if total.count != tally.count || total.sum != i128::from(tally.sum) {
-            bail!("the total of instrument {instrument} is not what recorders were told");
+) -> Result<(), Off> {
+    for (number, tally) in told.iter().enumerate() {
+        if !is_total(totals.get(number), tally) {
+            return Err(Off::Of(number as u32, "the total is not what recorders were told"));
         }
         add(&mut figures.settled, 1);
     }
+    for watcher in watchers {
+        compare_watcher(plan, totals, watcher)?;
+        watcher.add_to(figures);
+    }
     Ok(())
 }
 
+fn is_total(total: Option<&Total>, tally: &Tally) -> bool {
+    match total {
+        Some(total) => total.count == tally.count && total.sum == i128::from(tally.sum),
+        None => false,
+    }
+}
+
 // The batches of a reader have to come to the totals.
-fn compare_watcher(plan: &Plan, totals: &Totals, watcher: &Watcher) -> anyhow::Result<()> {
+fn compare_watcher(plan: &Plan, totals: &[Total], watcher: &Watcher) -> Result<(), Off> {
     for (number, instrument) in plan.catalogue().instruments().iter().enumerate() {
-        let total = totals.instruments.get(number).context("no total")?;
-        let last = watcher.last.get(number).context("no batch")?;
-        let sum = watcher.sums.get(number).copied().unwrap_or(0);
-        let is_summed = instrument.kind == Kind::Gauge || total.sum == i128::from(sum);
-        if last.mark != total.count || !is_summed {
-            bail!("the batches of instrument {number} do not come to its total");
+        if !comes_to(watcher, number, instrument.kind, totals.get(number)) {
+            return Err(Off::Of(number as u32, "the batches do not come to the total"));
         }
     }
     Ok(())
+}
+
+// Whether the batches of an instrument come to its total. Last values have no sum.
+fn comes_to(watcher: &Watcher, number: usize, kind: Kind, total: Option<&Total>) -> bool {
+    let (Some(total), Some(last)) = (total, watcher.last.get(number)) else {
+        return false;
+    };
+    let sum = watcher.sums.get(number).copied().unwrap_or(0);
+    last.mark == total.count && (kind == Kind::Gauge || total.sum == i128::from(sum))
 }
 
 // Audits the batches of both readers of each instrument.
@@ -129,16 +144,28 @@ fn audit_all(
     for watcher in watchers.iter_mut() {
         watcher.keep_last(alloc)?;
     }
-    for instrument in 0..INSTRUMENTS {
-        let mut batches = Vec::new(alloc);
-        for watcher in watchers.iter_mut() {
-            push_batches(alloc, &mut batches, watcher, instrument)?;
-        }
-        audit_one(alloc, plan, instrument, totals, &batches)?;
-        add(&mut figures.batches, batches.len() as u64);
-        let entries = totals.journals.get(instrument).context("no journal")?;
-        add(&mut figures.entries, entries.as_slice().len() as u64);
+    for instrument in 0..INSTRUMENTS as u32 {
+        audit_one(alloc, plan, instrument, totals, watchers, figures)?;
     }
+    Ok(())
+}
+
+// Audits the batches of both readers of an instrument, which they then have no more.
+fn audit_one(
+    alloc: Global,
+    plan: &Plan,
+    instrument: u32,
+    totals: &Totals,
+    watchers: &mut [Watcher],
+    figures: &mut Figures,
+) -> anyhow::Result<()> {
+    let mut batches = Vec::new(alloc);
+    for watcher in watchers {
+        push_batches(alloc, &mut batches, watcher, instrument)?;
+    }
+    add(&mut figures.batches, batches.len() as u64);
+    let entries = audited(alloc, plan, instrument, totals, &batches)?;
+    add(&mut figures.entries, entries);
     Ok(())
 }
 
@@ -147,38 +174,36 @@ fn push_batches(
     alloc: Global,
     batches: &mut Vec<Batch>,
     watcher: &mut Watcher,
-    instrument: usize,
-) -> anyhow::Result<()> {
-    let kept = watcher.kept.get_mut(instrument).context("no batches")?;
+    instrument: u32,
+) -> Result<(), Off> {
+    let kept = watcher.kept.get_mut(instrument as usize);
+    let kept = kept.ok_or(Off::Of(instrument, "no batches"))?;
     for batch in mem::replace(kept, Vec::new(alloc)) {
-        batches.push(batch).map_err(AllocError::from)?;
+        if batches.push(batch).is_err() {
+            return Err(Off::Refused(Refusal::Memory));
+        }
     }
     Ok(())
 }
 
-fn audit_one(
+// Audits batches of an instrument. How many recordings its journal has.
+fn audited(
     alloc: Global,
     plan: &Plan,
-    instrument: usize,
+    instrument: u32,
     totals: &Totals,
     batches: &[Batch],
-) -> anyhow::Result<()> {
-    let entries = totals.journals.get(instrument).context("no journal")?;
-    let slips = totals.slips.get(instrument).context("no slips")?.as_slice();
-    if instrument >= plan.all_facts().len() || slips.len() != plan.catalogue().recorders().len() {
-        bail!("no such instrument, or not one list of slips for each recorder");
+) -> Result<u64, Off> {
+    let at = instrument as usize;
+    let (Some(entries), Some(slips)) = (totals.journals.get(at), totals.slips.get(at)) else {
+        return Err(Off::Of(instrument, "no journal"));
+    };
+    let (entries, slips) = (entries.as_slice(), slips.as_slice());
+    if at >= plan.all_facts().len() || slips.len() != plan.catalogue().recorders().len() {
+        return Err(Off::Of(instrument, "not one list of slips for each recorder"));
     }
-    let answer = audit(
-        alloc,
-        plan,
-        instrument as u32,
-        START,
-        entries.as_slice(),
-        slips,
-        batches,
-    );
-    match answer {
-        Ok(()) => Ok(()),
-        Err(fault) => bail!("the audit of instrument {instrument} fails: {fault}"),
+    match audit(alloc, plan, instrument, START, entries, slips, batches) {
+        Ok(()) => Ok(entries.len() as u64),
+        Err(fault) => Err(Off::Audit(instrument, fault)),
     }
 }

@@ -3,7 +3,7 @@ use crate::soak::figures::{Figures, add};
 use crate::soak::inputs::INSTRUMENTS;
 use crate::soak::seen::{Asked, follows, points_of, rises, sum_of};
 use metric_book::Book;
-use metric_sdk::{Batch, Collector, Kind, NoGate, Provider, Refusal};
+use metric_sdk::{AuditFault, Batch, Collector, Kind, NoGate, Provider, Refusal};
 use std::alloc::{AllocError, Global};
 use std::mem;
 use std::sync::Wait;
@@ -17,25 +17,20 @@ pub(crate) enum Off {
     /// A recording, a grant, a closing or a collection was refused that may not be.
     #[error("refused {0}")]
     Refused(Refusal),
-    /// The batch of this instrument does not go on where the one before it ended.
-    #[error("a batch of instrument {0} does not go on where one ended")]
-    Apart(u32),
-    /// The batch of this instrument has less than the one before it.
-    #[error("a batch of instrument {0} has less than one before it")]
-    Falls(u32),
-    /// The streams of a batch of this instrument have other sums.
-    #[error("streams of instrument {0} have other sums")]
-    Differ(u32),
-    /// A collection has not one batch for each instrument.
-    #[error("a collection lacks a batch")]
-    Missing,
-    /// The clock failed.
-    #[error("the clock failed")]
-    Clock,
+    /// Something of this instrument.
+    #[error("instrument {0}: {1}")]
+    Of(u32, &'static str),
+    /// What the audit of this instrument finds.
+    #[error("the audit of instrument {0} fails: {1}")]
+    Audit(u32, AuditFault),
+    /// Something of a whole round.
+    #[error("{0}")]
+    Round(&'static str),
 }
 
+const MISSING: Off = Off::Round("a collection lacks a batch");
+
 /// A seat that collects, with what it saw.
-#[derive(Drop)]
 pub(crate) struct Watcher {
     collector: Collector,
     asked: Asked,
@@ -47,6 +42,21 @@ pub(crate) struct Watcher {
     pub sums: [i64; INSTRUMENTS],
     collections: u64,
     points: u64,
+}
+
+impl Drop for Watcher {
+    // A call of its own, so that what owns a reader does not carry the steps of dropping each part.
+    fn drop(self) {
+        let Watcher {
+            collector: _collector,
+            asked: _,
+            last: _last,
+            kept: _kept,
+            sums: _,
+            collections: _,
+            points: _,
+        } = self;
+    }
 }
 
 /// When a round began, and how many of its recorders have not ended.
@@ -89,7 +99,7 @@ impl Watcher {
     ) -> Result<(), Off> {
         for _ in 0..u64::MAX {
             let is_last = signs.left.load(Ordering::SeqCst) == 0;
-            let now = nanoseconds_since(rt, signs.began).ok_or(Off::Clock)?;
+            let now = nanoseconds_since(rt, signs.began).ok_or(Off::Round("the clock failed"))?;
             let batches = match self.collector.collect_all(rt, alloc, provider, now) {
                 Ok(batches) => batches,
                 Err(fault) => return Err(Off::Refused(fault.refusal)),
@@ -111,10 +121,10 @@ impl Watcher {
     ) -> Result<(), Off> {
         let instruments = provider.plan().catalogue().instruments();
         if batches.len() != instruments.len() {
-            return Err(Off::Missing);
+            return Err(MISSING);
         }
         for (number, instrument) in instruments.iter().enumerate() {
-            let batch = batches.get(number).ok_or(Off::Missing)?;
+            let batch = batches.get(number).ok_or(MISSING)?;
             self.see_one(number, instrument.kind, batch)?;
         }
         add(&mut self.collections, 1);
@@ -125,16 +135,16 @@ impl Watcher {
         let before = self.last.get(number);
         let at = batch.instrument;
         if at as usize != number || !follows(self.asked, before, batch) {
-            return Err(Off::Apart(at));
+            return Err(Off::Of(at, "a batch does not go on where one ended"));
         }
         if let (Asked::Cumulative, Kind::Counter | Kind::Histogram, Some(before)) = (
             self.asked, kind, before,
         )
             && !rises(before, batch)
         {
-            return Err(Off::Falls(at));
+            return Err(Off::Of(at, "a batch has less than one before it"));
         }
-        let sum = sum_of(batch).ok_or(Off::Differ(at))?;
+        let sum = sum_of(batch).ok_or(Off::Of(at, "streams have other sums"))?;
         if let Some(own) = self.sums.get_mut(number) {
             *own = match self.asked {
                 Asked::Delta => own.wrapping_add(sum),
@@ -162,7 +172,7 @@ impl Watcher {
 
     fn push(&mut self, batches: Vec<Batch>) -> Result<(), Off> {
         for (number, batch) in batches.into_iter().enumerate() {
-            let kept = self.kept.get_mut(number).ok_or(Off::Missing)?;
+            let kept = self.kept.get_mut(number).ok_or(MISSING)?;
             if kept.push(batch).is_err() {
                 return Err(Off::Refused(Refusal::Memory));
             }
