@@ -1,5 +1,5 @@
 //! Tests of the crates of runs: aggregators, tables of series, cells and cores over each book, scripts, written lines,
-//! and the commands above them.
+//! requests of the OpenTelemetry protocol, and the commands above them.
 //!
 //! They have what no clause says: examples from outside, printed texts, and that a call succeeds while memory is there.
 //! Most are whole runs: `inputs` has the texts of inputs and what a trial of each writes, and `commands` and `cores`
@@ -32,6 +32,12 @@ mod inputs;
 mod plans;
 #[cfg(test)]
 mod refusing;
+#[cfg(test)]
+mod requests;
+#[cfg(test)]
+mod requests_written;
+#[cfg(test)]
+mod rich;
 #[cfg(test)]
 mod runs;
 #[cfg(test)]

@@ -137,3 +137,14 @@ pub(crate) fn told_by<R: Abort, B: Book>(
     push_input::<R, B>(&mut out, rt, alloc, input.as_bytes(), made, size);
     String::from_utf8(out).or_fail(rt)
 }
+
+/// A new core after the script of an input, and its replies.
+pub(crate) fn ran<R: Abort, B: Book>(rt: &R, alloc: Global, input: &str) -> (Core<B>, Vec<Reply>) {
+    let lines = lines(alloc, input.as_bytes()).or_fail(rt);
+    let parts = parts_of(alloc, &lines, TRIAL).or_fail(rt);
+    let script = script_of(rt, alloc, &parts);
+    let plan = Made::Tried.plan_of(rt, alloc, &parts);
+    let mut core: Core<B> = core_of(rt, alloc, plan, script.start);
+    let replies = core.run(alloc, script.events.as_slice()).or_fail(rt);
+    (core, replies)
+}
