@@ -8,7 +8,7 @@ use Rattle.metric_facts.specs.declared.facts.NumberedStream.{NumberedStream}
 use Rattle.tests_runs.proofs.dense.write_table.Goals as goal
 
 pub dense_table-requires : goal.dense_table-requires
-dense_table-requires c =
+dense_table-requires g c =
     let streams = c.as_slice-streams.result.now in
     let keys = c.as_slice-keys.result.now in
     let dense : All (λ (s : NumberedStream). IsTrue s.by_product → IsDense keys s.stream) streams =
