@@ -17,7 +17,7 @@ use std::thread::{Threads, join};
 const TURNS: u32 = 1_000_000;
 
 // How often at what is not: each look hands the processor on, and on a busy machine takes long.
-const HELD_TURNS: u32 = 5_000;
+const HELD_TURNS: u32 = 1_000;
 
 // How many steps were made, whether the first instrument was entered, whether the second thread was answered, and whether a
 // step that was held saw another one or that answer; how many steps are held, and how often each looks.
