@@ -69,11 +69,22 @@ fn print_instrument<R: Print + Wait>(
     let mut seats = started(rt, alloc, plan)?;
     let recorder = seats.recorders.last_mut().context("no recorder")?;
     let sixteen = recordings(alloc, LIST, SERIES)?;
+    print_steps(rt, alloc, name, &seats.provider, recorder, &sixteen)
+}
+
+fn print_steps<R: Print + Wait>(
+    rt: &R,
+    alloc: Global,
+    name: &str,
+    provider: &MeterProvider,
+    recorder: &mut Recorder,
+    sixteen: &[Measurement],
+) -> anyhow::Result<()> {
     for (what, how, are_held) in STEPS {
         if *are_held {
-            recorded(rt, &seats.provider, recorder, &sixteen, How::ByList)?;
+            recorded(rt, provider, recorder, sixteen, How::ByList)?;
         }
-        let answer = answer_between(rt, alloc, &seats.provider, recorder, &sixteen, *how)?;
+        let answer = answer_between(rt, alloc, provider, recorder, sixteen, *how)?;
         println!(rt; "{name}, {}: {answer}", *what)?;
     }
     Ok(())

@@ -39,7 +39,7 @@ temporality = { counter = 'delta' }
 /// Measures audits. Each reader's batches are made once more from the entries, so beside an entry stands a look-up for each
 /// reader.
 pub(crate) fn measure<R: Wait + Clock>(rt: &R, bench: &mut Bench) -> anyhow::Result<()> {
-    bench.begin("an audit, a batch each 1000, 4 readers", "series")?;
+    bench.begin("an audit, a batch each 1000, 4 readers", "series");
     for series in SERIES {
         let floor = look_up(rt, bench.alloc, *series)?;
         bench.floor = floor.shared(READERS, 1);
@@ -66,11 +66,10 @@ pub(crate) fn audit_done<R: Wait + Clock>(
     series: u32,
     watch: &mut Watch,
 ) -> anyhow::Result<u64> {
-    let mut seats: Seats<Audited> = started(rt, alloc, plan_of(alloc, series)?)?;
-    let recordings = recordings(alloc, BETWEEN, series)?;
-    let batches = batches_of(rt, alloc, &mut seats, &recordings)?;
-    let totals = seats.finish(rt, alloc)?;
     let plan = plan_of(alloc, series)?;
+    let mut seats: Seats<Audited> = started(rt, alloc, plan_of(alloc, series)?)?;
+    let batches = batches_of(rt, alloc, &mut seats, series)?;
+    let totals = seats.finish(rt, alloc)?;
     watch.start(rt);
     let entries = audit_first(alloc, &plan, &totals, &batches);
     watch.stop(rt);
@@ -82,11 +81,12 @@ fn batches_of<R: Wait>(
     rt: &R,
     alloc: Global,
     seats: &mut Seats<Audited>,
-    recordings: &[Measurement],
+    series: u32,
 ) -> anyhow::Result<Vec<Batch>> {
+    let recordings = recordings(alloc, BETWEEN, series)?;
     let mut batches = Vec::new(alloc);
     for now in 0..ENTRIES / BETWEEN {
-        record_once(rt, seats, recordings)?;
+        record_once(rt, seats, &recordings)?;
         collect_each(rt, alloc, seats, u64::from(now), &mut batches)?;
     }
     Ok(batches)
@@ -128,8 +128,9 @@ fn audit_first(
     totals: &Totals,
     batches: &[Batch],
 ) -> anyhow::Result<u64> {
-    let journal = totals.journals.first().context("no journal")?;
-    let slips = totals.slips.first().context("no slips")?;
+    let (Some(journal), Some(slips)) = (totals.journals.first(), totals.slips.first()) else {
+        anyhow::bail!("no journal");
+    };
     let (entries, slips) = (journal.as_slice(), slips.as_slice());
     if plan.all_facts().is_empty() || slips.len() != plan.catalogue().recorders().len() {
         anyhow::bail!("no instrument");

@@ -1,6 +1,6 @@
 //! Works measured one after the other, and the table that tells of them.
 use crate::floors::Floor;
-use crate::watch::{Measured, Spread};
+use crate::watch::Spread;
 use crate::works::{Work, least};
 use std::alloc::{AllocError, Global};
 use std::sync::Wait;
@@ -54,7 +54,7 @@ pub(crate) struct Bench {
     pub alloc: Global,
     /// Beside what the lines stand that come.
     pub floor: Floor,
-    text: String,
+    table: Table,
     tally: u64,
 }
 
@@ -64,14 +64,17 @@ impl Bench {
         Bench {
             alloc,
             floor: Floor { name: "", each: 0 },
-            text: String::new(alloc),
+            table: Table {
+                text: String::new(alloc),
+                is_whole: true,
+            },
             tally: 0,
         }
     }
 
     /// Begins a part of the table: its title, and what a size counts in it.
-    pub(crate) fn begin(&mut self, title: &str, size: &str) -> Result<(), AllocError> {
-        push_title(&mut self.text, title, size)
+    pub(crate) fn begin(&mut self, title: &str, size: &str) {
+        self.table.push_title(title, size);
     }
 
     /// Measures work, and adds its line.
@@ -82,14 +85,9 @@ impl Bench {
         work: &Work<'_>,
     ) -> anyhow::Result<()> {
         let measured = least(rt, self.alloc, work)?;
-        self.tell(row, measured)?;
-        Ok(())
-    }
-
-    /// Adds the line of measured work, whose result goes into the tally.
-    pub(crate) fn tell(&mut self, row: &Row, measured: Measured) -> Result<(), AllocError> {
         self.count(measured.number);
-        self.add(row, measured.nanoseconds)
+        self.add(row, measured.nanoseconds);
+        Ok(())
     }
 
     /// Takes the result of work into the tally.
@@ -98,29 +96,36 @@ impl Bench {
     }
 
     /// Adds the line of work that was measured several times: the median, and between what the others lie.
-    pub(crate) fn tell_spread(&mut self, row: &Row, spread: &Spread) -> Result<(), AllocError> {
+    pub(crate) fn tell_spread(&mut self, row: &Row, spread: &Spread) {
         self.count(spread.number);
         let least = each(spread.least, row.operations);
         let median = each(spread.median, row.operations);
         let most = each(spread.most, row.operations);
-        push_row(&mut self.text, row, self.floor, median)?;
-        push_spread(&mut self.text, row.unit, least, most)
+        self.table.push_row(row, self.floor, median);
+        self.table.push_spread(row.unit, least, most);
     }
 
     /// Adds a line: of nanoseconds for all operations, of their bytes, or of as many times.
-    pub(crate) fn add(&mut self, row: &Row, all: u64) -> Result<(), AllocError> {
-        push_row(&mut self.text, row, self.floor, each(all, row.operations))?;
-        self.text.push_str("\n")
+    pub(crate) fn add(&mut self, row: &Row, all: u64) {
+        self.table
+            .push_row(row, self.floor, each(all, row.operations));
+        self.table.push("\n");
     }
 
-    /// Ends the table by a line with the number in which the results of all works are.
-    pub(crate) fn end(&mut self) -> Result<(), AllocError> {
-        writeln!(self.text, "\ntally {}", self.tally)
+    /// Ends the table by a line with the number in which the results of all works are. Fails where the table is not whole.
+    pub(crate) fn end(&mut self) -> anyhow::Result<()> {
+        let tally = self.tally;
+        let added = writeln!(self.table.text, "\ntally {tally}");
+        self.table.note(added);
+        if !self.table.is_whole {
+            anyhow::bail!("no memory for the table");
+        }
+        Ok(())
     }
 
     /// The table.
     pub(crate) fn text(&self) -> &str {
-        self.text.as_str()
+        self.table.text.as_str()
     }
 }
 
@@ -133,11 +138,6 @@ pub(crate) fn each(all: u64, operations: u64) -> u64 {
 // The last columns of a title.
 const COLUMNS: &str = "      figure  unit                             floor    times  beside\n";
 
-fn push_title(out: &mut String, title: &str, size: &str) -> Result<(), AllocError> {
-    write!(out, "\n{title:<42}{size:>12}")?;
-    out.push_str(COLUMNS)
-}
-
 // What stands in a column of a line.
 #[derive(Clone, Copy)]
 enum Cell {
@@ -149,43 +149,66 @@ enum Cell {
     Hundredths(u64, usize),
 }
 
-// A line without its end, by what one operation takes, in thousandths: what was measured, its size, the figure and its
-// unit, that of the floor, how many times the floor it is, and what the floor is.
-fn push_row(out: &mut String, row: &Row, floor: Floor, each: u64) -> Result<(), AllocError> {
-    let times = each.saturating_mul(100) / floor.each.max(1);
-    let cells = [
-        Cell::Text(row.name, 40),
-        Cell::Whole(row.size, 12),
-        Cell::Hundredths(row.unit.figure(each), 9),
-        Cell::Text(row.unit.name, 28),
-        Cell::Hundredths(row.unit.figure(floor.each), 7),
-        Cell::Hundredths(times, 6),
-        Cell::Text(floor.name, 0),
-    ];
-    push_cells(out, &cells)
+// The text of a table. It goes on where something could not be added, and knows that it is not whole.
+#[derive(Drop)]
+struct Table {
+    text: String,
+    is_whole: bool,
 }
 
-fn push_cells(out: &mut String, cells: &[Cell]) -> Result<(), AllocError> {
-    for cell in cells {
-        push_cell(out, *cell)?;
+impl Table {
+    // Takes note of whether something was added.
+    fn note(&mut self, added: Result<(), AllocError>) {
+        if added.is_err() {
+            self.is_whole = false;
+        }
     }
-    Ok(())
-}
 
-// The end of a line: between what its figure lies.
-fn push_spread(out: &mut String, unit: Unit, least: u64, most: u64) -> Result<(), AllocError> {
-    out.push_str("  from ")?;
-    push_hundredths(out, unit.figure(least), 0)?;
-    out.push_str(" to ")?;
-    push_hundredths(out, unit.figure(most), 0)?;
-    out.push_str("\n")
-}
+    fn push(&mut self, text: &str) {
+        let added = self.text.push_str(text);
+        self.note(added);
+    }
 
-fn push_cell(out: &mut String, cell: Cell) -> Result<(), AllocError> {
-    match cell {
-        Cell::Text(text, width) => write!(out, "  {text:<width$}"),
-        Cell::Whole(number, width) => write!(out, "{number:>width$}"),
-        Cell::Hundredths(number, width) => push_hundredths(out, number, width),
+    fn push_title(&mut self, title: &str, size: &str) {
+        let added = write!(self.text, "\n{title:<42}{size:>12}");
+        self.note(added);
+        self.push(COLUMNS);
+    }
+
+    // A line without its end, by what one operation takes, in thousandths: what was measured, its size, the figure and its
+    // unit, that of the floor, how many times the floor it is, and what the floor is.
+    fn push_row(&mut self, row: &Row, floor: Floor, each: u64) {
+        let times = each.saturating_mul(100) / floor.each.max(1);
+        let cells = [
+            Cell::Text(row.name, 40),
+            Cell::Whole(row.size, 12),
+            Cell::Hundredths(row.unit.figure(each), 9),
+            Cell::Text(row.unit.name, 28),
+            Cell::Hundredths(row.unit.figure(floor.each), 7),
+            Cell::Hundredths(times, 6),
+            Cell::Text(floor.name, 0),
+        ];
+        for cell in &cells {
+            self.push_cell(*cell);
+        }
+    }
+
+    // The end of a line: between what its figure lies.
+    fn push_spread(&mut self, unit: Unit, least: u64, most: u64) {
+        self.push("  from ");
+        self.push_cell(Cell::Hundredths(unit.figure(least), 0));
+        self.push(" to ");
+        self.push_cell(Cell::Hundredths(unit.figure(most), 0));
+        self.push("\n");
+    }
+
+    fn push_cell(&mut self, cell: Cell) {
+        let added = match cell {
+            Cell::Text(text, width) => write!(self.text, "  {text:<width$}"),
+            Cell::Whole(number, width) => write!(self.text, "{number:>width$}"),
+            Cell::Hundredths(number, width) => push_hundredths(&mut self.text, number, width),
+        };
+        self.note(added);
     }
 }
 

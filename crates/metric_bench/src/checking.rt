@@ -72,7 +72,7 @@ const PARTS: &[Part] = &[
 pub(crate) fn measure<R: Wait + Clock>(rt: &R, bench: &mut Bench) -> anyhow::Result<()> {
     let floor = copy(rt, bench.alloc)?;
     for part in PARTS {
-        bench.begin(part.title, part.size)?;
+        bench.begin(part.title, part.size);
         measure_part(rt, bench, part, floor)?;
     }
     Ok(())

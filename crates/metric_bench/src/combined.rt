@@ -17,7 +17,7 @@ const ROWS: u32 = 4_096;
 /// Measures combinations of three keys.
 pub(crate) fn measure<R: Wait + Clock>(rt: &R, bench: &mut Bench) -> anyhow::Result<()> {
     bench.floor = look_up(rt, bench.alloc, ROWS)?;
-    bench.begin("combinations of an instrument", "rows")?;
+    bench.begin("combinations of an instrument", "rows");
     let row = Row {
         name: "a set key of three is among them",
         size: u64::from(ROWS),

@@ -22,7 +22,7 @@ pub(crate) fn measure<R: Wait + Clock>(
     events: u32,
 ) -> anyhow::Result<()> {
     bench.floor = look_up(rt, bench.alloc, 1)?;
-    bench.begin("values of one histogram", "boundaries")?;
+    bench.begin("values of one histogram", "boundaries");
     for kind in HISTOGRAMS {
         let plan = plan_of(bench.alloc, &one_of(*kind, 1, Found::Dense), 1)?;
         measure_plan(rt, bench, &plan, events)?;
@@ -61,6 +61,14 @@ pub(crate) fn add_values(
     events: u32,
 ) -> anyhow::Result<u64> {
     let mut histogram = BucketAgg::new(alloc, boundaries, true)?;
+    add_all(&mut histogram, events)?;
+    if histogram.is_empty() {
+        anyhow::bail!("no value");
+    }
+    Ok(number_of_value(&histogram.read(alloc)?))
+}
+
+fn add_all(histogram: &mut BucketAgg, events: u32) -> anyhow::Result<()> {
     for event in 0..events {
         let value = value_of(event);
         if !histogram.fits(value) {
@@ -68,8 +76,5 @@ pub(crate) fn add_values(
         }
         histogram.add(value);
     }
-    if histogram.is_empty() {
-        anyhow::bail!("no value");
-    }
-    Ok(number_of_value(&histogram.read(alloc)?))
+    Ok(())
 }

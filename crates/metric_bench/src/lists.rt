@@ -47,10 +47,10 @@ pub(crate) fn measure<R: Wait + Clock>(
 fn begin<R: Wait + Clock>(rt: &R, bench: &mut Bench, is_by_seat: bool) -> anyhow::Result<()> {
     if is_by_seat {
         bench.floor = at_place(rt, bench.alloc, MANY_VALUES)?;
-        bench.begin("a seat, dense, 1 stream", "attributes")?;
+        bench.begin("a seat, dense, 1 stream", "attributes");
     } else {
         bench.floor = look_up(rt, bench.alloc, 1)?;
-        bench.begin("attributes at the call", "attributes")?;
+        bench.begin("attributes at the call", "attributes");
     }
     Ok(())
 }

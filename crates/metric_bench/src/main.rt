@@ -84,8 +84,7 @@ fn measure<R: Files + AllocGlobal + Threads + Wait + Clock + Sync>(
     if words.ask_for("audit") {
         audits::measure(rt, bench)?;
     }
-    bench.end()?;
-    Ok(())
+    bench.end()
 }
 
 fn measure_recordings<R: Threads + Wait + Clock + Sync>(

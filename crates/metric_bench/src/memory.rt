@@ -42,16 +42,33 @@ pub(crate) fn measure<R: Files + AllocGlobal + Wait>(
     let sets = sets(bench.alloc, SERIES)?;
     let before = in_use(rt)?;
     let _map: IndexMap<SetKey, u64> = map_of(bench.alloc, &sets)?;
+    measure_beside(rt, bench, before)
+}
+
+// Measures beside what came into use with a map.
+fn measure_beside<R: Files + AllocGlobal + Wait>(
+    rt: &R,
+    bench: &mut Bench,
+    before: u64,
+) -> anyhow::Result<()> {
     bench.floor = Floor {
         name: "a map of set keys",
         each: each(in_use(rt)?.saturating_sub(before), u64::from(SERIES)),
     };
     let mut kept = Vec::new(bench.alloc);
+    measure_all(rt, bench, &mut kept)
+}
+
+fn measure_all<R: Files + AllocGlobal + Wait>(
+    rt: &R,
+    bench: &mut Bench,
+    kept: &mut Vec<Instrument>,
+) -> anyhow::Result<()> {
     for (title, found) in PARTS {
-        bench.begin(*title, "series")?;
-        measure_part(rt, bench, *found, &mut kept)?;
+        bench.begin(*title, "series");
+        measure_part(rt, bench, *found, kept)?;
     }
-    measure_kept(rt, bench)
+    measure_recordings(rt, bench)
 }
 
 // How many recordings are kept.
@@ -61,22 +78,34 @@ const KEPT: u32 = 500_000;
 const KEPT_SERIES: u32 = 1_000;
 
 // Measures what each recording takes over books that keep it, beside a list of as many set keys and values.
-fn measure_kept<R: Files + AllocGlobal + Wait>(rt: &R, bench: &mut Bench) -> anyhow::Result<()> {
+fn measure_recordings<R: Files + AllocGlobal + Wait>(
+    rt: &R,
+    bench: &mut Bench,
+) -> anyhow::Result<()> {
     let before = in_use(rt)?;
     let recordings = recordings(bench.alloc, KEPT, KEPT_SERIES)?;
+    measure_kept(rt, bench, &recordings, before)
+}
+
+fn measure_kept<R: Files + AllocGlobal + Wait>(
+    rt: &R,
+    bench: &mut Bench,
+    recordings: &[Measurement],
+    before: u64,
+) -> anyhow::Result<()> {
     bench.floor = Floor {
         name: "a list of set keys and values",
         each: each(in_use(rt)?.saturating_sub(before), u64::from(KEPT)),
     };
-    bench.begin("memory, audited", "recordings")?;
+    bench.begin("memory, audited", "recordings");
     let row = Row {
         name: "a recording kept, with its slip",
         size: u64::from(KEPT),
         operations: u64::from(KEPT),
         unit: Unit::each("B a recording"),
     };
-    let bytes = bytes_of_kept(rt, bench.alloc, &recordings)?;
-    bench.add(&row, bytes)?;
+    let bytes = bytes_of_kept(rt, bench.alloc, recordings)?;
+    bench.add(&row, bytes);
     Ok(())
 }
 
@@ -87,12 +116,20 @@ fn bytes_of_kept<R: Files + AllocGlobal + Wait>(
 ) -> anyhow::Result<u64> {
     let plan = plan_of(alloc, &one_of(0, KEPT_SERIES, Found::Dense), 1)?;
     let mut seats: Seats<Audited> = started(rt, alloc, plan)?;
-    let recorder = seats.recorders.last_mut().context("no recorder")?;
     let keyed = Keyed {
         instrument: 0,
         recordings,
         are_listed: false,
     };
+    bytes_of_round(rt, &mut seats, keyed)
+}
+
+fn bytes_of_round<R: Files + AllocGlobal + Wait>(
+    rt: &R,
+    seats: &mut Seats<Audited>,
+    keyed: Keyed<'_>,
+) -> anyhow::Result<u64> {
+    let recorder = seats.recorders.last_mut().context("no recorder")?;
     let before = in_use(rt)?;
     keyed.repeat(rt, &seats.provider, recorder, 1)?;
     Ok(in_use(rt)?.saturating_sub(before))
@@ -112,7 +149,7 @@ fn measure_part<R: Files + AllocGlobal>(
             operations: u64::from(SERIES),
             unit: Unit::each("B a series"),
         };
-        bench.add(&row, bytes)?;
+        bench.add(&row, bytes);
     }
     Ok(())
 }

@@ -5,7 +5,7 @@ use crate::cells::{Instrument, recordings};
 use crate::floors::{Floor, at_place, by_texts, look_up};
 use crate::inputs::{Found, one_of, plan_of};
 use crate::points::number_of;
-use crate::seats::{Keyed, LIST, Rounds, record_by_last, started};
+use crate::seats::{Keyed, LIST, Rounds, Seats, record_by_last, started};
 use crate::watch::Watch;
 use crate::words::Words;
 use crate::works::Work;
@@ -237,7 +237,7 @@ fn measure_series<R: Wait + Clock>(
     events: u32,
 ) -> anyhow::Result<()> {
     for part in parts {
-        bench.begin(part.title, "series")?;
+        bench.begin(part.title, "series");
         measure_part(rt, bench, part, series, events)?;
     }
     Ok(())
@@ -433,12 +433,22 @@ fn record_keyed<R: Wait + Clock, B: Book>(
 ) -> anyhow::Result<u64> {
     let mut seats = started::<R, B>(rt, alloc, case.plan(alloc)?)?;
     let recordings = recordings(alloc, case.count, case.series)?;
-    let recorder = seats.recorders.last_mut().context("no recorder")?;
     let keyed = Keyed {
         instrument: 0,
         recordings: &recordings,
         are_listed,
     };
+    repeat_keyed(rt, &mut seats, keyed, case, watch)
+}
+
+fn repeat_keyed<R: Wait + Clock, B: Book>(
+    rt: &R,
+    seats: &mut Seats<B>,
+    keyed: Keyed<'_>,
+    case: &Case,
+    watch: &mut Watch,
+) -> anyhow::Result<u64> {
+    let recorder = seats.recorders.last_mut().context("no recorder")?;
     keyed.repeat(rt, &seats.provider, recorder, case.before)?;
     watch.start(rt);
     let made = keyed.repeat(rt, &seats.provider, recorder, case.rounds);

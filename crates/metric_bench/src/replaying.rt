@@ -34,19 +34,28 @@ const ATTRIBUTES: &str = " \"key.0\"=\"value.0\" \"key.1\"=\"value.1\" \"key.2\"
 /// Measures replays.
 pub(crate) fn measure<R: Wait + Clock>(rt: &R, bench: &mut Bench) -> anyhow::Result<()> {
     bench.floor = copy(rt, bench.alloc)?;
-    bench.begin("replays, by the bytes read", "bytes")?;
+    bench.begin("replays, by the bytes read", "bytes");
     for (count, name) in EVENTS {
         let input = input(bench.alloc, *count)?;
-        let bytes = input.len() as u64;
-        let row = Row {
-            name: *name,
-            size: bytes,
-            operations: bytes,
-            unit: SPEED,
-        };
-        bench.measure(rt, &row, &Work::Replay(&input))?;
+        measure_input(rt, bench, *name, &input)?;
     }
     Ok(())
+}
+
+fn measure_input<R: Wait + Clock>(
+    rt: &R,
+    bench: &mut Bench,
+    name: &'static str,
+    input: &str,
+) -> anyhow::Result<()> {
+    let bytes = input.len() as u64;
+    let row = Row {
+        name,
+        size: bytes,
+        operations: bytes,
+        unit: SPEED,
+    };
+    bench.measure(rt, &row, &Work::Replay(input))
 }
 
 /// Replays an input. How many bytes it writes.

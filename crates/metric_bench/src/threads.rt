@@ -123,13 +123,13 @@ pub(crate) fn measure<R: Threads + Wait + Clock + Sync>(
     bench: &mut Bench,
     words: &Words<'_>,
 ) -> anyhow::Result<()> {
-    bench.begin("threads, 3 attributes, 1000 series", "threads")?;
+    bench.begin("threads, 3 attributes, 1000 series", "threads");
     for sharing in SHARINGS {
         measure_sharing(rt, bench, words, *sharing)?;
     }
     let floor = look_up(rt, bench.alloc, SERIES)?;
     bench.floor = floor.shared(u64::from(SERIES), 1);
-    bench.begin("collect_all of 1000 series, all read", "threads")?;
+    bench.begin("collect_all of 1000 series, all read", "threads");
     measure_collections(rt, bench)
 }
 
@@ -145,7 +145,7 @@ fn measure_collections<R: Threads + Wait + Clock + Sync>(
             operations: u64::from(COLLECTIONS),
             unit: Unit::each("ns a collection"),
         };
-        bench.tell_spread(&row, &spread)?;
+        bench.tell_spread(&row, &spread);
     }
     Ok(())
 }
@@ -180,18 +180,13 @@ fn measure_sharing<R: Threads + Wait + Clock + Sync>(
             1 => one,
             threads => figures_of(rt, bench, words.events, sharing, threads)?,
         };
-        add_figures(bench, sharing, &one, &several)?;
+        add_figures(bench, sharing, &one, &several);
     }
     Ok(())
 }
 
 // A line of the time of a recording, and one of how many recordings are made beside one thread.
-fn add_figures(
-    bench: &mut Bench,
-    sharing: Sharing,
-    one: &Figures,
-    several: &Figures,
-) -> Result<(), AllocError> {
+fn add_figures(bench: &mut Bench, sharing: Sharing, one: &Figures, several: &Figures) {
     let (time, throughput) = sharing.names();
     let row = Row {
         name: time,
@@ -203,7 +198,7 @@ fn add_figures(
         name: LOCK,
         each: several.lock,
     };
-    bench.tell_spread(&row, &several.recording)?;
+    bench.tell_spread(&row, &several.recording);
     let row = Row {
         name: throughput,
         unit: Unit::each("times one thread"),
@@ -214,7 +209,7 @@ fn add_figures(
         name: LOCK,
         each: times(one.lock, several.lock, several.threads),
     };
-    bench.add(&row, times(one.each(), several.each(), several.threads))
+    bench.add(&row, times(one.each(), several.each(), several.threads));
 }
 
 // How many times as much so many threads do as one, in thousandths, by what one operation takes each of them.
