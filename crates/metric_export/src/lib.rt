@@ -2,9 +2,10 @@
 //!
 //! [`write_batch`] writes the text of one batch to a sink, [`write_encoded`] its bytes in another [`Encoding`], [`copy_batch`]
 //! copies one, and [`attributes`] are those of a point. A [`MetricExporter`] takes batch after batch until it is shut down
-//! (Metrics SDK, push metric exporter); [`TextExporter`] writes them to a sink, a [`KeepingExporter`] keeps the batches in memory, and a [`Queued`] keeps those that the exporter below it
-//! refused and tries them again. A [`Ticker`] gives the moments of a periodic reader: [`ListTicker`] those of a list,
-//! [`ClockTicker`] those of a clock, until a [`StopFlag`] is set.
+//! (Metrics SDK, push metric exporter); [`TextExporter`] writes them to a sink, a [`KeepingExporter`] keeps the batches
+//! in memory, and a [`Queued`] keeps those that the exporter below it refused and tries them again. A [`Ticker`] gives the
+//! moments of a periodic reader: [`ListTicker`] those of a list, [`ClockTicker`] those of a clock, until a [`StopFlag`] is
+//! set.
 #![tactic(auto)]
 
 mod batch;

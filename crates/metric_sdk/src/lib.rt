@@ -30,8 +30,9 @@
 //!    `ReopeningExporter::of` write in any. An exporter's fault is an [`ExportFault`]: a [`Queued`] keeps what was refused and
 //!    tries it again before the next, so that the window of a delta reader is not lost, and a [`ReopeningExporter`] opens its
 //!    sink anew. An exporter of one's own takes a batch apart: it has the [`StreamPoints`] of each [`Stream`], a [`Point`] the
-//!    [`PointValue`] of one series, whose [`attributes`] the plan knows. By hand: a [`Collector`] collects the [`Batch`] of one instrument or of all, up to an [`AllFault`], and
-//!    [`write_batch`] writes its text, [`write_encoded`] its bytes. (A collection takes 23 to 54 ns a point.)
+//!    [`PointValue`] of one series, whose [`attributes`] the plan knows. By hand: a [`Collector`] collects the [`Batch`] of
+//!    one instrument or of all, up to an [`AllFault`], and [`write_batch`] writes its text, [`write_encoded`] its bytes. (A
+//!    collection takes 23 to 54 ns a point.)
 //! 6. **End.** [`shutdown_all`] lets readers collect a last time, exports what they give, flushes, and finishes the provider; an
 //!    [`EndFault`] has each cause, and hands back what is left. `Provider::finish` alone gives the [`Totals`], a [`Total`] for
 //!    each instrument, exactly what the recorders were told, or a [`FinishFault`]; `Provider::finish_keeping` also the plan. Calls
