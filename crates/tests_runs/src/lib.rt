@@ -44,3 +44,5 @@ mod runs;
 mod series;
 #[cfg(test)]
 mod threads;
+#[cfg(test)]
+mod worked;

@@ -4,6 +4,7 @@ use crate::inputs::{Parts, RUNS};
 use crate::requests_written::{RICH_WRITTEN, WRITTEN, Written};
 use crate::rich::RICH;
 use crate::runs::ran;
+use crate::worked::WORKED;
 use metric_contents::Attr;
 use metric_history::Reply;
 use metric_marked::Marked;
@@ -114,4 +115,11 @@ fn batches_are_requests(rt: HostRuntime) {
 #[test]
 fn every_kind_and_the_greatest_numbers_are_requests(rt: HostRuntime) {
     assert_sent(&rt, rt.alloc(), &[SHOP, TILL], RICH, &RICH_WRITTEN);
+}
+
+#[test]
+fn worked_inputs_are_requests(rt: HostRuntime) {
+    for (parts, written) in WORKED {
+        assert_sent(&rt, rt.alloc(), &[SHOP], parts, written);
+    }
 }
