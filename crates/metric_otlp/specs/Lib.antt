@@ -1,4 +1,3 @@
-pub mod Resources
 pub mod Series
 pub mod Fields
 pub mod Points

@@ -7,7 +7,6 @@
 
 mod attribute;
 mod attribute_json;
-mod fault;
 mod field;
 mod json;
 mod laws;
@@ -18,10 +17,7 @@ mod point;
 mod point_json;
 mod report;
 mod request;
-mod resource;
 
-pub use fault::ResourceFault;
 pub use laws::requests_join;
 pub use line::push_line;
 pub use request::push_request;
-pub use resource::Resource;

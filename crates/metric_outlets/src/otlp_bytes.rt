@@ -4,8 +4,9 @@ ghost use Rattle.metric_otlp.specs.Requests.{request};
 
 use metric_export::Encoding;
 use metric_history::Batch;
-use metric_otlp::{Resource, push_request};
+use metric_otlp::push_request;
 use metric_plan::Plan;
+use metric_resource::Resource;
 use std::alloc::{AllocError, Global};
 use std::marker::Model;
 

@@ -4,8 +4,9 @@ ghost use Rattle.metric_otlp.specs.Lines.{line};
 
 use metric_export::Encoding;
 use metric_history::Batch;
-use metric_otlp::{Resource, push_line};
+use metric_otlp::push_line;
 use metric_plan::Plan;
+use metric_resource::Resource;
 use std::alloc::{AllocError, Global};
 use std::marker::Model;
 

@@ -9,8 +9,9 @@ use metric_contents::Attr;
 use metric_history::Reply;
 use metric_marked::Marked;
 use metric_names::ValueRef;
-use metric_otlp::{Resource, ResourceFault, push_line, push_request};
+use metric_otlp::{push_line, push_request};
 use metric_plan::Plan;
+use metric_resource::{Resource, ResourceFault};
 use std::alloc::Global;
 use std::process::Abort;
 

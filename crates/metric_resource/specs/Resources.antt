@@ -6,8 +6,8 @@ use Rattle.metric_names.specs.Values.{value_of}
 use Rattle.metric_base.specs.Steps.{◌>>=◌, require}
 use Rattle.metric_contents.specs.declared.attributes.Attr.{Attr}
 use Rattle.metric_contents.specs.declared.attributes.OwnedAttr.{OwnedAttr}
-use Rattle.metric_otlp.specs.declared.fault.ResourceFault.{ResourceFault}
-use Rattle.metric_otlp.specs.declared.fault.ResourceFault.TheVariants.{TooMany, EmptyKey, RepeatedKey}
+use Rattle.metric_resource.specs.declared.fault.ResourceFault.{ResourceFault}
+use Rattle.metric_resource.specs.declared.fault.ResourceFault.TheVariants.{TooMany, EmptyKey, RepeatedKey}
 
 -- what a borrowed attribute is when it is owned
 abbrev pub owned_by : Attr → OwnedAttr

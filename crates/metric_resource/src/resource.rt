@@ -3,7 +3,7 @@ ghost use Rattle.std.specs.Prelude.{◌≡◌, ◌++◌, ◌==◌, OnOk, IfOk, l
 ghost use Rattle.std.specs.List.{list_any};
 ghost use Rattle.metric_base.specs.Steps.{Gives};
 ghost use Rattle.metric_names.specs.Values.{value_of};
-ghost use Rattle.metric_otlp.specs.Resources.{has_empty_key, has_repeated_key, is_of, owned_by, resource_of};
+ghost use Rattle.metric_resource.specs.Resources.{has_empty_key, has_repeated_key, is_of, owned_by, resource_of};
 
 use crate::fault::ResourceFault;
 use metric_base::{Items, Text};

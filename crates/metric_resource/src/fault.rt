@@ -22,7 +22,7 @@ pub enum ResourceFault {
 }
 
 impl From<AllocError> for ResourceFault {
-    ghost use Rattle.metric_otlp.specs.declared.fault.ResourceFault.TheVariants.{Memory};
+    ghost use Rattle.metric_resource.specs.declared.fault.ResourceFault.TheVariants.{Memory};
 
     ghost from_gives = { λ _ e. e ≡ Memory };
 
