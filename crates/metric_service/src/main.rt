@@ -1,25 +1,27 @@
-//! A service to copy from: workers record in threads of their own, while each reader of the config exports: the one that is named
-//! `new` as lines of JSON for machines, by an exporter of the service's own (`json_lines`), any other as text for people. It fails
-//! where the totals at its end are not what the workers counted. `metric_service CATALOGUE CONFIG` starts only where both are safe
-//! together.
+//! A service to copy from: workers record in threads of their own, while two readers export. What the one named `all` collects is
+//! added to a file of lines that the OpenTelemetry Collector reads; what is `new` is written as lines of JSON, by an exporter of the
+//! service's own (`json_lines`). It fails where the totals at its end are not what the workers counted.
+//! `metric_service CATALOGUE CONFIG FILE` starts only where the catalogue and the config are safe together.
 #![tactic(auto)]
 
 mod json;
 mod json_lines;
 
-use anyhow::{Error, Result, bail, ensure};
+use anyhow::{Context, Result, bail, ensure};
 use json::Times;
 use json_lines::JsonLines;
 use metric_sdk::{
     Attr, BoundCounter, ClockTicker, Collector, Counted, Counter, Gauge, Histogram, MeterProvider,
-    MetricExporter, Periodic, Plan, Recorder, Refusal, Runs, ServiceFault, StdSink, StopFlag,
-    TextExporter, UpDownCounter, ValueRef, counter, gauge, histogram, now, open, up_down_counter,
+    MetricExporter, OtlpLines, Periodic, Plan, Recorder, Refusal, Resource, Runs, ServiceFault,
+    StdSink, StopFlag, TextExporter, UpDownCounter, ValueRef, counter, gauge, histogram, now, open,
+    take_reader, up_down_counter,
 };
-use std::io::{Stderr, Stdout};
+use std::env;
+use std::fs::{self, File, OpenOptions};
+use std::io::Stdout;
 use std::sync::Wait;
-use std::thread::{Threads, for_each_mut, join, map_vec};
+use std::thread::{Threads, for_each_mut, join};
 use std::time::Clock;
-use std::{env, fs};
 
 // Pretended requests: the route, the status, milliseconds and bytes. No route /admin is declared, and no status 500 for /cart.
 const SERVED: [[(&str, i64, i64, i64); 2]; 4] = [
@@ -83,24 +85,23 @@ fn attr<'a>(key: &'a str, value: ValueRef<'a>) -> Attr<'a> {
 
 fn main(rt: HostRuntime) -> Result<()> {
     let words: Vec<String> = env::args(&rt)?.collect(rt.alloc())?;
-    let [_, catalogue, config] = words.as_slice() else {
-        bail!("usage: metric_service CATALOGUE CONFIG");
+    let [_, catalogue, config, file] = words.as_slice() else {
+        bail!("usage: metric_service CATALOGUE CONFIG FILE");
     };
     let catalogue = fs::read_to_string(&rt, catalogue.as_str())?;
     let config = fs::read_to_string(&rt, config.as_str())?;
+    let file = added_to().open(&rt, file.as_str())?;
+    let service = attr("service.name", ValueRef::Text("shop"));
+    let resource = Resource::new(rt.alloc(), &[service])?;
     let (start, run) = (now(&rt)?, Runs::new().next());
     let (provider, recorders, readers) = open(&rt, rt.alloc(), &catalogue, &config, start, run)?;
     let mut seats = Vec::with_capacity(rt.alloc(), recorders.len())?;
-    let outputs = (rt.stdout(), rt.stderr());
-    let (workers, failed) = serve(&rt, outputs, &provider, recorders, readers)?;
-    let (mut served, mut refused) = (0u64, [0u64; 7]);
-    for (seat, own) in workers {
-        for (number, refused) in (0..7).zip(&mut refused) {
-            for refusal in [Refusal::UnknownValue, Refusal::Combination] {
-                *refused = refused.saturating_add(seat.refused(number, refusal));
-            }
-        }
-        served = served.saturating_add(own);
+    let lines = TextExporter::of(OtlpLines::new(resource), StdSink::new(file));
+    // What takes these lines stamps each one.
+    let own = JsonLines::new(StdSink::new(rt.stdout()), Times::LeftOut);
+    let (workers, failed) = serve(&rt, &provider, recorders, readers, lines, own)?;
+    let (served, refused) = counted(&workers);
+    for (seat, _) in workers {
         seats.push(seat.into_seat())?;
     }
     let ended = provider.finish_keeping(&rt, rt.alloc(), seats);
@@ -112,55 +113,63 @@ fn main(rt: HostRuntime) -> Result<()> {
         println!(rt; "{name}: {count} recordings, sum {sum}, {refused} refused")?;
         same = same && count.saturating_add(refused) == served;
     }
-    let failed = failed?;
     println!(rt; "requests: {served}, failed exports by reader: {failed:?}")?;
     ensure!(same, "the totals are not what the workers counted");
     Ok(())
 }
 
+// How many requests were served, and how many recordings of each instrument nobody had declared.
+fn counted(workers: &[Worker]) -> (u64, [u64; 7]) {
+    let (mut served, mut refused) = (0u64, [0u64; 7]);
+    for (seat, own) in workers {
+        for (number, refused) in (0..7).zip(&mut refused) {
+            let values = seat.refused(number, Refusal::UnknownValue);
+            let combinations = seat.refused(number, Refusal::Combination);
+            *refused = refused.saturating_add(values).saturating_add(combinations);
+        }
+        served = served.saturating_add(*own);
+    }
+    (served, refused)
+}
+
+// How a file is opened to which lines are added.
+fn added_to() -> OpenOptions {
+    let mut options = File::options();
+    options.append(true).create(true);
+    options
+}
+
 // Serves until the workers have ended. They come back, and how many exports of each reader failed.
 fn serve<R: Threads + Wait + Clock + Sync + AllocGlobal>(
     rt: &R,
-    (stdout, stderr): (Stdout, Stderr),
     provider: &MeterProvider,
     recorders: Vec<Recorder>,
-    readers: Vec<Collector>,
-) -> Result<(Vec<Worker>, Result<Vec<u64>>)> {
+    mut readers: Vec<Collector>,
+    lines: TextExporter<StdSink<File>, OtlpLines>,
+    own: JsonLines<StdSink<Stdout>>,
+) -> Result<(Vec<Worker>, (u64, u64))> {
     let (shop, stop) = (Shop::new(provider.plan())?, StopFlag::new());
+    let all = take_reader(provider.plan(), &mut readers, "all").context("no reader \"all\"")?;
+    let new = take_reader(provider.plan(), &mut readers, "new").context("no reader \"new\"")?;
     let mut workers = Vec::new(rt.alloc());
     for seat in recorders {
         let seat = Counted::new(rt.alloc(), provider.plan(), seat);
         workers.push((seat.map_err(|(_, refused)| refused)?, 0))?;
     }
-    let export = |reader: Collector| {
-        if is_for_machines(provider.plan(), &reader) {
-            // What takes the lines stamps each one.
-            let lines = JsonLines::new(StdSink::new(stdout), Times::LeftOut);
-            export_by(rt, lines, provider, reader, 60_000, &stop)
-        } else {
-            let text = TextExporter::new(StdSink::new(stderr));
-            export_by(rt, text, provider, reader, 1_000, &stop)
-        }
-    };
     let work = |_, worker: &mut Worker| shop.serve(rt, provider, worker);
-    let (failed, workers) = join(
-        rt,
-        || map_vec(rt, readers, &export),
-        || {
-            for_each_mut(rt, workers.as_mut_slice(), 64, &work);
-            stop.set(rt);
-            workers
-        },
-    );
-    Ok((workers, failed.map_err(Error::from)))
-}
-
-// Whether a reader's batches are written for machines.
-fn is_for_machines(plan: &Plan, reader: &Collector) -> bool {
-    match plan.config().readers().get(reader.number() as usize) {
-        Some(reader) => reader.name.as_str() == "new",
-        None => false,
-    }
+    let readers = || {
+        join(
+            rt,
+            || export_by(rt, lines, provider, all, 10_000, &stop),
+            || export_by(rt, own, provider, new, 60_000, &stop),
+        )
+    };
+    let (failed, workers) = join(rt, readers, || {
+        for_each_mut(rt, workers.as_mut_slice(), 64, &work);
+        stop.set(rt);
+        workers
+    });
+    Ok((workers, failed))
 }
 
 // Exports every so many milliseconds, for 136 years or more, and a last time when the workers have ended. Tells what failed.
