@@ -1,7 +1,7 @@
 //! Measures what recording, collecting, checking and replaying cost, beside floors measured in the same run.
 //!
 //! Without words it does nothing. `metric_bench all` measures everything; `record`, `histogram`, `collect`,
-//! `threads`, `check`, `replay`, `audit` and `memory` a part. `--series`, `--attributes`, `--threads` and `--events` set sizes.
+//! `encode`, `threads`, `check`, `replay`, `audit` and `memory` a part. `--series`, `--attributes`, `--threads` and `--events` set sizes.
 //! Each figure names its unit, and is the least of several repetitions; of what threads do at once it is the median.
 //! `allocations` measures nothing: it makes recordings between marks, for `tools/watch-allocations`.
 #![tactic(auto)]
@@ -13,6 +13,7 @@ mod by_hand;
 mod cells;
 mod checking;
 mod combined;
+mod encoding;
 mod floors;
 mod histograms;
 mod inputs;
@@ -100,6 +101,9 @@ fn measure_recordings<R: Threads + Wait + Clock + Sync>(
     }
     if words.ask_for("collect") {
         recording::measure_collections(rt, bench, words)?;
+    }
+    if words.ask_for("encode") {
+        encoding::measure(rt, bench, words)?;
     }
     if words.ask_for("threads") {
         threads::measure(rt, bench, words)?;

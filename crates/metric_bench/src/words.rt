@@ -68,6 +68,7 @@ const PARTS: &[&str] = &[
     "record",
     "histogram",
     "collect",
+    "encode",
     "threads",
     "check",
     "replay",

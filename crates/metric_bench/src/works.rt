@@ -3,6 +3,7 @@ use crate::audits::audit_done;
 use crate::by_hand::{Hash, add_at_places, add_by_texts};
 use crate::checking::{Step, Texts, step_done};
 use crate::combined::ask_for_rows;
+use crate::encoding::{Written, write};
 use crate::floors::{copy_bytes, look_up_sets};
 use crate::histograms::add_values;
 use crate::lists::{Lists, lists_done};
@@ -34,6 +35,8 @@ pub(crate) enum Work<'a> {
     Case(Case),
     /// So many values added to a histogram.
     Values(&'a Shared<Boundaries>, u32),
+    /// A batch that is written.
+    Written(Written),
     /// A step with a catalogue, a config and their certificate.
     Step(Step, &'a Texts),
     /// A replay of an input.
@@ -59,6 +62,7 @@ impl Work<'_> {
             Work::Lists(lists) => lists_done(rt, alloc, lists, watch),
             Work::Case(case) => case_done(rt, alloc, case, watch),
             Work::Values(boundaries, events) => add_values(alloc, boundaries, *events),
+            Work::Written(written) => write(rt, alloc, written, watch),
             Work::Step(step, texts) => step_done(rt, alloc, *step, texts, watch),
             Work::Replay(input) => replayed(alloc, input),
             Work::Audit(series) => audit_done(rt, alloc, *series, watch),
