@@ -65,7 +65,10 @@ impl fmt::Display for Refusal {
             Refusal::UnknownKey => write!(f, "the instrument does not declare a key"),
             Refusal::UnknownValue => write!(f, "a key does not declare its value"),
             Refusal::MissingKey => write!(f, "a required key is missing"),
-            Refusal::Combination => write!(f, "the instrument does not allow this combination of values"),
+            Refusal::Combination => write!(
+                f,
+                "the instrument does not allow this combination of values"
+            ),
             Refusal::ValueRange => write!(f, "the value is outside the instrument's range"),
             Refusal::Closed => write!(f, "the instrument is closed"),
             Refusal::Budget => write!(f, "the recorder's budget is spent"),

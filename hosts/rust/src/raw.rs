@@ -120,15 +120,6 @@ unsafe extern "C" {
         fault_room: usize,
         fault_length: &mut usize,
     ) -> u32;
-    pub fn wormweekly_record(
-        instrument: &mut Handle,
-        recorder: &mut Handle,
-        texts: *const u8,
-        texts_length: usize,
-        attributes: *const Attribute,
-        attributes_length: usize,
-        value: i64,
-    ) -> u32;
     pub fn wormweekly_prepare(
         recorder: &mut Handle,
         instrument: u32,

@@ -60,7 +60,7 @@ impl Recorder {
         &self.name
     }
 
-    /// Makes a recording.
+    /// Makes a recording. Its attributes are found before the lock is taken, so that other threads wait for the recording alone.
     ///
     /// # Errors
     ///
@@ -71,21 +71,9 @@ impl Recorder {
         attributes: &[(&str, Value<'_>)],
         value: i64,
     ) -> Result<(), Refusal> {
-        self.room.fill(attributes);
-        let Room { texts, attributes } = &self.room;
-        let mut held = instrument.lock();
-        // SAFETY: the handles are as the library left them, this call has them alone, and the buffers are borrowed for it.
-        answer(unsafe {
-            raw::wormweekly_record(
-                &mut held,
-                &mut self.handle,
-                texts.as_ptr(),
-                texts.len(),
-                attributes.as_ptr(),
-                attributes.len(),
-                value,
-            )
-        })
+        let mut own = self.found(instrument, attributes)?;
+        own.value = value;
+        self.record_found(instrument, &own)
     }
 
     /// Finds what a set of attributes comes to, for recordings on an instrument. Takes no lock.
@@ -98,6 +86,16 @@ impl Recorder {
         instrument: &Instrument,
         attributes: &[(&str, Value<'_>)],
     ) -> Result<Prepared, Refusal> {
+        let own = self.found(instrument, attributes)?;
+        let instrument = instrument.clone();
+        Ok(Prepared { instrument, own })
+    }
+
+    fn found(
+        &mut self,
+        instrument: &Instrument,
+        attributes: &[(&str, Value<'_>)],
+    ) -> Result<raw::Prepared, Refusal> {
         if instrument.run() != self.run {
             return Err(Refusal::Stranger);
         }
@@ -107,7 +105,7 @@ impl Recorder {
             set: [0; 8],
             value: 0,
         };
-        // SAFETY: as in `record`.
+        // SAFETY: the handle is as the library left it, this call has it alone, and the buffers are borrowed for it.
         answer(unsafe {
             raw::wormweekly_prepare(
                 &mut self.handle,
@@ -119,10 +117,17 @@ impl Recorder {
                 &mut own,
             )
         })?;
-        Ok(Prepared {
-            instrument: instrument.clone(),
-            own,
-        })
+        Ok(own)
+    }
+
+    fn record_found(
+        &mut self,
+        instrument: &Instrument,
+        own: &raw::Prepared,
+    ) -> Result<(), Refusal> {
+        let mut held = instrument.lock();
+        // SAFETY: the handles are as the library left them, and this call has them alone.
+        answer(unsafe { raw::wormweekly_record_prepared(&mut held, &mut self.handle, own) })
     }
 
     /// Makes a recording with attributes that were prepared.
@@ -135,9 +140,7 @@ impl Recorder {
             value,
             ..prepared.own
         };
-        let mut held = prepared.instrument.lock();
-        // SAFETY: as in `record`.
-        answer(unsafe { raw::wormweekly_record_prepared(&mut held, &mut self.handle, &own) })
+        self.record_found(&prepared.instrument, &own)
     }
 
     /// Makes several recordings with attributes that were prepared for one instrument, in one call and under one lock.
@@ -160,7 +163,7 @@ impl Recorder {
         }));
         let mut made = 0;
         let mut held = first.instrument.lock();
-        // SAFETY: as in `record`.
+        // SAFETY: as in `found`.
         let code = unsafe {
             raw::wormweekly_record_list(
                 &mut held,
@@ -186,7 +189,7 @@ impl Recorder {
     // A name of the plan, empty where there is none.
     pub(crate) fn name_of(&mut self, kind: u32, number: u32) -> String {
         let handle = &mut self.handle;
-        // SAFETY: as in `record`.
+        // SAFETY: as in `found`.
         told(|out, length| unsafe {
             raw::wormweekly_name(handle, kind, number, out.as_mut_ptr(), out.len(), length)
         })
@@ -196,7 +199,7 @@ impl Recorder {
     // The warnings of the plan.
     pub(crate) fn warnings(&mut self) -> Result<String, u32> {
         let handle = &mut self.handle;
-        // SAFETY: as in `record`.
+        // SAFETY: as in `found`.
         told(|out, length| unsafe {
             raw::wormweekly_warnings(handle, out.as_mut_ptr(), out.len(), length)
         })
