@@ -99,6 +99,11 @@ static const wormweekly_attribute TWICE[] = { { 7, WORMWEEKLY_TEXT, 2, 0 }, { 7,
 static const wormweekly_attribute LONG_KEY[] = { { SIZE_MAX, WORMWEEKLY_TEXT, 2, 0 } };
 static const wormweekly_attribute LONG_TEXT[] = { { 7, WORMWEEKLY_TEXT, SIZE_MAX, 0 } };
 static const wormweekly_attribute NO_KIND[] = { { 7, 4, 2, 0 } };
+static const wormweekly_attribute SERVICE[] = { { 12, WORMWEEKLY_TEXT, 4, 0 } };
+static const wormweekly_attribute SERVICE_TWICE[] = { { 12, WORMWEEKLY_TEXT, 4, 0 }, { 12, WORMWEEKLY_TEXT, 4, 0 } };
+static const wormweekly_attribute NO_KEY[] = { { 1, WORMWEEKLY_YES, 0, 0 }, { 0, WORMWEEKLY_YES, 0, 0 } };
+/* More than a resource may have. */
+static const wormweekly_attribute MANY[65] = { { 0, WORMWEEKLY_YES, 0, 0 } };
 /* More than a call reads without taking memory. */
 static const wormweekly_attribute NINE[] = {
     { 1, WORMWEEKLY_YES, 0, 0 }, { 1, WORMWEEKLY_YES, 0, 0 }, { 1, WORMWEEKLY_YES, 0, 0 },
@@ -113,7 +118,7 @@ static wormweekly_reader readers[2 * READERS] = { WORMWEEKLY_NOTHING };
 static wormweekly_prepared prepared;
 
 /* What a call answers and writes: numbers, or a text. */
-enum { NUMBERS = 9, ROOM = 600 };
+enum { NUMBERS = 9, ROOM = 1000 };
 struct told {
     uint32_t answer;
     int64_t numbers[NUMBERS];
@@ -263,6 +268,22 @@ static struct told text(const struct row *row) {
     return told_text(answer, length);
 }
 
+/* Writes a line of JSON as it is, and a request as digits of 16. */
+static struct told otlp(const struct row *row) {
+    static char digits[2 * ROOM + 1];
+    size_t length = 0;
+    uint32_t answer =
+        wormweekly_otlp(&readers[row->reader], row->kind, bytes(row->texts), strlen(row->texts), row->given,
+                        row->given_length, clear_buffer(), room_for(row, ROOM), &length);
+    if (answer != WORMWEEKLY_DONE || row->kind == 1) {
+        return told_text(answer, length);
+    }
+    for (size_t i = 0; i < length && i < ROOM; i++) {
+        sprintf(digits + 2 * i, "%02x", (unsigned)(uint8_t)buffer[i]);
+    }
+    return (struct told){ .answer = answer, .text = length == 0 ? "" : digits };
+}
+
 static struct told warnings(const struct row *row) {
     size_t length = 0;
     uint32_t answer = wormweekly_warnings(&recorders[row->recorder], clear_buffer(), room_for(row, ROOM), &length);
@@ -378,6 +399,26 @@ static const char ORDERS_TEXT[] =
 
 static const char WARNINGS[] = "warning Unfit view=0 instrument=2\n";
 
+/* The same batch in the OpenTelemetry protocol, with the resource attribute {"service.name" = "shop"}: the bytes of a request,
+ * as digits of 16, and its line of JSON. */
+static const char ORDERS_REQUEST[] =
+    "0ad5010a180a160a0c736572766963652e6e616d6512060a0473686f7012b8010a090a0473686f701201321294010a066f72"
+    "64657273120d776861742077617320706169641a034555523a760a38110300000000000000190900000000000000310f0000"
+    "00000000003a0f0a07636f756e74727912040a0264653a0a0a0470616964120210010a381103000000000000001909000000"
+    "00000000316affffffffffffff3a0f0a07636f756e74727912040a0266723a0a0a04706169641202100110021a1468747470"
+    "733a2f2f73686f702e6578616d706c65";
+
+static const char ORDERS_LINE[] =
+    "{\"resourceMetrics\":[{\"resource\":{\"attributes\":[{\"key\":\"service.name\",\"value\":{\"stringValue"
+    "\":\"shop\"}}]},\"scopeMetrics\":[{\"scope\":{\"name\":\"shop\",\"version\":\"2\"},\"metrics\":[{\"name\":\"or"
+    "ders\",\"description\":\"what was paid\",\"unit\":\"EUR\",\"sum\":{\"dataPoints\":[{\"attributes\":[{\"key"
+    "\":\"country\",\"value\":{\"stringValue\":\"de\"}},{\"key\":\"paid\",\"value\":{\"boolValue\":true}}],\"star"
+    "tTimeUnixNano\":\"3\",\"timeUnixNano\":\"9\",\"asInt\":\"15\"},{\"attributes\":[{\"key\":\"country\",\"value"
+    "\":{\"stringValue\":\"fr\"}},{\"key\":\"paid\",\"value\":{\"boolValue\":true}}],\"startTimeUnixNano\":\"3\""
+    ",\"timeUnixNano\":\"9\",\"asInt\":\"-150\"}],\"aggregationTemporality\":2}}],\"schemaUrl\":\"https://sh"
+    "op.example\"}]}]}"
+    "\n";
+
 /* Texts that open nothing, too few handles, and handles that are opened anew. */
 static const struct row OPENING_ROWS[] = {
     { CALL(open), .catalogue = "format = \xff", .config = CONFIG, ALL_HANDLES, .answer = WORMWEEKLY_NO_TEXT },
@@ -418,6 +459,8 @@ static const struct row OPENING_ROWS[] = {
 static const struct row ORDERS_ROWS[] = {
     { CALL(batch), .answer = WORMWEEKLY_UNKNOWN },
     { CALL(text), .text = "" },
+    { CALL(otlp), .texts = "service.nameshop", GIVEN(SERVICE), .text = "" },
+    { CALL(otlp), .kind = 1, .texts = "service.nameshop", GIVEN(SERVICE), .text = "" },
     { CALL(record), .texts = "countrydepaid", GIVEN(PAID), .value = 5 },
     { CALL(record), .recorder = NIGHT, .texts = "countrydepaid", GIVEN(PAID), .value = 10 },
     { CALL(record), .texts = "country\xff\xfepaid", GIVEN(PAID), .answer = WORMWEEKLY_NO_TEXT },
@@ -451,6 +494,18 @@ static const struct row ORDERS_ROWS[] = {
     { CALL(batch), .numbers = { ORDERS, 1, 3, 9 } },
     { CALL(text), .text = ORDERS_TEXT },
     { CALL(text), .is_short = 1, .answer = WORMWEEKLY_TOO_SHORT, .numbers = { sizeof ORDERS_TEXT - 1 } },
+    { CALL(otlp), .texts = "service.nameshop", GIVEN(SERVICE), .text = ORDERS_REQUEST },
+    { CALL(otlp), .texts = "service.nameshop", GIVEN(SERVICE), .is_short = 1, .answer = WORMWEEKLY_TOO_SHORT,
+      .numbers = { (sizeof ORDERS_REQUEST - 1) / 2 } },
+    { CALL(otlp), .kind = 1, .texts = "service.nameshop", GIVEN(SERVICE), .text = ORDERS_LINE },
+    { CALL(otlp), .kind = 1, .texts = "service.nameshop", GIVEN(SERVICE), .is_short = 1,
+      .answer = WORMWEEKLY_TOO_SHORT, .numbers = { sizeof ORDERS_LINE - 1 } },
+    { CALL(otlp), .kind = 2, .texts = "service.nameshop", GIVEN(SERVICE), .answer = WORMWEEKLY_UNKNOWN },
+    { CALL(otlp), .kind = 2, .texts = "service.name", GIVEN(SERVICE), .answer = WORMWEEKLY_NO_TEXT },
+    { CALL(otlp), .texts = "service.nameshopservice.nameshop", GIVEN(SERVICE_TWICE),
+      .answer = WORMWEEKLY_DUPLICATE_KEY },
+    { CALL(otlp), .texts = "a", GIVEN(NO_KEY), .answer = WORMWEEKLY_EMPTY_KEY },
+    { CALL(otlp), .texts = "a", GIVEN(MANY), .answer = WORMWEEKLY_TOO_MANY },
     { CALL(stream), .numbers = { 0, 1, 0, 0, 0, 2 } },
     { CALL(stream), .stream = 1, .answer = WORMWEEKLY_UNKNOWN },
     { CALL(stream), .stream = SIZE_MAX, .answer = WORMWEEKLY_UNKNOWN },

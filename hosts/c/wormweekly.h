@@ -98,7 +98,11 @@ enum wormweekly_answer {
     /* An instrument's state is not what its recorders were told. */
     WORMWEEKLY_AUDIT_MISMATCH = 105,
     /* There is nothing of this number. */
-    WORMWEEKLY_UNKNOWN = 106
+    WORMWEEKLY_UNKNOWN = 106,
+    /* A resource has more than 64 attributes. */
+    WORMWEEKLY_TOO_MANY = 107,
+    /* An attribute of a resource has an empty key. */
+    WORMWEEKLY_EMPTY_KEY = 108
 };
 
 /* What kind of value an attribute has. */
@@ -208,6 +212,16 @@ uint32_t wormweekly_collect(wormweekly_instrument *instrument, wormweekly_reader
 /* Writes the text of the batch that the reader keeps, and its length. Where there is too little room, only the length is
  * written: ask again with more. The text is empty before a batch. Needs no mutex. */
 uint32_t wormweekly_text(wormweekly_reader *reader, uint8_t *out, size_t room, size_t *text_length);
+
+/* Writes that batch in the OpenTelemetry protocol (OTLP 1.x), with the attributes of the resource, which is what produces the
+ * metrics, as {"service.name" = "shop"}: as a message ExportMetricsServiceRequest (json 0), which a collector takes at /v1/metrics
+ * as application/x-protobuf, or as a line of JSON (1; WORMWEEKLY_UNKNOWN above). A resource has at most 64 attributes
+ * (WORMWEEKLY_TOO_MANY), none with an empty key (WORMWEEKLY_EMPTY_KEY), and none twice (WORMWEEKLY_DUPLICATE_KEY). Nothing is
+ * written before a batch, and of one without points. Requests one after the other are one request. Where a collector did not take
+ * a request, keep it and send it before the next one: a delta reader does not give its window again. Needs no mutex. */
+uint32_t wormweekly_otlp(wormweekly_reader *reader, uint32_t json, const uint8_t *texts, size_t texts_length,
+                         const wormweekly_attribute *attributes, size_t attributes_length, uint8_t *out, size_t room,
+                         size_t *text_length);
 
 /* THE BATCH POINT BY POINT, for a host that writes a format of its own. Streams, points and keys are numbered from 0, the
  * streams within the batch. WORMWEEKLY_UNKNOWN says that there is none of a number. Where there is too little room for a text,

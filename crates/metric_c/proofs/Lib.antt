@@ -5,6 +5,7 @@ pub mod ToldLaws
 pub mod PlaceLaws
 pub mod EachLaws
 pub mod AttributeLaws
+pub mod ResourceLaws
 pub mod Utf8Laws
 pub mod HeldLaws
 pub mod RoomLaws

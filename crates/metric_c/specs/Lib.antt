@@ -12,6 +12,8 @@ pub mod Vouching
 pub mod Recordings
 pub mod Prepared
 pub mod Collections
+pub mod Resources
+pub mod Otlp
 pub mod Walking
 pub mod Settlements
 pub mod Closing

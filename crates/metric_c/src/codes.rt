@@ -7,6 +7,9 @@ use metric_contents::Refusal;
 /// Done.
 pub const DONE: u32 = 0;
 
+/// The number of the refusal of a key that stands twice.
+pub const DUPLICATE_KEY: u32 = 3;
+
 /// The number of the refusal for want of memory.
 pub const MEMORY: u32 = 11;
 
@@ -33,6 +36,12 @@ pub const AUDIT_MISMATCH: u32 = 105;
 
 /// There is nothing of this number.
 pub const UNKNOWN: u32 = 106;
+
+/// A resource has more than 64 attributes.
+pub const TOO_MANY: u32 = 107;
+
+/// An attribute of a resource has an empty key.
+pub const EMPTY_KEY: u32 = 108;
 
 // The number of an answer.
 pub(crate) fn code_of(answer: &Result<(), Refusal>) -> u32

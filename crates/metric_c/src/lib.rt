@@ -16,6 +16,8 @@
 //! | 104 | the seat of some recorder is not there |
 //! | 105 | an instrument's state is not what its recorders were told |
 //! | 106 | there is nothing of this number |
+//! | 107 | a resource has more than 64 attributes |
+//! | 108 | an attribute of a resource has an empty key |
 #![tactic(auto)]
 
 mod attributes;
@@ -31,11 +33,13 @@ mod instrument_handle;
 mod names;
 mod no_plan;
 mod opening;
+mod otlp;
 mod parts;
 mod prepared;
 mod reader_handle;
 mod recorder_handle;
 mod recordings;
+mod resources;
 mod settlements;
 mod texts;
 mod warnings;
@@ -56,6 +60,7 @@ pub use grants::wormweekly_grant;
 pub use instrument_handle::InstrumentHandle;
 pub use names::wormweekly_name;
 pub use opening::{Counts, wormweekly_open};
+pub use otlp::wormweekly_otlp;
 pub use prepared::{wormweekly_prepare, wormweekly_record_list, wormweekly_record_prepared};
 pub use reader_handle::ReaderHandle;
 pub use recorder_handle::RecorderHandle;

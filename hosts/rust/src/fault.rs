@@ -170,6 +170,48 @@ impl fmt::Display for SettleFault {
 
 impl std::error::Error for SettleFault {}
 
+/// Why attributes are no resource. They are tried in this order.
+#[derive(Clone, Copy, Debug, PartialEq, Eq)]
+#[non_exhaustive]
+pub enum ResourceFault {
+    /// There are more than 64.
+    TooMany,
+    /// One has an empty key.
+    EmptyKey,
+    /// A key stands twice.
+    RepeatedKey,
+    /// Memory was refused.
+    Memory,
+    /// The library answered a number that this crate does not know.
+    Other(u32),
+}
+
+impl ResourceFault {
+    pub(crate) fn of(code: u32) -> ResourceFault {
+        match code {
+            3 => ResourceFault::RepeatedKey,
+            11 => ResourceFault::Memory,
+            107 => ResourceFault::TooMany,
+            108 => ResourceFault::EmptyKey,
+            other => ResourceFault::Other(other),
+        }
+    }
+}
+
+impl fmt::Display for ResourceFault {
+    fn fmt(&self, f: &mut fmt::Formatter<'_>) -> fmt::Result {
+        match self {
+            ResourceFault::TooMany => write!(f, "a resource has more than 64 attributes"),
+            ResourceFault::EmptyKey => write!(f, "an attribute of a resource has an empty key"),
+            ResourceFault::RepeatedKey => write!(f, "a key of a resource stands twice"),
+            ResourceFault::Memory => write!(f, "memory was refused"),
+            ResourceFault::Other(code) => write!(f, "the library answered {code}"),
+        }
+    }
+}
+
+impl std::error::Error for ResourceFault {}
+
 /// There is no instrument of this name, or more than one.
 #[derive(Clone, Debug, PartialEq, Eq)]
 pub struct UnknownName(pub String);

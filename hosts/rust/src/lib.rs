@@ -70,13 +70,15 @@ mod opening;
 mod raw;
 mod reader;
 mod recorder;
+mod resource;
 mod texts;
 mod value;
 
 pub use batch::{Batch, Kind, OwnedValue, Point, PointValue, Stream};
-pub use fault::{ListRefusal, OpenFault, Refusal, SettleFault, UnknownName};
+pub use fault::{ListRefusal, OpenFault, Refusal, ResourceFault, SettleFault, UnknownName};
 pub use metrics::{Instrument, Metrics, Total};
 pub use opening::{Opened, open, open_certified};
 pub use reader::Reader;
 pub use recorder::{Prepared, Recorder};
+pub use resource::Resource;
 pub use value::Value;

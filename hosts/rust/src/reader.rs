@@ -1,9 +1,11 @@
 //! The seats of readers.
 use crate::batch::{Batch, batch_of};
-use crate::fault::Refusal;
+use crate::fault::{Refusal, ResourceFault};
 use crate::metrics::Instrument;
 use crate::raw::{self, Handle};
-use crate::texts::told;
+use crate::resource::Resource;
+use crate::texts::{told, told_bytes};
+use crate::value::Room;
 
 /// The seat of one reader, with which a thread collects. It keeps what it has seen, so that the windows of a delta reader
 /// leave no gap and no overlap.
@@ -64,5 +66,45 @@ impl Reader {
             raw::wormweekly_text(handle, out.as_mut_ptr(), out.len(), length)
         });
         text.map_err(Refusal::of)
+    }
+
+    /// The batch that was collected last as a message `ExportMetricsServiceRequest` of OTLP, which a collector takes at
+    /// `/v1/metrics` as `application/x-protobuf`. It is empty before a batch, and where the batch has no points. Requests one
+    /// after the other are one request. The batch stays, so what a collector did not take can be asked for again.
+    ///
+    /// # Errors
+    ///
+    /// The first [`ResourceFault`].
+    pub fn otlp(&mut self, resource: &Resource) -> Result<Vec<u8>, ResourceFault> {
+        self.encoded(0, resource).map_err(ResourceFault::of)
+    }
+
+    /// The same as a line of OTLP/JSON.
+    ///
+    /// # Errors
+    ///
+    /// The first [`ResourceFault`].
+    pub fn otlp_line(&mut self, resource: &Resource) -> Result<String, ResourceFault> {
+        let line = self.encoded(1, resource).map_err(ResourceFault::of)?;
+        Ok(String::from_utf8_lossy(&line).into_owned())
+    }
+
+    fn encoded(&mut self, json: u32, resource: &Resource) -> Result<Vec<u8>, u32> {
+        let handle = &mut self.handle;
+        let Room { texts, attributes } = resource.room();
+        // SAFETY: as in `collect`, and the buffers are borrowed for the call.
+        told_bytes(|out, length| unsafe {
+            raw::wormweekly_otlp(
+                handle,
+                json,
+                texts.as_ptr(),
+                texts.len(),
+                attributes.as_ptr(),
+                attributes.len(),
+                out.as_mut_ptr(),
+                out.len(),
+                length,
+            )
+        })
     }
 }

@@ -37,7 +37,7 @@ impl From<bool> for Value<'_> {
 }
 
 /// Room for the attributes of one call, which a recorder keeps from call to call: after the first calls it takes no memory.
-#[derive(Default)]
+#[derive(Clone, Default)]
 pub(crate) struct Room {
     pub(crate) texts: Vec<u8>,
     pub(crate) attributes: Vec<Attribute>,

@@ -1,8 +1,8 @@
 //! What a host sees of the library.
 use std::thread;
 use wormweekly::{
-    Kind, ListRefusal, OpenFault, Opened, OwnedValue, Point, PointValue, Refusal, SettleFault,
-    Total, Value, open, open_certified,
+    Kind, ListRefusal, OpenFault, Opened, OwnedValue, Point, PointValue, Refusal, Resource,
+    ResourceFault, SettleFault, Total, Value, open, open_certified,
 };
 
 /// Attributes with a value, and what recording them is refused for.
@@ -406,5 +406,49 @@ budget = [{ instrument = 0, amount = 10 }]
         },
     ];
     assert_eq!(stream.points, points);
+    Ok(())
+}
+
+#[test]
+fn batches_leave_in_the_protocol_of_opentelemetry() -> Result<(), Box<dyn std::error::Error>> {
+    let Opened {
+        metrics,
+        mut recorders,
+        mut readers,
+        ..
+    } = opened();
+    let shop = Resource::new(&[("service.name", "shop".into()), ("pod", 7.into())]);
+    let console = &mut readers[0];
+    assert_eq!(console.otlp(&shop)?, b"");
+    assert_eq!(console.otlp_line(&shop)?, "");
+    let balance = metrics.instrument("balance")?;
+    recorders[0].record(balance, &[], -50)?;
+    console.collect(balance, 2)?;
+    let line = "{\"resourceMetrics\":[{\"resource\":{\"attributes\":[{\"key\":\"service.name\",\"value\":\
+        {\"stringValue\":\"shop\"}},{\"key\":\"pod\",\"value\":{\"intValue\":\"7\"}}]},\"scopeMetrics\":\
+        [{\"scope\":{\"name\":\"shop\"},\"metrics\":[{\"name\":\"balance\",\"sum\":{\"dataPoints\":\
+        [{\"timeUnixNano\":\"2\",\"asInt\":\"-50\"}],\"aggregationTemporality\":2}}]}]}]}\n";
+    assert_eq!(console.otlp_line(&shop)?, line);
+    let request = console.otlp(&shop)?;
+    // A field of a message with its length, and what is in it.
+    assert_eq!((request[0], request[1] as usize), (10, request.len() - 2));
+    assert!(request.ends_with(&[16, 2]), "{request:?}");
+    assert_eq!(console.otlp(&shop)?, request);
+    let many: Vec<String> = (0..65).map(|number| number.to_string()).collect();
+    let many: Vec<_> = many.iter().map(|key| (key.as_str(), true.into())).collect();
+    let faults: [(&[(&str, Value<'_>)], ResourceFault); 3] = [
+        (&many, ResourceFault::TooMany),
+        (&[("", 1.into())], ResourceFault::EmptyKey),
+        (
+            &[("a", 1.into()), ("a", 2.into())],
+            ResourceFault::RepeatedKey,
+        ),
+    ];
+    for (attributes, fault) in faults {
+        let resource = Resource::new(attributes);
+        assert_eq!(console.otlp(&resource), Err(fault));
+        assert_eq!(console.otlp_line(&resource), Err(fault));
+    }
+    assert_eq!(console.otlp(&Resource::new(&many[..64]))?[0], 10);
     Ok(())
 }
