@@ -135,7 +135,6 @@ struct row {
     size_t instrument, recorder, reader;
     wormweekly_counts handles;
     const char *catalogue, *config, *certificate;
-    uint64_t run;
     const char *texts;
     const wormweekly_attribute *given;
     size_t given_length;
@@ -204,7 +203,7 @@ static struct told open(const struct row *row) {
     wormweekly_counts counts = { 0 };
     size_t length = 9, room = room_for(row, ROOM);
     uint32_t answer = wormweekly_open(
-        bytes(row->catalogue), strlen(row->catalogue), bytes(row->config), strlen(row->config), START, row->run,
+        bytes(row->catalogue), strlen(row->catalogue), bytes(row->config), strlen(row->config), START,
         &instruments[row->instrument], row->handles.instruments, &recorders[row->recorder], row->handles.recorders,
         &readers[row->reader], row->handles.readers, &counts, clear_buffer(), room, &length);
     return told_opening(answer, &counts, length, room);
@@ -215,10 +214,23 @@ static struct told open_certified(const struct row *row) {
     size_t length = 9, room = room_for(row, ROOM);
     uint32_t answer = wormweekly_open_certified(
         bytes(row->catalogue), strlen(row->catalogue), bytes(row->config), strlen(row->config),
-        bytes(row->certificate), strlen(row->certificate), START, row->run, &instruments[row->instrument],
+        bytes(row->certificate), strlen(row->certificate), START, &instruments[row->instrument],
         row->handles.instruments, &recorders[row->recorder], row->handles.recorders, &readers[row->reader],
         row->handles.readers, &counts, clear_buffer(), room, &length);
     return told_opening(answer, &counts, length, room);
+}
+
+static struct told free_handles(const struct row *row) {
+    for (size_t i = 0; i < row->handles.instruments; i++) {
+        wormweekly_free_instrument(&instruments[row->instrument + i]);
+    }
+    for (size_t i = 0; i < row->handles.recorders; i++) {
+        wormweekly_free_recorder(&recorders[row->recorder + i]);
+    }
+    for (size_t i = 0; i < row->handles.readers; i++) {
+        wormweekly_free_reader(&readers[row->reader + i]);
+    }
+    return answered(WORMWEEKLY_DONE);
 }
 
 static struct told record(const struct row *row) {
@@ -294,6 +306,13 @@ static struct told name(const struct row *row) {
     size_t length = 0;
     uint32_t answer = wormweekly_name(&recorders[row->recorder], row->kind, row->number, clear_buffer(),
                                       room_for(row, ROOM), &length);
+    return told_text(answer, length);
+}
+
+static struct told reader_name(const struct row *row) {
+    size_t length = 0;
+    uint32_t answer = wormweekly_reader_name(&readers[row->reader], row->kind, row->number, clear_buffer(),
+                                             room_for(row, ROOM), &length);
     return told_text(answer, length);
 }
 
@@ -377,6 +396,30 @@ static struct told grant(const struct row *row) {
     return answered(wormweekly_grant(&instruments[row->instrument], row->number, row->amount));
 }
 
+static struct told ask(const struct row *row) {
+    return answered(wormweekly_ask(&instruments[row->instrument], &recorders[row->recorder], row->amount));
+}
+
+static struct told budget(const struct row *row) {
+    wormweekly_budget_out out = { 0 };
+    struct told told =
+        answered(wormweekly_budget(&instruments[row->instrument], &recorders[row->recorder], &out));
+    told.numbers[0] = (int64_t)out.declared;
+    told.numbers[1] = (int64_t)out.granted;
+    told.numbers[2] = (int64_t)out.spent;
+    told.numbers[3] = (int64_t)out.left;
+    return told;
+}
+
+static struct told spare(const struct row *row) {
+    wormweekly_spare_out out = { 0 };
+    struct told told = answered(wormweekly_spare(&instruments[row->instrument], &out));
+    told.numbers[0] = (int64_t)out.declared;
+    told.numbers[1] = (int64_t)out.granted;
+    told.numbers[2] = (int64_t)out.left;
+    return told;
+}
+
 static struct told close(const struct row *row) { return answered(wormweekly_close(&instruments[row->instrument])); }
 
 static struct told settle(const struct row *row) {
@@ -444,14 +487,24 @@ static const struct row OPENING_ROWS[] = {
       .answer = WORMWEEKLY_FAULT, .numbers = { 0, 0, 0, 19 }, .text = "check 12 CountRange" },
     { CALL(open_certified), .catalogue = TILL, .config = TILL_CONFIG, .certificate = CERTIFICATE,
       .answer = WORMWEEKLY_TOO_SHORT, .numbers = { 1, 1, 1 } },
-    { CALL(open_certified), .catalogue = TILL, .config = TILL_CONFIG, .certificate = CERTIFICATE, .run = 1,
+    { CALL(open_certified), .catalogue = TILL, .config = TILL_CONFIG, .certificate = CERTIFICATE,
       ALL_HANDLES, .numbers = { 1, 1, 1 } },
     { CALL(name), .kind = 2, .text = "till" },
-    { CALL(open), .catalogue = CATALOGUE, .config = "format = 1\n", .run = 2, ALL_HANDLES,
+    { CALL(reader_name), .kind = 2, .text = "till" },
+    { CALL(open), .catalogue = CATALOGUE, .config = CONFIG, ALL_HANDLES, .answer = WORMWEEKLY_OPEN },
+    { CALL(open), .catalogue = CATALOGUE, .config = CONFIG, .handles = { 1, 0, 0 }, .answer = WORMWEEKLY_OPEN },
+    { CALL(open), .catalogue = CATALOGUE, .config = CONFIG, .handles = { 0, 1, 0 }, .answer = WORMWEEKLY_OPEN },
+    { CALL(open), .catalogue = CATALOGUE, .config = CONFIG, .handles = { 0, 0, 1 }, .answer = WORMWEEKLY_OPEN },
+    { CALL(open_certified), .catalogue = TILL, .config = TILL_CONFIG, .certificate = CERTIFICATE, ALL_HANDLES,
+      .answer = WORMWEEKLY_OPEN },
+    { CALL(reader_name), .kind = 3, .text = "console" },
+    { CALL(free_handles), .handles = { 1, 1, 1 } },
+    { CALL(open), .catalogue = CATALOGUE, .config = "format = 1\n", ALL_HANDLES,
       .numbers = { INSTRUMENTS, RECORDERS, 0 } },
-    { CALL(open), .catalogue = CATALOGUE, .config = CONFIG, .run = 3, ALL_HANDLES,
+    { CALL(free_handles), ALL_HANDLES },
+    { CALL(open), .catalogue = CATALOGUE, .config = CONFIG, ALL_HANDLES,
       .numbers = { INSTRUMENTS, RECORDERS, READERS } },
-    { CALL(open), .catalogue = CATALOGUE, .config = CONFIG, .run = 4, SECOND_RUN, ALL_HANDLES,
+    { CALL(open), .catalogue = CATALOGUE, .config = CONFIG, SECOND_RUN, ALL_HANDLES,
       .numbers = { INSTRUMENTS, RECORDERS, READERS } },
 };
 
@@ -534,6 +587,13 @@ static const struct row ORDERS_ROWS[] = {
     { CALL(value), .key = 0, .entry = 3, .answer = WORMWEEKLY_UNKNOWN, .numbers = { 9, 9, 9 } },
     { CALL(boundaries), .is_short = 1 },
     { CALL(buckets), .is_short = 1 },
+    { CALL(budget), .numbers = { 5, 0, 4, 1 } },
+    { CALL(budget), .recorder = NIGHT, .numbers = { 6, 0, 1, 5 } },
+    { CALL(budget), .recorder = RECORDERS, .answer = WORMWEEKLY_STRANGER },
+    { CALL(budget), .instrument = INSTRUMENTS, .answer = WORMWEEKLY_STRANGER },
+    { CALL(spare), .numbers = { 0, 0, 0 } },
+    { CALL(ask), .amount = 1, .answer = WORMWEEKLY_NO_SPARE },
+    { CALL(ask), .recorder = RECORDERS, .answer = WORMWEEKLY_STRANGER },
     { CALL(settle), .recorder = DAY, .handles.recorders = 1, .answer = WORMWEEKLY_RECORDER_MISSING },
     { CALL(settle), .recorder = NIGHT, .handles.recorders = 2, .answer = WORMWEEKLY_STRANGER },
     { CALL(settle), ALL_RECORDERS, .numbers = { 5, 1, 0, 135 } },
@@ -542,6 +602,8 @@ static const struct row ORDERS_ROWS[] = {
     { CALL(close), .answer = WORMWEEKLY_CLOSED },
     { CALL(record), .texts = "countrydepaid", GIVEN(PAID), .answer = WORMWEEKLY_CLOSED },
     { CALL(grant), .number = DAY, .amount = 0, .answer = WORMWEEKLY_CLOSED },
+    { CALL(ask), .amount = 0, .answer = WORMWEEKLY_CLOSED },
+    { CALL(budget), .numbers = { 5, 0, 4, 1 } },
     { CALL(settle), ALL_RECORDERS, .numbers = { 5, 1, 0, 135 } },
 };
 
@@ -564,11 +626,19 @@ static const struct row ARTICLES_ROWS[] = {
     { CALL(record), .instrument = ARTICLES, .texts = "countryde", GIVEN(COUNTRY), .answer = WORMWEEKLY_BUDGET },
     { CALL(grant), .instrument = ARTICLES, .number = RECORDERS, .amount = 1, .answer = WORMWEEKLY_UNKNOWN_RECORDER },
     { CALL(grant), .instrument = ARTICLES, .number = DAY, .amount = 3, .answer = WORMWEEKLY_NO_SPARE },
+    { CALL(ask), .instrument = ARTICLES, .recorder = NIGHT, .amount = 3, .answer = WORMWEEKLY_NO_SPARE },
+    { CALL(spare), .instrument = ARTICLES, .numbers = { 2, 0, 2 } },
+    { CALL(budget), .instrument = ARTICLES, .recorder = NIGHT, .numbers = { 0, 0, 0, 0 } },
     { CALL(grant), .instrument = ARTICLES, .number = DAY, .amount = 1 },
+    { CALL(ask), .instrument = ARTICLES, .recorder = NIGHT, .amount = 1 },
+    { CALL(spare), .instrument = ARTICLES, .numbers = { 2, 2, 0 } },
+    { CALL(budget), .instrument = ARTICLES, .numbers = { 3, 1, 3, 1 } },
+    { CALL(budget), .instrument = ARTICLES, .recorder = NIGHT, .numbers = { 0, 1, 0, 1 } },
     { CALL(record_list), .instrument = ARTICLES, .value = 7, .answer = WORMWEEKLY_BUDGET, .numbers = { 1 } },
     { CALL(collect), .instrument = ARTICLES, .reader = CHANGES, .time = 12 },
     { CALL(batch), .reader = CHANGES, .numbers = { ARTICLES, 1, 9, 12 } },
     { CALL(point), .reader = CHANGES, .numbers = { 1, 0, 1, 1, 1, 7, 7, 7, 3 } },
+    { CALL(budget), .instrument = ARTICLES, .numbers = { 3, 1, 4, 0 } },
     { CALL(settle), .instrument = ARTICLES, ALL_RECORDERS, .numbers = { 4, 0, 0, 112 } },
 };
 
@@ -599,17 +669,23 @@ static const struct row FREED_ROWS[] = {
     { CALL(record_prepared), .recorder = NIGHT },
     { CALL(record_list), .recorder = NIGHT },
     { CALL(collect), .reader = CHANGES },
+    { CALL(otlp), .reader = CHANGES, .texts = "service.nameshop", GIVEN(SERVICE) },
+    { CALL(reader_name), .reader = CHANGES },
+    { CALL(ask), .recorder = NIGHT },
+    { CALL(budget), .recorder = NIGHT },
     { CALL(settle), ALL_RECORDERS },
 };
 
-/* Two runs of one number, which no host may begin: what is recorded of one by the other is found out at the end. */
+/* Two runs of one plan since one time: what is of one is a stranger to the other. */
 static const struct row TWIN_ROWS[] = {
-    { CALL(open), .catalogue = CATALOGUE, .config = CONFIG, .run = 5, ALL_HANDLES,
+    { CALL(open), .catalogue = CATALOGUE, .config = CONFIG, ALL_HANDLES,
       .numbers = { INSTRUMENTS, RECORDERS, READERS } },
-    { CALL(open), .catalogue = CATALOGUE, .config = CONFIG, .run = 5, SECOND_RUN, ALL_HANDLES,
+    { CALL(open), .catalogue = CATALOGUE, .config = CONFIG, SECOND_RUN, ALL_HANDLES,
       .numbers = { INSTRUMENTS, RECORDERS, READERS } },
-    { CALL(record), .recorder = RECORDERS, .texts = "countrydepaid", GIVEN(PAID), .value = 5 },
-    { CALL(settle), ALL_RECORDERS, .answer = WORMWEEKLY_AUDIT_MISMATCH },
+    { CALL(record), .recorder = RECORDERS, .texts = "countrydepaid", GIVEN(PAID), .value = 5,
+      .answer = WORMWEEKLY_STRANGER },
+    { CALL(settle), .recorder = RECORDERS, .handles.recorders = RECORDERS, .answer = WORMWEEKLY_STRANGER },
+    { CALL(settle), ALL_RECORDERS },
 };
 
 static int passed;
@@ -649,15 +725,8 @@ static void check_freed(const struct row *rows, size_t length) {
 }
 
 static void free_all(void) {
-    for (int i = 0; i < 2 * INSTRUMENTS; i++) {
-        wormweekly_free_instrument(&instruments[i]);
-    }
-    for (int i = 0; i < 2 * RECORDERS; i++) {
-        wormweekly_free_recorder(&recorders[i]);
-    }
-    for (int i = 0; i < 2 * READERS; i++) {
-        wormweekly_free_reader(&readers[i]);
-    }
+    const struct row all = { .handles = { 2 * INSTRUMENTS, 2 * RECORDERS, 2 * READERS } };
+    free_handles(&all);
 }
 
 #define ROWS(table) (table), sizeof(table) / sizeof *(table)

@@ -79,7 +79,7 @@ static uint32_t open_shop(const char *catalogue) {
     wormweekly_counts counts;
     uint8_t fault[200];
     size_t length;
-    uint32_t answer = wormweekly_open(bytes(catalogue), strlen(catalogue), bytes(CONFIG), strlen(CONFIG), 0, 1, &orders, 1,
+    uint32_t answer = wormweekly_open(bytes(catalogue), strlen(catalogue), bytes(CONFIG), strlen(CONFIG), 0, &orders, 1,
                                       workers, THREADS, &console, 1, &counts, fault, sizeof fault, &length);
     if (answer == WORMWEEKLY_FAULT) {
         size_t told = length < sizeof fault ? length : sizeof fault;

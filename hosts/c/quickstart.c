@@ -35,8 +35,8 @@ int main(void) {
     uint8_t text[1000];
     size_t length;
 
-    /* The run begins at 0 nanoseconds and has the number 1. */
-    uint32_t answer = wormweekly_open(TEXT(CATALOGUE), TEXT(CONFIG), 0, 1, &orders, 1, &till, 1, &console, 1, &counts,
+    /* The run begins at 0 nanoseconds. */
+    uint32_t answer = wormweekly_open(TEXT(CATALOGUE), TEXT(CONFIG), 0, &orders, 1, &till, 1, &console, 1, &counts,
                                       text, sizeof text, &length);
     if (answer != WORMWEEKLY_DONE) {
         print(text, sizeof text, length);

@@ -18,7 +18,8 @@
  * TEXTS AND LISTS
  *
  * A text is a pointer and a length in bytes, in UTF-8, without an end mark. A list is a pointer and how many elements it
- * has. Where there are none, the pointer may be any that is aligned and not null; it is not read. Buffers do not overlap.
+ * has. Where there are none, the pointer is not read: NULL and 0 ask for the length of a text, or for how many handles there are
+ * to be. Buffers do not overlap.
  *
  * ANSWERS
  *
@@ -30,7 +31,8 @@
  * The keys and texts of all attributes of a call stand one after the other in one buffer, and beside it a list of
  * wormweekly_attribute says how long each is. So {"country" = "de", "paid" = yes} is the text "countrydepaid" with the
  * list { { 7, WORMWEEKLY_TEXT, 2, 0 }, { 4, WORMWEEKLY_YES, 0, 0 } }. Up to eight attributes take no memory. Who records one
- * set of attributes often prepares its set key once.
+ * set of attributes often prepares its set key once. Where threads share an instrument, find the attributes before its mutex is
+ * taken, by wormweekly_prepare, and make the recording under it, by wormweekly_record_prepared: so the others wait for less.
  *
  * WHAT NOTHING CHECKS
  *
@@ -102,7 +104,9 @@ enum wormweekly_answer {
     /* A resource has more than 64 attributes. */
     WORMWEEKLY_TOO_MANY = 107,
     /* An attribute of a resource has an empty key. */
-    WORMWEEKLY_EMPTY_KEY = 108
+    WORMWEEKLY_EMPTY_KEY = 108,
+    /* A handle that is to be filled holds something. */
+    WORMWEEKLY_OPEN = 109
 };
 
 /* What kind of value an attribute has. */
@@ -127,6 +131,23 @@ typedef struct {
     size_t recorders;
     size_t readers;
 } wormweekly_counts;
+
+/* How many recordings a recorder may make on an instrument: as many as the catalogue declares, and those that were granted; how
+ * many it has made, and how many are left. */
+typedef struct {
+    uint64_t declared;
+    uint64_t granted;
+    uint64_t spent;
+    uint64_t left;
+} wormweekly_budget_out;
+
+/* How many recordings may be granted to the recorders of an instrument: as many as the catalogue declares as spare; how many
+ * were granted, and how many are left. */
+typedef struct {
+    uint64_t declared;
+    uint64_t granted;
+    uint64_t left;
+} wormweekly_spare_out;
 
 /* How many recordings, and their sum: high and low are the 128 bits of its size, negative is 1 where it is below 0. */
 typedef struct {
@@ -168,12 +189,12 @@ typedef struct {
     uint64_t buckets;
 } wormweekly_point_out;
 
-/* Opens a run since `start`, in nanoseconds. `run` is its number: no two runs of a process may have the same. Writes how many
- * handles of each kind there are to be; where a list has fewer (WORMWEEKLY_TOO_SHORT), nothing is opened, so ask with empty
- * lists first. A handle that is filled is freed before, where it held something; those after stay as they are. A fault
+/* Opens a run since `start`, in nanoseconds. Runs of one process do not mix, whatever their start. Writes how many handles of
+ * each kind there are to be; where a list has fewer (WORMWEEKLY_TOO_SHORT), nothing is opened, so ask with empty lists first.
+ * The handles have to be null: where one of the lists holds something, nothing is opened or freed (WORMWEEKLY_OPEN). A fault
  * (WORMWEEKLY_FAULT) is told in `fault`, as far as there is room, with its whole length. */
 uint32_t wormweekly_open(const uint8_t *catalogue, size_t catalogue_length, const uint8_t *config, size_t config_length,
-                         uint64_t start, uint64_t run, wormweekly_instrument *instruments, size_t instruments_length,
+                         uint64_t start, wormweekly_instrument *instruments, size_t instruments_length,
                          wormweekly_recorder *recorders, size_t recorders_length, wormweekly_reader *readers,
                          size_t readers_length, wormweekly_counts *counts, uint8_t *fault, size_t fault_room,
                          size_t *fault_length);
@@ -181,10 +202,10 @@ uint32_t wormweekly_open(const uint8_t *catalogue, size_t catalogue_length, cons
 /* The same of a certificate that somebody made (`metric_kit make` prints one), which is checked, whoever that was. */
 uint32_t wormweekly_open_certified(const uint8_t *catalogue, size_t catalogue_length, const uint8_t *config,
                                    size_t config_length, const uint8_t *certificate, size_t certificate_length,
-                                   uint64_t start, uint64_t run, wormweekly_instrument *instruments,
-                                   size_t instruments_length, wormweekly_recorder *recorders, size_t recorders_length,
-                                   wormweekly_reader *readers, size_t readers_length, wormweekly_counts *counts,
-                                   uint8_t *fault, size_t fault_room, size_t *fault_length);
+                                   uint64_t start, wormweekly_instrument *instruments, size_t instruments_length,
+                                   wormweekly_recorder *recorders, size_t recorders_length, wormweekly_reader *readers,
+                                   size_t readers_length, wormweekly_counts *counts, uint8_t *fault, size_t fault_room,
+                                   size_t *fault_length);
 
 /* Makes a recording (under the instrument's mutex). */
 uint32_t wormweekly_record(wormweekly_instrument *instrument, wormweekly_recorder *recorder, const uint8_t *texts,
@@ -252,6 +273,10 @@ uint32_t wormweekly_value(wormweekly_reader *reader, size_t stream, size_t key, 
 uint32_t wormweekly_name(wormweekly_recorder *recorder, uint32_t kind, uint32_t number, uint8_t *out, size_t room,
                          size_t *text_length);
 
+/* The same names through a reader, where the catalogue declares no recorder. */
+uint32_t wormweekly_reader_name(wormweekly_reader *reader, uint32_t kind, uint32_t number, uint8_t *out, size_t room,
+                                size_t *text_length);
+
 /* Writes a line for each warning that the config gets: for each view that does not fit an instrument (streams that collide
  * are a fault of the opening). Where there is too little room, only the length is written. Needs no mutex. */
 uint32_t wormweekly_warnings(wormweekly_recorder *recorder, uint8_t *out, size_t room, size_t *text_length);
@@ -259,6 +284,14 @@ uint32_t wormweekly_warnings(wormweekly_recorder *recorder, uint8_t *out, size_t
 /* Grants the recorder of a number (from 0, in the order of the catalogue) so many recordings on an instrument beside its
  * budget, of what is left of the instrument's spare budget (under its mutex). Takes no memory. */
 uint32_t wormweekly_grant(wormweekly_instrument *instrument, uint32_t recorder, uint64_t amount);
+
+/* The same grant for which the recorder itself asks, so that nobody has to know its number (under the instrument's mutex). */
+uint32_t wormweekly_ask(wormweekly_instrument *instrument, wormweekly_recorder *recorder, uint64_t amount);
+
+/* Writes what the recorder has left of its budget on an instrument, and what an instrument has to spare (each under the
+ * instrument's mutex). Ask for more in time: a recording past the budget is refused, and not counted. */
+uint32_t wormweekly_budget(wormweekly_instrument *instrument, wormweekly_recorder *recorder, wormweekly_budget_out *out);
+uint32_t wormweekly_spare(wormweekly_instrument *instrument, wormweekly_spare_out *out);
 
 /* Ends the recordings of an instrument (under its mutex). It is collected and settled as before. */
 uint32_t wormweekly_close(wormweekly_instrument *instrument);

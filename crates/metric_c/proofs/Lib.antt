@@ -9,3 +9,4 @@ pub mod ResourceLaws
 pub mod Utf8Laws
 pub mod HeldLaws
 pub mod RoomLaws
+pub mod NullLaws

@@ -18,3 +18,4 @@ pub mod Walking
 pub mod Settlements
 pub mod Closing
 pub mod Granting
+pub mod Budgets

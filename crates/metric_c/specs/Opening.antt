@@ -1,7 +1,8 @@
 -- What opening leaves in the handles of a host.
 use Rattle.std.specs.Prelude.{◌≡◌, ◌≢◌, ◌⊎◌, ℕ, Bool, false, ◌||◌, List, [], Option, Some, None}
 use Rattle.std.specs.Prelude.{length, map, nat_lt, slice_get}
-use Rattle.std.specs.List.{range_with_len}
+use Rattle.std.specs.List.{list_any, range_with_len}
+use Rattle.std.specs.Option.{is_some}
 use Rattle.metric_core.specs.Cells.{CellStands, new_cell}
 use Rattle.metric_marked.specs.Marks.{StandsMarked}
 use Rattle.metric_plan.specs.Plans.{PlanValue}
@@ -100,6 +101,12 @@ held_by instruments recorders readers = record {
   recorders = recorders_in recorders;
   readers = readers_in readers;
 }
+
+-- whether some handle holds something
+abbrev pub holds_something : AllHeld → Bool
+holds_something all =
+    list_any is_some all.instruments
+    || (list_any is_some all.recorders || list_any is_some all.readers)
 
 -- A run of a plan begins.
 pub record Begins (plan : PlanValue) (start run : ℕ) (before after : AllHeld) : Type 0 where

@@ -1,12 +1,14 @@
 //! The start with a certificate.
-ghost use Rattle.std.specs.Prelude.{◌≡◌, ◌≢◌, ◌⊎◌, ◌&&◌, false, true, IsTrue, length, IfErr, IfOk};
+ghost use Rattle.std.specs.Prelude.{◌≡◌, ◌≢◌, ◌⊎◌, ◌↔◌, ◌&&◌, false, true, IsTrue, length, IfErr, IfOk};
 ghost use Rattle.std.specs.Str.{is_utf8};
-ghost use Rattle.metric_c.specs.Opening.{Counted, IsOpenCode, Opens, held_by, lacks_handles};
+ghost use Rattle.metric_c.specs.Opening.{Counted, IsOpenCode, Opens, held_by, holds_something, instruments_in, lacks_handles, readers_in, recorders_in};
 ghost use Rattle.metric_c.specs.Refusing.{IsWhy};
 ghost use Rattle.metric_c.specs.Texts.{HasFront};
 ghost use Rattle.metric_c.specs.Vouching.{HasVouchFault};
 ghost use Rattle.metric_setup.specs.Setups.{IsVouchedPlan};
 
+use crate::codes::OPEN;
+use crate::empty::holds_something;
 use crate::instrument_handle::InstrumentHandle;
 use crate::no_plan::{NoPlan, tell, told};
 use crate::opening::{Counts, open_plan};
@@ -17,10 +19,10 @@ use metric_setup::{SetupFault, vouched_plan};
 use std::alloc::Global;
 use std::str::from_utf8;
 
-/// Opens the instruments of a catalogue and a config as [`wormweekly_open`](crate::wormweekly_open) does, where a
+/// Opens the instruments of a catalogue and a config as [`wormweekly_open_run`](crate::wormweekly_open_run) does, where a
 /// certificate shows that they are safe. It is checked, whoever made it.
 #[unsafe(no_mangle)]
-pub extern "C" fn wormweekly_open_certified(
+pub extern "C" fn wormweekly_open_certified_run(
     alloc: Global,
     catalogue: &[u8],
     config: &[u8],
@@ -38,12 +40,14 @@ pub extern "C" fn wormweekly_open_certified(
         let new = held_by instruments.new recorders.new readers.new in
         result ≡ 0 → Opens (IsVouchedPlan catalogue.now config.now certificate.now)
         start run counts.new old new }
-    ensures answer { IsOpenCode result ⊎ ((result ≡ 101) ⊎ (result ≡ 103)) }
+    ensures answer { IsOpenCode result ⊎ ((result ≡ 101) ⊎ ((result ≡ 103) ⊎ (result ≡ 109))) }
+    ensures held { let old = held_by instruments.old recorders.old readers.old in
+        (result ≡ 109) ↔ (holds_something old ≡ true) }
     ensures counted { result ≡ 102
         → Counted (IsVouchedPlan catalogue.now config.now certificate.now) counts.new }
     ensures short { result ≡ 102 → lacks_handles counts.new
         (length instruments.old) (length recorders.old) (length readers.old) ≡ true }
-    ensures uncounted { (result ≡ 101) ⊎ (result ≡ 103) → counts.new ≡ counts.old }
+    ensures uncounted { (result ≡ 101) ⊎ ((result ≡ 103) ⊎ (result ≡ 109)) → counts.new ≡ counts.old }
     ensures no_text { result ≡ 101
         → (is_utf8 catalogue.now && (is_utf8 config.now && is_utf8 certificate.now)) ≡ false }
     ensures faulty { result ≡ 103 → HasVouchFault catalogue.now config.now certificate.now }
@@ -51,11 +55,14 @@ pub extern "C" fn wormweekly_open_certified(
         → (is_utf8 catalogue.now && (is_utf8 config.now && is_utf8 certificate.now)) ≡ true }
     ensures fault { result ≢ 103 → (fault.new ≡ fault.old) × (fault_length.new ≡ 0) }
     ensures told { result ≡ 103 → HasFront fault.old fault.new fault_length.new }
-    ensures instruments { result ≢ 0 → instruments.new ≡ instruments.old }
-    ensures recorders { result ≢ 0 → recorders.new ≡ recorders.old }
-    ensures readers { result ≢ 0 → readers.new ≡ readers.old }
+    ensures instruments { result ≢ 0 → instruments_in instruments.new ≡ instruments_in instruments.old }
+    ensures recorders { result ≢ 0 → recorders_in recorders.new ≡ recorders_in recorders.old }
+    ensures readers { result ≢ 0 → readers_in readers.new ≡ readers_in readers.old }
 {
     *fault_length = 0;
+    if holds_something(alloc, instruments, recorders, readers) {
+        return OPEN;
+    }
     match plan_for(alloc, catalogue, config, certificate) {
         Err(why) => tell(&why, fault, fault_length),
         Ok(plan) => open_plan(

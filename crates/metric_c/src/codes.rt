@@ -43,6 +43,9 @@ pub const TOO_MANY: u32 = 107;
 /// An attribute of a resource has an empty key.
 pub const EMPTY_KEY: u32 = 108;
 
+/// A handle that is to be filled holds something.
+pub const OPEN: u32 = 109;
+
 // The number of an answer.
 pub(crate) fn code_of(answer: &Result<(), Refusal>) -> u32
     ensures { result ≡ code_of answer.now }

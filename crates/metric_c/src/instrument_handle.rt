@@ -2,7 +2,7 @@
 ghost use Rattle.std.specs.Prelude.{◌≡◌};
 ghost use Rattle.std.specs.declared.option.Option.{Option};
 ghost use Rattle.std.specs.declared.option.Option.TheVariants.{None, Some};
-ghost use Rattle.std.specs.Option.{MatchOption};
+ghost use Rattle.std.specs.Option.{MatchOption, is_some};
 ghost use Rattle.metric_hosted.specs.Hosts.{HostedValue};
 ghost use Rattle.metric_c.specs.HeldInstrument.{held, held_coded};
 
@@ -55,6 +55,20 @@ impl InstrumentHandle {
         ensures { self.new.value ≡ Some held.value }
     {
         *self = InstrumentHandle::of(held);
+    }
+
+    /// Whether the handle holds something. It holds the same afterwards.
+    pub(crate) fn is_open(&mut self, alloc: Global) -> bool
+        ensures answer { result ≡ is_some self.old.value }
+        ensures kept { self.new.value ≡ self.old.value }
+    {
+        match self.take(alloc) {
+            None => false,
+            Some(held) => {
+                self.put(held);
+                true
+            }
+        }
     }
 
     fn into_box(self) -> Option<Box<Hosted>>

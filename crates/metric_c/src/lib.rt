@@ -18,15 +18,18 @@
 //! | 106 | there is nothing of this number |
 //! | 107 | a resource has more than 64 attributes |
 //! | 108 | an attribute of a resource has an empty key |
+//! | 109 | a handle that is to be filled holds something |
 #![tactic(auto)]
 
 mod attributes;
 mod batch_numbers;
 mod batch_texts;
 mod batches;
+mod budgets;
 mod certified;
 mod codes;
 mod collections;
+mod empty;
 mod ending;
 mod grants;
 mod instrument_handle;
@@ -50,7 +53,8 @@ pub use batch_texts::{wormweekly_key, wormweekly_stream_text, wormweekly_value};
 pub use batches::{
     BatchOut, PointOut, StreamOut, wormweekly_batch, wormweekly_point, wormweekly_stream,
 };
-pub use certified::wormweekly_open_certified;
+pub use budgets::{wormweekly_ask, wormweekly_budget, wormweekly_spare};
+pub use certified::wormweekly_open_certified_run;
 pub use collections::{wormweekly_collect, wormweekly_text};
 pub use ending::{
     may_be_sent, wormweekly_close, wormweekly_free_instrument, wormweekly_free_reader,
@@ -58,8 +62,8 @@ pub use ending::{
 };
 pub use grants::wormweekly_grant;
 pub use instrument_handle::InstrumentHandle;
-pub use names::wormweekly_name;
-pub use opening::{Counts, wormweekly_open};
+pub use names::{wormweekly_name, wormweekly_reader_name};
+pub use opening::{Counts, wormweekly_open_run};
 pub use otlp::wormweekly_otlp;
 pub use prepared::{wormweekly_prepare, wormweekly_record_list, wormweekly_record_prepared};
 pub use reader_handle::ReaderHandle;

@@ -6,6 +6,7 @@ ghost use Rattle.metric_c.specs.Names.{instrument_name, meter_name, name_of, rea
 ghost use Rattle.metric_c.specs.Texts.{AnswersText};
 
 use crate::codes::NOT_OPEN;
+use crate::reader_handle::ReaderHandle;
 use crate::recorder_handle::RecorderHandle;
 use crate::texts::write_found;
 use metric_catalogue::Catalogue;
@@ -37,6 +38,32 @@ pub extern "C" fn wormweekly_name(
     let name = name_of(own.plan.get(), kind, number as usize);
     let code = write_found(name, out, text_length);
     recorder.put(own);
+    code
+}
+
+/// Writes the same names of the plan that a reader is of.
+#[unsafe(no_mangle)]
+pub extern "C" fn wormweekly_reader_name(
+    alloc: Global,
+    reader: &mut ReaderHandle,
+    kind: u32,
+    number: u32,
+    out: &mut [u8],
+    text_length: &mut usize,
+) -> u32
+    ensures answer { WhereHeld reader.old.value (result ≡ 100) (λ own.
+        MatchOption (name_of own.plan kind number) (result ≡ 106) (λ name.
+        AnswersText name out.old out.new text_length.new result)) }
+    ensures reader { reader.new.value ≡ reader.old.value }
+    ensures refused { result ≢ 0 → out.new ≡ out.old }
+    ensures length { result ≢ 0 → result ≢ 102 → text_length.new ≡ text_length.old }
+{
+    let Some(own) = reader.take(alloc) else {
+        return NOT_OPEN;
+    };
+    let name = name_of(own.plan.get(), kind, number as usize);
+    let code = write_found(name, out, text_length);
+    reader.put(own);
     code
 }
 

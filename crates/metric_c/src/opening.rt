@@ -1,12 +1,13 @@
 //! The start.
-ghost use Rattle.std.specs.Prelude.{◌≡◌, ◌≢◌, ◌≤◌, ◌⊎◌, ◌&&◌, false, true, IsTrue, length, IfErr, IfOk};
+ghost use Rattle.std.specs.Prelude.{◌≡◌, ◌≢◌, ◌≤◌, ◌⊎◌, ◌↔◌, ◌&&◌, false, true, IsTrue, length, IfErr, IfOk};
 ghost use Rattle.std.specs.Str.{is_utf8};
-ghost use Rattle.metric_c.specs.Opening.{AreNewInstruments, Begins, Counted, HasFault, IsOpenCode, Opens, counts_of, held_by, instruments_in, lacks_handles, new_readers, new_recorders, readers_in, recorders_in};
+ghost use Rattle.metric_c.specs.Opening.{AreNewInstruments, Begins, Counted, HasFault, IsOpenCode, Opens, counts_of, held_by, holds_something, instruments_in, lacks_handles, new_readers, new_recorders, readers_in, recorders_in};
 ghost use Rattle.metric_c.specs.Refusing.{IsWhy};
 ghost use Rattle.metric_c.specs.Texts.{AreFirst, HasFront};
 ghost use Rattle.metric_setup.specs.Setups.{IsCertifiedPlan};
 
-use crate::codes::{DONE, MEMORY, TOO_SHORT};
+use crate::codes::{DONE, MEMORY, OPEN, TOO_SHORT};
+use crate::empty::holds_something;
 use crate::instrument_handle::InstrumentHandle;
 use crate::no_plan::{NoPlan, tell, told};
 use crate::reader_handle::ReaderHandle;
@@ -28,10 +29,10 @@ pub struct Counts {
 }
 
 /// Opens the instruments of the certified plan of a catalogue and a config, since a start in nanoseconds, in the run of a
-/// number, with a seat for each recorder and each reader, and writes how many there are. Where there are too few handles, or
-/// a fault, nothing is opened. A fault is written as far as there is room, with its whole length.
+/// number, with a seat for each recorder and each reader, and writes how many there are. Where there are too few handles, one
+/// that holds something, or a fault, nothing is opened. A fault is written as far as there is room, with its whole length.
 #[unsafe(no_mangle)]
-pub extern "C" fn wormweekly_open(
+pub extern "C" fn wormweekly_open_run(
     alloc: Global,
     catalogue: &[u8],
     config: &[u8],
@@ -47,21 +48,26 @@ pub extern "C" fn wormweekly_open(
     ensures opened { let old = held_by instruments.old recorders.old readers.old in
         let new = held_by instruments.new recorders.new readers.new in
         result ≡ 0 → Opens (IsCertifiedPlan catalogue.now config.now) start run counts.new old new }
-    ensures answer { IsOpenCode result ⊎ ((result ≡ 101) ⊎ (result ≡ 103)) }
+    ensures answer { IsOpenCode result ⊎ ((result ≡ 101) ⊎ ((result ≡ 103) ⊎ (result ≡ 109))) }
+    ensures held { let old = held_by instruments.old recorders.old readers.old in
+        (result ≡ 109) ↔ (holds_something old ≡ true) }
     ensures counted { result ≡ 102 → Counted (IsCertifiedPlan catalogue.now config.now) counts.new }
     ensures short { result ≡ 102 → lacks_handles counts.new
         (length instruments.old) (length recorders.old) (length readers.old) ≡ true }
-    ensures uncounted { (result ≡ 101) ⊎ (result ≡ 103) → counts.new ≡ counts.old }
+    ensures uncounted { (result ≡ 101) ⊎ ((result ≡ 103) ⊎ (result ≡ 109)) → counts.new ≡ counts.old }
     ensures no_text { result ≡ 101 → (is_utf8 catalogue.now && is_utf8 config.now) ≡ false }
     ensures faulty { result ≡ 103 → HasFault catalogue.now config.now }
     ensures texts { result ≡ 103 → (is_utf8 catalogue.now && is_utf8 config.now) ≡ true }
     ensures fault { result ≢ 103 → (fault.new ≡ fault.old) × (fault_length.new ≡ 0) }
     ensures told { result ≡ 103 → HasFront fault.old fault.new fault_length.new }
-    ensures instruments { result ≢ 0 → instruments.new ≡ instruments.old }
-    ensures recorders { result ≢ 0 → recorders.new ≡ recorders.old }
-    ensures readers { result ≢ 0 → readers.new ≡ readers.old }
+    ensures instruments { result ≢ 0 → instruments_in instruments.new ≡ instruments_in instruments.old }
+    ensures recorders { result ≢ 0 → recorders_in recorders.new ≡ recorders_in recorders.old }
+    ensures readers { result ≢ 0 → readers_in readers.new ≡ readers_in readers.old }
 {
     *fault_length = 0;
+    if holds_something(alloc, instruments, recorders, readers) {
+        return OPEN;
+    }
     match plan_for(alloc, catalogue, config) {
         Err(why) => tell(&why, fault, fault_length),
         Ok(plan) => open_plan(

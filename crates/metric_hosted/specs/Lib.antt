@@ -1,6 +1,7 @@
 pub mod Hosts
 pub mod Recordings
 pub mod Grants
+pub mod Budgets
 pub mod Listings
 pub mod Collections
 pub mod Settlements

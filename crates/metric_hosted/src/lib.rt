@@ -7,6 +7,7 @@
 //! needs no lock.
 #![tactic(auto)]
 
+mod budget;
 mod instrument;
 mod listing;
 mod planned;
@@ -14,6 +15,7 @@ mod reader;
 mod recorder;
 mod settling;
 
+pub use budget::{Budget, Spare};
 pub use instrument::Hosted;
 pub use listing::{ListRefusal, Prepared};
 pub use planned::{HostedReader, HostedRecorder};

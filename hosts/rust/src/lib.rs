@@ -76,9 +76,9 @@ mod value;
 
 pub use batch::{Batch, Kind, OwnedValue, Point, PointValue, Stream};
 pub use fault::{ListRefusal, OpenFault, Refusal, ResourceFault, SettleFault, UnknownName};
-pub use metrics::{Instrument, Metrics, Total};
+pub use metrics::{Instrument, Metrics, Spare, Total};
 pub use opening::{Opened, open, open_certified};
 pub use reader::Reader;
-pub use recorder::{Prepared, Recorder};
+pub use recorder::{Budget, Prepared, Recorder};
 pub use resource::Resource;
 pub use value::Value;

@@ -22,18 +22,30 @@ struct Own {
     number: u32,
     meter: String,
     name: String,
-    handle: Mutex<Handle>,
+    held: Mutex<Held>,
 }
 
-impl Drop for Own {
+/// What is behind the lock of an instrument.
+pub(crate) struct Held {
+    pub(crate) handle: Handle,
+}
+
+impl Drop for Held {
     fn drop(&mut self) {
-        let handle = self
-            .handle
-            .get_mut()
-            .unwrap_or_else(PoisonError::into_inner);
         // SAFETY: the handle is null or as the library left it, and nobody else has it.
-        unsafe { raw::wormweekly_free_instrument(handle) }
+        unsafe { raw::wormweekly_free_instrument(&mut self.handle) }
     }
+}
+
+/// The recordings that may be granted to the recorders of an instrument beside their budgets.
+#[derive(Clone, Copy, Debug, PartialEq, Eq)]
+pub struct Spare {
+    /// How many the catalogue declares.
+    pub declared: u64,
+    /// How many of them were granted.
+    pub granted: u64,
+    /// How many are left.
+    pub left: u64,
 }
 
 /// What an instrument comes to.
@@ -83,19 +95,18 @@ impl Metrics {
 
 impl Instrument {
     pub(crate) fn new(
-        handle: Handle,
+        held: Held,
         run: u64,
         number: u32,
         meter: String,
         name: String,
     ) -> Instrument {
-        let handle = Mutex::new(handle);
         let own = Own {
             run,
             number,
             meter,
             name,
-            handle,
+            held: Mutex::new(held),
         };
         Instrument { own: Arc::new(own) }
     }
@@ -134,9 +145,21 @@ impl Instrument {
     /// than is left.
     pub fn grant(&self, recorder: u32, amount: u64) -> Result<(), Refusal> {
         // SAFETY: the handle is as the library left it, and this call has it alone.
-        match unsafe { raw::wormweekly_grant(&mut self.lock(), recorder, amount) } {
+        match unsafe { raw::wormweekly_grant(&mut self.lock().handle, recorder, amount) } {
             0 => Ok(()),
             code => Err(Refusal::of(code)),
+        }
+    }
+
+    /// What may be granted to recorders beside their budgets.
+    pub fn spare(&self) -> Spare {
+        let mut out = raw::Spare::default();
+        // SAFETY: as in `grant`. A handle that is not null is always answered.
+        unsafe { raw::wormweekly_spare(&mut self.lock().handle, &mut out) };
+        Spare {
+            declared: out.declared,
+            granted: out.granted,
+            left: out.left,
         }
     }
 
@@ -147,18 +170,15 @@ impl Instrument {
     /// [`Refusal::Closed`] where it is closed.
     pub fn close(&self) -> Result<(), Refusal> {
         // SAFETY: the handle is as the library left it, and this call has it alone.
-        match unsafe { raw::wormweekly_close(&mut self.lock()) } {
+        match unsafe { raw::wormweekly_close(&mut self.lock().handle) } {
             0 => Ok(()),
             code => Err(Refusal::of(code)),
         }
     }
 
     // What was behind the lock where a thread ended in a panic is still as the library left it.
-    pub(crate) fn lock(&self) -> MutexGuard<'_, Handle> {
-        self.own
-            .handle
-            .lock()
-            .unwrap_or_else(PoisonError::into_inner)
+    pub(crate) fn lock(&self) -> MutexGuard<'_, Held> {
+        self.own.held.lock().unwrap_or_else(PoisonError::into_inner)
     }
 
     fn settle(&self, recorders: &mut [Recorder]) -> Result<Total, SettleFault> {
@@ -170,7 +190,7 @@ impl Instrument {
         // SAFETY: the handles are as the library left them, and this call has them alone.
         let code = unsafe {
             raw::wormweekly_settle(
-                &mut self.lock(),
+                &mut self.lock().handle,
                 handles.as_mut_ptr(),
                 handles.len(),
                 &mut total,

@@ -1,6 +1,6 @@
 //! The start of a run.
 use crate::fault::OpenFault;
-use crate::metrics::{Instrument, Metrics};
+use crate::metrics::{Held, Instrument, Metrics};
 use crate::raw::{self, Counts, Handle};
 use crate::reader::Reader;
 use crate::recorder::Recorder;
@@ -16,8 +16,8 @@ const METER_NAME: u32 = 1;
 const RECORDER_NAME: u32 = 2;
 const READER_NAME: u32 = 3;
 
-// The number of the next run. A host in C of the same process counts its own from 1.
-static NEXT_RUN: AtomicU64 = AtomicU64::new(1 << 63);
+// What tells the runs of this crate apart, before a lock is taken. The library draws a number of its own for each.
+static NEXT_RUN: AtomicU64 = AtomicU64::new(1);
 
 /// What is opened: the instruments, and a seat for each recorder and each reader that was declared, in order.
 pub struct Opened {
@@ -32,7 +32,7 @@ pub struct Opened {
 }
 
 /// Opens the instruments of a catalogue and a config (TOML), since a start in nanoseconds. The library makes a certificate
-/// that nothing can overflow, and checks it. Instruments are named where there is a recorder.
+/// that nothing can overflow, and checks it. Each run of a process has a number of its own, so seats of two runs do not mix.
 ///
 /// # Errors
 ///
@@ -99,10 +99,10 @@ impl Texts<'_> {
         let mut counts = Counts::default();
         let mut fault = vec![0u8; 512];
         let mut handles = Handles::nothing(&counts);
-        let mut code = self.call(start, run, &mut handles, &mut counts, &mut fault);
+        let mut code = self.call(start, &mut handles, &mut counts, &mut fault);
         if code == TOO_SHORT {
             handles = Handles::nothing(&counts);
-            code = self.call(start, run, &mut handles, &mut counts, &mut fault);
+            code = self.call(start, &mut handles, &mut counts, &mut fault);
         }
         match code {
             0 => named(handles, run).map_err(refused),
@@ -117,7 +117,6 @@ impl Texts<'_> {
     fn call(
         &self,
         start: u64,
-        run: u64,
         handles: &mut Handles,
         counts: &mut Counts,
         fault: &mut Vec<u8>,
@@ -137,7 +136,6 @@ impl Texts<'_> {
                     self.config.as_ptr(),
                     self.config.len(),
                     start,
-                    run,
                     instruments.as_mut_ptr(),
                     instruments.len(),
                     recorders.as_mut_ptr(),
@@ -160,7 +158,6 @@ impl Texts<'_> {
                     certificate.as_ptr(),
                     certificate.len(),
                     start,
-                    run,
                     instruments.as_mut_ptr(),
                     instruments.len(),
                     recorders.as_mut_ptr(),
@@ -190,31 +187,38 @@ fn refused(code: u32) -> OpenFault {
 
 // Gives each handle its owner, with its name.
 fn named(handles: Handles, run: u64) -> Result<Opened, u32> {
-    let recorders = handles.recorders.into_iter();
-    let mut recorders: Vec<Recorder> = recorders.map(|one| Recorder::new(one, run)).collect();
-    let mut name = |kind, number: usize| match recorders.first_mut() {
-        Some(first) => first.name_of(kind, number as u32),
-        None => String::new(),
-    };
-    let instruments = handles.instruments.into_iter().enumerate();
-    let instruments = instruments.map(|(number, handle)| {
-        let meter = name(METER_NAME, number);
-        let own = name(INSTRUMENT_NAME, number);
-        Instrument::new(handle, run, number as u32, meter, own)
-    });
-    let metrics = Metrics::new(instruments.collect());
-    let readers = handles.readers.into_iter().enumerate();
-    let readers = readers
-        .map(|(number, handle)| Reader::new(handle, name(READER_NAME, number)))
+    let held = handles.instruments.into_iter();
+    let held: Vec<Held> = held.map(|handle| Held { handle }).collect();
+    let recorders = handles.recorders.into_iter().enumerate();
+    let mut recorders: Vec<Recorder> = recorders
+        .map(|(number, handle)| Recorder::new(handle, run, number as u32))
         .collect();
+    let readers = handles.readers.into_iter();
+    let mut readers: Vec<Reader> = readers.map(Reader::new).collect();
+    // Names are asked through any seat. Where there is none, nobody records and nobody collects.
+    let mut name = |kind, number: usize| match (recorders.first_mut(), readers.first_mut()) {
+        (Some(first), _) => first.name_of(kind, number as u32),
+        (None, Some(first)) => first.name_of(kind, number as u32),
+        (None, None) => Ok(String::new()),
+    };
+    let mut instruments = Vec::new();
+    for (number, held) in held.into_iter().enumerate() {
+        let [meter, own] = [name(METER_NAME, number)?, name(INSTRUMENT_NAME, number)?];
+        instruments.push(Instrument::new(held, run, number as u32, meter, own));
+    }
     for (number, recorder) in recorders.iter_mut().enumerate() {
-        let own = recorder.name_of(RECORDER_NAME, number as u32);
+        let own = recorder.name_of(RECORDER_NAME, number as u32)?;
         recorder.set_name(own);
+    }
+    for (number, reader) in readers.iter_mut().enumerate() {
+        let own = reader.name_of(READER_NAME, number as u32)?;
+        reader.set_name(own);
     }
     let warnings = match recorders.first_mut() {
         Some(first) => first.warnings()?,
         None => String::new(),
     };
+    let metrics = Metrics::new(instruments);
     Ok(Opened {
         metrics,
         recorders,

@@ -50,6 +50,23 @@ pub struct Total {
 
 #[repr(C)]
 #[derive(Clone, Copy, Default)]
+pub struct Budget {
+    pub declared: u64,
+    pub granted: u64,
+    pub spent: u64,
+    pub left: u64,
+}
+
+#[repr(C)]
+#[derive(Clone, Copy, Default)]
+pub struct Spare {
+    pub declared: u64,
+    pub granted: u64,
+    pub left: u64,
+}
+
+#[repr(C)]
+#[derive(Clone, Copy, Default)]
 pub struct Batch {
     pub instrument: u64,
     pub streams: u64,
@@ -88,7 +105,6 @@ unsafe extern "C" {
         config: *const u8,
         config_length: usize,
         start: u64,
-        run: u64,
         instruments: *mut Handle,
         instruments_length: usize,
         recorders: *mut Handle,
@@ -108,7 +124,6 @@ unsafe extern "C" {
         certificate: *const u8,
         certificate_length: usize,
         start: u64,
-        run: u64,
         instruments: *mut Handle,
         instruments_length: usize,
         recorders: *mut Handle,
@@ -213,6 +228,14 @@ unsafe extern "C" {
         room: usize,
         text_length: &mut usize,
     ) -> u32;
+    pub fn wormweekly_reader_name(
+        reader: &mut Handle,
+        kind: u32,
+        number: u32,
+        out: *mut u8,
+        room: usize,
+        text_length: &mut usize,
+    ) -> u32;
     pub fn wormweekly_warnings(
         recorder: &mut Handle,
         out: *mut u8,
@@ -220,6 +243,13 @@ unsafe extern "C" {
         text_length: &mut usize,
     ) -> u32;
     pub fn wormweekly_grant(instrument: &mut Handle, recorder: u32, amount: u64) -> u32;
+    pub fn wormweekly_ask(instrument: &mut Handle, recorder: &mut Handle, amount: u64) -> u32;
+    pub fn wormweekly_budget(
+        instrument: &mut Handle,
+        recorder: &mut Handle,
+        out: &mut Budget,
+    ) -> u32;
+    pub fn wormweekly_spare(instrument: &mut Handle, out: &mut Spare) -> u32;
     pub fn wormweekly_close(instrument: &mut Handle) -> u32;
     pub fn wormweekly_settle(
         instrument: &mut Handle,

@@ -22,8 +22,22 @@ impl Drop for Reader {
 }
 
 impl Reader {
-    pub(crate) fn new(handle: Handle, name: String) -> Reader {
+    pub(crate) fn new(handle: Handle) -> Reader {
+        let name = String::new();
         Reader { handle, name }
+    }
+
+    pub(crate) fn set_name(&mut self, name: String) {
+        self.name = name;
+    }
+
+    // A name of the plan.
+    pub(crate) fn name_of(&mut self, kind: u32, number: u32) -> Result<String, u32> {
+        let handle = &mut self.handle;
+        // SAFETY: as in `collect`, and the buffer is borrowed for the call.
+        told(|out, length| unsafe {
+            raw::wormweekly_reader_name(handle, kind, number, out.as_mut_ptr(), out.len(), length)
+        })
     }
 
     /// The name.
@@ -32,14 +46,17 @@ impl Reader {
     }
 
     /// Collects an instrument at a time in nanoseconds, and answers the text of the batch. The lock is held for the
-    /// collection alone, not for the text.
+    /// collection alone, not for the text. A time before the reader's last one of the instrument is moved up to that one, so
+    /// a time that is wrongly far ahead stays until the clock is there.
     ///
     /// # Errors
     ///
     /// A [`Refusal`]. Where it is [`Refusal::Memory`], [`Reader::text`] tells whether the batch is there.
     pub fn collect(&mut self, instrument: &Instrument, now: u64) -> Result<String, Refusal> {
         // SAFETY: the handles are as the library left them, and this call has them alone.
-        match unsafe { raw::wormweekly_collect(&mut instrument.lock(), &mut self.handle, now) } {
+        match unsafe {
+            raw::wormweekly_collect(&mut instrument.lock().handle, &mut self.handle, now)
+        } {
             0 => self.text(),
             code => Err(Refusal::of(code)),
         }

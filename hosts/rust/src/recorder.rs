@@ -10,9 +10,23 @@ use crate::value::{Room, Value};
 pub struct Recorder {
     handle: Handle,
     run: u64,
+    number: u32,
     name: String,
     room: Room,
     list: Vec<raw::Prepared>,
+}
+
+/// The recordings that a recorder may make on an instrument, and those that it has made.
+#[derive(Clone, Copy, Debug, PartialEq, Eq)]
+pub struct Budget {
+    /// How many the catalogue declares.
+    pub declared: u64,
+    /// How many were granted beside these.
+    pub granted: u64,
+    /// How many were made.
+    pub spent: u64,
+    /// How many are left.
+    pub left: u64,
 }
 
 /// A set of attributes that was found once, for an instrument.
@@ -37,10 +51,11 @@ fn answer(code: u32) -> Result<(), Refusal> {
 }
 
 impl Recorder {
-    pub(crate) fn new(handle: Handle, run: u64) -> Recorder {
+    pub(crate) fn new(handle: Handle, run: u64, number: u32) -> Recorder {
         Recorder {
             handle,
             run,
+            number,
             name: String::new(),
             room: Room::default(),
             list: Vec::new(),
@@ -58,6 +73,51 @@ impl Recorder {
     /// The name.
     pub fn name(&self) -> &str {
         &self.name
+    }
+
+    /// Its number, from 0, in the order of the catalogue, which [`Instrument::grant`] takes.
+    pub fn number(&self) -> u32 {
+        self.number
+    }
+
+    /// What the recorder may record on an instrument, and has recorded there.
+    ///
+    /// # Errors
+    ///
+    /// [`Refusal::Stranger`] where the instrument is of another run.
+    pub fn budget(&mut self, instrument: &Instrument) -> Result<Budget, Refusal> {
+        let mut out = raw::Budget::default();
+        let mut held = instrument.lock();
+        // SAFETY: the handles are as the library left them, and this call has them alone.
+        answer(unsafe { raw::wormweekly_budget(&mut held.handle, &mut self.handle, &mut out) })?;
+        Ok(Budget {
+            declared: out.declared,
+            granted: out.granted,
+            spent: out.spent,
+            left: out.left,
+        })
+    }
+
+    /// How many recordings the recorder has left on an instrument. Ask for more before there is none: a recording past the
+    /// budget is refused, and not counted.
+    ///
+    /// # Errors
+    ///
+    /// [`Refusal::Stranger`] where the instrument is of another run.
+    pub fn left(&mut self, instrument: &Instrument) -> Result<u64, Refusal> {
+        Ok(self.budget(instrument)?.left)
+    }
+
+    /// Asks for so many recordings on an instrument beside the budget, of what is left of its spare budget.
+    ///
+    /// # Errors
+    ///
+    /// The first of these: [`Refusal::Stranger`] where the instrument is of another run; [`Refusal::Closed`];
+    /// [`Refusal::NoSpare`] where more is asked for than is left.
+    pub fn ask(&mut self, instrument: &Instrument, amount: u64) -> Result<(), Refusal> {
+        let mut held = instrument.lock();
+        // SAFETY: as in `budget`.
+        answer(unsafe { raw::wormweekly_ask(&mut held.handle, &mut self.handle, amount) })
     }
 
     /// Makes a recording. Its attributes are found before the lock is taken, so that other threads wait for the recording alone.
@@ -127,7 +187,7 @@ impl Recorder {
     ) -> Result<(), Refusal> {
         let mut held = instrument.lock();
         // SAFETY: the handles are as the library left them, and this call has them alone.
-        answer(unsafe { raw::wormweekly_record_prepared(&mut held, &mut self.handle, own) })
+        answer(unsafe { raw::wormweekly_record_prepared(&mut held.handle, &mut self.handle, own) })
     }
 
     /// Makes a recording with attributes that were prepared.
@@ -166,7 +226,7 @@ impl Recorder {
         // SAFETY: as in `found`.
         let code = unsafe {
             raw::wormweekly_record_list(
-                &mut held,
+                &mut held.handle,
                 &mut self.handle,
                 self.list.as_ptr(),
                 self.list.len(),
@@ -186,14 +246,13 @@ impl Recorder {
         }
     }
 
-    // A name of the plan, empty where there is none.
-    pub(crate) fn name_of(&mut self, kind: u32, number: u32) -> String {
+    // A name of the plan.
+    pub(crate) fn name_of(&mut self, kind: u32, number: u32) -> Result<String, u32> {
         let handle = &mut self.handle;
         // SAFETY: as in `found`.
         told(|out, length| unsafe {
             raw::wormweekly_name(handle, kind, number, out.as_mut_ptr(), out.len(), length)
         })
-        .unwrap_or_default()
     }
 
     // The warnings of the plan.

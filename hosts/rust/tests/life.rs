@@ -1,0 +1,99 @@
+//! What a service lives on: budgets, grants, names and runs.
+use wormweekly::{Budget, Opened, Refusal, Spare, Total, open};
+
+const CATALOGUE: &str = "format = 2
+[[meter]]
+name = 'shop'
+[[meter.instrument]]
+name = 'orders'
+kind = 'counter'
+range = [1, 100]
+spare = 5
+[[meter.instrument]]
+name = 'returns'
+kind = 'counter'
+range = [1, 100]
+[[recorder]]
+name = 'day'
+budget = [{ instrument = 0, amount = 3 }, { instrument = 1, amount = 9 }]
+[[recorder]]
+name = 'night'
+budget = [{ instrument = 0, amount = 1 }]
+";
+
+const CONFIG: &str = "format = 1
+[[reader]]
+name = 'console'
+";
+
+fn opened() -> Opened {
+    open(CATALOGUE, CONFIG, 0).expect("the plan is certified")
+}
+
+#[test]
+fn recorders_ask_before_their_budget_ends() -> Result<(), Box<dyn std::error::Error>> {
+    let Opened {
+        metrics,
+        mut recorders,
+        ..
+    } = opened();
+    let [orders, returns] = [
+        metrics.instrument("orders")?,
+        metrics.instrument("returns")?,
+    ];
+    assert_eq!((recorders[0].number(), recorders[1].number()), (0, 1));
+    let night = &mut recorders[1];
+    assert_eq!(night.left(orders)?, 1);
+    assert_eq!(night.left(returns)?, 0);
+    night.record(orders, &[], 7)?;
+    assert_eq!(night.left(orders)?, 0);
+    assert_eq!(night.record(orders, &[], 7), Err(Refusal::Budget));
+    assert_eq!(night.ask(orders, 6), Err(Refusal::NoSpare));
+    assert_eq!(night.ask(returns, 1), Err(Refusal::NoSpare));
+    night.ask(orders, 2)?;
+    let budget = Budget {
+        declared: 1,
+        granted: 2,
+        spent: 1,
+        left: 2,
+    };
+    assert_eq!(night.budget(orders)?, budget);
+    let spare = Spare {
+        declared: 5,
+        granted: 2,
+        left: 3,
+    };
+    assert_eq!(orders.spare(), spare);
+    night.record(orders, &[], 7)?;
+    let day = &mut recorders[0];
+    assert_eq!(day.left(orders)?, 3);
+    let settled = metrics.settle(&mut recorders)?;
+    assert_eq!(settled[0], Total { count: 2, sum: 14 });
+    orders.close()?;
+    assert_eq!(recorders[1].ask(orders, 1), Err(Refusal::Closed));
+    Ok(())
+}
+
+#[test]
+fn runs_of_one_plan_do_not_mix() -> Result<(), Box<dyn std::error::Error>> {
+    let (mut one, other) = (opened(), opened());
+    let orders = other.metrics.instrument("orders")?;
+    let day = &mut one.recorders[0];
+    assert_eq!(day.record(orders, &[], 1), Err(Refusal::Stranger));
+    assert_eq!(day.budget(orders), Err(Refusal::Stranger));
+    assert_eq!(day.left(orders), Err(Refusal::Stranger));
+    assert_eq!(day.ask(orders, 0), Err(Refusal::Stranger));
+    assert_eq!(one.readers[0].collect(orders, 1), Err(Refusal::Stranger));
+    Ok(())
+}
+
+#[test]
+fn instruments_are_named_where_there_is_no_recorder() -> Result<(), Box<dyn std::error::Error>> {
+    let catalogue = CATALOGUE.split("[[recorder]]").next().unwrap_or_default();
+    let opened = open(catalogue, CONFIG, 0)?;
+    assert!(opened.recorders.is_empty());
+    let orders = opened.metrics.instrument("orders")?;
+    assert_eq!((orders.meter(), orders.number()), ("shop", 0));
+    assert_eq!(opened.readers[0].name(), "console");
+    Ok(())
+}
