@@ -1,0 +1,5 @@
+mod WordLaws
+mod Characters
+mod Labels
+mod GrammarLaws
+mod PartLaws
