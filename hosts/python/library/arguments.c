@@ -1,0 +1,196 @@
+/* Arguments of Python as the library takes them: each length of a text and of a list of attributes is in this file. */
+#include "library.h"
+
+#include <stdlib.h>
+#include <string.h>
+
+int has_count(Run *run, Py_ssize_t given, Py_ssize_t wanted) {
+    if (given == wanted) {
+        return 1;
+    }
+    refuse_with(run, WRONG_TYPE, PyUnicode_FromFormat("%zd arguments, not %zd", wanted, given));
+    return 0;
+}
+
+/* A whole number, and whether it is inside of 64 bits. */
+static int read_whole(Run *run, PyObject *given, int64_t *value, int *is_inside) {
+    int outside = 0;
+    if (!PyLong_Check(given)) {
+        refuse_type(run, "a whole number", given);
+        return 0;
+    }
+    *value = PyLong_AsLongLongAndOverflow(given, &outside);
+    *is_inside = outside == 0;
+    return 1;
+}
+
+/* What is outside of 64 bits is in no range. */
+int read_value(Run *run, PyObject *given, int64_t *value) {
+    int is_inside;
+    if (!read_whole(run, given, value, &is_inside)) {
+        return 0;
+    }
+    if (!is_inside) {
+        refuse(run, WORMWEEKLY_VALUE_RANGE);
+    }
+    return is_inside;
+}
+
+int read_unsigned(Run *run, PyObject *given, uint64_t *value, uint32_t refusal) {
+    if (!PyLong_Check(given)) {
+        refuse_type(run, "a whole number", given);
+        return 0;
+    }
+    *value = PyLong_AsUnsignedLongLong(given);
+    if (*value != UINT64_MAX || !PyErr_Occurred()) {
+        return 1;
+    }
+    PyErr_Clear();
+    refuse(run, refusal);
+    return 0;
+}
+
+Seat *read_seat(Run *run, PyObject *given, PyTypeObject *type, const char *wanted) {
+    if (PyObject_TypeCheck(given, type)) {
+        return (Seat *)given;
+    }
+    refuse_type(run, wanted, given);
+    return NULL;
+}
+
+Bound *read_bound(Run *run, PyObject *given) {
+    if (Py_TYPE(given) == run->state->bound) {
+        return (Bound *)given;
+    }
+    refuse_type(run, "a bound set of attributes", given);
+    return NULL;
+}
+
+/* Attributes */
+
+static void begin_given(Given *given) {
+    given->own = (Attributes){ 0 };
+    given->bytes = given->few_bytes;
+    given->all = given->few;
+    given->room = FEW_BYTES;
+}
+
+void free_given(Given *given) {
+    if (given->bytes != given->few_bytes) {
+        free(given->bytes);
+    }
+    if (given->all != given->few) {
+        free(given->all);
+    }
+}
+
+static int has_room(Given *given, size_t more) {
+    size_t room = 2 * (given->own.length + more);
+    uint8_t *bytes;
+    if (more <= given->room - given->own.length) {
+        return 1;
+    }
+    bytes = malloc(room);
+    if (bytes == NULL) {
+        PyErr_NoMemory();
+        return 0;
+    }
+    memcpy(bytes, given->bytes, given->own.length);
+    if (given->bytes != given->few_bytes) {
+        free(given->bytes);
+    }
+    given->bytes = bytes;
+    given->room = room;
+    return 1;
+}
+
+/* Adds a text. Half of a surrogate pair is none, and is refused as the library refuses what is no UTF-8. */
+static int add_text(Run *run, Given *given, PyObject *text, size_t *length) {
+    Py_ssize_t own;
+    const char *bytes = PyUnicode_AsUTF8AndSize(text, &own);
+    if (bytes == NULL) {
+        if (PyErr_ExceptionMatches(PyExc_UnicodeEncodeError)) {
+            PyErr_Clear();
+            refuse(run, WORMWEEKLY_NO_TEXT);
+        }
+        return 0;
+    }
+    if (!has_room(given, (size_t)own)) {
+        return 0;
+    }
+    memcpy(given->bytes + given->own.length, bytes, (size_t)own);
+    given->own.length += (size_t)own;
+    *length = (size_t)own;
+    return 1;
+}
+
+static int add_attribute(Run *run, Given *given, PyObject *key, PyObject *value) {
+    wormweekly_attribute *own = &given->all[given->own.count];
+    int is_inside = 1;
+    *own = (wormweekly_attribute){ 0 };
+    if (!PyUnicode_Check(key)) {
+        refuse_type(run, "a text as a key", key);
+        return 0;
+    }
+    if (!add_text(run, given, key, &own->key)) {
+        return 0;
+    }
+    given->own.count++;
+    if (PyUnicode_Check(value)) {
+        own->kind = WORMWEEKLY_TEXT;
+        return add_text(run, given, value, &own->text);
+    }
+    if (PyBool_Check(value)) {
+        own->kind = value == Py_True ? WORMWEEKLY_YES : WORMWEEKLY_NO;
+        return 1;
+    }
+    if (!PyLong_Check(value)) {
+        refuse_type(run, "a text, a whole number or a flag as a value", value);
+        return 0;
+    }
+    own->kind = WORMWEEKLY_WHOLE;
+    if (read_whole(run, value, &own->whole, &is_inside) && !is_inside) {
+        refuse(run, WORMWEEKLY_UNKNOWN_VALUE);
+    }
+    return is_inside;
+}
+
+static int read_dict(Run *run, PyObject *dict, Given *given) {
+    PyObject *key, *value;
+    Py_ssize_t at = 0;
+    size_t count = (size_t)PyDict_Size(dict);
+    if (count > FEW_ATTRIBUTES) {
+        wormweekly_attribute *all = malloc(count * sizeof *all);
+        if (all == NULL) {
+            PyErr_NoMemory();
+            return 0;
+        }
+        given->all = all;
+    }
+    while (PyDict_Next(dict, &at, &key, &value)) {
+        if (!add_attribute(run, given, key, value)) {
+            return 0;
+        }
+    }
+    given->own.bytes = given->bytes;
+    given->own.all = given->all;
+    return 1;
+}
+
+/* A mapping that is no dict is made one. */
+int read_attributes(Run *run, PyObject *mapping, Given *given) {
+    PyObject *dict;
+    int is_read;
+    begin_given(given);
+    if (PyDict_Check(mapping)) {
+        return read_dict(run, mapping, given);
+    }
+    if (!PyObject_HasAttrString(mapping, "keys")) {
+        refuse_type(run, "a mapping of attributes", mapping);
+        return 0;
+    }
+    dict = PyDict_New();
+    is_read = dict != NULL && PyDict_Update(dict, mapping) == 0 && read_dict(run, dict, given);
+    Py_XDECREF(dict);
+    return is_read;
+}

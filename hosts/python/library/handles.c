@@ -1,0 +1,339 @@
+/* The handles of a run: every handle of the package, and each length of a list of them, is in this file. */
+#include "handles.h"
+
+#include <Python.h>
+#include <errno.h>
+#include <stdatomic.h>
+#include <stdlib.h>
+
+static _Atomic unsigned long forks;
+static pthread_once_t forks_are_counted = PTHREAD_ONCE_INIT;
+
+static void count_fork(void) { atomic_fetch_add(&forks, 1); }
+
+static void count_forks(void) { pthread_atfork(NULL, NULL, count_fork); }
+
+int handles_are_whole(const Handles *own) {
+    return own->born == atomic_load_explicit(&forks, memory_order_relaxed);
+}
+
+/* Locks, and lets other threads of Python go on as long as that takes. */
+static int lock(pthread_mutex_t *mutex) {
+    int answer = pthread_mutex_trylock(mutex);
+    if (answer == EBUSY) {
+        Py_BEGIN_ALLOW_THREADS
+        answer = pthread_mutex_lock(mutex);
+        Py_END_ALLOW_THREADS
+    }
+    return answer;
+}
+
+static void unlock(pthread_mutex_t *mutex) { pthread_mutex_unlock(mutex); }
+
+/* Opening and freeing */
+
+static pthread_mutex_t *new_locks(size_t count, int kind) {
+    pthread_mutexattr_t how;
+    pthread_mutex_t *made = calloc(count + 1, sizeof *made);
+    if (made == NULL) {
+        return NULL;
+    }
+    pthread_mutexattr_init(&how);
+    pthread_mutexattr_settype(&how, kind);
+    for (size_t at = 0; at < count; at++) {
+        pthread_mutex_init(&made[at], &how);
+    }
+    pthread_mutexattr_destroy(&how);
+    return made;
+}
+
+/* Makes room for as many as there are. */
+static int make_room(Lists *lists) {
+    const wormweekly_counts *counts = &lists->counts;
+    lists->instruments = calloc(counts->instruments + 1, sizeof *lists->instruments);
+    lists->recorders = calloc(counts->recorders + 1, sizeof *lists->recorders);
+    lists->readers = calloc(counts->readers + 1, sizeof *lists->readers);
+    return lists->instruments && lists->recorders && lists->readers;
+}
+
+static void free_lists(Lists *lists) {
+    free(lists->instruments);
+    free(lists->recorders);
+    free(lists->readers);
+    *lists = (Lists){ 0 };
+}
+
+static void free_handles(Lists *lists) {
+    for (size_t at = 0; lists->instruments != NULL && at < lists->counts.instruments; at++) {
+        wormweekly_free_instrument(&lists->instruments[at]);
+    }
+    for (size_t at = 0; lists->recorders != NULL && at < lists->counts.recorders; at++) {
+        wormweekly_free_recorder(&lists->recorders[at]);
+    }
+    for (size_t at = 0; lists->readers != NULL && at < lists->counts.readers; at++) {
+        wormweekly_free_reader(&lists->readers[at]);
+    }
+}
+
+static const uint8_t *bytes_of(const Text *text) { return (const uint8_t *)text->bytes; }
+
+typedef struct {
+    uint8_t *out;
+    size_t room, *length;
+} Fault;
+
+static uint32_t open_room(Lists *lists, const Texts *texts, wormweekly_counts *wanted, const Fault *fault) {
+    const wormweekly_counts has = lists->counts;
+    const Text *catalogue = &texts->catalogue, *config = &texts->config, *certificate = &texts->certificate;
+    if (certificate->bytes != NULL) {
+        return wormweekly_open_certified(
+            bytes_of(catalogue), (size_t)catalogue->length, bytes_of(config), (size_t)config->length,
+            bytes_of(certificate), (size_t)certificate->length, texts->start, lists->instruments, has.instruments,
+            lists->recorders, has.recorders, lists->readers, has.readers, wanted, fault->out, fault->room,
+            fault->length);
+    }
+    return wormweekly_open(bytes_of(catalogue), (size_t)catalogue->length, bytes_of(config), (size_t)config->length,
+                           texts->start, lists->instruments, has.instruments, lists->recorders, has.recorders,
+                           lists->readers, has.readers, wanted, fault->out, fault->room, fault->length);
+}
+
+/* The first call has no room, and is told how much there has to be. */
+static uint32_t open_lists(Lists *lists, const Texts *texts, const Fault *fault) {
+    uint32_t answer = WORMWEEKLY_TOO_SHORT;
+    wormweekly_counts wanted = { 0 };
+    for (int tries = 0; answer == WORMWEEKLY_TOO_SHORT && tries < 2; tries++) {
+        free_lists(lists);
+        lists->counts = wanted;
+        answer = make_room(lists) ? open_room(lists, texts, &wanted, fault) : WORMWEEKLY_MEMORY;
+    }
+    return answer;
+}
+
+uint32_t handles_open(Handles *own, const Texts *texts, uint8_t *fault, size_t room, size_t *length) {
+    const Fault told = { fault, room, length };
+    const wormweekly_counts *counts = &own->lists.counts;
+    uint32_t answer;
+    pthread_once(&forks_are_counted, count_forks);
+    own->born = atomic_load(&forks);
+    own->texts = *texts;
+    answer = open_lists(&own->lists, texts, &told);
+    if (answer != WORMWEEKLY_DONE) {
+        return answer;
+    }
+    own->instrument_locks = new_locks(counts->instruments, PTHREAD_MUTEX_DEFAULT);
+    own->recorder_locks = new_locks(counts->recorders, PTHREAD_MUTEX_DEFAULT);
+    own->reader_locks = new_locks(counts->readers, PTHREAD_MUTEX_ERRORCHECK);
+    return own->instrument_locks && own->recorder_locks && own->reader_locks ? WORMWEEKLY_DONE : WORMWEEKLY_MEMORY;
+}
+
+void handles_free(Handles *own) {
+    if (handles_are_whole(own)) {
+        free_handles(&own->lists);
+    }
+    free_lists(&own->lists);
+    free(own->instrument_locks);
+    free(own->recorder_locks);
+    free(own->reader_locks);
+}
+
+/* The end of a run */
+
+static void lock_all(pthread_mutex_t *locks, size_t count) {
+    for (size_t at = 0; at < count; at++) {
+        pthread_mutex_lock(&locks[at]);
+    }
+}
+
+static void unlock_all(pthread_mutex_t *locks, size_t count) {
+    for (size_t at = count; at > 0; at--) {
+        unlock(&locks[at - 1]);
+    }
+}
+
+uint32_t handles_settle(Handles *own, size_t instrument, wormweekly_total *total) {
+    Lists *lists = &own->lists;
+    uint32_t answer;
+    lock_all(own->recorder_locks, lists->counts.recorders);
+    pthread_mutex_lock(&own->instrument_locks[instrument]);
+    answer = wormweekly_settle(&lists->instruments[instrument], lists->recorders, lists->counts.recorders, total);
+    unlock(&own->instrument_locks[instrument]);
+    unlock_all(own->recorder_locks, lists->counts.recorders);
+    return answer;
+}
+
+/* Under all mutexes: the next run takes the place of this one where all is settled. */
+static uint32_t roll_over(Handles *own, wormweekly_total *totals) {
+    Lists *lists = &own->lists, next = { 0 };
+    uint8_t nothing[1];
+    size_t length;
+    const Fault fault = { nothing, 0, &length };
+    uint32_t answer = WORMWEEKLY_DONE;
+    for (size_t at = 0; answer == WORMWEEKLY_DONE && at < lists->counts.instruments; at++) {
+        answer = wormweekly_settle(&lists->instruments[at], lists->recorders, lists->counts.recorders, &totals[at]);
+    }
+    if (answer == WORMWEEKLY_DONE) {
+        answer = open_lists(&next, &own->texts, &fault);
+    }
+    if (answer == WORMWEEKLY_DONE) {
+        Lists before = *lists;
+        *lists = next;
+        next = before;
+    }
+    free_handles(&next);
+    free_lists(&next);
+    return answer;
+}
+
+/* Locks all readers, but where this very thread has one, none. */
+static int lock_readers(Handles *own) {
+    for (size_t at = 0; at < own->lists.counts.readers; at++) {
+        if (pthread_mutex_lock(&own->reader_locks[at]) == EDEADLK) {
+            unlock_all(own->reader_locks, at);
+            return 0;
+        }
+    }
+    return 1;
+}
+
+uint32_t handles_roll_over(Handles *own, uint64_t start, wormweekly_total *totals) {
+    const wormweekly_counts counts = own->lists.counts;
+    const uint64_t before = own->texts.start;
+    uint32_t answer;
+    if (!lock_readers(own)) {
+        return HANDLES_IN_USE;
+    }
+    lock_all(own->recorder_locks, counts.recorders);
+    lock_all(own->instrument_locks, counts.instruments);
+    own->texts.start = start;
+    answer = roll_over(own, totals);
+    if (answer != WORMWEEKLY_DONE) {
+        own->texts.start = before;
+    }
+    unlock_all(own->instrument_locks, counts.instruments);
+    unlock_all(own->recorder_locks, counts.recorders);
+    unlock_all(own->reader_locks, counts.readers);
+    return answer;
+}
+
+/* Recordings */
+
+static wormweekly_instrument *begin(const Work *work, wormweekly_recorder **recorder) {
+    lock(&work->own->recorder_locks[work->recorder]);
+    lock(&work->of->instrument_locks[work->instrument]);
+    *recorder = &work->own->lists.recorders[work->recorder];
+    return &work->of->lists.instruments[work->instrument];
+}
+
+static void end(const Work *work) {
+    unlock(&work->of->instrument_locks[work->instrument]);
+    unlock(&work->own->recorder_locks[work->recorder]);
+}
+
+uint32_t handles_record(const Work *work, const Attributes *given, int64_t value) {
+    wormweekly_recorder *recorder;
+    wormweekly_instrument *instrument = begin(work, &recorder);
+    uint32_t answer =
+        wormweekly_record(instrument, recorder, given->bytes, given->length, given->all, given->count, value);
+    end(work);
+    return answer;
+}
+
+uint32_t handles_add(const Work *work, const wormweekly_prepared *prepared) {
+    wormweekly_recorder *recorder;
+    wormweekly_instrument *instrument = begin(work, &recorder);
+    uint32_t answer = wormweekly_record_prepared(instrument, recorder, prepared);
+    end(work);
+    return answer;
+}
+
+uint32_t handles_add_all(const Work *work, const wormweekly_prepared *list, size_t length, size_t *made) {
+    wormweekly_recorder *recorder;
+    wormweekly_instrument *instrument = begin(work, &recorder);
+    uint32_t answer = wormweekly_record_list(instrument, recorder, list, length, made);
+    end(work);
+    return answer;
+}
+
+uint32_t handles_budget(const Work *work, wormweekly_budget_out *budget) {
+    wormweekly_recorder *recorder;
+    wormweekly_instrument *instrument = begin(work, &recorder);
+    uint32_t answer = wormweekly_budget(instrument, recorder, budget);
+    end(work);
+    return answer;
+}
+
+uint32_t handles_ask(const Work *work, uint64_t amount) {
+    wormweekly_recorder *recorder;
+    wormweekly_instrument *instrument = begin(work, &recorder);
+    uint32_t answer = wormweekly_ask(instrument, recorder, amount);
+    end(work);
+    return answer;
+}
+
+/* Recorders and readers alone */
+
+wormweekly_recorder *handles_lend_recorder(Handles *own, size_t recorder) {
+    lock(&own->recorder_locks[recorder]);
+    return &own->lists.recorders[recorder];
+}
+
+void handles_take_recorder(Handles *own, size_t recorder) { unlock(&own->recorder_locks[recorder]); }
+
+wormweekly_reader *handles_lend_reader(Handles *own, size_t reader) {
+    return lock(&own->reader_locks[reader]) == EDEADLK ? NULL : &own->lists.readers[reader];
+}
+
+void handles_take_reader(Handles *own, size_t reader) { unlock(&own->reader_locks[reader]); }
+
+uint32_t handles_prepare(Handles *own, size_t instrument, const Attributes *given, wormweekly_prepared *prepared) {
+    size_t at = 0;
+    uint32_t answer;
+    if (own->lists.counts.recorders == 0) {
+        return WORMWEEKLY_UNKNOWN_RECORDER;
+    }
+    while (at < own->lists.counts.recorders && pthread_mutex_trylock(&own->recorder_locks[at]) != 0) {
+        at++;
+    }
+    if (at == own->lists.counts.recorders) {
+        at = 0;
+        lock(&own->recorder_locks[at]);
+    }
+    answer = wormweekly_prepare(&own->lists.recorders[at], (uint32_t)instrument, given->bytes, given->length,
+                                given->all, given->count, prepared);
+    unlock(&own->recorder_locks[at]);
+    return answer;
+}
+
+/* Instruments alone */
+
+uint32_t handles_grant(Handles *own, size_t instrument, size_t recorder, uint64_t amount) {
+    uint32_t answer;
+    lock(&own->instrument_locks[instrument]);
+    answer = wormweekly_grant(&own->lists.instruments[instrument], (uint32_t)recorder, amount);
+    unlock(&own->instrument_locks[instrument]);
+    return answer;
+}
+
+uint32_t handles_spare(Handles *own, size_t instrument, wormweekly_spare_out *spare) {
+    uint32_t answer;
+    lock(&own->instrument_locks[instrument]);
+    answer = wormweekly_spare(&own->lists.instruments[instrument], spare);
+    unlock(&own->instrument_locks[instrument]);
+    return answer;
+}
+
+uint32_t handles_close(Handles *own, size_t instrument) {
+    uint32_t answer;
+    lock(&own->instrument_locks[instrument]);
+    answer = wormweekly_close(&own->lists.instruments[instrument]);
+    unlock(&own->instrument_locks[instrument]);
+    return answer;
+}
+
+uint32_t handles_collect(Handles *of, size_t instrument, wormweekly_reader *reader, uint64_t now) {
+    uint32_t answer;
+    pthread_mutex_lock(&of->instrument_locks[instrument]);
+    answer = wormweekly_collect(&of->lists.instruments[instrument], reader, now);
+    unlock(&of->instrument_locks[instrument]);
+    return answer;
+}

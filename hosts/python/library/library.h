@@ -1,0 +1,84 @@
+/* The types of the package, and what its files share. */
+#ifndef LIBRARY_H
+#define LIBRARY_H
+
+#define PY_SSIZE_T_CLEAN
+#include <Python.h>
+
+#include "handles.h"
+
+/* What this package refuses by itself. The numbers are none of the library's. */
+enum { WRONG_TYPE = 1000, OTHER_THREAD = 1001, FORKED = 1002, IN_USE = HANDLES_IN_USE, WRONG_CLOCK = 1004 };
+
+typedef struct {
+    PyTypeObject *run, *instrument, *recorder, *reader, *bound;
+    PyObject *refusal; /* makes an exception of a number, and of what is told beside it */
+} State;
+
+typedef struct {
+    PyObject_HEAD
+    PyObject *module;
+    PyObject *texts; /* the arguments of the run, which keep its texts */
+    State *state;
+    Handles handles;
+} Run;
+
+/* An instrument, a recorder or a reader of a run. The owner is the thread of a recorder, 0 before there is one. */
+typedef struct {
+    PyObject_HEAD
+    Run *run;
+    size_t number;
+    unsigned long owner;
+} Seat;
+
+typedef struct {
+    PyObject_HEAD
+    Run *run;
+    size_t instrument;
+    wormweekly_prepared prepared;
+} Bound;
+
+/* Refusals: each answers NULL with an exception, `done` None where the answer is 0. What is told is given away. */
+PyObject *refuse(Run *run, uint32_t answer);
+PyObject *refuse_with(Run *run, uint32_t answer, PyObject *told);
+PyObject *refuse_type(Run *run, const char *wanted, PyObject *given);
+PyObject *done(Run *run, uint32_t answer);
+int is_whole(Run *run);
+
+/* Arguments: each answers 0 or NULL with an exception where it is not what is wanted. */
+int has_count(Run *run, Py_ssize_t given, Py_ssize_t wanted);
+int read_value(Run *run, PyObject *given, int64_t *value);
+int read_unsigned(Run *run, PyObject *given, uint64_t *value, uint32_t refusal);
+Seat *read_seat(Run *run, PyObject *given, PyTypeObject *type, const char *wanted);
+Bound *read_bound(Run *run, PyObject *given);
+
+enum { FEW_ATTRIBUTES = 8, FEW_BYTES = 512 };
+
+/* Attributes of a mapping, in room of the caller's frame as long as they are few. The caller frees them in any case. */
+typedef struct {
+    Attributes own;
+    uint8_t few_bytes[FEW_BYTES], *bytes;
+    wormweekly_attribute few[FEW_ATTRIBUTES], *all;
+    size_t room;
+} Given;
+
+int read_attributes(Run *run, PyObject *mapping, Given *given);
+void free_given(Given *given);
+
+/* Texts that the library writes: `ask` is called until there is room for all. The second lets other threads go on. */
+typedef uint32_t (*Ask)(void *handle, size_t at, size_t number, uint8_t *out, size_t room, size_t *length);
+PyObject *ask_text(Run *run, Ask ask, void *handle, size_t at, size_t number);
+PyObject *ask_long_text(Run *run, Ask ask, void *handle);
+PyObject *ask_long_bytes(Run *run, Ask ask, void *handle, size_t form);
+
+/* (number of the instrument, start, time, streams, text), or None before a batch; and the text alone. */
+PyObject *batch_of(Run *run, wormweekly_reader *reader);
+PyObject *batch_text_of(Run *run, wormweekly_reader *reader);
+
+/* Types: what makes none, and what frees a seat or a bound set. */
+PyObject *no_new(PyTypeObject *type, PyObject *args, PyObject *keywords);
+void seat_free(Seat *self);
+
+extern PyType_Spec run_spec, instrument_spec, recorder_spec, reader_spec, bound_spec;
+
+#endif

@@ -1,0 +1,145 @@
+/* Readers. Threads may share one: it is lent to one of them at a time. */
+#include "library.h"
+
+static wormweekly_reader *lend(Seat *self) {
+    wormweekly_reader *reader;
+    if (!is_whole(self->run)) {
+        return NULL;
+    }
+    reader = handles_lend_reader(&self->run->handles, self->number);
+    if (reader == NULL) {
+        refuse(self->run, IN_USE);
+    }
+    return reader;
+}
+
+static uint32_t collect_on(Seat *on, wormweekly_reader *reader, uint64_t now) {
+    uint32_t answer;
+    Py_BEGIN_ALLOW_THREADS
+    answer = handles_collect(&on->run->handles, on->number, reader, now);
+    Py_END_ALLOW_THREADS
+    return answer;
+}
+
+/* Collects an instrument at a time, the first two arguments, and answers what `told` makes of the batch. */
+static PyObject *collect_as(Seat *self, PyObject *const *args, PyObject *(*told)(Run *, wormweekly_reader *, void *),
+                            void *beside) {
+    Run *run = self->run;
+    Seat *on = read_seat(run, args[0], run->state->instrument, "an instrument");
+    uint64_t now;
+    wormweekly_reader *reader;
+    uint32_t answer;
+    PyObject *made;
+    if (on == NULL || !read_unsigned(run, args[1], &now, WRONG_CLOCK)) {
+        return NULL;
+    }
+    reader = lend(self);
+    if (reader == NULL) {
+        return NULL;
+    }
+    answer = collect_on(on, reader, now);
+    made = answer == WORMWEEKLY_DONE ? told(run, reader, beside) : refuse(run, answer);
+    handles_take_reader(&run->handles, self->number);
+    return made;
+}
+
+static PyObject *tell_batch(Run *run, wormweekly_reader *reader, void *unused) {
+    (void)unused;
+    return batch_of(run, reader);
+}
+
+static PyObject *tell_text(Run *run, wormweekly_reader *reader, void *unused) {
+    (void)unused;
+    return batch_text_of(run, reader);
+}
+
+static PyObject *collect(Seat *self, PyObject *const *args, Py_ssize_t count) {
+    return has_count(self->run, count, 2) ? collect_as(self, args, tell_batch, NULL) : NULL;
+}
+
+static PyObject *collect_text(Seat *self, PyObject *const *args, Py_ssize_t count) {
+    return has_count(self->run, count, 2) ? collect_as(self, args, tell_text, NULL) : NULL;
+}
+
+/* A batch in OTLP, of a resource: a reader with what is told beside. */
+typedef struct {
+    wormweekly_reader *reader;
+    const Attributes *resource;
+} Told;
+
+static uint32_t otlp_bytes(void *told, size_t at, size_t json, uint8_t *out, size_t room, size_t *length) {
+    const Told *own = told;
+    const Attributes *of = own->resource;
+    (void)at;
+    return wormweekly_otlp(own->reader, (uint32_t)json, of->bytes, of->length, of->all, of->count, out, room, length);
+}
+
+static PyObject *tell_otlp(Run *run, wormweekly_reader *reader, void *resource) {
+    Told told = { reader, resource };
+    return ask_long_bytes(run, otlp_bytes, &told, 0);
+}
+
+static PyObject *tell_otlp_line(Run *run, wormweekly_reader *reader, void *resource) {
+    Told told = { reader, resource };
+    return ask_long_bytes(run, otlp_bytes, &told, 1);
+}
+
+/* Whether the library takes a resource: it is told before a window is collected that would be lost. */
+static int takes_resource(Seat *self, const Attributes *resource) {
+    wormweekly_reader *reader = lend(self);
+    size_t length;
+    uint8_t nothing[1];
+    uint32_t answer;
+    if (reader == NULL) {
+        return 0;
+    }
+    answer = wormweekly_otlp(reader, 0, resource->bytes, resource->length, resource->all, resource->count, nothing, 0,
+                             &length);
+    handles_take_reader(&self->run->handles, self->number);
+    if (answer != WORMWEEKLY_DONE && answer != WORMWEEKLY_TOO_SHORT) {
+        refuse(self->run, answer);
+        return 0;
+    }
+    return 1;
+}
+
+/* otlp(instrument, now, attributes of the resource, whether as a line of JSON) */
+static PyObject *collect_otlp(Seat *self, PyObject *const *args, Py_ssize_t count) {
+    Given given;
+    PyObject *made = NULL;
+    if (!has_count(self->run, count, 4)) {
+        return NULL;
+    }
+    if (read_attributes(self->run, args[2], &given) && takes_resource(self, &given.own)) {
+        made = collect_as(self, args, args[3] == Py_True ? tell_otlp_line : tell_otlp, &given.own);
+    }
+    free_given(&given);
+    return made;
+}
+
+static PyObject *last(Seat *self, PyObject *unused) {
+    wormweekly_reader *reader = lend(self);
+    PyObject *made;
+    (void)unused;
+    if (reader == NULL) {
+        return NULL;
+    }
+    made = batch_of(self->run, reader);
+    handles_take_reader(&self->run->handles, self->number);
+    return made;
+}
+
+static PyMethodDef methods[] = {
+    { "_collect", (PyCFunction)(void (*)(void))collect, METH_FASTCALL, NULL },
+    { "_collect_text", (PyCFunction)(void (*)(void))collect_text, METH_FASTCALL, NULL },
+    { "_collect_otlp", (PyCFunction)(void (*)(void))collect_otlp, METH_FASTCALL, NULL },
+    { "_last", (PyCFunction)last, METH_NOARGS, NULL },
+    { NULL, NULL, 0, NULL },
+};
+
+static PyType_Slot slots[] = {
+    { Py_tp_new, no_new }, { Py_tp_dealloc, seat_free }, { Py_tp_methods, methods }, { 0, NULL }
+};
+
+PyType_Spec reader_spec = { "wormweekly._library.Reader", sizeof(Seat), 0, Py_TPFLAGS_DEFAULT | Py_TPFLAGS_BASETYPE,
+                            slots };

@@ -1,0 +1,218 @@
+/* Runs, which own all handles, and make the seats over them. */
+#include "library.h"
+
+#include <stdlib.h>
+
+static PyObject *opened(Run *run, const Texts *texts) {
+    uint8_t fault[4096];
+    size_t length = 0;
+    uint32_t answer;
+    Py_BEGIN_ALLOW_THREADS
+    answer = handles_open(&run->handles, texts, fault, sizeof fault, &length);
+    Py_END_ALLOW_THREADS
+    if (answer != WORMWEEKLY_FAULT) {
+        return done(run, answer);
+    }
+    length = length < sizeof fault ? length : sizeof fault;
+    return refuse_with(run, answer, PyUnicode_DecodeUTF8((const char *)fault, (Py_ssize_t)length, "replace"));
+}
+
+static int read_text(Run *run, PyObject *given, Text *text) {
+    if (!PyUnicode_Check(given)) {
+        refuse_type(run, "a text", given);
+        return 0;
+    }
+    text->bytes = PyUnicode_AsUTF8AndSize(given, &text->length);
+    return text->bytes != NULL;
+}
+
+/* Run(catalogue, config, certificate or None, start) */
+static PyObject *run_new(PyTypeObject *type, PyObject *args, PyObject *keywords) {
+    PyObject *catalogue, *config, *certificate, *start, *made = NULL;
+    Texts texts = { 0 };
+    Run *run = (Run *)PyType_GenericAlloc(type, 0);
+    (void)keywords;
+    if (run == NULL) {
+        return NULL;
+    }
+    run->module = Py_XNewRef(PyType_GetModule(type));
+    run->state = run->module == NULL ? NULL : PyModule_GetState(run->module);
+    run->texts = Py_NewRef(args);
+    if (run->state != NULL && PyArg_ParseTuple(args, "OOOO", &catalogue, &config, &certificate, &start) &&
+        read_text(run, catalogue, &texts.catalogue) && read_text(run, config, &texts.config) &&
+        (certificate == Py_None || read_text(run, certificate, &texts.certificate)) &&
+        read_unsigned(run, start, &texts.start, WRONG_CLOCK)) {
+        made = opened(run, &texts);
+    }
+    if (made == NULL) {
+        Py_DECREF(run);
+        return NULL;
+    }
+    Py_DECREF(made);
+    return (PyObject *)run;
+}
+
+static void run_free(Run *run) {
+    PyTypeObject *type = Py_TYPE(run);
+    handles_free(&run->handles);
+    Py_XDECREF(run->texts);
+    Py_XDECREF(run->module);
+    ((freefunc)PyType_GetSlot(type, Py_tp_free))(run);
+    Py_DECREF(type);
+}
+
+static PyObject *counts(Run *self, PyObject *unused) {
+    const wormweekly_counts *own = &self->handles.lists.counts;
+    (void)unused;
+    return Py_BuildValue("(nnn)", (Py_ssize_t)own->instruments, (Py_ssize_t)own->recorders, (Py_ssize_t)own->readers);
+}
+
+/* What the first recorder tells of the plan. */
+static PyObject *ask_recorder(Run *self, Ask ask, size_t kind, size_t number) {
+    PyObject *made = ask_text(self, ask, handles_lend_recorder(&self->handles, 0), kind, number);
+    handles_take_recorder(&self->handles, 0);
+    return made;
+}
+
+static uint32_t name_of(void *handle, size_t kind, size_t number, uint8_t *out, size_t room, size_t *length) {
+    return wormweekly_name(handle, (uint32_t)kind, (uint32_t)number, out, room, length);
+}
+
+static uint32_t reader_name_of(void *handle, size_t kind, size_t number, uint8_t *out, size_t room, size_t *length) {
+    return wormweekly_reader_name(handle, (uint32_t)kind, (uint32_t)number, out, room, length);
+}
+
+static uint32_t warnings_of(void *handle, size_t at, size_t number, uint8_t *out, size_t room, size_t *length) {
+    (void)at;
+    (void)number;
+    return wormweekly_warnings(handle, out, room, length);
+}
+
+/* A name of the plan, "" where there is neither a recorder nor a reader to ask. The run is only just opened. */
+static PyObject *name(Run *self, PyObject *args) {
+    const Lists *lists = &self->handles.lists;
+    unsigned int kind, number;
+    if (!PyArg_ParseTuple(args, "II", &kind, &number) || !is_whole(self)) {
+        return NULL;
+    }
+    if (lists->counts.recorders > 0) {
+        return ask_recorder(self, name_of, kind, number);
+    }
+    return lists->counts.readers > 0 ? ask_text(self, reader_name_of, &lists->readers[0], kind, number)
+                                     : PyUnicode_FromString("");
+}
+
+static PyObject *warnings(Run *self, PyObject *unused) {
+    (void)unused;
+    if (!is_whole(self)) {
+        return NULL;
+    }
+    return self->handles.lists.counts.recorders > 0 ? ask_recorder(self, warnings_of, 0, 0) : PyUnicode_FromString("");
+}
+
+/* The seat of a number, as an instance of a class below the type of its kind. */
+static PyObject *new_seat(Run *self, PyObject *args, PyTypeObject *below, size_t count) {
+    PyObject *given;
+    Py_ssize_t number;
+    Seat *made;
+    if (!PyArg_ParseTuple(args, "O!n", &PyType_Type, &given, &number)) {
+        return NULL;
+    }
+    if (!PyType_IsSubtype((PyTypeObject *)given, below)) {
+        return refuse_type(self, "a class of such seats", given);
+    }
+    if (number < 0 || (size_t)number >= count) {
+        return refuse(self, WORMWEEKLY_UNKNOWN);
+    }
+    made = (Seat *)PyType_GenericAlloc((PyTypeObject *)given, 0);
+    if (made != NULL) {
+        made->run = (Run *)Py_NewRef((PyObject *)self);
+        made->number = (size_t)number;
+    }
+    return (PyObject *)made;
+}
+
+static PyObject *instrument(Run *self, PyObject *args) {
+    return new_seat(self, args, self->state->instrument, self->handles.lists.counts.instruments);
+}
+
+static PyObject *recorder(Run *self, PyObject *args) {
+    return new_seat(self, args, self->state->recorder, self->handles.lists.counts.recorders);
+}
+
+static PyObject *reader(Run *self, PyObject *args) {
+    return new_seat(self, args, self->state->reader, self->handles.lists.counts.readers);
+}
+
+static PyObject *total_of(const wormweekly_total *total) {
+    return Py_BuildValue("(KNKK)", (unsigned long long)total->count, PyBool_FromLong(total->negative == 1),
+                         (unsigned long long)total->high, (unsigned long long)total->low);
+}
+
+/* (count, is negative, high, low) of an instrument */
+static PyObject *settle(Run *self, PyObject *args) {
+    Py_ssize_t number;
+    wormweekly_total total;
+    uint32_t answer;
+    if (!PyArg_ParseTuple(args, "n", &number) || !is_whole(self)) {
+        return NULL;
+    }
+    if (number < 0 || (size_t)number >= self->handles.lists.counts.instruments) {
+        return refuse(self, WORMWEEKLY_UNKNOWN);
+    }
+    Py_BEGIN_ALLOW_THREADS
+    answer = handles_settle(&self->handles, (size_t)number, &total);
+    Py_END_ALLOW_THREADS
+    return answer == WORMWEEKLY_DONE ? total_of(&total) : refuse(self, answer);
+}
+
+static PyObject *totals_of(const wormweekly_total *totals, size_t count) {
+    PyObject *made = PyTuple_New((Py_ssize_t)count);
+    for (size_t at = 0; made != NULL && at < count; at++) {
+        PyObject *own = total_of(&totals[at]);
+        if (own == NULL || PyTuple_SetItem(made, (Py_ssize_t)at, own) < 0) {
+            Py_CLEAR(made);
+        }
+    }
+    return made;
+}
+
+/* The totals of all instruments, as `settle` tells one; what is recorded from then on is of the next run. */
+static PyObject *roll_over(Run *self, PyObject *start) {
+    size_t count = self->handles.lists.counts.instruments;
+    uint64_t from;
+    wormweekly_total *totals;
+    uint32_t answer;
+    PyObject *made;
+    if (!read_unsigned(self, start, &from, WRONG_CLOCK) || !is_whole(self)) {
+        return NULL;
+    }
+    totals = calloc(count + 1, sizeof *totals);
+    if (totals == NULL) {
+        return PyErr_NoMemory();
+    }
+    Py_BEGIN_ALLOW_THREADS
+    answer = handles_roll_over(&self->handles, from, totals);
+    Py_END_ALLOW_THREADS
+    made = answer == WORMWEEKLY_DONE ? totals_of(totals, count) : refuse(self, answer);
+    free(totals);
+    return made;
+}
+
+static PyMethodDef methods[] = {
+    { "counts", (PyCFunction)counts, METH_NOARGS, NULL },
+    { "name", (PyCFunction)name, METH_VARARGS, NULL },
+    { "warnings", (PyCFunction)warnings, METH_NOARGS, NULL },
+    { "instrument", (PyCFunction)instrument, METH_VARARGS, NULL },
+    { "recorder", (PyCFunction)recorder, METH_VARARGS, NULL },
+    { "reader", (PyCFunction)reader, METH_VARARGS, NULL },
+    { "settle", (PyCFunction)settle, METH_VARARGS, NULL },
+    { "roll_over", (PyCFunction)roll_over, METH_O, NULL },
+    { NULL, NULL, 0, NULL },
+};
+
+static PyType_Slot slots[] = {
+    { Py_tp_new, run_new }, { Py_tp_dealloc, run_free }, { Py_tp_methods, methods }, { 0, NULL }
+};
+
+PyType_Spec run_spec = { "wormweekly._library.Run", sizeof(Run), 0, Py_TPFLAGS_DEFAULT, slots };

@@ -1,0 +1,249 @@
+"""The instruments of a run, and the seats of its recorders and readers."""
+
+from __future__ import annotations
+
+import time
+from collections.abc import Mapping
+from dataclasses import dataclass
+from typing import TypeVar
+
+from wormweekly import _library
+from wormweekly._batches import Batch, Value, batch_of
+
+from wormweekly._scopes import Handler, InFlight, Timer
+
+Attributes = Mapping[str, Value]
+
+_INSTRUMENT_NAME, _METER_NAME, _RECORDER_NAME, _READER_NAME = range(4)
+
+
+class UnknownName(LookupError):
+    """There is nothing of this name, or more than one."""
+
+
+@dataclass(frozen=True, slots=True)
+class Total:
+    """What an instrument comes to: how many recordings were accepted, and the sum of their values."""
+
+    count: int
+    sum: int
+
+
+@dataclass(frozen=True, slots=True)
+class Budget:
+    """How many recordings a recorder may make on an instrument, declared and granted; how many it made; what is left."""
+
+    declared: int
+    granted: int
+    spent: int
+    left: int
+
+
+@dataclass(frozen=True, slots=True)
+class Spare:
+    """How many recordings may be granted on an instrument beside the budgets; how many were granted; what is left."""
+
+    declared: int
+    granted: int
+    left: int
+
+
+class Instrument(_library.Instrument):
+    """An instrument. Threads share it."""
+
+    __slots__ = ("_meter", "_name", "_number")
+    _name: str
+    _meter: str
+    _number: int
+
+    @property
+    def name(self) -> str:
+        """The name."""
+        return self._name
+
+    @property
+    def meter(self) -> str:
+        """The name of its meter."""
+        return self._meter
+
+    @property
+    def number(self) -> int:
+        """Its number in the catalogue, from 0."""
+        return self._number
+
+    def spare(self) -> Spare:
+        """What may be granted beside the budgets."""
+        return Spare(*self._spare())
+
+    def time(
+        self, recorder: Recorder, attributes: Attributes, unit: int = 1_000_000, refused: Handler = None
+    ) -> Timer:
+        """A `with` that records how long its block took, in units of so many nanoseconds: milliseconds, if nothing else
+        is said. The attributes are looked up before the block. A later refusal is raised, or given to `refused`."""
+        return Timer(recorder, self.bind(attributes), unit, refused)
+
+    def in_flight(self, recorder: Recorder, attributes: Attributes, refused: Handler = None) -> InFlight:
+        """A `with` that counts its block in and out, on an up-down counter. The attributes are looked up before it. A
+        later refusal is raised, or given to `refused`."""
+        return InFlight(recorder, self.bind(attributes), refused)
+
+    def __repr__(self) -> str:
+        return f"<wormweekly.Instrument {self._number} {self._meter}/{self._name}>"
+
+
+class Recorder(_library.Recorder):
+    """The seat of a recorder. It is the first thread's that records with it, until another calls `take_over`."""
+
+    __slots__ = ("_name", "_number")
+    _name: str
+    _number: int
+
+    @property
+    def name(self) -> str:
+        """The name."""
+        return self._name
+
+    @property
+    def number(self) -> int:
+        """Its number in the catalogue, from 0."""
+        return self._number
+
+    def budget(self, instrument: Instrument) -> Budget:
+        """What it may record on an instrument. Any thread may ask."""
+        return Budget(*self._budget(instrument))
+
+    def __repr__(self) -> str:
+        return f"<wormweekly.Recorder {self._number} {self._name}>"
+
+
+class Reader(_library.Reader):
+    """The seat of a reader. Threads may share it: one waits for the other."""
+
+    __slots__ = ("_name", "_number")
+    _name: str
+    _number: int
+
+    @property
+    def name(self) -> str:
+        """The name."""
+        return self._name
+
+    @property
+    def number(self) -> int:
+        """Its number in the config, from 0."""
+        return self._number
+
+    def collect(self, instrument: Instrument, now: int | None = None) -> Batch:
+        """Collects an instrument at a time in nanoseconds, or now. A delta reader gets what was recorded since its last
+        batch, a cumulative one since the start. A later batch has no earlier time."""
+        return batch_of(self._collect(instrument, time.time_ns() if now is None else now))
+
+    def text(self, instrument: Instrument, now: int | None = None) -> str:
+        """The same as the library's text, without the points, which is quicker."""
+        return self._collect_text(instrument, time.time_ns() if now is None else now)
+
+    def otlp(
+        self, instrument: Instrument, resource: Attributes, now: int | None = None, *, json: bool = False
+    ) -> bytes:
+        """The same in the OpenTelemetry protocol, with the attributes of the resource: a message that a collector takes
+        at /v1/metrics as application/x-protobuf, or a line of JSON; empty where there are no points. Messages one after
+        the other are one message. Keep one that was not taken: a delta reader does not give its window again."""
+        return self._collect_otlp(instrument, time.time_ns() if now is None else now, resource, json)
+
+    def last(self) -> Batch | None:
+        """The batch that was collected last, none before one."""
+        told = self._last()
+        return None if told is None else batch_of(told)
+
+    def __repr__(self) -> str:
+        return f"<wormweekly.Reader {self._number} {self._name}>"
+
+
+class Metrics:
+    """A run: the instruments of a certified plan, with a seat for each recorder and each reader, in declared order.
+
+    `warnings` has a line for each view that does not fit an instrument.
+    """
+
+    __slots__ = ("_run", "instruments", "readers", "recorders", "warnings")
+    _run: _library.Run
+    instruments: tuple[Instrument, ...]
+    recorders: tuple[Recorder, ...]
+    readers: tuple[Reader, ...]
+    warnings: str
+
+    @classmethod
+    def open(
+        cls, catalogue: str, config: str, *, certificate: str | None = None, start: int | None = None
+    ) -> Metrics:
+        """Opens a run of a catalogue and a config (TOML), since a time in nanoseconds, or now. Where no certificate is
+        given, the library makes one; it is checked, whoever made it. Raises an `OpenFault` with the first fault."""
+        run = _library.Run(catalogue, config, certificate, time.time_ns() if start is None else start)
+        instruments, recorders, readers = map(range, run.counts())
+        self = cls()
+        self._run = run
+        self.instruments = tuple(_instrument(run, number) for number in instruments)
+        self.recorders = tuple(_recorder(run, number) for number in recorders)
+        self.readers = tuple(_reader(run, number) for number in readers)
+        self.warnings = run.warnings()
+        return self
+
+    def instrument(self, name: str) -> Instrument:
+        """The instrument of this name, where there is exactly one."""
+        return _only(self.instruments, "instrument", name)
+
+    def recorder(self, name: str) -> Recorder:
+        """The recorder of this name, where there is exactly one."""
+        return _only(self.recorders, "recorder", name)
+
+    def reader(self, name: str) -> Reader:
+        """The reader of this name, where there is exactly one."""
+        return _only(self.readers, "reader", name)
+
+    def settle(self) -> tuple[Total, ...]:
+        """The total of each instrument, in order, each compared with what its recorders were told."""
+        return tuple(_total(*self._run.settle(one.number)) for one in self.instruments)
+
+    def roll_over(self, start: int | None = None) -> tuple[Total, ...]:
+        """Ends the run, and begins the next one of the same plan in its place, since a time in nanoseconds, or now:
+        with budgets as declared, nothing counted, and all instruments open. Seats and bound sets go on in it. What
+        readers did not collect before is in the totals alone, which are those of the run that ended."""
+        told = self._run.roll_over(time.time_ns() if start is None else start)
+        return tuple(_total(*one) for one in told)
+
+
+_Seat = TypeVar("_Seat", Instrument, Recorder, Reader)
+
+
+def _only(seats: tuple[_Seat, ...], what: str, name: str) -> _Seat:
+    found = [seat for seat in seats if seat.name == name]
+    if len(found) != 1:
+        raise UnknownName(f"there is not one {what} named {name!r}")
+    return found[0]
+
+
+def _instrument(run: _library.Run, number: int) -> Instrument:
+    made = run.instrument(Instrument, number)
+    made._number = number
+    made._name = run.name(_INSTRUMENT_NAME, number)
+    made._meter = run.name(_METER_NAME, number)
+    return made
+
+
+def _recorder(run: _library.Run, number: int) -> Recorder:
+    made = run.recorder(Recorder, number)
+    made._number = number
+    made._name = run.name(_RECORDER_NAME, number)
+    return made
+
+
+def _reader(run: _library.Run, number: int) -> Reader:
+    made = run.reader(Reader, number)
+    made._number = number
+    made._name = run.name(_READER_NAME, number)
+    return made
+
+
+def _total(count: int, is_negative: bool, high: int, low: int) -> Total:
+    size = (high << 64) + low
+    return Total(count, -size if is_negative else size)

@@ -1,0 +1,61 @@
+"""Blocks that are timed or counted."""
+
+import time
+import unittest
+
+from tests.plans import opened
+from wormweekly import AttributeRefusal, Buckets, RangeRefusal, Refusal, Sum
+
+
+class Scopes(unittest.TestCase):
+    def setUp(self) -> None:
+        self.metrics = opened()
+        self.reader = self.metrics.readers[0]
+        self.first = self.metrics.recorder("first")
+
+    def test_a_block_is_timed(self) -> None:
+        duration = self.metrics.instrument("duration")
+        with duration.time(self.first, {"route": "/"}):
+            time.sleep(0.02)
+        value = self.reader.collect(duration).streams[0].points[0].value
+        assert isinstance(value, Buckets)
+        self.assertEqual(value.count, 1)
+        self.assertTrue(20 <= value.least < 60_000)
+
+    def test_a_unit(self) -> None:
+        duration = self.metrics.instrument("duration")
+        timer = duration.time(self.first, {"route": "/"}, unit=1)
+        with self.assertRaises(RangeRefusal), timer:
+            time.sleep(0.001)
+        assert timer.refusal is not None
+        self.assertEqual(timer.refusal.name, "ValueRange")
+
+    def test_a_block_is_counted_in_and_out(self) -> None:
+        in_flight = self.metrics.instrument("in_flight")
+        with in_flight.in_flight(self.first, {}), in_flight.in_flight(self.first, {}):
+            self.assertEqual(self.reader.collect(in_flight).streams[0].points[0].value, Sum(2))
+        self.assertEqual(self.reader.collect(in_flight).streams[0].points[0].value, Sum(0))
+
+    def test_what_failed_in_the_block_is_told(self) -> None:
+        duration = self.metrics.instrument("duration")
+        timer = duration.time(self.first, {"route": "/"})
+        with self.assertRaises(ZeroDivisionError), timer:
+            duration.close()
+            raise ZeroDivisionError
+        assert timer.refusal is not None
+        self.assertEqual(timer.refusal.name, "Closed")
+
+    def test_a_refusal_is_handled(self) -> None:
+        refusals: list[Refusal] = []
+        duration, in_flight = self.metrics.instrument("duration"), self.metrics.instrument("in_flight")
+        timer = duration.time(self.first, {"route": "/"}, refused=refusals.append)
+        counted = in_flight.in_flight(self.first, {}, refused=refusals.append)
+        in_flight.close()
+        with timer, counted:
+            duration.close()
+        self.assertEqual([refusal.name for refusal in refusals], ["Closed", "Closed"])
+
+    def test_attributes_are_told_before_the_block(self) -> None:
+        duration = self.metrics.instrument("duration")
+        with self.assertRaises(AttributeRefusal):
+            duration.time(self.first, {"route": "/admin"})
