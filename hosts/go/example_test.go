@@ -1,0 +1,52 @@
+package wormweekly_test
+
+import (
+	"errors"
+	"fmt"
+	"time"
+
+	"wormweekly"
+)
+
+const catalogue = `format = 1
+[[meter]]
+name = 'shop'
+[[meter.instrument]]
+name = 'orders'
+kind = 'counter'
+range = [1, 100]
+key = [{ name = 'country', values = ['de', 'fr'] }]
+[[recorder]]
+name = 'till'
+budget = [{ instrument = 0, amount = 1000 }]
+`
+
+const config = `format = 1
+[[reader]]
+name = 'console'
+`
+
+func check(err error) {
+	if err != nil {
+		panic(err)
+	}
+}
+
+func Example() {
+	metrics, err := wormweekly.Open(catalogue, config) // two texts; ErrFault tells the first fault
+	check(err)
+	orders, till := metrics.Instruments[0], metrics.Recorders[0]
+	check(till.Record(orders, 2, wormweekly.String("country", "de")))
+	german, err := orders.Bind(wormweekly.String("country", "de")) // looked up once
+	check(err)
+	check(till.Add(german, 1))
+	check(till.AddAll([]wormweekly.Item{{Bound: german, Value: 1}, {Bound: german, Value: 2}})) // one call into C
+	err = till.Record(orders, 1, wormweekly.String("country", "uk"))
+	fmt.Println(errors.Is(err, wormweekly.ErrAttributes), err) // not counted
+	totals, err := metrics.RollOver(time.Now())                // and the next run begins, in the same seats
+	check(err)
+	fmt.Println(totals[0].Sum, "in", totals[0].Count, "recordings")
+	// Output:
+	// true wormweekly: a key does not declare its value (instrument "orders")
+	// 6 in 4 recordings
+}

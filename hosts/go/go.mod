@@ -1,0 +1,3 @@
+module wormweekly
+
+go 1.19

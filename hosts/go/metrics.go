@@ -1,0 +1,325 @@
+package wormweekly
+
+import (
+	"fmt"
+	"sync"
+	"time"
+)
+
+// Metrics are a run: the instruments of a certified plan, with a seat for each recorder and each reader, in declared
+// order.
+type Metrics struct {
+	Instruments []*Instrument
+	Recorders   []*Recorder
+	Readers     []*Reader
+	// Warnings has a line for each view that does not fit an instrument.
+	Warnings string
+
+	run *run
+}
+
+// A run owns the handles. What works on several seats at once goes through its gate.
+type run struct {
+	gate        sync.Mutex
+	texts       texts
+	handles     *handles
+	instruments []*Instrument
+	recorders   []*Recorder
+	readers     []*Reader
+}
+
+// An Option says more of how a run is opened.
+type Option func(*texts)
+
+// Since is when the run begins, where that is not now.
+func Since(start time.Time) Option { return func(of *texts) { of.start = nanoseconds(start) } }
+
+// Certificate is one that somebody made. It is checked, whoever that was; where none is given, the library makes one.
+func Certificate(certificate string) Option {
+	return func(of *texts) { of.certificate, of.isCertified = certificate, true }
+}
+
+// What is before 1970 is 1970.
+func nanoseconds(of time.Time) uint64 {
+	if now := of.UnixNano(); now > 0 {
+		return uint64(now)
+	}
+	return 0
+}
+
+// Open opens a run of a catalogue and a config, both TOML. Where they are at fault, or not safe together, the error
+// wraps ErrFault and tells the first fault.
+func Open(catalogue, config string, options ...Option) (*Metrics, error) {
+	of := texts{catalogue: catalogue, config: config, start: nanoseconds(time.Now())}
+	for _, option := range options {
+		option(&of)
+	}
+	own, answer, fault := openHandles(&of)
+	switch {
+	case answer == answerFault:
+		return nil, fmt.Errorf("%w: %s", ErrFault, fault)
+	case answer != answerDone:
+		return nil, errorOf(answer)
+	}
+	return newMetrics(&run{texts: of, handles: own}), nil
+}
+
+func newMetrics(own *run) *Metrics {
+	handles := own.handles
+	for number := 0; number < int(handles.counts.instruments); number++ {
+		own.instruments = append(own.instruments, &Instrument{run: own, number: number,
+			name: name(handles, instrumentName, number), meter: name(handles, meterName, number)})
+	}
+	for number := 0; number < int(handles.counts.recorders); number++ {
+		own.recorders = append(own.recorders, &Recorder{run: own, number: number, name: name(handles, recorderName, number)})
+	}
+	for number := 0; number < int(handles.counts.readers); number++ {
+		own.readers = append(own.readers, &Reader{run: own, number: number, name: name(handles, readerName, number)})
+	}
+	return &Metrics{Instruments: own.instruments, Recorders: own.recorders, Readers: own.readers,
+		Warnings: warnings(handles), run: own}
+}
+
+// Finds the only seat of a name.
+func only[S interface{ Name() string }](seats []S, name string) (found S, err error) {
+	count := 0
+	for _, seat := range seats {
+		if seat.Name() == name {
+			found = seat
+			count++
+		}
+	}
+	if count != 1 {
+		return found, fmt.Errorf("%w: %q", ErrUnknownName, name)
+	}
+	return found, nil
+}
+
+// Instrument finds the instrument of a name, where there is exactly one.
+func (metrics *Metrics) Instrument(name string) (*Instrument, error) {
+	return only(metrics.Instruments, name)
+}
+
+// Recorder finds the recorder of a name, where there is exactly one.
+func (metrics *Metrics) Recorder(name string) (*Recorder, error) {
+	return only(metrics.Recorders, name)
+}
+
+// Reader finds the reader of a name, where there is exactly one.
+func (metrics *Metrics) Reader(name string) (*Reader, error) { return only(metrics.Readers, name) }
+
+// Settle answers the total of each instrument, in order, each compared with what its recorders were told.
+func (metrics *Metrics) Settle() ([]Total, error) {
+	own := metrics.run
+	own.stop()
+	defer own.goOn()
+	return own.settle()
+}
+
+// RollOver ends the run, and begins the next one of the same plan in its place: with budgets as declared, nothing
+// counted, and all instruments open. Seats and bound sets go on in it. What readers did not collect before is in the
+// totals alone, which are those of the run that ended. Refused, all is as before.
+func (metrics *Metrics) RollOver(start time.Time) ([]Total, error) {
+	own := metrics.run
+	for _, reader := range own.readers {
+		reader.mutex.Lock()
+		defer reader.mutex.Unlock()
+	}
+	own.stop()
+	defer own.goOn()
+	totals, err := own.settle()
+	if err != nil {
+		return nil, err
+	}
+	next := own.texts
+	next.start = nanoseconds(start)
+	handles, answer, _ := openHandles(&next)
+	if answer != answerDone {
+		return nil, errorOf(answer)
+	}
+	own.handles.free()
+	own.handles, own.texts = handles, next
+	return totals, nil
+}
+
+// Waits for all recorders and instruments, and keeps them.
+func (own *run) stop() {
+	own.gate.Lock()
+	for _, recorder := range own.recorders {
+		recorder.keep()
+	}
+	for _, instrument := range own.instruments {
+		instrument.mutex.Lock()
+	}
+}
+
+func (own *run) goOn() {
+	for _, instrument := range own.instruments {
+		instrument.mutex.Unlock()
+	}
+	for _, recorder := range own.recorders {
+		recorder.state.Store(free)
+	}
+	own.gate.Unlock()
+}
+
+func (own *run) settle() ([]Total, error) {
+	totals := make([]Total, len(own.instruments))
+	for number, instrument := range own.instruments {
+		total, answer := settle(own.handles, number)
+		if answer != answerDone {
+			return nil, errorOn(instrument, answer)
+		}
+		totals[number] = total
+	}
+	return totals, nil
+}
+
+// An Instrument is shared by goroutines.
+type Instrument struct {
+	run    *run
+	mutex  sync.Mutex
+	number int
+	name   string
+	meter  string
+}
+
+// Name is the name.
+func (instrument *Instrument) Name() string { return instrument.name }
+
+// Meter is the name of its meter.
+func (instrument *Instrument) Meter() string { return instrument.meter }
+
+// Number is its number in the catalogue, from 0.
+func (instrument *Instrument) Number() int { return instrument.number }
+
+// A Bound set of attributes was looked up once, for recordings on an instrument.
+type Bound struct {
+	instrument *Instrument
+	set        setKey
+}
+
+// Bind looks up a set of attributes, for recordings by Recorder.Add.
+func (instrument *Instrument) Bind(attributes ...Attr) (Bound, error) {
+	own := instrument.run
+	if len(own.recorders) == 0 {
+		return Bound{}, errorOn(instrument, answerUnknownRecorder)
+	}
+	own.gate.Lock()
+	defer own.gate.Unlock()
+	first := own.recorders[0]
+	first.keep()
+	defer first.state.Store(free)
+	set, answer := prepare(own.handles, instrument.number, first.number, attributes)
+	return Bound{instrument, set}, errorOn(instrument, answer)
+}
+
+// Grant gives a recorder so many recordings beside its budget, of what is left of the spare budget.
+func (instrument *Instrument) Grant(recorder *Recorder, amount uint64) error {
+	if recorder.run != instrument.run {
+		return errorOn(instrument, answerStranger)
+	}
+	instrument.mutex.Lock()
+	defer instrument.mutex.Unlock()
+	return errorOn(instrument, grant(instrument.run.handles, instrument.number, recorder.number, amount))
+}
+
+// Spare is what may be granted beside the budgets.
+func (instrument *Instrument) Spare() (Spare, error) {
+	instrument.mutex.Lock()
+	defer instrument.mutex.Unlock()
+	left, answer := spare(instrument.run.handles, instrument.number)
+	return left, errorOn(instrument, answer)
+}
+
+// Close ends the recordings. The instrument is collected and settled as before.
+func (instrument *Instrument) Close() error {
+	instrument.mutex.Lock()
+	defer instrument.mutex.Unlock()
+	return errorOn(instrument, closeInstrument(instrument.run.handles, instrument.number))
+}
+
+// A Reader is the seat of a reader. Goroutines may share it: one waits for the other.
+type Reader struct {
+	run    *run
+	mutex  sync.Mutex
+	number int
+	name   string
+}
+
+// Name is the name.
+func (reader *Reader) Name() string { return reader.name }
+
+// Number is its number in the config, from 0.
+func (reader *Reader) Number() int { return reader.number }
+
+// Collect collects an instrument. A delta reader gets what was recorded since its last batch, a cumulative one since
+// the start. A later batch has no earlier time.
+func (reader *Reader) Collect(instrument *Instrument, now time.Time) (Batch, error) {
+	reader.mutex.Lock()
+	defer reader.mutex.Unlock()
+	if err := reader.collect(instrument, now); err != nil {
+		return Batch{}, err
+	}
+	batch, answer := batchOf(reader.run.handles, reader.number)
+	return batch, errorOn(instrument, answer)
+}
+
+// Text collects an instrument as Collect does, and answers the library's text of the batch.
+func (reader *Reader) Text(instrument *Instrument, now time.Time) (string, error) {
+	reader.mutex.Lock()
+	defer reader.mutex.Unlock()
+	if err := reader.collect(instrument, now); err != nil {
+		return "", err
+	}
+	text, answer := batchText(reader.run.handles, reader.number)
+	return text, errorOn(instrument, answer)
+}
+
+// OTLP collects an instrument as Collect does, and answers the batch in the OpenTelemetry protocol, with the attributes
+// of the resource: a message that a collector takes at /v1/metrics as application/x-protobuf; empty where there are no
+// points. Messages one after the other are one message. Keep one that was not taken: a delta reader does not give its
+// window again.
+func (reader *Reader) OTLP(instrument *Instrument, now time.Time, resource ...Attr) ([]byte, error) {
+	return reader.otlp(instrument, now, resource, 0)
+}
+
+// OTLPLine is the same as a line of JSON.
+func (reader *Reader) OTLPLine(instrument *Instrument, now time.Time, resource ...Attr) ([]byte, error) {
+	return reader.otlp(instrument, now, resource, 1)
+}
+
+// A resource that is not taken is told before a window is collected, which would be lost.
+func (reader *Reader) otlp(instrument *Instrument, now time.Time, resource []Attr, json int) ([]byte, error) {
+	of := giveMany(lengthOf(resource), resource)
+	defer of.free()
+	reader.mutex.Lock()
+	defer reader.mutex.Unlock()
+	if _, answer := batchOTLP(reader.run.handles, reader.number, of, json); answer != answerDone {
+		return nil, errorOf(answer)
+	}
+	if err := reader.collect(instrument, now); err != nil {
+		return nil, err
+	}
+	out, answer := batchOTLP(reader.run.handles, reader.number, of, json)
+	return out, errorOn(instrument, answer)
+}
+
+// Last is the batch that was collected last. Before one, the error is ErrNoBatch.
+func (reader *Reader) Last() (Batch, error) {
+	reader.mutex.Lock()
+	defer reader.mutex.Unlock()
+	batch, answer := batchOf(reader.run.handles, reader.number)
+	return batch, errorOf(answer)
+}
+
+// Collects under the mutex of the reader. That of another run is refused before its handles are looked at, since a
+// roll-over of that run may be changing them.
+func (reader *Reader) collect(instrument *Instrument, now time.Time) error {
+	if instrument.run != reader.run {
+		return errorOn(instrument, answerStranger)
+	}
+	instrument.mutex.Lock()
+	defer instrument.mutex.Unlock()
+	return errorOn(instrument, collect(reader.run.handles, instrument.number, reader.number, nanoseconds(now)))
+}

@@ -1,0 +1,250 @@
+package wormweekly
+
+import (
+	"errors"
+	"math"
+	"strings"
+	"testing"
+	"time"
+)
+
+func TestRecordingsAreRefusedByName(t *testing.T) {
+	metrics, first, _, requests := opened(t)
+	with := func(more ...Attr) []Attr { return append(append([]Attr{}, home...), more...) }
+	cases := []struct {
+		attributes []Attr
+		value      int64
+		want       *Refusal
+	}{
+		{with(home[0]), 1, ErrDuplicateKey},
+		{with(String("colour", "red")), 1, ErrUnknownKey},
+		{[]Attr{String("route", "/admin"), Int("status", 200)}, 1, ErrUnknownValue},
+		{[]Attr{String("route", "/"), String("status", "200")}, 1, ErrUnknownValue},
+		{[]Attr{String("route", "/"), Bool("status", true)}, 1, ErrUnknownValue},
+		{with(Int("cached", 1)), 1, ErrUnknownValue},
+		{home[:1], 1, ErrMissingKey},
+		{nil, 1, ErrMissingKey},
+		{[]Attr{String("route", "\xff"), Int("status", 200)}, 1, ErrNoText},
+		{[]Attr{String(strings.Repeat("x", 100_000), "")}, 1, ErrUnknownKey},
+		{make([]Attr, 100), 1, ErrDuplicateKey},
+		{home, 0, ErrRange},
+		{home, 101, ErrRange},
+		{home, math.MaxInt64, ErrRange},
+		{home, math.MinInt64, ErrRange},
+	}
+	for _, one := range cases {
+		if err := first.Record(requests, one.value, one.attributes...); !errors.Is(err, one.want) {
+			t.Errorf("%.60v, %d: %v, and not %v", one.attributes, one.value, err, one.want)
+		}
+		if errors.Is(one.want, ErrAttributes) {
+			if _, err := requests.Bind(one.attributes...); !errors.Is(err, one.want) || !errors.Is(err, ErrAttributes) {
+				t.Errorf("bound %.60v: %v, and not %v", one.attributes, err, one.want)
+			}
+		}
+	}
+	if count := totalsOf(t, metrics)[0].Count; count != 0 {
+		t.Errorf("%d were counted", count)
+	}
+}
+
+// Each misuse with the refusal that tells it.
+func TestMisuseIsRefusedByName(t *testing.T) {
+	cases := map[string]struct {
+		misuse func(t *testing.T) error
+		want   *Refusal
+	}{
+		"past the budget": {func(t *testing.T) error {
+			_, first, _, requests := opened(t)
+			for made := 0; made < 5; made++ {
+				done(t, first.Record(requests, 1, home...))
+			}
+			return first.Record(requests, 1, home...)
+		}, ErrBudget},
+		"past the spare budget": {func(t *testing.T) error {
+			metrics, first, _, _ := opened(t)
+			return must(metrics.Instrument("temperature"))(t).Grant(first, 3)
+		}, ErrNoSpare},
+		"closed": {func(t *testing.T) error {
+			_, first, _, requests := opened(t)
+			done(t, requests.Close())
+			return first.Record(requests, 1, home...)
+		}, ErrClosed},
+		"closed twice": {func(t *testing.T) error {
+			_, _, _, requests := opened(t)
+			done(t, requests.Close())
+			return requests.Close()
+		}, ErrClosed},
+		"a recording of another run": {func(t *testing.T) error {
+			_, first, _, _ := opened(t)
+			_, _, _, theirs := opened(t)
+			return first.Record(theirs, 1, home...)
+		}, ErrStranger},
+		"a bound set of another run": {func(t *testing.T) error {
+			_, first, _, _ := opened(t)
+			_, _, _, theirs := opened(t)
+			return first.Add(must(theirs.Bind(home...))(t), 1)
+		}, ErrStranger},
+		"a list of another run": {func(t *testing.T) error {
+			_, first, _, _ := opened(t)
+			_, _, _, theirs := opened(t)
+			return first.AddAll([]Item{{must(theirs.Bind(home...))(t), 1}})
+		}, ErrStranger},
+		"a grant of another run": {func(t *testing.T) error {
+			_, first, _, _ := opened(t)
+			_, _, _, theirs := opened(t)
+			return theirs.Grant(first, 1)
+		}, ErrStranger},
+		"a collection of another run": {func(t *testing.T) error {
+			metrics, _, _, _ := opened(t)
+			_, _, _, theirs := opened(t)
+			_, err := metrics.Readers[0].Collect(theirs, at(1))
+			return err
+		}, ErrStranger},
+		"no instrument": {func(t *testing.T) error {
+			_, first, _, _ := opened(t)
+			return first.Record(nil, 1)
+		}, ErrUnknownInstrument},
+		"no bound set": {func(t *testing.T) error {
+			_, first, _, _ := opened(t)
+			return first.Add(Bound{}, 1)
+		}, ErrUnknownInstrument},
+		"no batch": {func(t *testing.T) error {
+			metrics, _, _, _ := opened(t)
+			_, err := metrics.Readers[0].Last()
+			return err
+		}, ErrNoBatch},
+		"no such name": {func(t *testing.T) error {
+			metrics, _, _, _ := opened(t)
+			_, err := metrics.Instrument("nothing")
+			return err
+		}, ErrUnknownName},
+		"no catalogue": {func(*testing.T) error {
+			_, err := Open("", testConfig)
+			return err
+		}, ErrFault},
+		"no config": {func(*testing.T) error {
+			_, err := Open(testCatalogue, "format = 9\n")
+			return err
+		}, ErrFault},
+		"no certificate": {func(*testing.T) error {
+			_, err := Open(testCatalogue, testConfig, Certificate(""))
+			return err
+		}, ErrFault},
+	}
+	for name, one := range cases {
+		t.Run(name, func(t *testing.T) {
+			if err := one.misuse(t); !errors.Is(err, one.want) {
+				t.Errorf("%v, and not %v", err, one.want)
+			}
+		})
+	}
+}
+
+func TestListsEndAtARefusal(t *testing.T) {
+	metrics, _, second, requests := opened(t)
+	bound := must(requests.Bind(home...))(t)
+	away := must(must(metrics.Instrument("duration"))(t).Bind(home[0]))(t)
+	done(t, second.AddAll(nil))
+	done(t, second.AddAll([]Item{{bound, 1}, {bound, 2}}))
+	cases := []struct {
+		items []Item
+		want  *Refusal
+		made  int
+	}{
+		{[]Item{{bound, 1}, {bound, 2}, {bound, 101}, {bound, 1}}, ErrRange, 2},
+		{[]Item{{bound, 1}, {away, 1}, {bound, 1}}, ErrUnknownInstrument, 1},
+		{[]Item{{bound, 0}}, ErrRange, 0},
+	}
+	for _, one := range cases {
+		var list *ListError
+		err := second.AddAll(one.items)
+		if !errors.As(err, &list) || !errors.Is(err, one.want) || list.Made != one.made {
+			t.Errorf("%v, and not %v after %d", err, one.want, one.made)
+		}
+	}
+	if count := totalsOf(t, metrics)[0].Count; count != 5 {
+		t.Errorf("%d were counted", count)
+	}
+}
+
+func TestResourcesAreRefusedByName(t *testing.T) {
+	metrics, first, _, requests := opened(t)
+	done(t, first.Record(requests, 1, home...))
+	reader := must(metrics.Reader("new"))(t)
+	many := make([]Attr, 65)
+	for number := range many {
+		many[number] = Int(strings.Repeat("x", number+1), 1)
+	}
+	cases := []struct {
+		resource []Attr
+		want     *Refusal
+	}{
+		{many, ErrTooMany},
+		{[]Attr{String("", "shop")}, ErrEmptyKey},
+		{[]Attr{String("a", "1"), String("a", "2")}, ErrDuplicateKey},
+		{[]Attr{String("a", "\xff")}, ErrNoText},
+	}
+	for _, one := range cases {
+		if _, err := reader.OTLP(requests, at(1), one.resource...); !errors.Is(err, one.want) {
+			t.Errorf("%v, and not %v", err, one.want)
+		}
+	}
+	if got := must(reader.Collect(requests, at(2)))(t).Streams[0].Points[0].Value; got != Sum(1) {
+		t.Errorf("the window has %v", got)
+	}
+}
+
+func TestARecorderAsks(t *testing.T) {
+	metrics, first, _, _ := opened(t)
+	temperature := must(metrics.Instrument("temperature"))(t)
+	done(t, first.Record(temperature, 20))
+	if err := first.Ask(temperature, 3); !errors.Is(err, ErrNoSpare) {
+		t.Error(err)
+	}
+	done(t, first.Ask(temperature, 2))
+	if got := must(first.Budget(temperature))(t); got != (Budget{Declared: 1, Granted: 2, Spent: 1, Left: 2}) {
+		t.Errorf("%+v", got)
+	}
+	if got := must(temperature.Spare())(t); got != (Spare{Declared: 2, Granted: 2}) {
+		t.Errorf("%+v", got)
+	}
+}
+
+func TestAGrantIsRecorded(t *testing.T) {
+	metrics, first, _, _ := opened(t)
+	temperature := must(metrics.Instrument("temperature"))(t)
+	done(t, temperature.Grant(first, 2))
+	for made := 0; made < 3; made++ {
+		done(t, first.Record(temperature, 20))
+	}
+	if err := first.Record(temperature, 20); !errors.Is(err, ErrBudget) {
+		t.Error(err)
+	}
+}
+
+func TestARecorderIsOneGoroutines(t *testing.T) {
+	metrics, first, _, requests := opened(t)
+	bound := must(requests.Bind(home...))(t)
+	requests.mutex.Lock() // so that the other one waits in its recording
+	recorded := make(chan error)
+	go func() { recorded <- first.Add(bound, 1) }()
+	for first.state.Load() != used {
+		time.Sleep(time.Millisecond)
+	}
+	calls := []func() error{
+		func() error { return first.Record(requests, 1, home...) },
+		func() error { return first.Add(bound, 1) },
+		func() error { return first.AddAll([]Item{{bound, 1}}) },
+	}
+	for _, call := range calls {
+		if err := call(); !errors.Is(err, ErrInUse) {
+			t.Error(err)
+		}
+	}
+	requests.mutex.Unlock()
+	done(t, <-recorded)
+	done(t, first.Add(bound, 1))
+	if count := totalsOf(t, metrics)[0].Count; count != 2 {
+		t.Errorf("%d were counted", count)
+	}
+}
