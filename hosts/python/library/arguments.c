@@ -50,20 +50,21 @@ int read_unsigned(Run *run, PyObject *given, uint64_t *value, uint32_t refusal) 
     return 0;
 }
 
+/* What is handed in may be of another run than what is called, and of one before a fork. */
 Seat *read_seat(Run *run, PyObject *given, PyTypeObject *type, const char *wanted) {
-    if (PyObject_TypeCheck(given, type)) {
-        return (Seat *)given;
+    if (!PyObject_TypeCheck(given, type)) {
+        refuse_type(run, wanted, given);
+        return NULL;
     }
-    refuse_type(run, wanted, given);
-    return NULL;
+    return is_whole(((Seat *)given)->run) ? (Seat *)given : NULL;
 }
 
 Bound *read_bound(Run *run, PyObject *given) {
-    if (Py_TYPE(given) == run->state->bound) {
-        return (Bound *)given;
+    if (Py_TYPE(given) != run->state->bound) {
+        refuse_type(run, "a bound set of attributes", given);
+        return NULL;
     }
-    refuse_type(run, "a bound set of attributes", given);
-    return NULL;
+    return is_whole(((Bound *)given)->run) ? (Bound *)given : NULL;
 }
 
 /* Attributes */
@@ -104,23 +105,28 @@ static int has_room(Given *given, size_t more) {
     return 1;
 }
 
-/* Adds a text. Half of a surrogate pair is none, and is refused as the library refuses what is no UTF-8. */
+/* Half of a surrogate pair is no text, and is refused as the library refuses what is no UTF-8. */
+int read_text(Run *run, PyObject *given, Text *text) {
+    if (!PyUnicode_Check(given)) {
+        refuse_type(run, "a text", given);
+        return 0;
+    }
+    text->bytes = PyUnicode_AsUTF8AndSize(given, &text->length);
+    if (text->bytes == NULL && PyErr_ExceptionMatches(PyExc_UnicodeEncodeError)) {
+        PyErr_Clear();
+        refuse(run, WORMWEEKLY_NO_TEXT);
+    }
+    return text->bytes != NULL;
+}
+
 static int add_text(Run *run, Given *given, PyObject *text, size_t *length) {
-    Py_ssize_t own;
-    const char *bytes = PyUnicode_AsUTF8AndSize(text, &own);
-    if (bytes == NULL) {
-        if (PyErr_ExceptionMatches(PyExc_UnicodeEncodeError)) {
-            PyErr_Clear();
-            refuse(run, WORMWEEKLY_NO_TEXT);
-        }
+    Text own;
+    if (!read_text(run, text, &own) || !has_room(given, (size_t)own.length)) {
         return 0;
     }
-    if (!has_room(given, (size_t)own)) {
-        return 0;
-    }
-    memcpy(given->bytes + given->own.length, bytes, (size_t)own);
-    given->own.length += (size_t)own;
-    *length = (size_t)own;
+    *length = (size_t)own.length;
+    memcpy(given->bytes + given->own.length, own.bytes, *length);
+    given->own.length += *length;
     return 1;
 }
 

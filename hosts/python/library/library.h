@@ -49,6 +49,7 @@ int is_whole(Run *run);
 int has_count(Run *run, Py_ssize_t given, Py_ssize_t wanted);
 int read_value(Run *run, PyObject *given, int64_t *value);
 int read_unsigned(Run *run, PyObject *given, uint64_t *value, uint32_t refusal);
+int read_text(Run *run, PyObject *given, Text *text);
 Seat *read_seat(Run *run, PyObject *given, PyTypeObject *type, const char *wanted);
 Bound *read_bound(Run *run, PyObject *given);
 

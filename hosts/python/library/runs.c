@@ -17,15 +17,6 @@ static PyObject *opened(Run *run, const Texts *texts) {
     return refuse_with(run, answer, PyUnicode_DecodeUTF8((const char *)fault, (Py_ssize_t)length, "replace"));
 }
 
-static int read_text(Run *run, PyObject *given, Text *text) {
-    if (!PyUnicode_Check(given)) {
-        refuse_type(run, "a text", given);
-        return 0;
-    }
-    text->bytes = PyUnicode_AsUTF8AndSize(given, &text->length);
-    return text->bytes != NULL;
-}
-
 /* Run(catalogue, config, certificate or None, start) */
 static PyObject *run_new(PyTypeObject *type, PyObject *args, PyObject *keywords) {
     PyObject *catalogue, *config, *certificate, *start, *made = NULL;

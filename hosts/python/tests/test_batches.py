@@ -91,8 +91,8 @@ class Batches(unittest.TestCase):
         self.assertIn(b"service.name", message)
 
     def test_no_recorder(self) -> None:
-        catalogue = "format = 1\n[[meter]]\nname = 'm'\n[[meter.instrument]]\nname = 'i'\nkind = 'counter'\nrange = [0, 1]\n"
-        metrics = Metrics.open(catalogue, CONFIG)
+        instrument = "[[meter.instrument]]\nname = 'i'\nkind = 'counter'\nrange = [0, 1]\n"
+        metrics = Metrics.open(f"format = 1\n[[meter]]\nname = 'm'\n{instrument}", CONFIG)
         self.assertEqual((metrics.instrument("i").meter, metrics.recorders), ("m", ()))
         self.assertEqual(metrics.reader("all").collect(metrics.instrument("i")).streams[0].points, ())
 

@@ -59,6 +59,7 @@ FAULTS: list[tuple[Any, Any, type[Refusal]]] = [
     (CATALOGUE, CATALOGUE, OpenFault),
     (CATALOGUE, None, TypeRefusal),
     (b"format = 2\n", CONFIG, TypeRefusal),
+    ("\ud800", CONFIG, AttributeRefusal),
 ]
 
 

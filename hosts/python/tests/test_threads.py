@@ -109,6 +109,24 @@ class Threads(unittest.TestCase):
         worker.join()
         self.assertEqual(sum(totals) + self.metrics.settle()[0].count, made)
 
+    def is_refused_to_a_new_run(self) -> bool:
+        own = opened()
+        requests = own.instrument("requests")
+        own.recorders[0].record(requests, HOME, 1)
+        calls: list[Callable[[], object]] = [
+            lambda: own.recorders[0].record(self.requests, HOME, 1),
+            lambda: own.readers[0].collect(self.requests),
+            lambda: requests.grant(self.first, 1),
+            self.metrics.settle,
+        ]
+        names = []
+        for call in calls:
+            try:
+                call()
+            except ThreadRefusal as refusal:
+                names.append(refusal.name)
+        return names == ["Forked"] * len(calls) and own.settle()[0].count == 1
+
     def test_a_child_is_refused(self) -> None:
         child = os.fork()
         if child == 0:
@@ -116,9 +134,7 @@ class Threads(unittest.TestCase):
             try:
                 self.first.record(self.requests, HOME, 1)
             except ThreadRefusal as refusal:
-                own = opened()
-                own.recorders[0].record(own.instrument("requests"), HOME, 1)
-                status = 0 if refusal.name == "Forked" and own.settle()[0].count == 1 else 2
+                status = 0 if refusal.name == "Forked" and self.is_refused_to_a_new_run() else 2
             finally:
                 os._exit(status)
         self.assertEqual(os.waitstatus_to_exitcode(os.waitpid(child, 0)[1]), 0)
