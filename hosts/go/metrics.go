@@ -76,9 +76,12 @@ func newMetrics(own *run) *Metrics {
 	for number := 0; number < int(handles.counts.readers); number++ {
 		own.readers = append(own.readers, &Reader{run: own, number: number, name: name(handles, readerName, number)})
 	}
-	return &Metrics{Instruments: own.instruments, Recorders: own.recorders, Readers: own.readers,
+	return &Metrics{Instruments: copied(own.instruments), Recorders: copied(own.recorders), Readers: copied(own.readers),
 		Warnings: warnings(handles), run: own}
 }
+
+// The lists of a run stay as they are, whatever is done to those that it gives.
+func copied[S any](seats []S) []S { return append([]S(nil), seats...) }
 
 // Finds the only seat of a name.
 func only[S interface{ Name() string }](seats []S, name string) (found S, err error) {

@@ -131,8 +131,8 @@ func TestOTLP(t *testing.T) {
 }
 
 func TestNoRecorder(t *testing.T) {
-	catalogue := "format = 1\n[[meter]]\nname = 'm'\n[[meter.instrument]]\nname = 'i'\nkind = 'counter'\nrange = [0, 1]\n"
-	metrics := must(Open(catalogue, testConfig))(t)
+	instrument := "[[meter.instrument]]\nname = 'i'\nkind = 'counter'\nrange = [0, 1]\n"
+	metrics := must(Open("format = 1\n[[meter]]\nname = 'm'\n"+instrument, testConfig))(t)
 	if instrument := must(metrics.Instrument("i"))(t); instrument.Meter() != "m" {
 		t.Error(instrument.Meter())
 	}

@@ -29,5 +29,11 @@ func (pool *Pool) Get(ctx context.Context) (*Recorder, error) {
 	}
 }
 
-// Put gives one back.
-func (pool *Pool) Put(recorder *Recorder) { pool.free <- recorder }
+// Put gives one back. It panics where that was not lent.
+func (pool *Pool) Put(recorder *Recorder) {
+	select {
+	case pool.free <- recorder:
+	default:
+		panic("wormweekly: a recorder is given back that was not lent")
+	}
+}

@@ -94,36 +94,52 @@ func (recorder *Recorder) AddAll(items []Item) error {
 	return &ListError{made, errorOn(on, answer)}
 }
 
-// Ask grants the recorder so many recordings beside its budget, of what is left of the spare budget.
+// Ask grants the recorder so many recordings beside its budget, of what is left of the spare budget. Any goroutine may
+// ask.
 func (recorder *Recorder) Ask(on *Instrument, amount uint64) error {
-	if err := recorder.begin(on); err != nil {
+	return recorder.between(on, func() uint32 {
+		return ask(recorder.run.handles, on.number, recorder.number, amount)
+	})
+}
+
+// Budget is what it may record on an instrument. Any goroutine may ask.
+func (recorder *Recorder) Budget(on *Instrument) (left Budget, err error) {
+	err = recorder.between(on, func() (answer uint32) {
+		left, answer = budget(recorder.run.handles, on.number, recorder.number)
+		return answer
+	})
+	return left, err
+}
+
+// Calls between two recordings.
+func (recorder *Recorder) between(on *Instrument, call func() uint32) error {
+	if err := recorder.takes(on); err != nil {
 		return err
 	}
+	recorder.run.gate.Lock()
+	defer recorder.run.gate.Unlock()
+	recorder.keep()
 	defer recorder.state.Store(free)
 	on.mutex.Lock()
 	defer on.mutex.Unlock()
-	return errorOn(on, ask(recorder.run.handles, on.number, recorder.number, amount))
+	return errorOn(on, call())
 }
 
-// Budget is what it may record on an instrument.
-func (recorder *Recorder) Budget(on *Instrument) (Budget, error) {
-	if err := recorder.begin(on); err != nil {
-		return Budget{}, err
-	}
-	defer recorder.state.Store(free)
-	on.mutex.Lock()
-	defer on.mutex.Unlock()
-	left, answer := budget(recorder.run.handles, on.number, recorder.number)
-	return left, errorOn(on, answer)
-}
-
-// Takes the recorder for this goroutine. It waits for the run, and not for another goroutine.
-func (recorder *Recorder) begin(on *Instrument) error {
+// Refuses an instrument of another run before its handles are looked at: a roll-over may be changing them.
+func (recorder *Recorder) takes(on *Instrument) error {
 	if on == nil {
 		return errorOf(answerUnknownInstrument)
 	}
 	if on.run != recorder.run {
 		return errorOn(on, answerStranger)
+	}
+	return nil
+}
+
+// Takes the recorder for this goroutine. It waits for the run, and not for another goroutine.
+func (recorder *Recorder) begin(on *Instrument) error {
+	if err := recorder.takes(on); err != nil {
+		return err
 	}
 	for !recorder.state.CompareAndSwap(free, used) {
 		if recorder.state.Load() == used {
