@@ -1,0 +1,9 @@
+pub mod Dialects
+pub mod LabelTexts
+pub mod Boundaries
+pub mod Pieces
+pub mod Samples
+pub mod Headers
+pub mod Expositions
+pub mod Targets
+pub mod Pages
