@@ -1,5 +1,5 @@
 //! Tests of the crates of runs: aggregators, tables of series, cells and cores over each book, scripts, written lines,
-//! requests of the OpenTelemetry protocol, and the commands above them.
+//! requests of the OpenTelemetry protocol, pages for Prometheus, and the commands above them.
 //!
 //! They have what no clause says: examples from outside, printed texts, and that a call succeeds while memory is there.
 //! Most are whole runs: `inputs` has the texts of inputs and what a trial of each writes, and `commands` and `cores`
@@ -28,6 +28,10 @@ mod dice;
 mod facts;
 #[cfg(test)]
 mod inputs;
+#[cfg(test)]
+mod pages;
+#[cfg(test)]
+mod pages_written;
 #[cfg(test)]
 mod plans;
 #[cfg(test)]
