@@ -161,7 +161,8 @@ impl Hosted {
         ensures err { OnErr result (self.new ≡ self.old) }
         ensures told_err { OnErr result (told.new ≡ told.old) }
     {
-        self.slot.record(facts, told, recorder, set, *value)
+        let is_own = self.slot.is_of(facts);
+        self.slot.record(is_own, facts, told, recorder, set, *value)
     }
 
     // Makes a collection for a seat that brings the facts and what it has seen.

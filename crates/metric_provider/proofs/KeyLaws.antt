@@ -1,23 +1,26 @@
 -- Recordings of set keys, one after the other.
-use Rattle.std.proofs.Common.{◌≡◌, ◌<◌, ◌≤◌, ℕ, ◌+◌, ℤ, Bool, true, false, ◌&&◌, List, [], ◌∷◌, ◌++◌, Option, Some, None, Result, Ok, Err, All, get_or, length, pos, take, refl, sym, ap, subst, ◌∙◌, arith}
-use Rattle.std.specs.Prelude.{IfSome, slice_get, slice_set, ◌==◌, nat_lt}
+use Rattle.std.proofs.Common.{◌≡◌, ◌<◌, ◌≤◌, ℕ, zero, suc, ◌+◌, ℤ, Bool, true, false, ◌&&◌, List, [], ◌∷◌, ◌++◌, Option, Some, None, Result, Ok, Err, All, get_or, length, pos, take, refl, sym, ap, subst, ◌∙◌, arith}
+use Rattle.std.specs.Prelude.{IfOk, IfSome, slice_get, slice_set, ◌==◌, nat_lt}
 use Rattle.std.specs.Option.{option_map_or}
+use Rattle.std.proofs.lemmas.Bool.{and_parts}
 use Rattle.std.proofs.lemmas.List.{get_or-set_same, get_or-take, get_or_read, length-set, length-take-le, set-get_or, set-set, take-take, take_all, take_more}
 use Rattle.std.proofs.lemmas.List.Elements.{All-more, All-take}
 use Rattle.std.proofs.lemmas.Option.{get_or_from_slice_get, same_Some, slice_get-get_or, slice_get_past, slice_get_within}
 use Rattle.metric_base.specs.StepLaws.{ok_is, require_ok}
 use Rattle.metric_base.specs.Steps.{◌>>=◌, require, require_some}
 use Rattle.metric_combinations.specs.Combinations.{permits}
+use Rattle.metric_contents.specs.Encoding.{Given}
 use Rattle.metric_contents.specs.declared.refusal.Refusal.{Refusal}
 use Rattle.metric_contents.specs.declared.refusal.Refusal.TheVariants.{Stranger, UnknownInstrument, UnknownValue, Combination, ValueRange}
 use Rattle.metric_facts.specs.declared.facts.Facts.{Facts}
-use Rattle.metric_facts.specs.Facts.{in_bounds, is_full_set}
-use Rattle.metric_plan.specs.Plans.{PlanValue}
-use Rattle.metric_provider.specs.AdmitLaws.{IsDeclared, knows, of_key, told_there}
+use Rattle.metric_facts.specs.Facts.{EncodesAllowedSets, in_bounds, is_allowed_set, is_full_set}
+use Rattle.metric_plan.specs.Plans.{IsPlan, PlanValue}
+use Rattle.metric_provider.specs.AdmitLaws.{IsDeclared, knows, of_attributes, of_key, told_there}
 use Rattle.metric_provider.specs.declared.fault.SetsFault.{SetsFault}
 use Rattle.metric_provider.specs.declared.keys.Measurement.{Measurement}
-use Rattle.metric_provider.specs.KeyRecordings.{AnswersKey, AreAccepted, AreAdmitted, IsAdmitted, IsRecordable, IsRefusedAfter, IsRefusedUnder, IsUnadmittedAfter, KnowsEach, admitted_key, declared_key, key_of, told_each, told_of, told_of_all}
-use Rattle.metric_provider.specs.Recordings.{AnswersSeat, RefusesRecording, told_at, with_recording}
+use Rattle.metric_provider.specs.KeyRecordings.{AnswersKey, AreAccepted, AreAdmitted, IsAdmitted, IsRecordable, IsRefusedAfter, IsRefusedUnder, IsUnadmittedAfter, KnowsEach, admitted_key, declared_key, key_of, measurement_of, noted_of_all, told_each, told_of, told_of_all}
+use Rattle.metric_provider.specs.Handing.{HandsOn, Records}
+use Rattle.metric_provider.specs.Recordings.{AnswersSeat, IsToldOf, RefusesRecording, declared_set, told_at, with_recording, with_slip, with_slips}
 use Rattle.metric_provider.specs.Seats.{ProviderValue, RecorderValue, is_recorder_of, nothing_told}
 use Rattle.metric_slot.specs.declared.told.Told.{Told}
 use Rattle.metric_slot.specs.Tellings.{told_more}
@@ -312,3 +315,91 @@ told_before_in spares p inside seat i all old last fault is admitted some lent u
     ap (λ (s : RecorderValue). record s { told = slice_set s.told i last }) is
     ∙ told_under p.plan of.own i (take fault.place all) seat last of.found long
     (here.told ∙ ap (λ (t : Told). told_each t of.own.lo (take fault.place all)) (lent_is inside seat i old is long lent))
+
+-- what is said of the facts that a plan has of an instrument
+pub of_known : (plan : PlanValue) (i : ℕ) (own : Facts) (P : Facts → Type 0) → slice_get plan.facts.instruments i ≡ Some own → P own → IfSome (slice_get plan.facts.instruments i) P
+of_known plan i own P found holds = subst (λ (o : Option Facts). IfSome o P) (sym found) holds
+
+-- What is made of recordings is what is handed on for the seat.
+pub handed_in : {H : Type 0} (records : Records H) (plan : PlanValue) (inside seat : RecorderValue) (own : Facts) (i : ℕ) (before after : H) (all : List Measurement) (old : Told)
+    (r : Result (Unit {0}) SetsFault) → inside ≡ seat → slice_get plan.facts.instruments i ≡ Some own → i < length seat.told → old ≡ get_or inside.told i old
+    → records before after own old inside.number all r → HandsOn records plan seat i before after all r
+handed_in {H} records plan inside seat own i before after all old r is found long lent made =
+    of_known plan i own (λ (f : Facts). records before after f (told_at seat i) seat.number all r) found
+    (subst (λ (s : RecorderValue). records before after own (told_at seat i) s.number all r) is
+    (subst (λ (t : Told). records before after own t inside.number all r) (lent_is inside seat i old is long lent) made))
+
+-- ---- one recording as a list of one
+
+-- a list of one that a seat may make
+pub admitted_one : (p : ProviderValue) (seat : RecorderValue) (i : ℕ) (one : Measurement) → IsAdmitted p seat i one → AreAdmitted p seat i (one ∷ [])
+admitted_one p seat i one made = All-more (IsAdmitted p seat i) (one ∷ []) 0 one (omega arith) (λ k d below. absurd (omega (arith, below))) made
+
+one_place : (one found : Measurement) (place : ℕ) → slice_get (one ∷ []) place ≡ Some found → place ≡ 0
+one_place one found zero at = refl
+one_place one found (suc place) at = absurd cc
+
+-- the place of a refused recording of one is the first
+pub only_place : (spares : Facts → Type 0) (p : ProviderValue) (seat : RecorderValue) (i : ℕ) (one : Measurement) (fault : SetsFault) → IsRefusedAfter spares p seat i (one ∷ []) fault
+    → fault ≡ record { place = 0; refusal = fault.refusal }
+only_place spares p seat i one fault of = ap (λ (n : ℕ). record { place = n; refusal = fault.refusal }) (one_place one of.one fault.place of.found)
+
+only_one : (one found : Measurement) (place : ℕ) → slice_get (one ∷ []) place ≡ Some found → one ≡ found
+only_one one found zero at = same_Some one found at
+only_one one found (suc place) at = absurd cc
+
+-- what it is refused for
+pub answer_of_one : (spares : Facts → Type 0) (p : ProviderValue) (seat : RecorderValue) (i : ℕ) (set : List ℕ) (value : ℤ) (fault : SetsFault)
+    → admitted_key p seat i set value ≡ Ok set → IsRefusedAfter spares p seat i (measurement_of set value ∷ []) fault
+    → AnswersSeat spares (Ok set) p.plan seat i (Err fault.refusal)
+answer_of_one spares p seat i set value fault admitted of =
+    let first : AnswersKey spares p (told_of_all p.plan seat i (take fault.place (measurement_of set value ∷ []))) i (measurement_of set value) (Err fault.refusal) =
+    subst (λ (one : Measurement). AnswersKey spares p (told_of_all p.plan seat i (take fault.place (measurement_of set value ∷ []))) i one (Err fault.refusal))
+    (sym (only_one (measurement_of set value) of.one fault.place of.found)) of.answer in
+    let here : AnswersKey spares p seat i (measurement_of set value) (Err fault.refusal) =
+    subst (λ (n : ℕ). AnswersKey spares p (told_of_all p.plan seat i (take n (measurement_of set value ∷ []))) i (measurement_of set value) (Err fault.refusal))
+    (one_place (measurement_of set value) of.one fault.place of.found) first in
+    subst (λ (r : Result (List ℕ) Refusal). AnswersSeat spares r p.plan seat i (Err fault.refusal)) admitted here
+
+told_of_found : (keeps : Bool) (o : Option Facts) (seat new : RecorderValue) (i : ℕ) (set : List ℕ) (value : ℤ)
+    → new ≡ with_slips keeps (option_map_or (λ (own : Facts). with_recording seat i own value) o seat) i (record { set = set; value = value } ∷ [])
+    → IfSome o (λ (own : Facts). new ≡ with_slip keeps seat i own set value)
+told_of_found keeps None seat new i set value is = tt
+told_of_found keeps (Some own) seat new i set value is = is
+
+-- what the seat was told of it
+pub told_of_one : (keeps : Bool) (plan : PlanValue) (seat new : RecorderValue) (i : ℕ) (set : List ℕ) (value : ℤ)
+    → new ≡ noted_of_all keeps plan seat i (measurement_of set value ∷ []) → IsToldOf keeps (Ok set) plan seat new i value
+told_of_one keeps plan seat new i set value is = told_of_found keeps (slice_get plan.facts.instruments i) seat new i set value is
+
+-- a refused recording leaves the seat as it was
+pub same_after_one : (keeps : Bool) (spares : Facts → Type 0) (p : ProviderValue) (seat new : RecorderValue) (i : ℕ) (one : Measurement) (fault : SetsFault)
+    → IsRefusedAfter spares p seat i (one ∷ []) fault → new ≡ noted_of_all keeps p.plan seat i (take fault.place (one ∷ [])) → noted_of_all keeps p.plan seat i [] ≡ seat → new ≡ seat
+same_after_one keeps spares p seat new i one fault of is none =
+    is ∙ ap (λ (n : ℕ). noted_of_all keeps p.plan seat i (take n (one ∷ []))) (one_place one of.one fault.place of.found) ∙ none
+
+-- ---- a set key that attributes name
+
+key_there : (own : Facts) (set : List ℕ) (value : ℤ) → is_allowed_set own set ≡ true → in_bounds own value ≡ true → key_of own set value ≡ Ok set
+key_there own set value allowed ranged =
+    let parts = and_parts (is_full_set own.keys set) (permits own.allowed set) allowed in
+    ap (λ (b : Bool). require b UnknownValue >>= λ _. require (permits own.allowed set) Combination >>= λ _. require (in_bounds own value) ValueRange >>= λ _. Ok set) parts.0
+    ∙ ap (λ (b : Bool). require b Combination >>= λ _. require (in_bounds own value) ValueRange >>= λ _. Ok set) parts.1
+    ∙ ap (λ (b : Bool). require b ValueRange >>= λ _. Ok set) ranged
+
+-- a seat of the run may make a declared recording by its set key
+pub admitted_declared : (p : ProviderValue) (seat : RecorderValue) (i : ℕ) (set : List ℕ) (value : ℤ) → is_recorder_of p seat ≡ true → IsDeclared p.plan i set value
+    → admitted_key p seat i set value ≡ Ok set
+admitted_declared p seat i set value mine of =
+    admitted_by p seat i of.own set value mine of.found ∙ key_there of.own set value of.allowed of.ranged
+
+pub keyed_of : (p : ProviderValue) (seat : RecorderValue) (i : ℕ) (attrs : List Given) (value : ℤ) (r : Result (List ℕ) Refusal) → IsPlan p.plan → EncodesAllowedSets
+    → is_recorder_of p seat ≡ true → r ≡ declared_set p.plan i attrs value → IfOk r (λ set. admitted_key p seat i set value ≡ Ok set)
+keyed_of p seat i attrs value (Err refusal) kept names mine made = tt
+keyed_of p seat i attrs value (Ok set) kept names mine made =
+    admitted_declared p seat i set value mine (of_attributes p.plan i attrs value set kept names (sym made))
+
+pub keyed_again : (p : ProviderValue) (seat : RecorderValue) (i : ℕ) (set : List ℕ) (value : ℤ) (r : Result (List ℕ) Refusal)
+    → is_recorder_of p seat ≡ true → r ≡ declared_key p.plan i set value → IfOk r (λ key. admitted_key p seat i key value ≡ Ok key)
+keyed_again p seat i set value (Err refusal) mine made = tt
+keyed_again p seat i set value (Ok key) mine made = admitted_declared p seat i key value mine (of_key p.plan i set key value (sym made))

@@ -5,3 +5,4 @@ pub mod KeyLaws
 pub mod NotingLaws
 pub mod EntryLaws
 pub mod JournalLaws
+pub mod GainLaws

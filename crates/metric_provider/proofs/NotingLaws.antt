@@ -1,5 +1,5 @@
 -- Slips that are made before the lock is taken, and struck out where a recording is refused.
-use Rattle.std.proofs.Common.{◌≡◌, ◌<◌, ◌≤◌, ℕ, ◌+◌, ◌-◌, ℤ, pos, Bool, true, false, List, [], ◌∷◌, ◌++◌, Option, Some, None, Result, Ok, Err, get_or, length, map, take, refl, sym, ap, subst, ◌∙◌, length-append, arith}
+use Rattle.std.proofs.Common.{◌≡◌, ◌<◌, ◌≤◌, inl, inr, ℕ, ◌+◌, ◌-◌, ℤ, pos, Bool, true, false, List, [], ◌∷◌, ◌++◌, Option, Some, None, Result, Ok, Err, get_or, length, map, take, refl, sym, ap, subst, ◌∙◌, length-append, arith}
 use Rattle.std.specs.Prelude.{◌==◌, IfSome, slice_get, slice_set}
 use Rattle.std.specs.Option.{option_map_or}
 use Rattle.std.proofs.Math.Seq.{take-append-add}
@@ -14,7 +14,8 @@ use Rattle.metric_plan.specs.Plans.{PlanValue}
 use Rattle.metric_provider.specs.declared.fault.SetsFault.{SetsFault}
 use Rattle.metric_provider.specs.declared.keys.Measurement.{Measurement}
 use Rattle.metric_provider.specs.KeyRecordings.{AreAccepted, AreAdmitted, IsRefusedAfter, admitted_key, measurement_of, noted_of_all, slip_of_one, told_of, told_of_all}
-use Rattle.metric_provider.specs.Recordings.{AnswersSeat, RefusesRecording, RefusesSlip, SeatSpares, told_at, with_recording, with_slip, with_slips}
+use Rattle.metric_provider.specs.Handing.{Hands, HandsAny, HandsOn, Records}
+use Rattle.metric_provider.specs.Recordings.{AnswersSeat, RefusesRecording, RefusesSlip, SeatSpares, told_at, with_recording, with_slips}
 use Rattle.metric_provider.specs.Seats.{ProviderValue, RecorderValue, slips_at}
 use Rattle.metric_slot.specs.declared.told.Told.{Told}
 
@@ -82,35 +83,17 @@ struck_seat plan seat noted later new i n k all long within count is told out =
 none_noted : (seat : RecorderValue) (i : ℕ) → with_slips true seat i [] ≡ seat
 none_noted seat i = ap (λ (xs : List Slip). with_all_slips seat (slice_set seat.slips i xs)) (append-nil (slips_at seat i)) ∙ ap (λ (all : List (List Slip)). with_all_slips seat all) (set-get_or seat.slips i [])
 
+pub none_noted_any : (keeps : Bool) (seat : RecorderValue) (i : ℕ) → with_slips keeps seat i [] ≡ seat
+none_noted_any true seat i = none_noted seat i
+none_noted_any false seat i = refl
+
 pub nothing_there : (all : List Measurement) → (length all == 0) ≡ true → all ≡ []
 nothing_there [] none = refl
 nothing_there (one ∷ all) none = absurd (omega (arith, eqb-true (length (one ∷ all)) 0 none))
 
-pub nothing_noted : (plan : PlanValue) (seat new : RecorderValue) (i : ℕ) (all : List Measurement) → all ≡ [] → new ≡ seat → new ≡ noted_of_all true plan seat i all
-nothing_noted plan seat new i all none same =
-    same ∙ sym (none_noted seat i) ∙ ap (λ (xs : List Measurement). noted_of_all true plan seat i xs) (sym none)
-
--- a slip that was noted is struck out again
-pub struck_one : (seat noted later new : RecorderValue) (i : ℕ) (one : Slip) → i < length seat.slips
-    → noted ≡ with_slips true seat i (one ∷ []) → later ≡ noted
-    → new ≡ with_all_slips later (slice_set later.slips i (take (length (slips_at later i) - 1) (slips_at later i))) → new ≡ seat
-struck_one seat noted later new i one long is same out =
-    let first : List Slip = slips_at seat i in
-    let slips : List (List Slip) = slice_set seat.slips i (first ++ one ∷ []) in
-    let here : get_or slips i [] ≡ first ++ one ∷ [] = get_or-set_same seat.slips i (first ++ one ∷ []) [] long in
-    out ∙ ap (λ (s : RecorderValue). with_all_slips s (slice_set s.slips i (take (length (slips_at s i) - 1) (slips_at s i)))) (same ∙ is)
-    ∙ ap (λ (xs : List Slip). with_all_slips seat (slice_set slips i (take (length xs - 1) xs))) here
-    ∙ ap (λ (xs : List Slip). with_all_slips seat (slice_set slips i xs)) (struck first (one ∷ []) 0 (omega arith))
-    ∙ ap (λ (all : List (List Slip)). with_all_slips seat all) (set-set seat.slips i (first ++ one ∷ []) (first ++ []))
-    ∙ none_noted seat i
-
--- one recording, noted and then told
-pub noted_one : (o : Option Facts) (seat noted new : RecorderValue) (i : ℕ) (set : List ℕ) (value : ℤ) (one : Measurement) → one ≡ measurement_of set value
-    → noted ≡ with_slips true seat i (slip_of_one one ∷ []) → IfSome o (λ (own : Facts). new ≡ with_recording noted i own value)
-    → IfSome o (λ (own : Facts). new ≡ with_slip true seat i own set value)
-noted_one None seat noted new i set value one is noted_is told = tt
-noted_one (Some own) seat noted new i set value one is noted_is told =
-    told ∙ ap (λ (s : RecorderValue). with_recording s i own value) (noted_is ∙ ap (λ (m : Measurement). with_slips true seat i (slip_of_one m ∷ [])) is)
+pub nothing_said : (keeps : Bool) (plan : PlanValue) (seat new : RecorderValue) (i : ℕ) (all : List Measurement) → all ≡ [] → new ≡ seat → new ≡ noted_of_all keeps plan seat i all
+nothing_said keeps plan seat new i all none same =
+    same ∙ sym (none_noted_any keeps seat i) ∙ ap (λ (xs : List Measurement). noted_of_all keeps plan seat i xs) (sym none)
 
 -- ---- refusals
 
@@ -167,15 +150,7 @@ spared keeps spares (Ok set) plan seat i (Err refusal) answer =
     (λ (own : Facts). RefusesRecording (SeatSpares keeps spares) own seat.number (told_at seat i) refusal)
     (λ own why. spared_refusal keeps spares own seat.number (told_at seat i) refusal why) answer
 
--- a seat with other slips is answered alike
-pub answered_alike : (spares : Facts → Type 0) (set : List ℕ) (plan : PlanValue) (seat noted : RecorderValue) (i : ℕ) (slips : List (List Slip)) (r : Result (Unit {0}) Refusal)
-    → noted ≡ with_all_slips seat slips → AnswersSeat spares (Ok set) plan noted i r → AnswersSeat (SeatSpares true spares) (Ok set) plan seat i r
-answered_alike spares set plan seat noted i slips (Ok done) is answer = tt
-answered_alike spares set plan seat noted i slips (Err refusal) is answer =
-    spared true spares (Ok set) plan seat i (Err refusal)
-    (subst (λ (s : RecorderValue). IfSome (slice_get plan.facts.instruments i) (λ (own : Facts). RefusesRecording spares own s.number (told_at s i) refusal)) is answer)
-
-pub no_slip : (spares : Facts → Type 0) (set : List ℕ) (plan : PlanValue) (seat : RecorderValue) (i : ℕ) (refusal : Refusal) → RefusesSlip refusal
+no_slip : (spares : Facts → Type 0) (set : List ℕ) (plan : PlanValue) (seat : RecorderValue) (i : ℕ) (refusal : Refusal) → RefusesSlip refusal
     → AnswersSeat (SeatSpares true spares) (Ok set) plan seat i (Err refusal)
 no_slip spares set plan seat i refusal why =
     always (slice_get plan.facts.instruments i) (λ (own : Facts). RefusesRecording (SeatSpares true spares) own seat.number (told_at seat i) refusal)
@@ -273,3 +248,21 @@ still_long plan seat noted later i more made long is told =
     let same : later.slips ≡ slice_set seat.slips i (slips_at seat i ++ more) =
     ap (λ (s : RecorderValue). s.slips) told ∙ slips_stay plan noted i made ∙ ap (λ (s : RecorderValue). s.slips) is in
     omega (arith, long, ap (λ (all : List (List Slip)). length all) same, length-set seat.slips i (slips_at seat i ++ more))
+
+-- ---- what is handed on
+
+pub hands_of : {H : Type 0} (keeps : Bool) (records : Records H) (plan : PlanValue) (seat : RecorderValue) (i : ℕ) (old new : H) (all : List Measurement) (r : Result (Unit {0}) SetsFault)
+    → HandsOn records plan seat i old new all r → Hands keeps records plan seat i old new all r
+hands_of {H} keeps records plan seat i old new all (Ok done) handed = handed
+hands_of {H} keeps records plan seat i old new all (Err fault) handed = inr handed
+
+-- a seat with other slips hands on alike
+pub handed_alike : {H : Type 0} (records : Records H) (plan : PlanValue) (seat noted : RecorderValue) (i : ℕ) (more : List Slip) (old new : H) (all : List Measurement)
+    (r : Result (Unit {0}) SetsFault) → noted ≡ with_slips true seat i more → HandsOn records plan noted i old new all r → HandsOn records plan seat i old new all r
+handed_alike {H} records plan seat noted i more old new all r is handed = subst (λ (s : RecorderValue). HandsOn records plan s i old new all r) is handed
+
+-- a list of one is not empty
+pub one_handed : {H : Type 0} (keeps : Bool) (records : Records H) (plan : PlanValue) (seat : RecorderValue) (i : ℕ) (old new : H) (one : Measurement) (r : Result (Unit {0}) SetsFault)
+    → HandsAny keeps records plan seat i old new (one ∷ []) r → Hands keeps records plan seat i old new (one ∷ []) r
+one_handed {H} keeps records plan seat i old new one r (inl none) = let empty : one ∷ [] ≡ [] = none.0 in absurd cc
+one_handed {H} keeps records plan seat i old new one r (inr handed) = handed

@@ -32,7 +32,7 @@ some_of : {A : Type 0} (o : Option A) (e : Refusal) (x : A) → require_some o e
 some_of None e x given = absurd cc
 some_of (Some y) e x given = ap (λ z. Some z) (ok_is y x (require_some (Some y) e) refl given)
 
-of_attributes : (plan : PlanValue) (instrument : ℕ) (attrs : List Given) (value : ℤ) (set : List ℕ)
+pub of_attributes : (plan : PlanValue) (instrument : ℕ) (attrs : List Given) (value : ℤ) (set : List ℕ)
     → IsPlan plan → EncodesAllowedSets
     → declared_set plan instrument attrs value ≡ Ok set → IsDeclared plan instrument set value
 of_attributes plan instrument attrs value set kept names made =

@@ -6,6 +6,8 @@ pub mod KeyRecordings
 pub mod PlanFacts
 pub mod AdmitLaws
 pub mod Collections
+pub mod Handing
+pub mod Gains
 pub mod Closing
 pub mod Granting
 pub mod Totals

@@ -1,10 +1,12 @@
 //! The seat of a reader.
 ghost use Rattle.std.specs.Prelude.{◌≡◌, [], true, length, slice_get, slice_index, IfOk, IfErr, OnErr, OnOk};
 ghost use Rattle.metric_provider.specs.Collections.{AllRefused, AnswersCollector, AnswersEach, collectable, with_all_seen, with_seen};
+ghost use Rattle.metric_provider.specs.Handing.{HandsReading};
 ghost use Rattle.metric_provider.specs.Seats.{is_collector_of, new_collector, provider_of};
 
 use crate::fault::AllFault;
 use crate::gate::Gate;
+use crate::held::Held;
 use crate::provider::Provider;
 use metric_book::Book;
 use metric_contents::Refusal;
@@ -24,6 +26,7 @@ pub struct Collector {
 }
 
 impl Model for Collector {
+    ghost use Rattle.metric_provider.specs.Handing.{HandsReading};
     ghost use Rattle.metric_provider.specs.Seats.{CollectorValue};
 
     ghost Value = { CollectorValue };
@@ -81,16 +84,40 @@ impl Collector {
         ensures seen { IfOk result (λ batch. self.new ≡ with_seen self.old instrument batch.mark) }
         ensures err { OnErr result (self.new ≡ self.old) }
     {
-        if !self.is_of(provider.plan(), provider.run()) {
+        let plan = provider.plan();
+        let run = provider.run();
+        let mut held = provider.inside(rt, instrument);
+        self.collect_held(&mut held, alloc, plan, run, instrument, now)
+    }
+
+    // The same of what holds the instrument.
+    fn collect_held<B: Book, H: Held<B>>(
+        &mut self,
+        held: &mut H,
+        alloc: Global,
+        plan: &Plan,
+        run: u64,
+        instrument: u32,
+        now: u64,
+    ) -> Result<Batch, Refusal>
+        ensures answer { let allowed = collectable (provider_of plan.now run) self.old instrument in
+            AnswersCollector allowed self.old instrument now result }
+        ensures seen { IfOk result (λ batch. self.new ≡ with_seen self.old instrument batch.mark) }
+        ensures err { OnErr result (self.new ≡ self.old) }
+        ensures handed { let allowed = collectable (provider_of plan.now run) self.old instrument in
+            HandsReading H.collects allowed self.old instrument held.old held.new now result }
+    {
+        if !self.is_of(plan, run) {
             return Err(Refusal::Stranger);
         }
         let at = instrument as usize;
         if at >= self.seen.len() {
             return Err(Refusal::UnknownInstrument);
         }
+        let facts = plan.facts(instrument);
         let number = self.number;
         let seen = &mut self.seen[at];
-        provider.collect_inside(rt, alloc, instrument, seen, number, now)
+        held.collect(alloc, facts, seen, number, now)
     }
 
     /// A batch of each instrument, in order. What was collected before a refusal is handed over with it.

@@ -10,6 +10,7 @@ mod collector;
 mod fault;
 mod finish;
 mod gate;
+mod held;
 mod journals;
 mod keys;
 mod notes;

@@ -1,26 +1,18 @@
 //! The instruments of a plan behind their locks.
-ghost use Rattle.std.specs.Prelude.{◌≡◌, ◌<◌, IsTrue, Some, All, length, slice_get, vec_len, IfOk, IfErr, IfSome, OnOk, OnErr};
-ghost use Rattle.metric_core.specs.CellAnswers.{with_grant};
+ghost use Rattle.std.specs.Prelude.{◌≡◌, IsTrue, length, slice_get, vec_len};
 ghost use Rattle.metric_provider.specs.Closing.{AnswersClosing};
 ghost use Rattle.metric_provider.specs.Granting.{AnswersGrant};
-ghost use Rattle.metric_provider.specs.Collections.{IsNextBatch, RefusesCollection};
-ghost use Rattle.metric_provider.specs.KeyRecordings.{IsRecordable, IsRefusedUnder, KnowsEach, told_each};
-ghost use Rattle.metric_provider.specs.Providers.{IsProvider, KnowsReader, KnowsRecording};
-ghost use Rattle.metric_provider.specs.Recordings.{RefusesRecording};
+ghost use Rattle.metric_provider.specs.Handing.{HandsClosing, HandsGrant};
+ghost use Rattle.metric_provider.specs.Providers.{IsProvider};
 ghost use Rattle.metric_provider.specs.Seats.{provider_of};
-ghost use Rattle.metric_slot.specs.Tellings.{told_more};
 
-use crate::fault::SetsFault;
 use crate::gate::Gate;
-use crate::keys::Measurement;
+use crate::held::{Held, Inside};
 use crossbeam_utils::CachePadded;
 use metric_book::Book;
-use metric_contents::{Refusal, SetKey};
-use metric_facts::Facts;
-use metric_history::Batch;
+use metric_contents::Refusal;
 use metric_plan::Plan;
-use metric_slot::{Slot, Told};
-use std::alloc::Global;
+use metric_slot::Slot;
 use std::marker::Model;
 use std::sync::{Mutex, Wait};
 
@@ -112,15 +104,7 @@ impl<B: Book, G: Gate> Provider<B, G> {
         ensures { let known = slice_get self.now.plan.facts.instruments instrument in
             AnswersClosing known result }
     {
-        let at = instrument as usize;
-        if at >= self.slots.len() {
-            return Err(Refusal::UnknownInstrument);
-        }
-        let slot: &Mutex<Slot<B>> = &self.slots[at];
-        let mut guard = slot.lock(rt);
-        let answer = guard.close();
-        self.gate.inside(rt, instrument);
-        answer
+        close_held(&mut self.inside(rt, instrument), &self.plan, instrument)
     }
 
     /// Grants a recorder so many recordings on an instrument beside its budget, of what is left of the instrument's spare
@@ -141,171 +125,57 @@ impl<B: Book, G: Gate> Provider<B, G> {
         ensures { let known = slice_get self.now.plan.facts.instruments instrument in
             AnswersGrant known recorder amount result }
     {
-        let at = instrument as usize;
-        if at >= self.slots.len() {
-            return Err(Refusal::UnknownInstrument);
+        let mut held = self.inside(rt, instrument);
+        grant_held(&mut held, &self.plan, recorder, instrument, amount)
+    }
+
+    // The instrument of a number behind its lock.
+    pub(crate) fn inside<'a, R>(&'a self, rt: &'a R, instrument: u32) -> Inside<'a, R, B, G> {
+        Inside {
+            rt,
+            slot: self.slots.get(instrument as usize),
+            gate: &self.gate,
+            instrument,
         }
-        let facts = self.plan.facts(instrument);
-        if recorder as usize >= facts.budgets.len() {
-            return Err(Refusal::UnknownRecorder);
-        }
-        let slot: &Mutex<Slot<B>> = &self.slots[at];
-        let mut guard = slot.lock(rt);
-        let answer = grant(&mut guard, facts, recorder, amount);
-        self.gate.inside(rt, instrument);
-        answer
-    }
-
-    // Makes a recording under the instrument's lock, and tells its recorder of it.
-    pub(crate) fn record_inside<R: Wait>(
-        &self,
-        rt: &R,
-        instrument: u32,
-        told: &mut Told,
-        recorder: u32,
-        set: SetKey,
-        value: &i64,
-    ) -> Result<(), Refusal>
-        requires { KnowsRecording self.now.plan instrument recorder set value.now }
-        ensures told { OnOk result (
-            IfSome (slice_get self.now.plan.facts.instruments instrument) (λ own.
-            told.new ≡ told_more told.old own.lo value.now)) }
-        ensures refused { IfErr result (λ refusal.
-            IfSome (slice_get self.now.plan.facts.instruments instrument) (λ own.
-            RefusesRecording B.spares_memory own recorder told.old refusal)) }
-        ensures told_err { OnErr result (told.new ≡ told.old) }
-    {
-        let facts = self.plan.facts(instrument);
-        let slot: &Mutex<Slot<B>> = &self.slots[instrument as usize];
-        let mut guard = slot.lock(rt);
-        let answer = guard.record(facts, told, recorder, set, *value);
-        self.gate.inside(rt, instrument);
-        answer
-    }
-
-    // Makes recordings under the instrument's lock, one after the other, and tells their recorder of each, up to the
-    // first that is refused.
-    pub(crate) fn record_each_inside<R: Wait>(
-        &self,
-        rt: &R,
-        instrument: u32,
-        told: &mut Told,
-        recorder: u32,
-        all: &[Measurement],
-    ) -> Result<(), SetsFault>
-        requires known { instrument < length self.now.plan.facts.instruments }
-        requires recorder { recorder < length self.now.plan.facts.contents.recorders }
-        requires each { KnowsEach self.now.plan instrument recorder all.now }
-        ensures told { OnOk result (
-            IfSome (slice_get self.now.plan.facts.instruments instrument) (λ own.
-            told.new ≡ told_each told.old own.lo all.now)) }
-        ensures refused { IfErr result (λ fault.
-            IfSome (slice_get self.now.plan.facts.instruments instrument) (λ own.
-            IsRefusedUnder B.spares_memory own recorder told.old told.new all.now fault)) }
-    {
-        let facts = self.plan.facts(instrument);
-        let slot: &Mutex<Slot<B>> = &self.slots[instrument as usize];
-        let mut guard = slot.lock(rt);
-        record_each(rt, &self.gate, &mut guard, facts, told, recorder, all)
-    }
-
-    // Makes a collection under the instrument's lock, which its reader has then seen.
-    pub(crate) fn collect_inside<R: Wait>(
-        &self,
-        rt: &R,
-        alloc: Global,
-        instrument: u32,
-        seen: &mut u64,
-        reader: u32,
-        now: u64,
-    ) -> Result<Batch, Refusal>
-        requires { KnowsReader self.now.plan instrument reader }
-        ensures batch { IfOk result (λ batch.
-            IfSome (slice_get self.now.plan.facts.instruments instrument) (λ own.
-            IsNextBatch own reader seen.old now batch)) }
-        ensures seen { IfOk result (λ batch. seen.new ≡ batch.mark) }
-        ensures refused { IfErr result (λ refusal. RefusesCollection refusal) }
-        ensures seen_err { OnErr result (seen.new ≡ seen.old) }
-    {
-        let facts = self.plan.facts(instrument);
-        let slot: &Mutex<Slot<B>> = &self.slots[instrument as usize];
-        let mut guard = slot.lock(rt);
-        let answer = guard.collect(alloc, facts, seen, reader, now);
-        self.gate.inside(rt, instrument);
-        answer
     }
 }
 
-// Grants a recorder recordings of a slot. One with other facts takes no recordings of the plan's recorders, so that to
-// them it is closed.
-fn grant<B: Book>(
-    slot: &mut Slot<B>,
-    facts: &Facts,
+// Ends the recordings of the plan's instrument of a number, which is held like this.
+fn close_held<B: Book, H: Held<B>>(
+    held: &mut H,
+    plan: &Plan,
+    instrument: u32,
+) -> Result<(), Refusal>
+    ensures answer { let known = slice_get plan.now.facts.instruments instrument in
+        AnswersClosing known result }
+    ensures made { let known = slice_get plan.now.facts.instruments instrument in
+        HandsClosing H.closes known held.old held.new result }
+{
+    if instrument as usize >= plan.all_facts().len() {
+        return Err(Refusal::UnknownInstrument);
+    }
+    held.close()
+}
+
+// Grants a recorder recordings on the plan's instrument of a number, which is held like this.
+fn grant_held<B: Book, H: Held<B>>(
+    held: &mut H,
+    plan: &Plan,
     recorder: u32,
+    instrument: u32,
     amount: u64,
 ) -> Result<(), Refusal>
-    requires { recorder < length facts.now.budgets }
-    ensures answer { AnswersGrant (Some facts.now) recorder amount result }
-    ensures new { OnOk result (slot.new ≡ with_grant slot.old recorder amount) }
-    ensures err { OnErr result (slot.new ≡ slot.old) }
+    ensures answer { let known = slice_get plan.now.facts.instruments instrument in
+        AnswersGrant known recorder amount result }
+    ensures made { let known = slice_get plan.now.facts.instruments instrument in
+        HandsGrant H.grants known recorder amount held.old held.new result }
 {
-    // For the proof alone: what a cell keeps.
-    let _ = slot.cell();
-    match slot.grant(facts, recorder, amount) {
-        Err(Refusal::Stranger) => Err(Refusal::Closed),
-        answer => answer,
+    if instrument as usize >= plan.all_facts().len() {
+        return Err(Refusal::UnknownInstrument);
     }
-}
-
-// Makes recordings, one after the other, and tells their recorder of each, up to the first that is refused. The slot's
-// facts are compared once for all of them.
-fn record_each<R: Wait, B: Book, G: Gate>(
-    rt: &R,
-    gate: &G,
-    slot: &mut Slot<B>,
-    facts: &Facts,
-    told: &mut Told,
-    recorder: u32,
-    all: &[Measurement],
-) -> Result<(), SetsFault>
-    requires recorder { recorder < length facts.now.budgets }
-    requires each { All (IsRecordable facts.now) all.now }
-    ensures told { OnOk result (told.new ≡ told_each told.old facts.now.lo all.now) }
-    ensures refused { IfErr result (λ fault.
-        IsRefusedUnder B.spares_memory facts.now recorder told.old told.new all.now fault) }
-{
-    let is_own = slot.is_of(facts);
-    for (place, one) in all.iter().enumerate() {
-        let answer = record_one(slot, is_own, facts, told, recorder, one);
-        gate.inside(rt, facts.instrument);
-        match answer {
-            Ok(()) => {}
-            Err(refusal) => return Err(SetsFault { place, refusal }),
-        }
+    let facts = plan.facts(instrument);
+    if recorder as usize >= facts.budgets.len() {
+        return Err(Refusal::UnknownRecorder);
     }
-    Ok(())
-}
-
-// Makes a recording, and tells its recorder of it; a slot with other facts refuses it.
-fn record_one<B: Book>(
-    slot: &mut Slot<B>,
-    is_own: bool,
-    facts: &Facts,
-    told: &mut Told,
-    recorder: u32,
-    one: &Measurement,
-) -> Result<(), Refusal>
-    requires own { IsTrue is_own → slot.old.facts ≡ facts.now }
-    requires recorder { recorder < length facts.now.budgets }
-    requires one { IsRecordable facts.now one.now }
-    ensures facts { slot.new.facts ≡ slot.old.facts }
-    ensures told { OnOk result (told.new ≡ told_more told.old facts.now.lo one.now.value) }
-    ensures refused { IfErr result (λ refusal.
-        RefusesRecording B.spares_memory facts.now recorder told.old refusal) }
-    ensures told_err { OnErr result (told.new ≡ told.old) }
-{
-    if !is_own {
-        return Err(Refusal::Stranger);
-    }
-    slot.record_next(facts, told, recorder, one.set, one.value)
+    held.grant(facts, recorder, amount)
 }

@@ -1,15 +1,17 @@
 //! The seat of a recorder.
-ghost use Rattle.std.specs.Prelude.{◌≡◌, ◌<◌, ◌-◌, Bool, true, Some, None, length, map, take, slice_get, slice_set, IfOk, IfErr, IfSome, Ok, OnOk, OnErr};
+ghost use Rattle.std.specs.Prelude.{◌≡◌, ◌<◌, ◌-◌, Bool, true, length, map, take, slice_get, slice_set, IfOk, IfErr, Ok, OnOk, OnErr};
 ghost use Rattle.metric_contents.specs.Attributes.{given_by};
 ghost use Rattle.metric_provider.specs.Granting.{AnswersAsking};
+ghost use Rattle.metric_provider.specs.Handing.{Hands, HandsAny, HandsOn, HandsOne};
 ghost use Rattle.metric_provider.specs.KeyRecordings.{AreAccepted, AreAdmitted, IsRefusedAfter, IsUnadmittedAfter, admitted_key, noted_of_all, slip_of_one, told_of_all};
 ghost use Rattle.metric_provider.specs.Providers.{KnowsRecording};
-ghost use Rattle.metric_provider.specs.Recordings.{AnswersSeat, IsToldOf, RefusesSlip, SeatSpares, admitted, told_at, with_recording, with_slips};
+ghost use Rattle.metric_provider.specs.Recordings.{AnswersSeat, IsToldOf, RefusesSlip, SeatSpares, admitted, told_at, with_slips};
 ghost use Rattle.metric_provider.specs.Seats.{is_recorder_of, new_recorder, provider_of, slips_at};
 
 use crate::admission::{declared_key, declared_set, key_of};
 use crate::fault::SetsFault;
 use crate::gate::Gate;
+use crate::held::Held;
 use crate::keys::{Measurement, recording_of};
 use crate::notes::{Notes, no_notes};
 use crate::provider::Provider;
@@ -130,8 +132,11 @@ impl Recorder {
             IsToldOf B.KEEPS_ENTRIES admission plan self.old self.new instrument value) }
         ensures err { OnErr result (self.new ≡ self.old) }
     {
-        let set = self.admit(provider.plan(), provider.run(), instrument, attrs, &value)?;
-        self.record_known(rt, provider, instrument, set, &value)
+        let plan = provider.plan();
+        let run = provider.run();
+        let set = self.admit(plan, run, instrument, attrs, &value)?;
+        let mut held = provider.inside(rt, instrument);
+        self.record_one(&mut held, plan, run, instrument, set, &value)
     }
 
     /// Makes a recording of a set key that [`Recorder::admits`] answered for the instrument (Metrics API, synchronous
@@ -159,8 +164,11 @@ impl Recorder {
             IsToldOf B.KEEPS_ENTRIES admission plan self.old self.new instrument value) }
         ensures err { OnErr result (self.new ≡ self.old) }
     {
-        let set = self.admit_key(provider.plan(), provider.run(), instrument, set, &value)?;
-        self.record_known(rt, provider, instrument, set, &value)
+        let plan = provider.plan();
+        let run = provider.run();
+        let set = self.admit_key(plan, run, instrument, set, &value)?;
+        let mut held = provider.inside(rt, instrument);
+        self.record_one(&mut held, plan, run, instrument, set, &value)
     }
 
     /// Makes recordings of one instrument by their set keys (Metrics API, synchronous instruments), in order and under one
@@ -191,63 +199,102 @@ impl Recorder {
             let plan = provider.now.plan in
             self.new ≡ noted_of_all B.KEEPS_ENTRIES plan self.old instrument made) }
     {
-        let admitted = self.admit_each(provider.plan(), provider.run(), instrument, all);
+        let plan = provider.plan();
+        let run = provider.run();
+        let admitted = self.admit_each(plan, run, instrument, all);
         let count = match admitted {
             Ok(()) => all.len(),
             Err(fault) => fault.place,
         };
-        self.record_each_known(rt, provider, instrument, &all[..count])?;
+        let mut held = provider.inside(rt, instrument);
+        self.record_each(&mut held, plan, run, instrument, &all[..count])?;
         admitted
     }
 
-    // Makes recordings that the seat may make, and tells it of them, up to the first that is refused.
-    fn record_each_known<R: Wait, B: Book, G: Gate>(
+    // Makes a recording that the seat may make, as a list of one.
+    fn record_one<B: Book, H: Held<B>>(
         &mut self,
-        rt: &R,
-        provider: &Provider<B, G>,
+        held: &mut H,
+        plan: &Plan,
+        run: u64,
         instrument: u32,
-        all: &[Measurement],
-    ) -> Result<(), SetsFault>
-        requires { AreAdmitted provider.now self.old instrument all.now }
-        ensures told { let plan = provider.now.plan in
-            OnOk result (
-            self.new ≡ noted_of_all B.KEEPS_ENTRIES plan self.old instrument all.now) }
-        ensures refused { let spares = SeatSpares B.KEEPS_ENTRIES B.spares_memory in
-            IfErr result (IsRefusedAfter spares provider.now self.old instrument all.now) }
-        ensures told_before { IfErr result (λ fault. let made = take fault.place all.now in
-            let plan = provider.now.plan in
-            self.new ≡ noted_of_all B.KEEPS_ENTRIES plan self.old instrument made) }
+        set: SetKey,
+        value: &i64,
+    ) -> Result<(), Refusal>
+        requires { let p = provider_of plan.now run in
+            admitted_key p self.old instrument set value.now ≡ Ok set }
+        ensures answer { let spares = SeatSpares B.KEEPS_ENTRIES B.spares_memory in
+            AnswersSeat spares (Ok set) plan.now self.old instrument result }
+        ensures told { OnOk result (
+            IsToldOf B.KEEPS_ENTRIES (Ok set) plan.now self.old self.new instrument value.now) }
+        ensures err { OnErr result (self.new ≡ self.old) }
+        ensures handed { HandsOne B.KEEPS_ENTRIES H.records (Ok set) plan.now self.old instrument
+            held.old held.new value.now result }
     {
-        if !B::KEEPS_ENTRIES {
-            return self.record_each_told(rt, provider, instrument, all);
+        let one = recording_of(set, value);
+        match self.record_each(held, plan, run, instrument, &[one]) {
+            Ok(()) => Ok(()),
+            Err(fault) => Err(fault.refusal),
         }
-        self.record_each_noted(rt, provider, instrument, all)
     }
 
-    // The same where slips are kept: each has its slip before the lock is taken, and those not told of lose theirs.
-    fn record_each_noted<R: Wait, B: Book, G: Gate>(
+    // Makes recordings that the seat may make, and tells it of them, up to the first that is refused.
+    fn record_each<B: Book, H: Held<B>>(
         &mut self,
-        rt: &R,
-        provider: &Provider<B, G>,
+        held: &mut H,
+        plan: &Plan,
+        run: u64,
         instrument: u32,
         all: &[Measurement],
     ) -> Result<(), SetsFault>
-        requires { AreAdmitted provider.now self.old instrument all.now }
+        requires { let p = provider_of plan.now run in
+            AreAdmitted p self.old instrument all.now }
         ensures told { OnOk result (
-            self.new ≡ noted_of_all true provider.now.plan self.old instrument all.now) }
-        ensures refused { let spares = SeatSpares true B.spares_memory in
-            IfErr result (IsRefusedAfter spares provider.now self.old instrument all.now) }
+            self.new ≡ noted_of_all B.KEEPS_ENTRIES plan.now self.old instrument all.now) }
+        ensures refused { let spares = SeatSpares B.KEEPS_ENTRIES B.spares_memory in
+            let p = provider_of plan.now run in
+            IfErr result (IsRefusedAfter spares p self.old instrument all.now) }
         ensures told_before { IfErr result (λ fault. let made = take fault.place all.now in
-            self.new ≡ noted_of_all true provider.now.plan self.old instrument made) }
+            self.new ≡ noted_of_all B.KEEPS_ENTRIES plan.now self.old instrument made) }
+        ensures handed { HandsAny B.KEEPS_ENTRIES H.records plan.now self.old instrument
+            held.old held.new all.now result }
     {
         if all.is_empty() {
             return Ok(());
         }
+        if !B::KEEPS_ENTRIES {
+            return self.record_told(held, plan, run, instrument, all);
+        }
+        self.record_noted(held, plan, run, instrument, all)
+    }
+
+    // The same where slips are kept: each has its slip before the instrument is touched, and those not told of lose theirs.
+    fn record_noted<B: Book, H: Held<B>>(
+        &mut self,
+        held: &mut H,
+        plan: &Plan,
+        run: u64,
+        instrument: u32,
+        all: &[Measurement],
+    ) -> Result<(), SetsFault>
+        requires admitted { let p = provider_of plan.now run in
+            AreAdmitted p self.old instrument all.now }
+        requires some { 0 < length all.now }
+        ensures told { OnOk result (
+            self.new ≡ noted_of_all true plan.now self.old instrument all.now) }
+        ensures refused { let spares = SeatSpares true B.spares_memory in
+            let p = provider_of plan.now run in
+            IfErr result (IsRefusedAfter spares p self.old instrument all.now) }
+        ensures told_before { IfErr result (λ fault. let made = take fault.place all.now in
+            self.new ≡ noted_of_all true plan.now self.old instrument made) }
+        ensures handed { Hands true H.records plan.now self.old instrument
+            held.old held.new all.now result }
+    {
         match self.note_each(instrument, all) {
             Ok(()) => {}
             Err(refusal) => return Err(SetsFault { place: 0, refusal }),
         }
-        match self.record_each_told(rt, provider, instrument, all) {
+        match self.record_told(held, plan, run, instrument, all) {
             Ok(()) => Ok(()),
             Err(fault) => {
                 self.strike_out(instrument, all.len().saturating_sub(fault.place));
@@ -257,109 +304,30 @@ impl Recorder {
     }
 
     // Makes recordings that the seat may make, and tells it of them without slips, up to the first that is refused.
-    fn record_each_told<R: Wait, B: Book, G: Gate>(
+    fn record_told<B: Book, H: Held<B>>(
         &mut self,
-        rt: &R,
-        provider: &Provider<B, G>,
+        held: &mut H,
+        plan: &Plan,
+        run: u64,
         instrument: u32,
         all: &[Measurement],
     ) -> Result<(), SetsFault>
-        requires { AreAdmitted provider.now self.old instrument all.now }
+        requires admitted { let p = provider_of plan.now run in
+            AreAdmitted p self.old instrument all.now }
+        requires some { 0 < length all.now }
         ensures told { OnOk result (
-            self.new ≡ told_of_all provider.now.plan self.old instrument all.now) }
-        ensures refused { IfErr result (λ fault.
-            IsRefusedAfter B.spares_memory provider.now self.old instrument all.now fault) }
+            self.new ≡ told_of_all plan.now self.old instrument all.now) }
+        ensures refused { let p = provider_of plan.now run in
+            IfErr result (IsRefusedAfter B.spares_memory p self.old instrument all.now) }
         ensures told_before { IfErr result (λ fault. let made = take fault.place all.now in
-            self.new ≡ told_of_all provider.now.plan self.old instrument made) }
+            self.new ≡ told_of_all plan.now self.old instrument made) }
+        ensures handed { HandsOn H.records plan.now self.old instrument
+            held.old held.new all.now result }
     {
-        if all.is_empty() {
-            return Ok(());
-        }
         let by = self.number;
+        let facts = plan.facts(instrument);
         let so_far = &mut self.told[instrument as usize];
-        provider.record_each_inside(rt, instrument, so_far, by, all)
-    }
-
-    // Makes a recording that the seat may make, and tells it of that.
-    fn record_known<R: Wait, B: Book, G: Gate>(
-        &mut self,
-        rt: &R,
-        provider: &Provider<B, G>,
-        instrument: u32,
-        set: SetKey,
-        value: &i64,
-    ) -> Result<(), Refusal>
-        requires known { let by = self.old.number in
-            KnowsRecording provider.now.plan instrument by set value.now }
-        requires long { instrument < length self.old.told }
-        ensures answer { let plan = provider.now.plan in
-            let spares = SeatSpares B.KEEPS_ENTRIES B.spares_memory in
-            AnswersSeat spares (Ok set) plan self.old instrument result }
-        ensures told { let plan = provider.now.plan in
-            OnOk result (
-            IsToldOf B.KEEPS_ENTRIES (Ok set) plan self.old self.new instrument value.now) }
-        ensures err { OnErr result (self.new ≡ self.old) }
-    {
-        if !B::KEEPS_ENTRIES {
-            return self.record_told(rt, provider, instrument, set, value);
-        }
-        self.record_noted(rt, provider, instrument, set, value)
-    }
-
-    // The same where slips are kept: the slip is made before the lock is taken, and struck out where the recording is
-    // refused.
-    fn record_noted<R: Wait, B: Book, G: Gate>(
-        &mut self,
-        rt: &R,
-        provider: &Provider<B, G>,
-        instrument: u32,
-        set: SetKey,
-        value: &i64,
-    ) -> Result<(), Refusal>
-        requires known { let by = self.old.number in
-            KnowsRecording provider.now.plan instrument by set value.now }
-        requires long { instrument < length self.old.told }
-        ensures answer { let plan = provider.now.plan in
-            let spares = SeatSpares true B.spares_memory in
-            AnswersSeat spares (Ok set) plan self.old instrument result }
-        ensures told { let plan = provider.now.plan in
-            OnOk result (IsToldOf true (Ok set) plan self.old self.new instrument value.now) }
-        ensures err { OnErr result (self.new ≡ self.old) }
-    {
-        let one = recording_of(set, value);
-        match self.note_each(instrument, &[one]) {
-            Ok(()) => {}
-            Err(refusal) => return Err(refusal),
-        }
-        let answer = self.record_told(rt, provider, instrument, set, value);
-        if answer.is_err() {
-            self.strike_out(instrument, 1);
-        }
-        answer
-    }
-
-    // Makes a recording that the seat may make, and tells it of that without a slip.
-    fn record_told<R: Wait, B: Book, G: Gate>(
-        &mut self,
-        rt: &R,
-        provider: &Provider<B, G>,
-        instrument: u32,
-        set: SetKey,
-        value: &i64,
-    ) -> Result<(), Refusal>
-        requires known { let by = self.old.number in
-            KnowsRecording provider.now.plan instrument by set value.now }
-        requires long { instrument < length self.old.told }
-        ensures answer { let plan = provider.now.plan in
-            AnswersSeat B.spares_memory (Ok set) plan self.old instrument result }
-        ensures told { OnOk result (
-            IfSome (slice_get provider.now.plan.facts.instruments instrument) (λ own.
-            self.new ≡ with_recording self.old instrument own value.now)) }
-        ensures err { OnErr result (self.new ≡ self.old) }
-    {
-        let number = self.number;
-        let told = &mut self.told[instrument as usize];
-        provider.record_inside(rt, instrument, told, number, set, value)
+        held.record_each(facts, so_far, by, all)
     }
 
     // A slip of each recording on an instrument, after those so far.
@@ -466,7 +434,8 @@ impl Recorder {
             result ≡ admitted (provider_of plan.now run) self.now instrument given value.now }
         ensures known { IfOk result (λ set.
             KnowsRecording plan.now instrument self.now.number set value.now) }
-        ensures long { OnOk result (instrument < length self.now.told) }
+        ensures key { let p = provider_of plan.now run in
+            IfOk result (λ set. admitted_key p self.now instrument set value.now ≡ Ok set) }
     {
         attributes_name_allowed_sets();
         // For the proof alone: a plan has facts for each of its instruments.
@@ -488,9 +457,8 @@ impl Recorder {
     ) -> Result<SetKey, Refusal>
         ensures exact { let p = provider_of plan.now run in
             result ≡ admitted_key p self.now instrument set value.now }
-        ensures known { IfOk result (λ set.
-            KnowsRecording plan.now instrument self.now.number set value.now) }
-        ensures long { OnOk result (instrument < length self.now.told) }
+        ensures key { let p = provider_of plan.now run in
+            IfOk result (λ key. admitted_key p self.now instrument key value.now ≡ Ok key) }
     {
         if !self.is_of(plan, run) {
             return Err(Refusal::Stranger);

@@ -88,14 +88,18 @@ impl<B: Book> Slot<B> {
     /// recordings is not the one told, or so many values can not be as far above the least as was told. Else `Closed`
     /// comes exactly where the instrument is closed, else `Budget` exactly where the recorder has made as many recordings as its budget
     /// and what it was granted; the only other refusal is `Memory`, which never comes where the book says that recordings take none.
+    ///
+    /// `is_own` is what [`Slot::is_of`] answers: facts are compared once for all recordings that are made under one lock.
     pub fn record(
         &mut self,
+        is_own: bool,
         facts: &Facts,
         told: &mut Told,
         recorder: u32,
         set: SetKey,
         value: i64,
     ) -> Result<(), Refusal>
+        requires own { IsTrue is_own ↔ (self.old.facts ≡ facts.now) }
         requires recorder { recorder < length facts.now.budgets }
         requires set { is_allowed_set facts.now set ≡ true }
         requires value { in_bounds facts.now value ≡ true }
@@ -112,39 +116,9 @@ impl<B: Book> Slot<B> {
         ensures err { OnErr result (self.new ≡ self.old) }
         ensures told_err { OnErr result (told.new ≡ told.old) }
     {
-        if !self.is_of(facts) {
+        if !is_own {
             return Err(Refusal::Stranger);
         }
-        self.record_next(facts, told, recorder, set, value)
-    }
-
-    /// The same of a slot that is known to have these facts, as one has after a recording that brought them: facts are
-    /// compared once for all recordings that are made under one lock.
-    pub fn record_next(
-        &mut self,
-        facts: &Facts,
-        told: &mut Told,
-        recorder: u32,
-        set: SetKey,
-        value: i64,
-    ) -> Result<(), Refusal>
-        requires facts { self.old.facts ≡ facts.now }
-        requires recorder { recorder < length facts.now.budgets }
-        requires set { is_allowed_set facts.now set ≡ true }
-        requires value { in_bounds facts.now value ≡ true }
-        ensures answer { let entry = entry_of recorder set value in
-            AnswersRecorder B.stands self.old facts.now told.old entry result }
-        ensures memory { B.spares_memory facts.now → result ≢ Err Refusal.Memory }
-        ensures budget { IfErr result (λ refusal. refusal ≡ Refusal.Budget
-            → slice_index facts.now.budgets recorder ≤ told.old.count) }
-        ensures new { let entry = entry_of recorder set value in
-            OnOk result (self.new ≡ with_entry self.old entry self.new.book) }
-        ensures stands { let entry = entry_of recorder set value in
-            OnOk result (GainsEntry B.stands self.old self.new entry) }
-        ensures told { OnOk result (told.new ≡ told_more told.old facts.now.lo value) }
-        ensures err { OnErr result (self.new ≡ self.old) }
-        ensures told_err { OnErr result (told.new ≡ told.old) }
-    {
         let answer = record_own(&mut self.cell, facts, told, recorder, set, value);
         tell(told, facts, &value, &answer);
         answer

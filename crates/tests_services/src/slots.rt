@@ -24,7 +24,8 @@ fn write_recorded<R: Abort>(out: &mut String, rt: &R, slot: &mut Slot<Marked>, f
         count: 0,
         amount: 0,
     };
-    let answer = slot.record(facts, &mut told, 0, set, 5);
+    let is_own = slot.is_of(facts);
+    let answer = slot.record(is_own, facts, &mut told, 0, set, 5);
     writeln!(out, "{answer:?} {told:?}").or_fail(rt);
 }
 

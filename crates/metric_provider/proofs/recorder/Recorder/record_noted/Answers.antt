@@ -1,43 +1,55 @@
--- a slip is made, and struck out where the recording is refused
-use Rattle.std.proofs.Common.{◌++◌, [], ◌∷◌, sym, subst}
-use Rattle.std.specs.Prelude.{slice_get, slice_set}
-use Rattle.std.proofs.lemmas.Result.{on_err_weaker, on_ok_weaker}
+-- all have slips before the lock is taken, and those that were not told of are struck out
+use Rattle.std.proofs.Common.{◌++◌, Ok, Err, List, inl, inr, map, take, refl}
+use Rattle.std.specs.Prelude.{slice_set}
+use Rattle.metric_book.specs.declared.slip.Slip.{Slip}
 use Rattle.metric_provider.specs.KeyRecordings.{slip_of_one}
-use Rattle.metric_provider.specs.Providers.{KnowsRecording}
-use Rattle.metric_provider.specs.Seats.{RecorderValue, slips_at}
-use Rattle.metric_provider.proofs.NotingLaws.{answered_alike, no_slip, noted_one, struck_one}
+use Rattle.metric_provider.specs.Seats.{provider_of, slips_at}
+use Rattle.metric_provider.proofs.NotingLaws.{admitted_alike, alike_after, handed_alike, no_slips_after, noted_then_told, still_long, struck_after}
 use Rattle.metric_provider.proofs.recorder.Recorder.record_noted.Goals as goal
 
-pub returns-in-Err-clause-answer : goal.returns-in-Err-clause-answer
-returns-in-Err-clause-answer g c =
-    no_slip g.B.Book.spares_memory c.args.set c.args.provider.now.plan c.args.self.now c.args.instrument c.in-Err.refusal c.in-Err.ensures.refused
+pub returns-in-Err-clause-refused : goal.returns-in-Err-clause-refused
+returns-in-Err-clause-refused g c =
+    no_slips_after g.B.Book.spares_memory (provider_of c.args.plan.now c.args.run) c.args.self.now c.args.instrument c.args.all.now c.in-Err.refusal c.requires.some c.requires.admitted c.in-Err.ensures.refused
 
-pub record_told-answer-requires-clause-known : goal.record_told-answer-requires-clause-known
-record_told-answer-requires-clause-known g c =
-    subst (λ (s : RecorderValue). KnowsRecording c.args.provider.now.plan c.args.instrument s.number c.args.set c.args.value.now) (sym c.in-Ok.ensures.noted) c.requires.known
+pub record_told-requires-clause-some : goal.record_told-requires-clause-some
+record_told-requires-clause-some g c = c.requires.some
 
-pub returns-then-is_err-clause-answer : goal.returns-then-is_err-clause-answer
-returns-then-is_err-clause-answer g c =
-    answered_alike g.B.Book.spares_memory c.args.set c.args.provider.now.plan c.args.self.now c.note_each.new.self c.args.instrument
-    (slice_set c.args.self.now.slips c.args.instrument (slips_at c.args.self.now c.args.instrument ++ slip_of_one c.recording_of-one.result ∷ []))
-    c.record_told-answer.result c.in-Ok.ensures.noted c.record_told-answer.ensures.answer
+pub record_told-requires-clause-admitted : goal.record_told-requires-clause-admitted
+record_told-requires-clause-admitted g c =
+    let slips : List (List Slip) = slice_set c.args.self.now.slips c.args.instrument (slips_at c.args.self.now c.args.instrument ++ map slip_of_one c.args.all.now) in
+    admitted_alike (provider_of c.args.plan.now c.args.run) c.args.self.now c.note_each.new.self c.args.instrument slips c.args.all.now c.in-Ok.ensures.noted c.requires.admitted
 
-pub returns-else-is_err-clause-answer : goal.returns-else-is_err-clause-answer
-returns-else-is_err-clause-answer g c =
-    answered_alike g.B.Book.spares_memory c.args.set c.args.provider.now.plan c.args.self.now c.note_each.new.self c.args.instrument
-    (slice_set c.args.self.now.slips c.args.instrument (slips_at c.args.self.now c.args.instrument ++ slip_of_one c.recording_of-one.result ∷ []))
-    c.record_told-answer.result c.in-Ok.ensures.noted c.record_told-answer.ensures.answer
+pub strike_out-requires : goal.strike_out-requires
+strike_out-requires g c =
+    still_long c.args.plan.now c.args.self.now c.note_each.new.self c.record_told.new.self c.args.instrument (map slip_of_one c.args.all.now)
+    (take c.in-Err-record_told.fault.place c.args.all.now) c.in-Ok.ensures.within c.in-Ok.ensures.noted c.in-Err-record_told.ensures.told_before
 
-pub returns-else-is_err-clause-told : goal.returns-else-is_err-clause-told
-returns-else-is_err-clause-told g c =
-    on_ok_weaker c.record_told-answer.result
-    (λ told. noted_one (slice_get c.args.provider.now.plan.facts.instruments c.args.instrument) c.args.self.now c.note_each.new.self c.record_told-answer.new.self
-    c.args.instrument c.args.set c.args.value.now c.recording_of-one.result c.recording_of-one.ensures c.in-Ok.ensures.noted told)
-    c.record_told-answer.ensures.told
+pub returns-in-Ok-record_told-clause-told : goal.returns-in-Ok-record_told-clause-told
+returns-in-Ok-record_told-clause-told g c =
+    noted_then_told c.args.plan.now c.args.self.now c.note_each.new.self c.record_told.new.self c.args.instrument c.args.all.now
+    c.in-Ok.ensures.noted c.in-Ok-record_told.ensures.told
 
-pub returns-then-is_err-clause-err : goal.returns-then-is_err-clause-err
-returns-then-is_err-clause-err g c =
-    on_err_weaker c.record_told-answer.result
-    (λ same. struck_one c.args.self.now c.note_each.new.self c.record_told-answer.new.self c.strike_out.new.self c.args.instrument (slip_of_one c.recording_of-one.result)
-    c.in-Ok.ensures.within c.in-Ok.ensures.noted same c.strike_out.ensures)
-    c.record_told-answer.ensures.err
+pub returns-in-Err-record_told-clause-refused : goal.returns-in-Err-record_told-clause-refused
+returns-in-Err-record_told-clause-refused g c =
+    let slips : List (List Slip) = slice_set c.args.self.now.slips c.args.instrument (slips_at c.args.self.now c.args.instrument ++ map slip_of_one c.args.all.now) in
+    alike_after g.B.Book.spares_memory (provider_of c.args.plan.now c.args.run) c.args.self.now c.note_each.new.self c.args.instrument slips c.args.all.now c.in-Err-record_told.fault
+    c.in-Ok.ensures.noted c.in-Err-record_told.ensures.refused
+
+pub returns-in-Err-record_told-clause-told_before : goal.returns-in-Err-record_told-clause-told_before
+returns-in-Err-record_told-clause-told_before g c =
+    struck_after g.B.Book.spares_memory (provider_of c.args.plan.now c.args.run) c.args.self.now c.note_each.new.self c.record_told.new.self c.strike_out.new.self c.args.instrument
+    c.saturating_sub.result c.args.all.now c.in-Err-record_told.fault c.in-Ok.ensures.within c.in-Ok.ensures.noted c.in-Err-record_told.ensures.refused
+    c.saturating_sub.ensures c.in-Err-record_told.ensures.told_before c.strike_out.ensures
+
+pub returns-in-Err-clause-handed : goal.returns-in-Err-clause-handed
+returns-in-Err-clause-handed g c = inl (record { noted = refl; first = refl; why = c.in-Err.ensures.refused; same = refl })
+
+pub returns-in-Ok-record_told-clause-handed : goal.returns-in-Ok-record_told-clause-handed
+returns-in-Ok-record_told-clause-handed g c =
+    handed_alike g.H.Held.records c.args.plan.now c.args.self.now c.note_each.new.self c.args.instrument (map slip_of_one c.args.all.now) c.args.held.now c.record_told.new.held c.args.all.now (Ok tt)
+    c.in-Ok.ensures.noted c.in-Ok-record_told.ensures.handed
+
+pub returns-in-Err-record_told-clause-handed : goal.returns-in-Err-record_told-clause-handed
+returns-in-Err-record_told-clause-handed g c =
+    inr (handed_alike g.H.Held.records c.args.plan.now c.args.self.now c.note_each.new.self c.args.instrument (map slip_of_one c.args.all.now) c.args.held.now c.record_told.new.held c.args.all.now
+    (Err c.in-Err-record_told.fault) c.in-Ok.ensures.noted c.in-Err-record_told.ensures.handed)

@@ -2,6 +2,7 @@
 use Rattle.std.proofs.Common.{◌≡◌, ◌≤◌, ℕ, List, Result, OnOk, IfErr, length, take, sym, ap, subst, ◌∙◌, arith}
 use Rattle.std.proofs.lemmas.List.{length-take-le, take_all}
 use Rattle.std.proofs.lemmas.Result.{IfErr-weaker, err_from_is_err_and, on_ok_weaker}
+use Rattle.metric_plan.specs.Plans.{PlanValue}
 use Rattle.metric_provider.specs.declared.fault.SetsFault.{SetsFault}
 use Rattle.metric_provider.specs.declared.keys.Measurement.{Measurement}
 use Rattle.metric_provider.specs.KeyRecordings.{AreAccepted, AreAdmitted, IsRefusedAfter, IsUnadmittedAfter, noted_of_all}
@@ -16,7 +17,7 @@ returns-clause-accepted g c =
     let p : ProviderValue = c.args.provider.now in
     let seat = c.args.self.now in
     let all = c.args.all.now in
-    let same : provider_of c.plan.result.now c.run.result ≡ p = λ i. record { plan = c.plan.ensures i; run = c.run.ensures i } in
+    let same : provider_of c.plan-plan.result.now c.run-run.result ≡ p = λ i. record { plan = c.plan-plan.ensures i; run = c.run-run.ensures i } in
     let is : c.match-admitted.admitted ≡ c.admit_each-admitted.result =
     elim c.match-admitted.branch [ in-Ok w ↦ w.admitted-is | in-Err w ↦ w.admitted-is ∙ sym w.in-Err.is ] in
     subst (λ (r : Result (Unit {0}) SetsFault). OnOk r (AreAccepted (SeatSpares g.B.Book.KEEPS_ENTRIES g.B.Book.spares_memory) p seat c.args.instrument all)) (sym is)
@@ -29,83 +30,91 @@ returns-clause-refused g c =
     let p : ProviderValue = c.args.provider.now in
     let seat = c.args.self.now in
     let all = c.args.all.now in
-    let same : provider_of c.plan.result.now c.run.result ≡ p = λ i. record { plan = c.plan.ensures i; run = c.run.ensures i } in
+    let same : provider_of c.plan-plan.result.now c.run-run.result ≡ p = λ i. record { plan = c.plan-plan.ensures i; run = c.run-run.ensures i } in
     let is : c.match-admitted.admitted ≡ c.admit_each-admitted.result =
     elim c.match-admitted.branch [ in-Ok w ↦ w.admitted-is | in-Err w ↦ w.admitted-is ∙ sym w.in-Err.is ] in
     subst (λ (r : Result (Unit {0}) SetsFault). IfErr r (IsRefusedAfter (SeatSpares g.B.Book.KEEPS_ENTRIES g.B.Book.spares_memory) p seat c.args.instrument all)) (sym is)
-    (IfErr-weaker c.admit_each-admitted.result (IsUnadmittedAfter (provider_of c.plan.result.now c.run.result) seat c.args.instrument all) (IsRefusedAfter (SeatSpares g.B.Book.KEEPS_ENTRIES g.B.Book.spares_memory) p seat c.args.instrument all)
+    (IfErr-weaker c.admit_each-admitted.result (IsUnadmittedAfter (provider_of c.plan-plan.result.now c.run-run.result) seat c.args.instrument all) (IsRefusedAfter (SeatSpares g.B.Book.KEEPS_ENTRIES g.B.Book.spares_memory) p seat c.args.instrument all)
     (λ fault refused. refused_before (SeatSpares g.B.Book.KEEPS_ENTRIES g.B.Book.spares_memory) p seat c.args.instrument all fault (subst (λ (q : ProviderValue). IsUnadmittedAfter q seat c.args.instrument all fault) same refused))
     c.admit_each-admitted.ensures.refused)
 
 -- ---- those that are brought under the lock
 
-pub slice_bounds-record_each_known-end : goal.slice_bounds-record_each_known-end
-slice_bounds-record_each_known-end g c =
+pub slice_bounds-record_each-end : goal.slice_bounds-record_each-end
+slice_bounds-record_each-end g c =
     let within : c.match-admitted.count ≤ length c.args.all.now =
     elim c.match-admitted.branch [
       | in-Ok w ↦ omega (arith, w.count-is)
-      | in-Err w ↦ omega (arith, w.count-is, unadmitted_there (provider_of c.plan.result.now c.run.result) c.args.self.now c.args.instrument c.args.all.now w.in-Err.fault w.in-Err.ensures.refused)
+      | in-Err w ↦ omega (arith, w.count-is, unadmitted_there (provider_of c.plan-plan.result.now c.run-run.result) c.args.self.now c.args.instrument c.args.all.now w.in-Err.fault w.in-Err.ensures.refused)
     ] in
     sym (length-take-le c.match-admitted.count c.args.all.now within)
 
-pub record_each_known-requires : goal.record_each_known-requires
-record_each_known-requires g c =
+pub record_each-requires : goal.record_each-requires
+record_each-requires g c =
     let seat = c.args.self.now in
     let all = c.args.all.now in
-    let q : ProviderValue = provider_of c.plan.result.now c.run.result in
-    let same : q ≡ c.args.provider.now = λ i. record { plan = c.plan.ensures i; run = c.run.ensures i } in
+    let q : ProviderValue = provider_of c.plan-plan.result.now c.run-run.result in
     let admitted : AreAdmitted q seat c.args.instrument (take c.match-admitted.count all) =
     elim c.match-admitted.branch [
       | in-Ok w ↦ subst (λ (some : List Measurement). AreAdmitted q seat c.args.instrument some) (sym (take_all c.match-admitted.count all (omega (arith, w.count-is)))) w.in-Ok.ensures.admitted
       | in-Err w ↦ subst (λ (n : ℕ). AreAdmitted q seat c.args.instrument (take n all)) (sym w.count-is) w.in-Err.ensures.refused.before
     ] in
-    subst (λ (p : ProviderValue). AreAdmitted p seat c.args.instrument (take c.match-admitted.count all)) same admitted
+    admitted
 
-pub returns-in_err-record_each_known-clause-accepted : goal.returns-in_err-record_each_known-clause-accepted
-returns-in_err-record_each_known-clause-accepted g c =
+pub returns-in_err-record_each-clause-accepted : goal.returns-in_err-record_each-clause-accepted
+returns-in_err-record_each-clause-accepted g c =
     let first = err_from_is_err_and c.from_residual.result c.from_residual.ensures.1 in
     subst (λ (r : Result (Unit {0}) SetsFault). OnOk r (AreAccepted (SeatSpares g.B.Book.KEEPS_ENTRIES g.B.Book.spares_memory) c.args.provider.now c.args.self.now c.args.instrument c.args.all.now))
     (sym first.1) tt
 
-pub returns-in_err-record_each_known-clause-told : goal.returns-in_err-record_each_known-clause-told
-returns-in_err-record_each_known-clause-told g c =
+pub returns-in_err-record_each-clause-told : goal.returns-in_err-record_each-clause-told
+returns-in_err-record_each-clause-told g c =
     let first = err_from_is_err_and c.from_residual.result c.from_residual.ensures.1 in
-    subst (λ (r : Result (Unit {0}) SetsFault). OnOk r (c.record_each_known.new.self ≡ noted_of_all g.B.Book.KEEPS_ENTRIES c.args.provider.now.plan c.args.self.now c.args.instrument c.args.all.now))
+    subst (λ (r : Result (Unit {0}) SetsFault). OnOk r (c.record_each.new.self ≡ noted_of_all g.B.Book.KEEPS_ENTRIES c.args.provider.now.plan c.args.self.now c.args.instrument c.args.all.now))
     (sym first.1) tt
 
-pub returns-in_err-record_each_known-clause-refused : goal.returns-in_err-record_each_known-clause-refused
-returns-in_err-record_each_known-clause-refused g c =
+pub returns-in_err-record_each-clause-refused : goal.returns-in_err-record_each-clause-refused
+returns-in_err-record_each-clause-refused g c =
     let seat = c.args.self.now in
     let all = c.args.all.now in
     let first = err_from_is_err_and c.from_residual.result c.from_residual.ensures.1 in
     let within : c.match-admitted.count ≤ length c.args.all.now =
     elim c.match-admitted.branch [
       | in-Ok w ↦ omega (arith, w.count-is)
-      | in-Err w ↦ omega (arith, w.count-is, unadmitted_there (provider_of c.plan.result.now c.run.result) c.args.self.now c.args.instrument c.args.all.now w.in-Err.fault w.in-Err.ensures.refused)
+      | in-Err w ↦ omega (arith, w.count-is, unadmitted_there (provider_of c.plan-plan.result.now c.run-run.result) c.args.self.now c.args.instrument c.args.all.now w.in-Err.fault w.in-Err.ensures.refused)
     ] in
+    let same : provider_of c.plan-plan.result.now c.run-run.result ≡ c.args.provider.now = λ i. record { plan = c.plan-plan.ensures i; run = c.run-run.ensures i } in
+    let spares = SeatSpares g.B.Book.KEEPS_ENTRIES g.B.Book.spares_memory in
+    let refused : IsRefusedAfter spares c.args.provider.now seat c.args.instrument (take c.match-admitted.count all) c.in_err-record_each.field-0.0 =
+    subst (λ (p : ProviderValue). IsRefusedAfter spares p seat c.args.instrument (take c.match-admitted.count all) c.in_err-record_each.field-0.0) same c.in_err-record_each.ensures.refused in
     subst (λ (r : Result (Unit {0}) SetsFault). IfErr r (IsRefusedAfter (SeatSpares g.B.Book.KEEPS_ENTRIES g.B.Book.spares_memory) c.args.provider.now seat c.args.instrument all)) (sym first.1)
     (subst (λ (fault : SetsFault). IsRefusedAfter (SeatSpares g.B.Book.KEEPS_ENTRIES g.B.Book.spares_memory) c.args.provider.now seat c.args.instrument all fault) (sym first.2)
-    (refused_within (SeatSpares g.B.Book.KEEPS_ENTRIES g.B.Book.spares_memory) c.args.provider.now seat c.args.instrument c.match-admitted.count all c.in_err-record_each_known.field-0.0 within
-    c.in_err-record_each_known.ensures.refused))
+    (refused_within (SeatSpares g.B.Book.KEEPS_ENTRIES g.B.Book.spares_memory) c.args.provider.now seat c.args.instrument c.match-admitted.count all c.in_err-record_each.field-0.0 within
+    refused))
 
-pub returns-in_err-record_each_known-clause-told_before : goal.returns-in_err-record_each_known-clause-told_before
-returns-in_err-record_each_known-clause-told_before g c =
+pub returns-in_err-record_each-clause-told_before : goal.returns-in_err-record_each-clause-told_before
+returns-in_err-record_each-clause-told_before g c =
     let seat = c.args.self.now in
     let all = c.args.all.now in
     let plan = c.args.provider.now.plan in
-    let new = c.record_each_known.new.self in
+    let new = c.record_each.new.self in
     let first = err_from_is_err_and c.from_residual.result c.from_residual.ensures.1 in
     let within : c.match-admitted.count ≤ length c.args.all.now =
     elim c.match-admitted.branch [
       | in-Ok w ↦ omega (arith, w.count-is)
-      | in-Err w ↦ omega (arith, w.count-is, unadmitted_there (provider_of c.plan.result.now c.run.result) c.args.self.now c.args.instrument c.args.all.now w.in-Err.fault w.in-Err.ensures.refused)
+      | in-Err w ↦ omega (arith, w.count-is, unadmitted_there (provider_of c.plan-plan.result.now c.run-run.result) c.args.self.now c.args.instrument c.args.all.now w.in-Err.fault w.in-Err.ensures.refused)
     ] in
+    let same : provider_of c.plan-plan.result.now c.run-run.result ≡ c.args.provider.now = λ i. record { plan = c.plan-plan.ensures i; run = c.run-run.ensures i } in
+    let spares = SeatSpares g.B.Book.KEEPS_ENTRIES g.B.Book.spares_memory in
+    let refused : IsRefusedAfter spares c.args.provider.now seat c.args.instrument (take c.match-admitted.count all) c.in_err-record_each.field-0.0 =
+    subst (λ (p : ProviderValue). IsRefusedAfter spares p seat c.args.instrument (take c.match-admitted.count all) c.in_err-record_each.field-0.0) same c.in_err-record_each.ensures.refused in
     subst (λ (r : Result (Unit {0}) SetsFault). IfErr r (λ (fault : SetsFault). new ≡ noted_of_all g.B.Book.KEEPS_ENTRIES plan seat c.args.instrument (take fault.place all))) (sym first.1)
     (subst (λ (fault : SetsFault). new ≡ noted_of_all g.B.Book.KEEPS_ENTRIES plan seat c.args.instrument (take fault.place all)) (sym first.2)
-    (c.in_err-record_each_known.ensures.told_before
+    (c.in_err-record_each.ensures.told_before
+    ∙ ap (λ (own : PlanValue). noted_of_all g.B.Book.KEEPS_ENTRIES own seat c.args.instrument (take c.in_err-record_each.field-0.0.place (take c.match-admitted.count all))) c.plan-plan.ensures
     ∙ ap (λ (made : List Measurement). noted_of_all g.B.Book.KEEPS_ENTRIES plan seat c.args.instrument made)
-    (same_before (SeatSpares g.B.Book.KEEPS_ENTRIES g.B.Book.spares_memory) c.args.provider.now seat c.args.instrument c.match-admitted.count all c.in_err-record_each_known.field-0.0 within
-    c.in_err-record_each_known.ensures.refused)))
+    (same_before (SeatSpares g.B.Book.KEEPS_ENTRIES g.B.Book.spares_memory) c.args.provider.now seat c.args.instrument c.match-admitted.count all c.in_err-record_each.field-0.0 within
+    refused)))
 
 -- ---- those of which the seat was told
 
@@ -114,8 +123,9 @@ returns-clause-told g c =
     let seat = c.args.self.now in
     let all = c.args.all.now in
     let plan = c.args.provider.now.plan in
-    let new = c.record_each_known.new.self in
-    let told = c.in_ok-record_each_known.ensures.told in
+    let new = c.record_each.new.self in
+    let told : new ≡ noted_of_all g.B.Book.KEEPS_ENTRIES plan seat c.args.instrument (take c.match-admitted.count all) =
+    c.in_ok-record_each.ensures.told ∙ ap (λ (own : PlanValue). noted_of_all g.B.Book.KEEPS_ENTRIES own seat c.args.instrument (take c.match-admitted.count all)) c.plan-plan.ensures in
     elim c.match-admitted.branch [
       | in-Ok w ↦
           subst (λ (r : Result (Unit {0}) SetsFault). OnOk r (new ≡ noted_of_all g.B.Book.KEEPS_ENTRIES plan seat c.args.instrument all)) (sym (w.admitted-is ∙ w.in-Ok.is))
@@ -128,8 +138,9 @@ returns-clause-told_before g c =
     let seat = c.args.self.now in
     let all = c.args.all.now in
     let plan = c.args.provider.now.plan in
-    let new = c.record_each_known.new.self in
-    let told = c.in_ok-record_each_known.ensures.told in
+    let new = c.record_each.new.self in
+    let told : new ≡ noted_of_all g.B.Book.KEEPS_ENTRIES plan seat c.args.instrument (take c.match-admitted.count all) =
+    c.in_ok-record_each.ensures.told ∙ ap (λ (own : PlanValue). noted_of_all g.B.Book.KEEPS_ENTRIES own seat c.args.instrument (take c.match-admitted.count all)) c.plan-plan.ensures in
     elim c.match-admitted.branch [
       | in-Ok w ↦
           subst (λ (r : Result (Unit {0}) SetsFault). IfErr r (λ (fault : SetsFault). new ≡ noted_of_all g.B.Book.KEEPS_ENTRIES plan seat c.args.instrument (take fault.place all)))

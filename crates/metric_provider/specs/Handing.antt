@@ -1,0 +1,89 @@
+-- What a seat hands on to an instrument behind its lock.
+use Rattle.std.specs.Prelude.{◌≡◌, ◌⊎◌, ℕ, ℤ, Bool, true, List, [], ◌∷◌, Option, Some, None}
+use Rattle.std.specs.Prelude.{Result, Ok, Err, IfSome, slice_get, slice_index}
+use Rattle.metric_contents.specs.declared.refusal.Refusal.{Refusal}
+use Rattle.metric_contents.specs.declared.refusal.Refusal.TheVariants.{UnknownRecorder}
+use Rattle.metric_facts.specs.declared.facts.Facts.{Facts}
+use Rattle.metric_history.specs.declared.batch.Batch.{Batch}
+use Rattle.metric_plan.specs.Plans.{PlanValue}
+use Rattle.metric_slot.specs.declared.told.Told.{Told}
+use Rattle.metric_provider.specs.declared.fault.SetsFault.{SetsFault}
+use Rattle.metric_provider.specs.declared.keys.Measurement.{Measurement}
+use Rattle.metric_provider.specs.KeyRecordings.{measurement_of}
+use Rattle.metric_provider.specs.Recordings.{RefusesSlip, told_at}
+use Rattle.metric_provider.specs.Seats.{CollectorValue, RecorderValue}
+
+-- what recordings in a row come to: the instrument before and after them, the facts and what the
+-- recorder was told, which are brought, the recorder's number, the recordings, and their answer
+abbrev pub Records : Type 0 → Type 1
+Records H = H → H → Facts → Told → ℕ → List Measurement → Result (Unit {0}) SetsFault → Type 0
+
+-- what a collection comes to: the instrument before and after it, the facts and what the reader has
+-- seen, which are brought, the reader's number, the time, and its answer
+abbrev pub Collects : Type 0 → Type 1
+Collects H = H → H → Facts → ℕ → ℕ → ℕ → Result Batch Refusal → Type 0
+
+-- These recordings were handed on for the seat's recorder, with the facts that the plan has of the
+-- instrument and with what the seat was told, and were answered this.
+abbrev pub HandsOn : {H : Type 0} → Records H → PlanValue → RecorderValue → ℕ → H → H
+    → List Measurement → Result (Unit {0}) SetsFault → Type 0
+HandsOn {H} records plan seat instrument old new all result =
+    IfSome (slice_get plan.facts.instruments instrument) (λ (own : Facts).
+    records old new own (told_at seat instrument) seat.number all result)
+
+-- Nothing was handed on, since there is no slip.
+pub record HasNoSlip {H : Type 0} (keeps : Bool) (old new : H) (fault : SetsFault) : Type 0 where
+  pub noted : keeps ≡ true
+  pub first : fault.place ≡ 0
+  pub why : RefusesSlip fault.refusal
+  pub same : new ≡ old
+
+-- the recordings of a list that a seat may make were handed on, or there was no slip of them
+abbrev pub Hands : {H : Type 0} → Bool → Records H → PlanValue → RecorderValue → ℕ → H → H
+    → List Measurement → Result (Unit {0}) SetsFault → Type 0
+Hands {H} keeps records plan seat instrument old new all (Ok done) =
+    HandsOn records plan seat instrument old new all (Ok done)
+Hands {H} keeps records plan seat instrument old new all (Err fault) =
+    HasNoSlip keeps old new fault
+    ⊎ HandsOn records plan seat instrument old new all (Err fault)
+
+-- the same, where of an empty list nothing is handed on
+abbrev pub HandsAny : {H : Type 0} → Bool → Records H → PlanValue → RecorderValue → ℕ → H → H
+    → List Measurement → Result (Unit {0}) SetsFault → Type 0
+HandsAny {H} keeps records plan seat instrument old new all result =
+    ((all ≡ []) × (new ≡ old) × (result ≡ Ok tt))
+    ⊎ Hands keeps records plan seat instrument old new all result
+
+-- what one recording is answered, as a list of one
+abbrev pub one_answer : Result (Unit {0}) Refusal → Result (Unit {0}) SetsFault
+one_answer (Ok done) = Ok done
+one_answer (Err refusal) = Err (record { place = 0; refusal = refusal })
+
+-- a recording with this admission was handed on, if it was admitted
+abbrev pub HandsOne : {H : Type 0} → Bool → Records H → Result (List ℕ) Refusal → PlanValue
+    → RecorderValue → ℕ → H → H → ℤ → Result (Unit {0}) Refusal → Type 0
+HandsOne {H} keeps records (Err first) plan seat instrument old new value result = new ≡ old
+HandsOne {H} keeps records (Ok set) plan seat instrument old new value result =
+    Hands keeps records plan seat instrument old new (measurement_of set value ∷ [])
+    (one_answer result)
+
+-- a collection of such an instrument was handed on, if the seat may make it
+abbrev pub HandsReading : {H : Type 0} → Collects H → Result Facts Refusal → CollectorValue → ℕ
+    → H → H → ℕ → Result Batch Refusal → Type 0
+HandsReading {H} collects (Err first) seat instrument old new now result = new ≡ old
+HandsReading {H} collects (Ok own) seat instrument old new now result =
+    collects old new own (slice_index seat.seen instrument) seat.number now result
+
+-- the end of an instrument that the plan has was handed on
+abbrev pub HandsClosing : {H : Type 0} → (H → H → Result (Unit {0}) Refusal → Type 0)
+    → Option Facts → H → H → Result (Unit {0}) Refusal → Type 0
+HandsClosing {H} closes None old new result = new ≡ old
+HandsClosing {H} closes (Some own) old new result = closes old new result
+
+-- a grant to a recorder of an instrument that the plan has was handed on
+abbrev pub HandsGrant : {H : Type 0} → (H → H → Facts → ℕ → ℕ → Result (Unit {0}) Refusal → Type 0)
+    → Option Facts → ℕ → ℕ → H → H → Result (Unit {0}) Refusal → Type 0
+HandsGrant {H} grants None recorder amount old new result = new ≡ old
+HandsGrant {H} grants (Some own) recorder amount old new (Err UnknownRecorder) = new ≡ old
+HandsGrant {H} grants (Some own) recorder amount old new result =
+    grants old new own recorder amount result

@@ -1,0 +1,244 @@
+//! An instrument behind its lock.
+ghost use Rattle.std.specs.Prelude.{◌≡◌, ◌↔◌, ◌<◌, ℕ, All, IsTrue, List, Result, Some, length, IfErr, IfOk, OnErr, OnOk};
+ghost use Rattle.metric_contents.specs.declared.refusal.Refusal.{Refusal as refusals};
+ghost use Rattle.metric_core.specs.CellAnswers.{GainsEntry, with_grant};
+ghost use Rattle.metric_facts.specs.declared.facts.Facts.{Facts as declared_facts};
+ghost use Rattle.metric_history.specs.declared.batch.Batch.{Batch as batches};
+ghost use Rattle.metric_provider.specs.Collections.{IsNextBatch, RefusesCollection};
+ghost use Rattle.metric_provider.specs.Granting.{AnswersGrant};
+ghost use Rattle.metric_provider.specs.Gains.{GainsAll, entry_by, made_of};
+ghost use Rattle.metric_provider.specs.KeyRecordings.{IsRecordable, IsRefusedUnder, told_each};
+ghost use Rattle.metric_provider.specs.Recordings.{RefusesRecording};
+ghost use Rattle.metric_provider.specs.declared.fault.SetsFault.{SetsFault as faults};
+ghost use Rattle.metric_provider.specs.declared.keys.Measurement.{Measurement as measurements};
+ghost use Rattle.metric_slot.specs.declared.told.Told.{Told as tellings};
+ghost use Rattle.metric_slot.specs.Tellings.{told_more};
+
+use crate::fault::SetsFault;
+use crate::gate::Gate;
+use crate::keys::Measurement;
+use crate::provider::Locked;
+use metric_book::Book;
+use metric_contents::Refusal;
+use metric_facts::Facts;
+use metric_history::Batch;
+use metric_slot::{Slot, Told};
+use std::alloc::Global;
+use std::sync::{Mutex, Wait};
+
+/// An instrument with a book of type `B` as a lock holds it. As a trait, so that a seat cannot but call it: what recordings
+/// came to is known by the call alone, and so are the recorder, the set keys and the values that they were made of.
+pub(crate) trait Held<B: Book> {
+    // What recordings in a row come to: the instrument before and after them, the facts and what the recorder was told, which
+    // are brought, the recorder's number, the recordings, and their answer.
+    ghost records: { Self → Self → declared_facts → tellings → ℕ → List measurements
+        → Result (Unit {0}) faults → Type 0 };
+
+    // What a collection comes to: the instrument before and after it, the facts and what the reader has seen, which are
+    // brought, the reader's number, the time, and its answer.
+    ghost collects: { Self → Self → declared_facts → ℕ → ℕ → ℕ → Result batches refusals → Type 0 };
+
+    // What a grant comes to: the instrument before and after it, the facts that are brought, the recorder's number, the
+    // amount, and its answer.
+    ghost grants: { Self → Self → declared_facts → ℕ → ℕ → Result (Unit {0}) refusals → Type 0 };
+
+    // What the end comes to: the instrument before and after it, and its answer.
+    ghost closes: { Self → Self → Result (Unit {0}) refusals → Type 0 };
+
+    /// Makes recordings, one after the other, and tells their recorder of each, up to the first that is refused.
+    fn record_each(
+        &mut self,
+        facts: &Facts,
+        told: &mut Told,
+        recorder: u32,
+        all: &[Measurement],
+    ) -> Result<(), SetsFault>
+        requires some { 0 < length all.now }
+        requires recorder { recorder < length facts.now.budgets }
+        requires each { All (IsRecordable facts.now) all.now }
+        ensures told { OnOk result (told.new ≡ told_each told.old facts.now.lo all.now) }
+        ensures refused { IfErr result (λ fault.
+            IsRefusedUnder B.spares_memory facts.now recorder told.old told.new all.now fault) }
+        ensures made { records self.old self.new facts.now told.old recorder all.now result };
+
+    /// Makes a collection at a time in nanoseconds, which the reader has then seen.
+    fn collect(
+        &mut self,
+        alloc: Global,
+        facts: &Facts,
+        seen: &mut u64,
+        reader: u32,
+        now: u64,
+    ) -> Result<Batch, Refusal>
+        requires { reader < length facts.now.delta }
+        ensures batch { IfOk result (λ batch. IsNextBatch facts.now reader seen.old now batch) }
+        ensures seen { IfOk result (λ batch. seen.new ≡ batch.mark) }
+        ensures refused { IfErr result (λ refusal. RefusesCollection refusal) }
+        ensures seen_err { OnErr result (seen.new ≡ seen.old) }
+        ensures made { collects self.old self.new facts.now seen.old reader now result };
+
+    /// Grants a recorder recordings beside its budget.
+    fn grant(&mut self, facts: &Facts, recorder: u32, amount: u64) -> Result<(), Refusal>
+        requires { recorder < length facts.now.budgets }
+        ensures answer { AnswersGrant (Some facts.now) recorder amount result }
+        ensures made { grants self.old self.new facts.now recorder amount result };
+
+    /// Ends the recordings.
+    fn close(&mut self) -> Result<(), Refusal>
+        ensures answer { IfErr result (λ refusal. refusal ≡ Refusal.Closed) }
+        ensures made { closes self.old self.new result };
+}
+
+/// A provider's instrument of some number: its slot behind the lock, if the provider has it, and the gate.
+#[derive(Drop)]
+pub(crate) struct Inside<'a, R, B: Book, G> {
+    pub rt: &'a R,
+    pub slot: Option<&'a Locked<B>>,
+    pub gate: &'a G,
+    pub instrument: u32,
+}
+
+// Each call takes the lock once, makes its step, and calls the gate before it lets go. What becomes of the slot is known of
+// no lock; tests see it.
+impl<R: Wait, B: Book, G: Gate> Held<B> for Inside<'_, R, B, G> {
+    ghost records = { λ _ _ _ _ _ _ _. Unit {0} };
+
+    ghost collects = { λ _ _ _ _ _ _ _. Unit {0} };
+
+    ghost grants = { λ _ _ _ _ _ _. Unit {0} };
+
+    ghost closes = { λ _ _ _. Unit {0} };
+
+    fn record_each(
+        &mut self,
+        facts: &Facts,
+        told: &mut Told,
+        recorder: u32,
+        all: &[Measurement],
+    ) -> Result<(), SetsFault> {
+        let Some(locked) = self.slot else {
+            return Err(SetsFault {
+                place: 0,
+                refusal: Refusal::Stranger,
+            });
+        };
+        let slot: &Mutex<Slot<B>> = locked;
+        let mut guard = slot.lock(self.rt);
+        record_each(self.rt, self.gate, &mut guard, facts, told, recorder, all)
+    }
+
+    fn collect(
+        &mut self,
+        alloc: Global,
+        facts: &Facts,
+        seen: &mut u64,
+        reader: u32,
+        now: u64,
+    ) -> Result<Batch, Refusal> {
+        let Some(locked) = self.slot else {
+            return Err(Refusal::Stranger);
+        };
+        let slot: &Mutex<Slot<B>> = locked;
+        let mut guard = slot.lock(self.rt);
+        let answer = guard.collect(alloc, facts, seen, reader, now);
+        self.gate.inside(self.rt, self.instrument);
+        answer
+    }
+
+    fn grant(&mut self, facts: &Facts, recorder: u32, amount: u64) -> Result<(), Refusal> {
+        let Some(locked) = self.slot else {
+            return Err(Refusal::Closed);
+        };
+        let slot: &Mutex<Slot<B>> = locked;
+        let mut guard = slot.lock(self.rt);
+        let answer = grant(&mut guard, facts, recorder, amount);
+        self.gate.inside(self.rt, self.instrument);
+        answer
+    }
+
+    fn close(&mut self) -> Result<(), Refusal> {
+        let Some(locked) = self.slot else {
+            return Err(Refusal::Closed);
+        };
+        let slot: &Mutex<Slot<B>> = locked;
+        let mut guard = slot.lock(self.rt);
+        let answer = guard.close();
+        self.gate.inside(self.rt, self.instrument);
+        answer
+    }
+}
+
+// Grants a recorder recordings of a slot. One with other facts takes no recordings of the plan's recorders, so that to
+// them it is closed.
+fn grant<B: Book>(
+    slot: &mut Slot<B>,
+    facts: &Facts,
+    recorder: u32,
+    amount: u64,
+) -> Result<(), Refusal>
+    requires { recorder < length facts.now.budgets }
+    ensures answer { AnswersGrant (Some facts.now) recorder amount result }
+    ensures new { OnOk result (slot.new ≡ with_grant slot.old recorder amount) }
+    ensures err { OnErr result (slot.new ≡ slot.old) }
+{
+    // For the proof alone: what a cell keeps.
+    let _ = slot.cell();
+    match slot.grant(facts, recorder, amount) {
+        Err(Refusal::Stranger) => Err(Refusal::Closed),
+        answer => answer,
+    }
+}
+
+// Makes recordings, one after the other, and tells their recorder of each, up to the first that is refused. The slot's
+// facts are compared once for all of them.
+fn record_each<R: Wait, B: Book, G: Gate>(
+    rt: &R,
+    gate: &G,
+    slot: &mut Slot<B>,
+    facts: &Facts,
+    told: &mut Told,
+    recorder: u32,
+    all: &[Measurement],
+) -> Result<(), SetsFault>
+    requires recorder { recorder < length facts.now.budgets }
+    requires each { All (IsRecordable facts.now) all.now }
+    ensures told { OnOk result (told.new ≡ told_each told.old facts.now.lo all.now) }
+    ensures refused { IfErr result (λ fault.
+        IsRefusedUnder B.spares_memory facts.now recorder told.old told.new all.now fault) }
+    ensures gains { GainsAll B.stands slot.old slot.new recorder (made_of all.now result) }
+{
+    let is_own = slot.is_of(facts);
+    for (place, one) in all.iter().enumerate() {
+        let answer = record_one(slot, is_own, facts, told, recorder, one);
+        gate.inside(rt, facts.instrument);
+        match answer {
+            Ok(()) => {}
+            Err(refusal) => return Err(SetsFault { place, refusal }),
+        }
+    }
+    Ok(())
+}
+
+// Makes a recording, and tells its recorder of it.
+fn record_one<B: Book>(
+    slot: &mut Slot<B>,
+    is_own: bool,
+    facts: &Facts,
+    told: &mut Told,
+    recorder: u32,
+    one: &Measurement,
+) -> Result<(), Refusal>
+    requires own { IsTrue is_own ↔ (slot.old.facts ≡ facts.now) }
+    requires recorder { recorder < length facts.now.budgets }
+    requires one { IsRecordable facts.now one.now }
+    ensures facts { slot.new.facts ≡ slot.old.facts }
+    ensures told { OnOk result (told.new ≡ told_more told.old facts.now.lo one.now.value) }
+    ensures refused { IfErr result (λ refusal.
+        RefusesRecording B.spares_memory facts.now recorder told.old refusal) }
+    ensures gains { OnOk result (
+        GainsEntry B.stands slot.old slot.new (entry_by recorder one.now)) }
+    ensures err { OnErr result (slot.new ≡ slot.old) }
+    ensures told_err { OnErr result (told.new ≡ told.old) }
+{
+    slot.record(is_own, facts, told, recorder, one.set, one.value)
+}
