@@ -3,14 +3,14 @@ ghost use Rattle.std.specs.Prelude.{◌≡◌, ◌++◌, OnOk};
 ghost use Rattle.std.specs.List.{flat_map};
 ghost use Rattle.metric_lines.specs.Keys.{attributes_of};
 ghost use Rattle.metric_wire.specs.Wire.{block};
-ghost use Rattle.metric_otlp.specs.Series.{any_value, attribute_field, series_fields};
+ghost use Rattle.metric_otlp.specs.Series.{any_value, attribute_field, series_fields, text_field};
 
 use crate::field::push_text;
 use metric_contents::{Key, SetKey};
 use metric_lines::attribute_of;
 use metric_names::AttrValue;
-use metric_wire::{push_block, push_varint_field};
-use std::alloc::{AllocError, Global};
+use metric_wire::{begin_block, end_block, push_block, push_varint_field};
+use std::alloc::AllocError;
 
 /// The key of the overflow point's only attribute (Metrics SDK, overflow attribute).
 pub(crate) const OVERFLOW_KEY: &str = "otel.metric.overflow";
@@ -18,7 +18,6 @@ pub(crate) const OVERFLOW_KEY: &str = "otel.metric.overflow";
 /// Writes the attributes of a series, or the mark of the overflow series, which has no set key.
 #[tactic(auto, unfolding(crate::specs::Series::series_fields))]
 pub(crate) fn push_series(
-    alloc: Global,
     out: &mut Vec<u8>,
     field: u32,
     keys: &[Key],
@@ -29,14 +28,13 @@ pub(crate) fn push_series(
         ≡ out.old.items ++ series_fields field keys.now kept.now set.now) }
 {
     match set {
-        Some(set) => push_attributes(alloc, out, field, keys, kept, set.as_slice()),
-        None => push_attribute(alloc, out, field, OVERFLOW_KEY, &AttrValue::Flag(true)),
+        Some(set) => push_attributes(out, field, keys, kept, set.as_slice()),
+        None => push_attribute(out, field, OVERFLOW_KEY, &AttrValue::Flag(true)),
     }
 }
 
 // Writes the attributes that are kept and present.
 fn push_attributes(
-    alloc: Global,
     out: &mut Vec<u8>,
     field: u32,
     keys: &[Key],
@@ -56,15 +54,14 @@ fn push_attributes(
         return Ok(());
     };
     if let Some(pair) = attribute_of(key, *keep, *entry) {
-        push_attribute(alloc, out, field, pair.key, pair.value)?;
+        push_attribute(out, field, pair.key, pair.value)?;
     }
-    push_attributes(alloc, out, field, keys, kept, set)
+    push_attributes(out, field, keys, kept, set)
 }
 
 /// Writes an attribute: a message `KeyValue`.
-#[tactic(auto, unfolding(crate::specs::Series::attribute_field))]
+#[tactic(auto, unfolding(crate::specs::Series::attribute_field), using(metric_wire::specs::ClosingLaws::closing))]
 pub(crate) fn push_attribute(
-    alloc: Global,
     out: &mut Vec<u8>,
     field: u32,
     key: &str,
@@ -73,19 +70,27 @@ pub(crate) fn push_attribute(
     ensures { OnOk result (out.new.items
         ≡ out.old.items ++ attribute_field field (key.now, value.now)) }
 {
-    let mut message = Vec::new(alloc);
-    push_text(&mut message, 1, key)?;
-    push_value(alloc, &mut message, value)?;
-    push_block(out, field, message.as_slice())
+    let place = begin_block(out, field)?;
+    push_pair(out, key, value)?;
+    end_block(out, place)
+}
+
+fn push_pair(out: &mut Vec<u8>, key: &str, value: &AttrValue) -> Result<(), AllocError>
+    ensures { OnOk result (out.new.items
+        ≡ out.old.items ++ (text_field 1 key.now ++ block 2 (any_value value.now))) }
+{
+    push_text(out, 1, key)?;
+    push_value(out, value)
 }
 
 // Writes the value of an attribute: a message `AnyValue`.
-fn push_value(alloc: Global, out: &mut Vec<u8>, value: &AttrValue) -> Result<(), AllocError>
+#[tactic(auto, using(metric_wire::specs::ClosingLaws::closing))]
+fn push_value(out: &mut Vec<u8>, value: &AttrValue) -> Result<(), AllocError>
     ensures { OnOk result (out.new.items ≡ out.old.items ++ block 2 (any_value value.now)) }
 {
-    let mut message = Vec::new(alloc);
-    push_any_value(&mut message, value)?;
-    push_block(out, 2, message.as_slice())
+    let place = begin_block(out, 2)?;
+    push_any_value(out, value)?;
+    end_block(out, place)
 }
 
 fn push_any_value(out: &mut Vec<u8>, value: &AttrValue) -> Result<(), AllocError>

@@ -9,8 +9,8 @@ ghost use Rattle.metric_otlp.specs.Series.{text_field};
 use crate::attribute::push_series;
 use metric_contents::{Key, SetKey};
 use metric_wire::{
-    push_block, push_double_field, push_doubles_block, push_signed_field, push_varint_field,
-    push_word_field, push_words_block,
+    begin_block, end_block, push_block, push_double_field, push_doubles_block, push_signed_field,
+    push_varint_field, push_word_field, push_words_block,
 };
 use std::alloc::{AllocError, Global};
 
@@ -38,7 +38,23 @@ pub(crate) enum Field<'a> {
 }
 
 /// Writes fields as a message, which is a field itself.
+#[tactic(auto, using(metric_wire::specs::ClosingLaws::closing))]
 pub(crate) fn push_message(
+    out: &mut Vec<u8>,
+    field: u32,
+    fields: &[Field<'_>],
+) -> Result<(), AllocError>
+    ensures { OnOk result (out.new.items
+        ≡ out.old.items ++ block field (flat_map field_bytes fields.now)) }
+{
+    let place = begin_block(out, field)?;
+    push_fields(out, fields)?;
+    end_block(out, place)
+}
+
+/// Writes fields as a message that may be long: apart, since what a message has moves where its length has more than one
+/// digit.
+pub(crate) fn push_long_message(
     alloc: Global,
     out: &mut Vec<u8>,
     field: u32,
@@ -48,22 +64,22 @@ pub(crate) fn push_message(
         ≡ out.old.items ++ block field (flat_map field_bytes fields.now)) }
 {
     let mut message = Vec::new(alloc);
-    push_fields(alloc, &mut message, fields)?;
+    push_fields(&mut message, fields)?;
     push_block(out, field, message.as_slice())
 }
 
 // Writes fields, one after the other.
 #[tactic(auto, using(metric_text::specs::ListLaws::steps))]
-fn push_fields(alloc: Global, out: &mut Vec<u8>, fields: &[Field<'_>]) -> Result<(), AllocError>
+fn push_fields(out: &mut Vec<u8>, fields: &[Field<'_>]) -> Result<(), AllocError>
     ensures { OnOk result (out.new.items ≡ out.old.items ++ flat_map field_bytes fields.now) }
 {
     for field in fields {
-        push_field(alloc, out, field)?;
+        push_field(out, field)?;
     }
     Ok(())
 }
 
-fn push_field(alloc: Global, out: &mut Vec<u8>, field: &Field<'_>) -> Result<(), AllocError>
+fn push_field(out: &mut Vec<u8>, field: &Field<'_>) -> Result<(), AllocError>
     ensures { OnOk result (out.new.items ≡ out.old.items ++ field_bytes field.now) }
 {
     match *field {
@@ -73,9 +89,9 @@ fn push_field(alloc: Global, out: &mut Vec<u8>, field: &Field<'_>) -> Result<(),
         Field::Word(field, number) => push_fixed(out, field, number),
         Field::Signed(field, number) => push_signed_field(out, field, number),
         Field::Double(field, number) => push_double(out, field, number),
-        Field::Words(field, numbers) => push_words(alloc, out, field, numbers),
-        Field::Doubles(field, numbers) => push_doubles(alloc, out, field, numbers),
-        Field::Series(field, keys, kept, set) => push_series(alloc, out, field, keys, kept, set),
+        Field::Words(field, numbers) => push_words(out, field, numbers),
+        Field::Doubles(field, numbers) => push_doubles(out, field, numbers),
+        Field::Series(field, keys, kept, set) => push_series(out, field, keys, kept, set),
     }
 }
 
@@ -121,31 +137,21 @@ fn push_double(out: &mut Vec<u8>, field: u32, number: Option<i64>) -> Result<(),
 }
 
 #[tactic(auto, unfolding(crate::specs::Fields::packed_words))]
-fn push_words(
-    alloc: Global,
-    out: &mut Vec<u8>,
-    field: u32,
-    numbers: &[u64],
-) -> Result<(), AllocError>
+fn push_words(out: &mut Vec<u8>, field: u32, numbers: &[u64]) -> Result<(), AllocError>
     ensures { OnOk result (out.new.items ≡ out.old.items ++ packed_words field numbers.now) }
 {
     if numbers.is_empty() {
         return Ok(());
     }
-    push_words_block(alloc, out, field, numbers)
+    push_words_block(out, field, numbers)
 }
 
 #[tactic(auto, unfolding(crate::specs::Fields::packed_doubles))]
-fn push_doubles(
-    alloc: Global,
-    out: &mut Vec<u8>,
-    field: u32,
-    numbers: &[i64],
-) -> Result<(), AllocError>
+fn push_doubles(out: &mut Vec<u8>, field: u32, numbers: &[i64]) -> Result<(), AllocError>
     ensures { OnOk result (out.new.items ≡ out.old.items ++ packed_doubles field numbers.now) }
 {
     if numbers.is_empty() {
         return Ok(());
     }
-    push_doubles_block(alloc, out, field, numbers)
+    push_doubles_block(out, field, numbers)
 }

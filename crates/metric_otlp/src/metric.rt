@@ -8,7 +8,7 @@ ghost use Rattle.metric_otlp.specs.Scopes.{meter_message, metrics_fields, scope_
 ghost use Rattle.metric_otlp.specs.Series.{text_field};
 ghost use Rattle.metric_wire.specs.Wire.{block};
 
-use crate::field::{Field, push_message, push_number, push_text};
+use crate::field::{Field, push_long_message, push_message, push_number, push_text};
 use crate::point::push_point;
 use crate::report::{Report, Reported};
 use metric_contents::{Key, Kind, Meter};
@@ -27,20 +27,20 @@ pub(crate) fn push_scope(
     ensures { OnOk result (out.new.items
         ≡ out.old.items ++ scope_message batch.now (report_by report.now)) }
 {
-    push_meter(alloc, out, report.meter)?;
+    push_meter(out, report.meter)?;
     push_metrics(alloc, out, report.keys, batch, report.streams.as_slice())?;
     push_text(out, 3, report.meter.schema_url.as_str())
 }
 
 #[tactic(auto, unfolding(crate::specs::Scopes::meter_message))]
-fn push_meter(alloc: Global, out: &mut Vec<u8>, meter: &Meter) -> Result<(), AllocError>
+fn push_meter(out: &mut Vec<u8>, meter: &Meter) -> Result<(), AllocError>
     ensures { OnOk result (out.new.items ≡ out.old.items ++ block 1 (meter_message meter.now)) }
 {
     let fields = [
         Field::Text(1, meter.name.as_str()),
         Field::Text(2, meter.version.as_str()),
     ];
-    push_message(alloc, out, 1, &fields)
+    push_message(out, 1, &fields)
 }
 
 fn push_metrics(
@@ -74,19 +74,18 @@ fn push_metric(
         ++ metric_field keys.now batch.now (record { stream = stream.now; points = points.now })) }
 {
     let mut data = Vec::new(alloc);
-    push_data(alloc, &mut data, keys, batch, stream, points)?;
+    push_data(&mut data, keys, batch, stream, points)?;
     let fields = [
         Field::Text(1, stream.name.get().as_str()),
         Field::Text(2, stream.description.get().as_str()),
         Field::Text(3, stream.unit.get().as_str()),
         Field::Message(data_number(&stream.aggregation), data.as_slice()),
     ];
-    push_message(alloc, out, 2, &fields)
+    push_long_message(alloc, out, 2, &fields)
 }
 
 // Writes the points of a stream, and what they are.
 fn push_data(
-    alloc: Global,
     out: &mut Vec<u8>,
     keys: &[Key],
     batch: &Batch,
@@ -96,14 +95,13 @@ fn push_data(
     ensures { OnOk result (out.new.items ≡ out.old.items
         ++ data_message keys.now batch.now stream.now points.now) }
 {
-    push_points(alloc, out, keys, batch, stream, points)?;
+    push_points(out, keys, batch, stream, points)?;
     push_number(out, 2, covers(stream.temporality, &stream.aggregation))?;
     push_number(out, 3, u64::from(rises(stream.kind, &stream.aggregation)))
 }
 
 #[tactic(auto, using(metric_text::specs::ListLaws::steps))]
 fn push_points(
-    alloc: Global,
     out: &mut Vec<u8>,
     keys: &[Key],
     batch: &Batch,
@@ -116,7 +114,7 @@ fn push_points(
     let kept = stream.kept.get().as_slice();
     let bounds = bounds_of(&stream.aggregation);
     for point in points {
-        push_point(alloc, out, keys, kept, bounds, batch, point)?;
+        push_point(out, keys, kept, bounds, batch, point)?;
     }
     Ok(())
 }

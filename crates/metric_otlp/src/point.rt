@@ -6,13 +6,12 @@ use crate::field::{Field, push_message};
 use metric_aggregate::PointValue;
 use metric_contents::Key;
 use metric_history::{Batch, Point};
-use std::alloc::{AllocError, Global};
+use std::alloc::AllocError;
 
 /// Writes a point of a batch, of which the stream keeps some keys: a message `NumberDataPoint`, or `HistogramDataPoint`
 /// with boundaries.
 #[tactic(auto, unfolding(crate::specs::Points::number_point, crate::specs::Points::histogram_point))]
 pub(crate) fn push_point<'a>(
-    alloc: Global,
     out: &mut Vec<u8>,
     keys: &'a [Key],
     kept: &'a [bool],
@@ -31,7 +30,7 @@ pub(crate) fn push_point<'a>(
                 Field::Signed(6, *number),
                 Field::Series(7, keys, kept, &point.set),
             ];
-            push_message(alloc, out, 1, &fields)
+            push_message(out, 1, &fields)
         }
         PointValue::Buckets {
             count,
@@ -51,7 +50,7 @@ pub(crate) fn push_point<'a>(
                 Field::Double(11, Some(*min)),
                 Field::Double(12, Some(*max)),
             ];
-            push_message(alloc, out, 1, &fields)
+            push_message(out, 1, &fields)
         }
     }
 }

@@ -72,16 +72,16 @@ fn push_resource(
         ≡ out.old.items ++ block 1 (resource_message attributes.now)) }
 {
     let mut message = Vec::new(alloc);
-    push_owned(alloc, &mut message, attributes)?;
+    push_owned(&mut message, attributes)?;
     push_block(out, 1, message.as_slice())
 }
 
 #[tactic(auto, using(metric_text::specs::ListLaws::steps))]
-fn push_owned(alloc: Global, out: &mut Vec<u8>, attributes: &[OwnedAttr]) -> Result<(), AllocError>
+fn push_owned(out: &mut Vec<u8>, attributes: &[OwnedAttr]) -> Result<(), AllocError>
     ensures { OnOk result (out.new.items ≡ out.old.items ++ resource_message attributes.now) }
 {
     for attribute in attributes {
-        push_attribute(alloc, out, 1, attribute.key.as_str(), &attribute.value)?;
+        push_attribute(out, 1, attribute.key.as_str(), &attribute.value)?;
     }
     Ok(())
 }

@@ -2,3 +2,5 @@ pub mod Steps
 mod Varints
 mod Blocks
 mod Numbers
+mod Packed
+mod Closed

@@ -1,2 +1,4 @@
 pub mod Wire
 pub mod Reading
+pub mod Closing
+pub mod ClosingLaws

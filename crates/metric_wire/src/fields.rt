@@ -1,11 +1,12 @@
 //! Fields: a mark and a value. Each call fails only where memory is refused, and may then have written a part.
-ghost use Rattle.std.specs.Prelude.{◌≡◌, ◌<◌, ◌++◌, OnOk};
+ghost use Rattle.std.specs.Prelude.{◌≡◌, ◌<◌, ◌++◌, ◌∷◌, [], OnOk, IfOk, length};
 ghost use Rattle.std.specs.List.{flat_map};
+ghost use Rattle.metric_wire.specs.Closing.{closed};
 ghost use Rattle.metric_wire.specs.Wire.{block, double, double_field, doubles_block, mark, signed_field};
 ghost use Rattle.metric_wire.specs.Wire.{varint_field, word, word_field, words_block};
 
 use crate::varint::push_varint;
-use std::alloc::{AllocError, Global};
+use std::alloc::AllocError;
 use std::num::nearest_i64_to_f64;
 
 // How the value of a field is written.
@@ -62,34 +63,53 @@ pub fn push_block(out: &mut Vec<u8>, field: u32, bytes: &[u8]) -> Result<(), All
     out.extend_from_slice(bytes)
 }
 
+/// Begins a block whose bytes are written next, and gives the place of one byte for how many they will be.
+pub fn begin_block(out: &mut Vec<u8>, field: u32) -> Result<usize, AllocError>
+    ensures bytes { OnOk result (out.new.items ≡ (out.old.items ++ mark field 2) ++ 0 ∷ []) }
+    ensures place { IfOk result (λ place. place ≡ length (out.old.items ++ mark field 2)) }
+{
+    push_mark(out, field, BLOCK)?;
+    let place = out.len();
+    out.push(0)?;
+    Ok(place)
+}
+
+/// Ends a block: writes at its place how many bytes stand after it. Those of more than 127 bytes move, so a long block is
+/// better written apart and pushed.
+#[tactic(auto, unfolding(crate::specs::Closing::closed), using(crate::proofs::Closed::short_closed))]
+pub fn end_block(out: &mut Vec<u8>, place: usize) -> Result<(), AllocError>
+    requires { place < length out.old.items }
+    ensures { OnOk result (out.new.items ≡ closed place out.old.items) }
+{
+    let count = out.len() - place - 1;
+    if count < 128 {
+        out[place] = count as u8;
+        return Ok(());
+    }
+    let content = out.split_off(place + 1)?;
+    out.truncate(place);
+    push_varint(out, count as u64)?;
+    out.extend_from_slice(content.as_slice())
+}
+
 /// Writes a packed list of `fixed64`.
-#[tactic(auto, unfolding(crate::specs::Wire::words_block))]
-pub fn push_words_block(
-    alloc: Global,
-    out: &mut Vec<u8>,
-    field: u32,
-    numbers: &[u64],
-) -> Result<(), AllocError>
+#[tactic(auto, using(crate::proofs::Packed::words_counted))]
+pub fn push_words_block(out: &mut Vec<u8>, field: u32, numbers: &[u64]) -> Result<(), AllocError>
     ensures { OnOk result (out.new.items ≡ out.old.items ++ words_block field numbers.now) }
 {
-    let mut words = Vec::new(alloc);
-    push_words(&mut words, numbers)?;
-    push_block(out, field, words.as_slice())
+    push_mark(out, field, BLOCK)?;
+    push_varint(out, numbers.len() as u64 * 8)?;
+    push_words(out, numbers)
 }
 
 /// Writes a packed list of `double`, each the nearest to its number.
-#[tactic(auto, unfolding(crate::specs::Wire::doubles_block))]
-pub fn push_doubles_block(
-    alloc: Global,
-    out: &mut Vec<u8>,
-    field: u32,
-    numbers: &[i64],
-) -> Result<(), AllocError>
+#[tactic(auto, using(crate::proofs::Packed::doubles_counted))]
+pub fn push_doubles_block(out: &mut Vec<u8>, field: u32, numbers: &[i64]) -> Result<(), AllocError>
     ensures { OnOk result (out.new.items ≡ out.old.items ++ doubles_block field numbers.now) }
 {
-    let mut doubles = Vec::new(alloc);
-    push_doubles(&mut doubles, numbers)?;
-    push_block(out, field, doubles.as_slice())
+    push_mark(out, field, BLOCK)?;
+    push_varint(out, numbers.len() as u64 * 8)?;
+    push_doubles(out, numbers)
 }
 
 #[tactic(auto, unfolding(crate::specs::Wire::mark))]

@@ -1,0 +1,8 @@
+-- Blocks whose length is written when their bytes are.
+use Rattle.std.specs.Prelude.{ℕ, suc, List, ◌++◌, length, take, drop}
+use Rattle.metric_wire.specs.Wire.{varint}
+
+-- bytes among which one stands for how many follow it: with that number in its place
+unfoldable pub closed : ℕ → List ℕ → List ℕ
+closed place bytes =
+    take place bytes ++ (varint (length (drop (suc place) bytes)) ++ drop (suc place) bytes)
