@@ -3,6 +3,7 @@ mod AnswerLaws
 mod AnsweredInputs
 mod AuditLaws
 mod AuditedRuns
+mod FormLaws
 mod OutputLaws
 mod PartLaws
 mod PieceLaws

@@ -1,6 +1,7 @@
 -- What a replay makes of the bytes of its input.
 use Rattle.std.specs.Prelude.{◌≡◌, ◌⊎◌, ◌++◌, ℕ, Bool, true, false, not, List, [], Some}
 use Rattle.std.specs.Prelude.{if◌then◌else◌}
+use Rattle.std.specs.List.{flat_map}
 use Rattle.std.proofs.Common.{inr}
 use Rattle.metric_text.specs.Lines.{lines_of}
 use Rattle.metric_parts.specs.Input.{IsFirstFault as IsFaultyLine}
@@ -15,6 +16,7 @@ use Rattle.metric_plan.specs.Counting.{is_counted}
 use Rattle.metric_plan.specs.Plans.{PlanValue, plan_of}
 use Rattle.metric_plan.specs.declared.fault.CheckFault.TheVariants.{CountRange}
 use Rattle.metric_history.specs.Legal.{grown}
+use Rattle.metric_history.specs.declared.batch.Batch.{Batch}
 use Rattle.metric_history.specs.declared.event.Event.{Event}
 use Rattle.metric_history.specs.declared.event.Reply.{Reply}
 use Rattle.metric_commands.specs.declared.options.ReplayOptions.{ReplayOptions}
@@ -35,7 +37,7 @@ use Rattle.metric_commands.specs.declared.fault.KitFault.TheVariants.{
 use Rattle.metric_commands.specs.Claims.{IsCertifiedPlan, IsFaultyCertificate, IsRefusedCheck}
 use Rattle.metric_commands.specs.Declarations.{IsDeclared, IsDeclaredFault, IsMisdeclared}
 use Rattle.metric_commands.specs.Audits.{AreAudited}
-use Rattle.metric_commands.specs.Replies.{accepted_count, audited_text, replies_text}
+use Rattle.metric_commands.specs.Replies.{accepted_count, audited_text, encoded_reply, formed_text, replies_text}
 use Rattle.metric_commands.specs.Runs.{IsRun}
 
 -- a replay without an audit, and one with it
@@ -111,6 +113,23 @@ pub record IsOutput (options : ReplayOptions) (input text : List ℕ) : Type 0 w
   pub audited : options.audit ≡ true
       → AreAudited plan.facts replayed.answered.start (grown [] replayed.answered.events replies)
   pub written : text ≡ replies_text plan replies ++ audit_text options replies
+
+-- The bytes that a replay of the input writes without an audit, of replies in a form.
+pub record IsFormed (text : PlanValue → Reply → List ℕ) (options : ReplayOptions)
+    (input bytes : List ℕ) : Type 0 where
+  pub plan : PlanValue
+  pub replies : List Reply
+  pub replayed : IsReplayed options input plan replies
+  pub written : bytes ≡ formed_text (text plan) replies
+
+-- The bytes that a replay of the input writes in an encoding: those of each batch among the
+-- replies, in their order.
+pub record IsEncodedOutput (encode : PlanValue → Batch → List ℕ) (options : ReplayOptions)
+    (input bytes : List ℕ) : Type 0 where
+  pub plan : PlanValue
+  pub replies : List Reply
+  pub replayed : IsReplayed options input plan replies
+  pub written : bytes ≡ flat_map (encoded_reply encode plan) replies
 
 -- What the parts declare is right, but budgets for one instrument are
 -- together above the range of u64.

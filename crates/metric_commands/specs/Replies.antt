@@ -4,6 +4,7 @@ use Rattle.metric_text.specs.Lists.{numbered}
 use Rattle.metric_contents.specs.Refusals.{refusal_text}
 use Rattle.metric_contents.specs.declared.refusal.Refusal.{Refusal}
 use Rattle.metric_contents.specs.declared.refusal.Refusal.TheVariants as refusals
+use Rattle.metric_history.specs.declared.batch.Batch.{Batch}
 use Rattle.metric_history.specs.declared.event.Reply.{Reply}
 use Rattle.metric_history.specs.declared.event.Reply.TheVariants.{Accepted, Collected, Done}
 use Rattle.metric_history.specs.declared.event.Reply.TheVariants.{Granted, Refused}
@@ -23,9 +24,18 @@ reply_text plan Done = codes "closed" ++ 10 ∷ []
 reply_text plan Granted = codes "granted" ++ 10 ∷ []
 reply_text plan (Refused refusal) = refused_text refusal
 
+-- replies one after the other, each as some form has it
+abbrev pub formed_text : (Reply → List ℕ) → List Reply → List ℕ
+formed_text text replies = parts_text (λ _ reply. text reply) replies
+
 -- all of them
 abbrev pub replies_text : PlanValue → List Reply → List ℕ
-replies_text plan replies = parts_text (λ _ reply. reply_text plan reply) replies
+replies_text plan replies = formed_text (reply_text plan) replies
+
+-- a reply in an encoding: the bytes of its batch, and nothing where it has none
+abbrev pub encoded_reply : (PlanValue → Batch → List ℕ) → PlanValue → Reply → List ℕ
+encoded_reply encode plan (Collected batch) = encode plan batch
+encoded_reply encode plan _ = []
 
 -- how many recordings were accepted
 abbrev pub is_accepted : Reply → Bool

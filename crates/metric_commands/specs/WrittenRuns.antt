@@ -2,10 +2,12 @@
 use Rattle.std.specs.Prelude.{ℕ, List}
 use Rattle.metric_history.specs.History.{History}
 use Rattle.metric_history.specs.declared.event.Event.{Event}
+use Rattle.metric_history.specs.declared.event.Reply.{Reply}
 use Rattle.metric_plan.specs.Plans.{PlanValue}
-use Rattle.metric_commands.specs.Replies.{replies_text}
+use Rattle.metric_commands.specs.Replies.{formed_text}
 use Rattle.metric_commands.specs.Runs.{due_replies}
 
--- that of the replies to events after a history, where memory is not refused
-abbrev pub due_text : PlanValue → ℕ → History → List Event → List ℕ
-due_text plan start h events = replies_text plan (due_replies plan.facts start h events)
+-- that of the replies to events after a history, in a form, where memory is not refused
+abbrev pub due_text : (PlanValue → Reply → List ℕ) → PlanValue → ℕ → History → List Event → List ℕ
+due_text text plan start h events =
+    formed_text (text plan) (due_replies plan.facts start h events)

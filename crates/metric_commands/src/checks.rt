@@ -50,7 +50,7 @@ impl Command for Check {
 
     ghost is_first_fault = { λ _. IsFirst };
 
-    ghost text = { λ _. accepted_text };
+    ghost text = { λ _ _. accepted_text };
 
     fn needed_parts(&self) -> Needs {
         Needs {

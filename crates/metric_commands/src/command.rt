@@ -36,7 +36,7 @@ pub(crate) trait Command {
 
     ghost is_first_fault: { Self → List ℕ → Fault → Type 0 };
 
-    ghost text: { Self.Answer → List ℕ };
+    ghost text: { Self → Self.Answer → List ℕ };
 
     /// Which parts of an input the command needs.
     fn needed_parts(&self) -> Needs
@@ -60,16 +60,16 @@ pub(crate) trait Command {
     ) -> Result<(), KitFault>
         requires { (read : Read) × is_answer self.now read answer }
         ensures ok { OnOk result
-            (Appends (W.contents sink.old) (W.contents sink.new) (text answer)) }
+            (Appends (W.contents sink.old) (W.contents sink.new) (text self.now answer)) }
         ensures prefix { AppendsPrefix (W.contents sink.old) (W.contents sink.new)
-            (text answer) }
+            (text self.now answer) }
         ensures broken { IfErr result (IsSinkFault (W.failures sink.old) (W.failures sink.new)) }
         ensures counted { OnOk result (W.failures sink.new ≡ W.failures sink.old) };
 
     // The text of an answer to the parts is due of the input.
     ghost answered: { (command : Self) (input : List ℕ) (read : Read) (answer : Self.Answer)
         → IsRead (needed command) (lines_of input) read → is_answer command read answer
-        → is_due command input (text answer) };
+        → is_due command input (text command answer) };
 
     // A fault of the parts is the first of the input.
     ghost refused: { (command : Self) (input : List ℕ) (read : Read) (fault : Fault)
@@ -128,9 +128,9 @@ fn write_answer<C: Command, W: Sink>(
 ) -> Result<(), KitFault>
     requires { (read : read_parts) × C.is_answer command.now read answer }
     ensures ok { OnOk result (Appends (W.contents sink.old) (W.contents sink.new)
-        (C.text answer)) }
+        (C.text command.now answer)) }
     ensures prefix { AppendsPrefix (W.contents sink.old) (W.contents sink.new)
-        (C.text answer) }
+        (C.text command.now answer) }
     ensures broken { IfErr result (IsSinkFault (W.failures sink.old) (W.failures sink.new)) }
 {
     command.write(alloc, sink, answer)?;

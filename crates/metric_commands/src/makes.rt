@@ -54,7 +54,7 @@ impl Command for Make {
 
     ghost is_first_fault = { λ _. IsFirst };
 
-    ghost text = { λ text. string_bytes text };
+    ghost text = { λ _ text. string_bytes text };
 
     fn needed_parts(&self) -> Needs {
         Needs {

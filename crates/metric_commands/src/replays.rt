@@ -2,17 +2,19 @@
 ghost use Rattle.std.specs.Prelude.{◌≡◌, false, IfErr, IfOk, IsSome};
 ghost use Rattle.metric_commands.specs.Commands.{RunsCommand, sink_run, source_run};
 ghost use Rattle.metric_commands.specs.Faults.{IsOfInput};
-ghost use Rattle.metric_commands.specs.Replaying.{IsAuditedRun, IsFirstFault, IsOutput, IsReplayFault};
+ghost use Rattle.metric_commands.specs.Replaying.{IsAuditedRun, IsEncodedOutput, IsFirstFault, IsOutput, IsReplayFault, plain_options};
 
 use crate::audits::audited_replies;
 use crate::command::{Command, run_whole};
 use crate::fault::KitFault;
+use crate::forms::{Encoded, Printed, ReplyForm};
 use crate::options::ReplayOptions;
 use crate::pieces::write_run;
 use crate::prepared::{PreparedRun, prepared_run};
 use crate::replies::{accepted_count, write_audited};
 use metric_audit::Audited;
 use metric_core::Core;
+use metric_export::Encoding;
 use metric_history::Reply;
 use metric_io::{Sink, Source};
 use metric_marked::Marked;
@@ -45,58 +47,71 @@ pub fn replay<R: Source, W: Sink>(
     if options.audit {
         run_whole(alloc, &AuditedReplay { trial }, source, sink)
     } else {
-        run_whole(alloc, &PlainReplay { trial }, source, sink)
+        let form = &Printed;
+        run_whole(alloc, &FormedReplay { trial, form }, source, sink)
     }
 }
 
-// A replay without an audit.
-#[derive(Clone, Copy)]
-struct PlainReplay {
+/// [`replay`] without an audit, which writes batches alone: the bytes of each in an encoding, in the order of the replies, and
+/// nothing of any other reply.
+///
+/// # Errors
+///
+/// Those of [`replay`].
+pub fn replay_encoded<E: Encoding, R: Source, W: Sink>(
+    alloc: Global,
     trial: bool,
+    encoding: &E,
+    source: &mut R,
+    sink: &mut W,
+) -> Result<(), KitFault>
+    ensures { RunsCommand (IsEncodedOutput (E.text encoding.now) (plain_options trial))
+        (IsFirstFault (plain_options trial))
+        (source_run R.remaining R.counts source.old source.new)
+        (sink_run W.contents W.failures sink.old sink.new) result }
+{
+    let form = &Encoded { encoding };
+    run_whole(alloc, &FormedReplay { trial, form }, source, sink)
 }
 
-impl Command for PlainReplay {
+// A replay without an audit, of which the replies are written in a form.
+#[derive(Clone, Copy)]
+struct FormedReplay<'a, F> {
+    trial: bool,
+    form: &'a F,
+}
+
+impl<F: ReplyForm> Command for FormedReplay<'_, F> {
     ghost use Rattle.std.specs.Prelude.{[]};
-    ghost use Rattle.std.proofs.Common.{inl, sym};
-    ghost use Rattle.std.proofs.lemmas.Bool.{false≢true};
-    ghost use Rattle.std.proofs.lemmas.List.{append-nil};
+    ghost use Rattle.std.proofs.Common.{inl, refl};
     ghost use Rattle.metric_core.specs.CoreStands.{CoreStands};
     ghost use Rattle.metric_marked.specs.Marks.{StandsMarked};
     ghost use Rattle.metric_commands.specs.DueRuns.{is_due_run};
-    ghost use Rattle.metric_commands.specs.Replaying.{IsFirstFault as IsFirst, IsOutput as IsText, IsPrepared as IsOfParts, IsReplayFault as IsFault, needs_of, plain_options, replay_refused};
-    ghost use Rattle.metric_commands.specs.Replies.{replies_text};
+    ghost use Rattle.metric_commands.specs.Replaying.{IsFirstFault as IsFirst, IsFormed as IsText, IsPrepared as IsOfParts, IsReplayFault as IsFault, needs_of, plain_options as options_of, replay_refused};
     ghost use Rattle.metric_commands.specs.Runs.{due_replies};
     ghost use Rattle.metric_commands.specs.WrittenRuns.{due_text};
 
     type Answer = PreparedRun<Marked>;
 
-    ghost needed = { λ c. needs_of (plain_options c.trial) };
+    ghost needed = { λ c. needs_of (options_of c.trial) };
 
-    ghost is_answer = { λ c read run. IsOfParts (plain_options c.trial) read run.core.plan run.core.start run.events
+    ghost is_answer = { λ c read run. IsOfParts (options_of c.trial) read run.core.plan run.core.start run.events
         × CoreStands StandsMarked run.core [] };
 
-    ghost is_fault = { λ c. IsFault (plain_options c.trial) };
+    ghost is_fault = { λ c. IsFault (options_of c.trial) };
 
-    ghost is_due = { λ c. IsText (plain_options c.trial) };
+    ghost is_due = { λ c. IsText (F.text c.form.now) (options_of c.trial) };
 
-    ghost is_first_fault = { λ c. IsFirst (plain_options c.trial) };
+    ghost is_first_fault = { λ c. IsFirst (options_of c.trial) };
 
-    ghost text = { λ run. due_text run.core.plan run.core.start [] run.events };
+    ghost text = { λ c run. due_text (F.text c.form.now) run.core.plan run.core.start [] run.events };
 
     fn needed_parts(&self) -> Needs {
-        let options = ReplayOptions {
-            trial: self.trial,
-            audit: false,
-        };
-        options.needs()
+        plain_options(self.trial).needs()
     }
 
     fn answer(&self, alloc: Global, parts: &Parts<'_>) -> Result<PreparedRun<Marked>, KitFault> {
-        let options = ReplayOptions {
-            trial: self.trial,
-            audit: false,
-        };
-        prepared_run(alloc, options, parts)
+        prepared_run(alloc, plain_options(self.trial), parts)
     }
 
     fn write<W: Sink>(
@@ -110,7 +125,7 @@ impl Command for PlainReplay {
             start: _,
             events,
         } = run;
-        write_run(alloc, sink, &mut core, events.as_slice())
+        write_run(alloc, sink, self.form, &mut core, events.as_slice())
     }
 
     ghost answered = { λ _ _ read run is_read known. record {
@@ -129,11 +144,10 @@ impl Command for PlainReplay {
           run = is_due_run run.core.plan run.core.start run.events;
         };
       };
-      audited = λ asked. absurd (false≢true asked);
-      written = sym (append-nil (replies_text run.core.plan (due_replies run.core.plan.facts run.core.start [] run.events)));
+      written = refl;
     } };
 
-    ghost refused = { λ c. replay_refused (plain_options c.trial) };
+    ghost refused = { λ c. replay_refused (options_of c.trial) };
 
     ghost unread = { λ _ _ _ found. inl found };
 
@@ -144,6 +158,16 @@ impl Command for PlainReplay {
 #[derive(Clone, Copy)]
 struct AuditedReplay {
     trial: bool,
+}
+
+// A replay without an audit.
+fn plain_options(trial: bool) -> ReplayOptions
+    ensures { result ≡ plain_options trial }
+{
+    ReplayOptions {
+        trial,
+        audit: false,
+    }
 }
 
 // The replies to a script that were audited, and how many recordings they accept.
@@ -200,7 +224,7 @@ impl Command for AuditedReplay {
 
     ghost is_first_fault = { λ c. IsFirst (audited_options c.trial) };
 
-    ghost text = { λ run. replies_text run.core.plan run.replies.items ++ audited_text run.accepted };
+    ghost text = { λ _ run. replies_text run.core.plan run.replies.items ++ audited_text run.accepted };
 
     fn needed_parts(&self) -> Needs {
         let options = ReplayOptions {

@@ -58,7 +58,7 @@ impl Command for Show {
 
     ghost is_first_fault = { λ _. IsFirst };
 
-    ghost text = { λ l. text_of l.declared.catalogue l.declared.config l.streams.list l.streams.warnings };
+    ghost text = { λ _ l. text_of l.declared.catalogue l.declared.config l.streams.list l.streams.warnings };
 
     fn needed_parts(&self) -> Needs {
         Needs {

@@ -2,9 +2,16 @@
 use Rattle.std.specs.Prelude.{◌++◌, ℕ, Bool, List, [], Option, Some, None, Result, codes}
 use Rattle.metric_io.specs.Counts.{no_reads}
 use Rattle.metric_io.specs.declared.counts.ReadCounts.{ReadCounts}
+use Rattle.metric_contents.specs.declared.attributes.OwnedAttr.{OwnedAttr}
+use Rattle.metric_history.specs.declared.batch.Batch.{Batch}
+use Rattle.metric_plan.specs.Plans.{PlanValue}
+use Rattle.metric_otlp.specs.Lines.{line}
+use Rattle.metric_otlp.specs.Requests.{request}
+use Rattle.metric_request.specs.declared.request.Form.{Form}
+use Rattle.metric_request.specs.declared.request.Form.TheVariants.{Replies, OtlpLines, OtlpBytes}
 use Rattle.metric_commands.specs.Commands.{RunsCommand, SinkRun}
 use Rattle.metric_commands.specs.Programs.{replay_options}
-use Rattle.metric_commands.specs.Replaying.{IsFirstFault, IsOutput}
+use Rattle.metric_commands.specs.Replaying.{IsEncodedOutput, IsFirstFault, IsOutput, plain_options}
 use Rattle.metric_commands.specs.declared.fault.KitFault.{KitFault}
 
 abbrev pub part_text : List ℕ → List ℕ → List ℕ
@@ -29,3 +36,26 @@ pub record IsReplay (trial audit : Bool) (input : List ℕ) (sink : SinkRun)
   pub runs : RunsCommand (IsOutput (replay_options trial audit))
       (IsFirstFault (replay_options trial audit))
       (record { input = Some input; counts = no_reads; counts_after = counts_after }) sink result
+
+-- The same of which only the batches are written, each in an encoding.
+pub record IsEncodedReplay (encode : PlanValue → Batch → List ℕ) (trial : Bool) (input : List ℕ)
+    (sink : SinkRun) (result : Result (Unit {0}) KitFault) : Type 0 where
+  pub counts_after : ReadCounts
+  pub runs : RunsCommand (IsEncodedOutput encode (plain_options trial))
+      (IsFirstFault (plain_options trial))
+      (record { input = Some input; counts = no_reads; counts_after = counts_after }) sink result
+
+-- a batch of a plan as a line of OTLP/JSON, and as an OTLP request
+abbrev pub otlp_line : List OwnedAttr → PlanValue → Batch → List ℕ
+otlp_line resource plan batch = line resource plan.facts.contents plan.streams batch
+
+abbrev pub otlp_request : List OwnedAttr → PlanValue → Batch → List ℕ
+otlp_request resource plan batch = request resource plan.facts.contents plan.streams batch
+
+-- The replay in a form, where batches in OTLP have the attributes of a resource. Only replies are
+-- audited.
+abbrev pub IsReplayIn : Form → List OwnedAttr → Bool → Bool → List ℕ → SinkRun
+    → Result (Unit {0}) KitFault → Type 0
+IsReplayIn Replies resource trial audit = IsReplay trial audit
+IsReplayIn OtlpLines resource trial audit = IsEncodedReplay (otlp_line resource) trial
+IsReplayIn OtlpBytes resource trial audit = IsEncodedReplay (otlp_request resource) trial

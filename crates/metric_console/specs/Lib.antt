@@ -5,6 +5,7 @@ pub mod Answers
 pub mod Delivered
 pub mod Fleets
 pub mod Inputs
+pub mod Encodings
 pub mod Tables
 pub mod Runs
 pub mod Told

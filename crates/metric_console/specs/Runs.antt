@@ -1,17 +1,18 @@
 -- What running a request does.
-use Rattle.std.specs.Prelude.{◌≡◌, ◌≢◌, ◌⊎◌, ℕ, Bool, not, List, Option, Some, None, Result, Ok}
+use Rattle.std.specs.Prelude.{◌≡◌, ◌≢◌, ◌⊎◌, ℕ, not, List, Option, Some, None, Result, Ok}
 use Rattle.std.specs.Prelude.{Err, IfErr, IfOk, IsErr, IsErrAnd, is_some}
 use Rattle.metric_parts.specs.declared.parts.Parts.{Parts}
 use Rattle.metric_request.specs.declared.request.Request.{Request}
 use Rattle.metric_request.specs.declared.request.Task.{Task}
 use Rattle.metric_request.specs.declared.request.Task.TheVariants.{Replay}
 use Rattle.metric_commands.specs.Commands.{SinkRun}
+use Rattle.metric_commands.specs.declared.fault.KitFault.{KitFault}
 use Rattle.metric_commands.specs.declared.fault.KitFault.TheVariants.{Memory}
 use Rattle.metric_console.specs.Answers.{IsAnswer, IsAnswerFault}
 use Rattle.metric_console.specs.Delivered.{IsDeliveredAnswer, answer_status}
 use Rattle.metric_console.specs.Faults.{IsDeviceFault, IsRefusal, IsUnread, status_of}
 use Rattle.metric_console.specs.Folders.{MadeFile}
-use Rattle.metric_console.specs.Inputs.{IsReplay, input_of}
+use Rattle.metric_console.specs.Inputs.{IsReplayIn, input_of}
 use Rattle.metric_console.specs.Readings.{AreTexts}
 use Rattle.metric_console.specs.declared.answer.Answer.{Answer}
 use Rattle.metric_console.specs.declared.fault.ConsoleFault.{ConsoleFault}
@@ -51,25 +52,33 @@ RefusesFor task parts (Unread role cause) = parts.certificate ≡ None
 RefusesFor task parts (Header role) = ⊥
 RefusesFor task parts (Kit fault) = IsDeviceFault fault ⊎ IsAnswerFault task fault parts
 
--- What the replay of a script that is there comes to.
-abbrev pub ReplaysScript : Bool → Parts → List ℕ → SinkRun → Result ℕ ConsoleFault → Type 0
-ReplaysScript audit parts script sink (Ok status) =
-    (status ≡ 0) × IsReplay (not (is_some parts.certificate)) audit
-    (input_of parts.catalogue parts.config parts.certificate script) sink (Ok tt)
-ReplaysScript audit parts script sink (Err (Kit fault)) =
+-- The replay of a script that is there, in the form that is asked for.
+abbrev pub IsReplayed : Request → Parts → List ℕ → SinkRun → Result (Unit {0}) KitFault → Type 0
+IsReplayed request parts script sink result =
+    IsReplayIn request.options.form request.resource (not (is_some parts.certificate))
+    request.options.audit
+    (input_of parts.catalogue parts.config parts.certificate script) sink result
+
+-- What that comes to.
+abbrev pub ReplaysScript : Request → Parts → List ℕ → SinkRun → Result ℕ ConsoleFault → Type 0
+ReplaysScript request parts script sink (Ok status) =
+    (status ≡ 0) × IsReplayed request parts script sink (Ok tt)
+ReplaysScript request parts script sink (Err (Kit fault)) =
     ((fault ≡ Memory) × (sink.contents_after ≡ sink.contents))
-    ⊎ IsReplay (not (is_some parts.certificate)) audit
-    (input_of parts.catalogue parts.config parts.certificate script) sink (Err fault)
-ReplaysScript audit parts script sink (Err (Header role)) = sink.contents_after ≡ sink.contents
-ReplaysScript audit parts script sink (Err (Unread role cause)) = ⊥
+    ⊎ IsReplayed request parts script sink (Err fault)
+ReplaysScript request parts script sink (Err (Header role)) =
+    sink.contents_after ≡ sink.contents
+ReplaysScript request parts script sink (Err (Unread role cause)) = ⊥
 
 -- Nothing is written where there is no script.
-abbrev pub ReplaysText : Bool → Parts → Option (List ℕ) → SinkRun → Result ℕ ConsoleFault → Type 0
-ReplaysText audit parts None sink result = IsErr result × (sink.contents_after ≡ sink.contents)
-ReplaysText audit parts (Some script) sink result = ReplaysScript audit parts script sink result
+abbrev pub ReplaysText : Request → Parts → Option (List ℕ) → SinkRun → Result ℕ ConsoleFault
+    → Type 0
+ReplaysText request parts None sink result = IsErr result × (sink.contents_after ≡ sink.contents)
+ReplaysText request parts (Some script) sink result =
+    ReplaysScript request parts script sink result
 
-abbrev pub Replays : Bool → Texts → SinkRun → Result ℕ ConsoleFault → Type 0
-Replays audit texts sink result = ReplaysText audit texts.parts texts.script sink result
+abbrev pub Replays : Request → Texts → SinkRun → Result ℕ ConsoleFault → Type 0
+Replays request texts sink result = ReplaysText request texts.parts texts.script sink result
 
 -- Nothing was made and nothing written.
 abbrev pub IsUntouched : Writing → Type 0
@@ -88,7 +97,7 @@ pub record RunsAnswer (request : Request) (parts : Parts) (writing : Writing)
 pub record RunsTexts (request : Request) (texts : Texts) (writing : Writing) (sink : SinkRun)
     (end : Result ℕ ConsoleFault) : Type 0 where
   pub replayed : request.task ≡ Replay
-      → Replays request.options.audit texts sink end × (writing.made_after ≡ writing.made)
+      → Replays request texts sink end × (writing.made_after ≡ writing.made)
   pub answered : request.task ≢ Replay → RunsAnswer request texts.parts writing end
 
 -- The texts of the files, with what running the command on them comes to.

@@ -2,7 +2,7 @@
 use Rattle.std.specs.Prelude.{◌≡◌, ◌⊎◌, ℕ, List, Option, string_bytes}
 use Rattle.std.specs.Io.KnownBytes.{Appends}
 use Rattle.metric_request.specs.declared.fault.LineFault.{LineFault}
-use Rattle.metric_request.specs.declared.fault.LineFault.TheVariants.{Told, Usage, Nothing, Deny}
+use Rattle.metric_request.specs.declared.fault.LineFault.TheVariants.{Told, Usage, Nothing, Misused}
 use Rattle.metric_request.specs.declared.fault.LineFault.TheVariants.{Memory}
 
 -- Help and the version are written whole, or the status is that of a write that failed; else
@@ -12,5 +12,6 @@ IsLineEnd (Told text) contents contents_after status =
     ((status ≡ 0) × Appends contents contents_after (string_bytes text)) ⊎ (status ≡ 5)
 IsLineEnd (Usage text) contents contents_after status = (status ≡ 2) × (contents_after ≡ contents)
 IsLineEnd Nothing contents contents_after status = (status ≡ 2) × (contents_after ≡ contents)
-IsLineEnd Deny contents contents_after status = (status ≡ 2) × (contents_after ≡ contents)
+IsLineEnd (Misused misuse) contents contents_after status =
+    (status ≡ 2) × (contents_after ≡ contents)
 IsLineEnd Memory contents contents_after status = (status ≡ 4) × (contents_after ≡ contents)

@@ -10,9 +10,8 @@ use crate::delivering::deliver;
 use crate::fault::{ConsoleFault, Role};
 use crate::folder::{Folder, Unread};
 use crate::parts::{Texts, texts_of};
-use crate::replaying::{has_header, input_of, replay_input};
+use crate::replaying::{has_header, input_of, replay_in_form};
 use crate::telling::{stop, tell_line};
-use metric_commands::ReplayOptions;
 use metric_io::Sink;
 use metric_parts::Parts;
 use metric_request::{LineFault, Request, Task};
@@ -80,7 +79,7 @@ fn run_texts<F: Folder, W: Sink>(
         (sink_run W.contents W.failures sink.old sink.new) result }
 {
     if request.task == Task::Replay {
-        run_replay(alloc, texts, request.options.audit, sink)
+        run_replay(alloc, request, texts, sink)
     } else {
         run_answer(alloc, request, texts, columns, folder, sink)
     }
@@ -125,11 +124,12 @@ fn missing(role: Role) -> ConsoleFault
 // Replays a script. The exit status.
 fn run_replay<W: Sink>(
     alloc: Global,
+    request: &Request,
     texts: &Texts,
-    audit: bool,
     sink: &mut W,
 ) -> Result<u8, ConsoleFault>
-    ensures { Replays audit texts.now (sink_run W.contents W.failures sink.old sink.new) result }
+    ensures { Replays request.now texts.now
+        (sink_run W.contents W.failures sink.old sink.new) result }
 {
     let Some(script) = &texts.script else {
         return Err(missing(Role::Script));
@@ -138,11 +138,8 @@ fn run_replay<W: Sink>(
         return Err(ConsoleFault::Header { role });
     }
     let input = input_of(alloc, &texts.parts, script)?;
-    let options = ReplayOptions {
-        trial: texts.parts.certificate.is_none(),
-        audit,
-    };
-    replay_input(alloc, options, &input, sink)?;
+    let trial = texts.parts.certificate.is_none();
+    replay_in_form(alloc, request, trial, &input, sink)?;
     Ok(0)
 }
 

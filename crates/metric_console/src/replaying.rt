@@ -1,17 +1,88 @@
 //! A script replayed.
 ghost use Rattle.std.specs.Prelude.{◌≡◌, ◌++◌, IfOk, OnOk};
 ghost use Rattle.metric_commands.specs.Commands.{sink_run};
-ghost use Rattle.metric_console.specs.Inputs.{IsReplay, input_of, optional_text, part_text};
+ghost use Rattle.metric_console.specs.Inputs.{IsEncodedReplay, IsReplay, IsReplayIn, input_of, optional_text, part_text};
 
 use metric_base::Text;
-use metric_commands::{KitFault, ReplayOptions, replay};
+use metric_commands::{KitFault, ReplayOptions, replay, replay_encoded};
+use metric_export::Encoding;
+use metric_history::Batch;
 use metric_io::{CutSource, Sink};
+use metric_otlp::{push_line, push_request};
 use metric_parts::Parts;
+use metric_plan::Plan;
+use metric_request::{Form, Request};
+use metric_resource::Resource;
 use metric_text::push_text;
 use std::alloc::{AllocError, Global};
 
-/// Replays an input of parts, as `metric_kit replay` does. A refused replay writes nothing.
-pub(crate) fn replay_input<W: Sink>(
+// How batches are written in OTLP, with the attributes of a resource.
+#[derive(Clone, Copy)]
+enum Otlp<'a> {
+    Line(&'a Resource),
+    Request(&'a Resource),
+}
+
+impl Encoding for Otlp<'_> {
+    ghost use Rattle.metric_console.specs.Encodings.{otlp_text};
+
+    ghost text = { otlp_text };
+
+    fn push(
+        &self,
+        alloc: Global,
+        out: &mut Vec<u8>,
+        plan: &Plan,
+        batch: &Batch,
+    ) -> Result<(), AllocError> {
+        let (catalogue, streams) = (plan.catalogue(), plan.streams());
+        match self {
+            Otlp::Line(resource) => push_line(alloc, out, resource, catalogue, streams, batch),
+            Otlp::Request(resource) => {
+                push_request(alloc, out, resource, catalogue, streams, batch)
+            }
+        }
+    }
+}
+
+/// Replays an input of parts in the form that is asked for. A refused replay writes nothing.
+pub(crate) fn replay_in_form<W: Sink>(
+    alloc: Global,
+    request: &Request,
+    trial: bool,
+    input: &[u8],
+    sink: &mut W,
+) -> Result<(), KitFault>
+    ensures { IsReplayIn request.now.options.form request.now.resource trial
+        request.now.options.audit input.now
+        (sink_run W.contents W.failures sink.old sink.new) result }
+{
+    let audit = request.options.audit;
+    let resource = &request.resource;
+    match request.options.form {
+        Form::Replies => replay_input(alloc, ReplayOptions { trial, audit }, input, sink),
+        Form::OtlpLines => encode_input(alloc, trial, &Otlp::Line(resource), input, sink),
+        Form::OtlpBytes => encode_input(alloc, trial, &Otlp::Request(resource), input, sink),
+    }
+}
+
+// Replays an input of parts, and writes batches alone, in an encoding.
+fn encode_input<E: Encoding, W: Sink>(
+    alloc: Global,
+    trial: bool,
+    encoding: &E,
+    input: &[u8],
+    sink: &mut W,
+) -> Result<(), KitFault>
+    ensures { IsEncodedReplay (E.text encoding.now) trial input.now
+        (sink_run W.contents W.failures sink.old sink.new) result }
+{
+    let mut source = CutSource::new(input, None);
+    replay_encoded(alloc, trial, encoding, &mut source, sink)
+}
+
+// Replays an input of parts, as `metric_kit replay` does.
+fn replay_input<W: Sink>(
     alloc: Global,
     options: ReplayOptions,
     input: &[u8],

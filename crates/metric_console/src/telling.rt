@@ -18,7 +18,7 @@ use metric_diagnosis::{
 };
 use metric_io::Sink;
 use metric_make::MakeFault;
-use metric_request::{Files, LineFault, Request};
+use metric_request::{Files, LineFault, Misuse, Request};
 use std::alloc::{AllocError, Global};
 
 // The exit status where the words name no command, and where help cannot be written.
@@ -37,11 +37,25 @@ pub(crate) fn tell_line<W: Sink, E: Sink>(fault: LineFault, sink: &mut W, errors
         },
         LineFault::Usage(text) => misused(text.as_str(), errors),
         LineFault::Nothing => misused("no command is named; try 'wormweekly --help'\n", errors),
-        LineFault::Deny => misused("error: '--deny' knows 'remarks' alone\n", errors),
+        LineFault::Misused(misuse) => misused(words_of(misuse), errors),
         LineFault::Memory => {
             let _told = print(errors, "memory was refused\n");
             4
         }
+    }
+}
+
+// What is told of a misuse of an option.
+fn words_of(misuse: Misuse) -> &'static str {
+    match misuse {
+        Misuse::Deny => "error: '--deny' knows 'remarks' alone\n",
+        Misuse::Form => "error: '--as' knows 'otlp-json' and 'otlp-bytes' alone\n",
+        Misuse::Audit => "error: '--audit' audits replies, and with '--as' none are printed\n",
+        Misuse::Resource => "error: '--resource' belongs to '--as'\n",
+        Misuse::NoEquals => "error: '--resource' takes KEY=VALUE, and a word has no '='\n",
+        Misuse::TooMany => "error: '--resource' is given more than 64 times\n",
+        Misuse::EmptyKey => "error: '--resource' has an attribute without a key\n",
+        Misuse::RepeatedKey => "error: '--resource' has two attributes of one key\n",
     }
 }
 

@@ -7,7 +7,8 @@ use Rattle.clap.specs.declared.error.ErrorKind.TheVariants.{DisplayHelp, Display
 use Rattle.metric_request.specs.Apps.{program_app}
 use Rattle.metric_request.specs.Faults.{IsNoRequest, IsNotAsked, IsOwn, TellsKind}
 use Rattle.metric_request.specs.declared.fault.LineFault.{LineFault}
-use Rattle.metric_request.specs.declared.fault.LineFault.TheVariants.{Told, Usage, Nothing, Deny, Memory}
+use Rattle.metric_request.specs.declared.fault.LineFault.TheVariants.{Told, Usage, Nothing, Misused, Memory}
+use Rattle.metric_request.specs.declared.fault.Misuse.{Misuse}
 
 -- clap's refusal is never told as the program's own
 no_nothing : (kind : ErrorKind) → TellsKind kind Nothing → ⊥
@@ -16,11 +17,11 @@ no_nothing DisplayVersion tells = tells
 no_nothing OutOfMemory tells = tells
 no_nothing _ tells = tells
 
-no_deny : (kind : ErrorKind) → TellsKind kind Deny → ⊥
-no_deny DisplayHelp tells = tells
-no_deny DisplayVersion tells = tells
-no_deny OutOfMemory tells = tells
-no_deny _ tells = tells
+no_misuse : (kind : ErrorKind) (misuse : Misuse) → TellsKind kind (Misused misuse) → ⊥
+no_misuse DisplayHelp misuse tells = tells
+no_misuse DisplayVersion misuse tells = tells
+no_misuse OutOfMemory misuse tells = tells
+no_misuse _ misuse tells = tells
 
 as_memory : (kind : ErrorKind) (fault : LineFault) → kind ≡ OutOfMemory → TellsKind kind fault → TellsKind OutOfMemory fault
 as_memory kind fault is tells = subst (λ (k : ErrorKind). TellsKind k fault) is tells
@@ -33,7 +34,7 @@ refused words kind (Told text) (inr among) tells = record { kind = kind; among =
 refused words kind (Usage text) (inl memory) tells = absurd (as_memory kind (Usage text) memory tells)
 refused words kind (Usage text) (inr among) tells = record { kind = kind; among = among; told = tells }
 refused words kind Nothing has tells = absurd (no_nothing kind tells)
-refused words kind Deny has tells = absurd (no_deny kind tells)
+refused words kind (Misused misuse) has tells = absurd (no_misuse kind misuse tells)
 refused words kind Memory has tells = tt
 
 -- want of memory is none of clap's faults
@@ -41,7 +42,7 @@ pub own : (kind : ErrorKind) (fault : LineFault) → kind ≡ OutOfMemory → Te
 own kind (Told text) memory tells = as_memory kind (Told text) memory tells
 own kind (Usage text) memory tells = as_memory kind (Usage text) memory tells
 own kind Nothing memory tells = tt
-own kind Deny memory tells = tt
+own kind (Misused misuse) memory tells = tt
 own kind Memory memory tells = tt
 
 -- where clap takes the words, what they name says why they ask for nothing
@@ -50,7 +51,7 @@ not_asked : (words : List Text) (fault : LineFault) → fault_of program_app wor
 not_asked words (Told text) none found = absurd found
 not_asked words (Usage text) none found = absurd found
 not_asked words Nothing none found = (none, found)
-not_asked words Deny none found = (none, found)
+not_asked words (Misused misuse) none found = (none, found)
 not_asked words Memory none found = tt
 
 pub taken : {X : Type 0} (words : List Text) (named : Option (Text × List Row)) (answer : Result X LineFault)
@@ -63,7 +64,7 @@ not_asked_is_own : (fault : LineFault) (named : Option (Text × List Row)) → I
 not_asked_is_own (Told text) named found = found
 not_asked_is_own (Usage text) named found = found
 not_asked_is_own Nothing named found = tt
-not_asked_is_own Deny named found = tt
+not_asked_is_own (Misused misuse) named found = tt
 not_asked_is_own Memory named found = tt
 
 pub taken_is_own : {X : Type 0} (named : Option (Text × List Row)) (answer : Result X LineFault) → IfErr answer (λ fault. IsNotAsked fault named)

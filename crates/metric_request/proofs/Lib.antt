@@ -1,3 +1,5 @@
 mod Choices
 mod FaultLemmas
 mod NumberLaws
+mod Readings
+mod Resources

@@ -1,7 +1,7 @@
 -- The commands and options of `wormweekly`, as clap is told of them.
 use Rattle.std.specs.Prelude.{ℕ, [], ◌∷◌, Bool, true, false, Some, codes}
 use Rattle.clap.specs.Words.{App, Rule, Text, new_app, new_rule, with_rule, with_subcommand}
-use Rattle.clap.specs.declared.builder.ArgAction.TheVariants.{Set, SetTrue}
+use Rattle.clap.specs.declared.builder.ArgAction.TheVariants.{Set, SetTrue, Append}
 use Rattle.clap.specs.declared.builder.ValueParser.TheVariants.{Unsigned}
 
 -- the path of a file, by its place
@@ -12,6 +12,10 @@ file_rule id required =
 -- an option with a text
 abbrev pub text_rule : Text → Rule
 text_rule id = record (new_rule id) { long = Some id; action = Some Set; value_names = 1 }
+
+-- one that may be given several times
+abbrev pub texts_rule : Text → Rule
+texts_rule id = record (new_rule id) { long = Some id; action = Some Append; value_names = 1 }
 
 -- a flag, which takes no value and is given once at most
 abbrev pub flag_rule : Text → Rule
@@ -73,9 +77,13 @@ headroom_app = with_rule
 
 abbrev pub replay_app : App
 replay_app = with_rule
+    (with_rule
+    (with_rule
     (with_rule (with_rule (pair_app (codes "replay")) (file_rule (codes "third") true))
     (file_rule (codes "fourth") false))
-    (flag_rule (codes "audit"))
+    (flag_rule (codes "audit")))
+    (text_rule (codes "as")))
+    (texts_rule (codes "resource"))
 
 abbrev pub draw_app : App
 draw_app = with_rule (pair_app (codes "draw")) output_rule

@@ -1,13 +1,14 @@
 -- Why a command line asks for nothing, and what clap's refusal of one is told as.
-use Rattle.std.specs.Prelude.{◌≡◌, true, false, List, [], Option, None, IsSomeAnd}
+use Rattle.std.specs.Prelude.{◌≡◌, List, [], Option, None, Result, Err, IsOk, IsSomeAnd}
 use Rattle.clap.specs.Words.{IsAmong, Row, Text, fault_of, subcommand_of}
 use Rattle.clap.specs.declared.error.ErrorKind.{ErrorKind}
 use Rattle.clap.specs.declared.error.ErrorKind.TheVariants.{DisplayHelp, DisplayVersion}
 use Rattle.clap.specs.declared.error.ErrorKind.TheVariants.{OutOfMemory}
 use Rattle.metric_request.specs.Apps.{program_app}
-use Rattle.metric_request.specs.Requests.{denies_else}
+use Rattle.metric_request.specs.Requests.{resource_asked}
+use Rattle.metric_request.specs.declared.fault.Misuse.{Misuse}
 use Rattle.metric_request.specs.declared.fault.LineFault.{LineFault}
-use Rattle.metric_request.specs.declared.fault.LineFault.TheVariants.{Told, Usage, Nothing, Deny}
+use Rattle.metric_request.specs.declared.fault.LineFault.TheVariants.{Told, Usage, Nothing, Misused}
 use Rattle.metric_request.specs.declared.fault.LineFault.TheVariants.{Memory}
 
 -- Help or the version is told, unless memory was refused to the text.
@@ -15,7 +16,7 @@ abbrev pub IsToldOrMemory : LineFault → Type 0
 IsToldOrMemory (Told text) = Unit {0}
 IsToldOrMemory (Usage text) = ⊥
 IsToldOrMemory Nothing = ⊥
-IsToldOrMemory Deny = ⊥
+IsToldOrMemory (Misused misuse) = ⊥
 IsToldOrMemory Memory = Unit {0}
 
 -- A misuse is told, unless memory was refused to the text.
@@ -23,14 +24,14 @@ abbrev pub IsUsageOrMemory : LineFault → Type 0
 IsUsageOrMemory (Told text) = ⊥
 IsUsageOrMemory (Usage text) = Unit {0}
 IsUsageOrMemory Nothing = ⊥
-IsUsageOrMemory Deny = ⊥
+IsUsageOrMemory (Misused misuse) = ⊥
 IsUsageOrMemory Memory = Unit {0}
 
 abbrev pub IsMemory : LineFault → Type 0
 IsMemory (Told text) = ⊥
 IsMemory (Usage text) = ⊥
 IsMemory Nothing = ⊥
-IsMemory Deny = ⊥
+IsMemory (Misused misuse) = ⊥
 IsMemory Memory = Unit {0}
 
 -- A call for help or for the version is told as that, want of memory as such,
@@ -47,27 +48,36 @@ pub record IsRefused (fault : LineFault) (words : List Text) : Type 0 where
   pub among : IsAmong kind (fault_of program_app words)
   pub told : TellsKind kind fault
 
+-- The fault is the misuse that stands in place of what was asked for, or memory was refused.
+abbrev pub IsMisuse : {A : Type 0} → LineFault → Result A Misuse → Type 0
+IsMisuse (Told text) asked = ⊥
+IsMisuse (Usage text) asked = ⊥
+IsMisuse Nothing asked = ⊥
+IsMisuse (Misused misuse) asked = asked ≡ Err misuse
+IsMisuse Memory asked = Unit {0}
+
 -- The command that words name, with its arguments, is one that may be asked for.
 abbrev pub IsAllowed : Option (Text × List Row) → Type 0
-IsAllowed named = IsSomeAnd named (λ n. denies_else n.1 ≡ false)
+IsAllowed named = IsSomeAnd named (λ n. IsOk (resource_asked n.1))
 
--- No command is named; or its `--deny` has another word; or memory was refused.
+-- No command is named; or an option of it is misused; or memory was refused.
 abbrev pub IsNotAsked : LineFault → Option (Text × List Row) → Type 0
 IsNotAsked (Told text) named = ⊥
 IsNotAsked (Usage text) named = ⊥
 IsNotAsked Nothing named = named ≡ None
-IsNotAsked Deny named = IsSomeAnd named (λ n. denies_else n.1 ≡ true)
+IsNotAsked (Misused misuse) named = IsSomeAnd named (λ n. resource_asked n.1 ≡ Err misuse)
 IsNotAsked Memory named = Unit {0}
 
 -- The fault says why the words ask for nothing: clap refuses them, or it takes them and they name
--- no command, or deny something else; or memory was refused.
+-- no command, or misuse an option; or memory was refused.
 abbrev pub IsNoRequest : LineFault → List Text → Type 0
 IsNoRequest (Told text) words = IsRefused (Told text) words
 IsNoRequest (Usage text) words = IsRefused (Usage text) words
 IsNoRequest Nothing words =
     (fault_of program_app words ≡ []) × IsNotAsked Nothing (subcommand_of program_app words)
-IsNoRequest Deny words =
-    (fault_of program_app words ≡ []) × IsNotAsked Deny (subcommand_of program_app words)
+IsNoRequest (Misused misuse) words =
+    (fault_of program_app words ≡ [])
+    × IsNotAsked (Misused misuse) (subcommand_of program_app words)
 IsNoRequest Memory words = Unit {0}
 
 -- The fault is none of clap's.

@@ -1,4 +1,5 @@
 pub mod Apps
+pub mod Attributes
 pub mod Faults
 pub mod Numbers
 pub mod Requests

@@ -1,11 +1,20 @@
 -- What the words of a command line mean.
-use Rattle.std.specs.Prelude.{Bool, false, not, List, [], Option, codes, is_some, if◌then◌else◌}
-use Rattle.std.specs.Prelude.{unwrap_or}
-use Rattle.std.specs.Option.{option_map_or}
+use Rattle.std.specs.Prelude.{◌&&◌, ◌||◌, Bool, false, not, List, [], Option, Some, None}
+use Rattle.std.specs.Prelude.{Result, codes, is_some, if◌then◌else◌, unwrap_or}
+use Rattle.std.specs.Option.{option_and_then, option_map_or}
+use Rattle.std.specs.Result.{result_unwrap_or}
 use Rattle.std.specs.Str.{bytes_eq}
-use Rattle.clap.specs.Words.{Row, Text, first_of}
+use Rattle.clap.specs.Words.{Row, Text, all_of, first_of}
+use Rattle.metric_base.specs.Steps.{◌>>=◌, require}
+use Rattle.metric_contents.specs.declared.attributes.OwnedAttr.{OwnedAttr}
+use Rattle.metric_request.specs.Attributes.{resource_in}
 use Rattle.metric_request.specs.Numbers.{number_in}
+use Rattle.metric_request.specs.declared.fault.Misuse.{Misuse}
+use Rattle.metric_request.specs.declared.fault.Misuse.TheVariants.{Deny, Audit, Resource}
+use Rattle.metric_request.specs.declared.fault.Misuse.TheVariants as misuses
 use Rattle.metric_request.specs.declared.request.Files.{Files}
+use Rattle.metric_request.specs.declared.request.Form.{Form}
+use Rattle.metric_request.specs.declared.request.Form.TheVariants.{Replies, OtlpLines, OtlpBytes}
 use Rattle.metric_request.specs.declared.request.Options.{Options}
 use Rattle.metric_request.specs.declared.request.Request.{Request}
 use Rattle.metric_request.specs.declared.request.Task.{Task}
@@ -26,6 +35,22 @@ task_of name =
 -- an argument was given this word
 abbrev pub has_word : Text → Text → List Row → Bool
 has_word id word rows = option_map_or (λ text. bytes_eq text word) (first_of id rows) false
+
+-- the form that a word names
+abbrev pub form_of : Text → Option Form
+form_of word =
+    if bytes_eq word (codes "otlp-json") then Some OtlpLines
+    else if bytes_eq word (codes "otlp-bytes") then Some OtlpBytes
+    else None
+
+-- the form that a replay has; without `--as` it prints the replies
+abbrev pub form_in : List Row → Form
+form_in rows = unwrap_or (option_and_then form_of (first_of (codes "as") rows)) Replies
+
+-- `--as` was given a word that names no form
+abbrev pub forms_else : List Row → Bool
+forms_else rows =
+    option_map_or (λ word. not (is_some (form_of word))) (first_of (codes "as") rows) false
 
 -- `--deny` was given another word than `remarks`
 abbrev pub denies_else : List Row → Bool
@@ -61,12 +86,33 @@ options_in rows = record {
   strict = has_word (codes "deny") (codes "remarks") rows;
   json = has_word (codes "json") (codes "true") rows;
   audit = has_word (codes "audit") (codes "true") rows;
+  form = form_in rows;
   width = number_in (first_of (codes "width") rows);
   rate = number_in (first_of (codes "rate") rows);
   instances = number_in (first_of (codes "instances") rows);
 }
 
+-- the words of all uses of `--resource`
+abbrev pub resource_words : List Row → List Text
+resource_words rows = unwrap_or (all_of (codes "resource") rows) []
+
+-- the resource that is asked for, or the first misuse of an option
+unfoldable pub resource_asked : List Row → Result (List OwnedAttr) Misuse
+resource_asked rows = do
+  _ ← require (not (denies_else rows)) Deny
+  _ ← require (not (forms_else rows)) misuses.Form
+  _ ← require (not (is_some (first_of (codes "as") rows)
+      && has_word (codes "audit") (codes "true") rows)) Audit
+  _ ← require (is_some (first_of (codes "as") rows)
+      || not (is_some (first_of (codes "resource") rows))) Resource
+  resource_in (resource_words rows)
+
 -- the request of a command by its name, with its arguments
 abbrev pub request_in : Text × List Row → Request
 request_in named =
-    record { task = task_of named.0; files = files_in named.1; options = options_in named.1 }
+    record {
+      task = task_of named.0;
+      files = files_in named.1;
+      options = options_in named.1;
+      resource = result_unwrap_or (resource_asked named.1) [];
+    }

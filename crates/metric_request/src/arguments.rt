@@ -1,7 +1,7 @@
 //! The arguments that commands have.
 ghost use Rattle.std.specs.Prelude.{◌≡◌, false};
 ghost use Rattle.clap.specs.Words.{rule_of};
-ghost use Rattle.metric_request.specs.Apps.{file_rule, flag_rule, number_rule, output_rule, text_rule};
+ghost use Rattle.metric_request.specs.Apps.{file_rule, flag_rule, number_rule, output_rule, text_rule, texts_rule};
 
 use clap::builder::ValueParser;
 use clap::{Arg, ArgAction};
@@ -35,6 +35,18 @@ pub(crate) fn text<'a>(alloc: Global, id: &'a str, name: &'a str, help: &'a str)
         .value_name(name)
         .help(help)
         .action(ArgAction::Set)
+}
+
+/// An option with a text, which may be given several times.
+pub(crate) fn texts<'a>(alloc: Global, id: &'a str, name: &'a str, help: &'a str) -> Arg<'a>
+    ensures rule { rule_of result ≡ texts_rule id.entry.now }
+    ensures own { result.global ≡ false }
+{
+    Arg::new(alloc, id)
+        .long(id)
+        .value_name(name)
+        .help(help)
+        .action(ArgAction::Append)
 }
 
 /// The option of a file to write to.

@@ -5,7 +5,7 @@ ghost use Rattle.clap.specs.declared.builder.command.Command.TheViews.{out-Comma
 ghost use Rattle.metric_request.specs.Apps.{bare_app, check_app, draw_app, first_app, headroom_app, lint_app, make_app, pair_app, program_app};
 ghost use Rattle.metric_request.specs.Apps.{replay_app, second_app, show_app, table_app};
 
-use crate::arguments::{file, flag, number, output, text};
+use crate::arguments::{file, flag, number, output, text, texts};
 use clap::{Arg, Command};
 use std::alloc::{AllocError, Global};
 
@@ -213,7 +213,11 @@ fn replay<'a>(alloc: Global) -> Result<Command<'a>, AllocError>
     let help = "The script, after a certificate";
     let command = with_argument(command, file(alloc, "fourth", "SCRIPT", help, false));
     let help = "Audit the replies before they are printed";
-    with_argument(command, flag(alloc, "audit", help))
+    let command = with_argument(command, flag(alloc, "audit", help));
+    let help = "Print batches alone: `otlp-json` or `otlp-bytes`";
+    let command = with_argument(command, text(alloc, "as", "FORM", help));
+    let help = "An attribute of what produces them, as often as wanted";
+    with_argument(command, texts(alloc, "resource", "KEY=VALUE", help))
 }
 
 fn draw<'a>(alloc: Global) -> Result<Command<'a>, AllocError>

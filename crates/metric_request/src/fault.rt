@@ -7,6 +7,27 @@ use clap::Error;
 use clap::error::ErrorKind;
 use std::alloc::{AllocError, Global};
 
+/// What an option does not take.
+#[derive(Clone, Copy, Debug, PartialEq, Eq, Drop)]
+pub enum Misuse {
+    /// `--deny` was given something else than `remarks`.
+    Deny,
+    /// `--as` was given no form that there is.
+    Form,
+    /// `--audit` stands beside `--as`, which prints no replies that were audited.
+    Audit,
+    /// `--resource` stands without `--as`.
+    Resource,
+    /// A word of `--resource` has no `=`.
+    NoEquals,
+    /// There are more attributes than a resource has.
+    TooMany,
+    /// The key of an attribute is empty.
+    EmptyKey,
+    /// Two attributes have one key.
+    RepeatedKey,
+}
+
 /// Why a command line asks for no command.
 #[derive(Debug, Drop)]
 pub enum LineFault {
@@ -16,8 +37,8 @@ pub enum LineFault {
     Usage(String),
     /// The words name no command.
     Nothing,
-    /// `--deny` was given something else than `remarks`.
-    Deny,
+    /// The words are a command line, and an option was given what it does not take.
+    Misused(Misuse),
     /// Memory was refused.
     Memory,
 }

@@ -2,11 +2,12 @@
 #![tactic(auto)]
 
 mod arguments;
+mod attributes;
 mod commands;
 mod fault;
 mod reading;
 mod request;
 
-pub use fault::LineFault;
+pub use fault::{LineFault, Misuse};
 pub use reading::request_of;
-pub use request::{Files, Options, Request, Task};
+pub use request::{Files, Form, Options, Request, Task};

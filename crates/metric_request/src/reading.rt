@@ -1,16 +1,19 @@
 //! The reading of a command line.
-ghost use Rattle.std.specs.Prelude.{◌≡◌, [], IfErr, IfOk, IsSomeAnd, OnOk, Some, false, map, true};
+ghost use Rattle.std.specs.Prelude.{◌≡◌, [], IfErr, IfOk, IsOk, IsSomeAnd, Ok, OnOk, Some, is_some, map, true};
 ghost use Rattle.clap.specs.Words.{fault_of, first_of, found_of, rows_of, subcommand_of, subcommand_rows_of, takes};
 ghost use Rattle.metric_request.specs.Apps.{program_app};
-ghost use Rattle.metric_request.specs.Faults.{IsAllowed, IsNoRequest, IsNotAsked, IsOwn};
+ghost use Rattle.metric_request.specs.Attributes.{resource_in};
+ghost use Rattle.metric_request.specs.Faults.{IsAllowed, IsMisuse, IsNoRequest, IsNotAsked, IsOwn};
 ghost use Rattle.metric_request.specs.Numbers.{number_in, number_of};
-ghost use Rattle.metric_request.specs.Requests.{certificate_in, denies_else, files_in, has_word, options_in, request_in, script_in, task_of, text_in};
+ghost use Rattle.metric_request.specs.Requests.{certificate_in, denies_else, files_in, form_in, form_of, forms_else, has_word, options_in, request_in, resource_asked, resource_words, script_in, task_of, text_in};
 
+use crate::attributes::resource_of;
 use crate::commands::program;
-use crate::fault::{LineFault, fault_of};
-use crate::request::{Files, Options, Request, Task};
+use crate::fault::{LineFault, Misuse, fault_of};
+use crate::request::{Files, Form, Options, Request, Task};
 use clap::ArgMatches;
 use metric_base::Text;
+use metric_resource::Resource;
 use std::alloc::{AllocError, Global};
 
 /// What the words of a command line ask for. The first word is the program's name, whatever it is.
@@ -19,7 +22,7 @@ use std::alloc::{AllocError, Global};
 ///
 /// [`LineFault::Told`] for a call for help or for the version, with the text; [`LineFault::Usage`] where clap refuses
 /// the words for another cause, with its text; [`LineFault::Nothing`] where they name no command;
-/// [`LineFault::Deny`] where `--deny` is given another word than `remarks`; and [`LineFault::Memory`].
+/// [`LineFault::Misused`] where an option is given what it does not take; and [`LineFault::Memory`].
 pub fn request_of<'a>(alloc: Global, words: &'a [&'a str]) -> Result<Request, LineFault>
     ensures answers { IfOk result (λ request. IsSomeAnd
         (subcommand_of program_app (map (λ w. w.now) words.entry.now))
@@ -63,19 +66,93 @@ fn named_request(
 ) -> Result<Request, LineFault>
     ensures answers { IfOk result (λ request.
         request ≡ request_in (command.now, rows_of (found_of arguments.now))) }
-    ensures allowed { OnOk result (denies_else (rows_of (found_of arguments.now)) ≡ false) }
+    ensures allowed { OnOk result (IsOk (resource_asked (rows_of (found_of arguments.now)))) }
     ensures refused { IfErr result (λ fault.
         IsNotAsked fault (Some (command.now, rows_of (found_of arguments.now)))) }
 {
-    if denies_else(arguments) {
-        return Err(LineFault::Deny);
-    }
+    let resource = resource_asked(alloc, arguments)?;
     let files = files_of(alloc, arguments)?;
     Ok(Request {
         task: task_of(command),
         files,
         options: options_of(arguments),
+        resource,
     })
+}
+
+// The resource that is asked for, or the first misuse of an option.
+#[tactic(auto, unfolding(crate::specs::Requests::resource_asked))]
+fn resource_asked(alloc: Global, arguments: &ArgMatches<'_>) -> Result<Resource, LineFault>
+    ensures given { IfOk result (λ resource.
+        resource_asked (rows_of (found_of arguments.now)) ≡ Ok resource) }
+    ensures refused { IfErr result (λ fault.
+        IsMisuse fault (resource_asked (rows_of (found_of arguments.now)))) }
+{
+    let has_form = has_text(arguments, "as");
+    if denies_else(arguments) {
+        return Err(LineFault::Misused(Misuse::Deny));
+    }
+    if forms_else(arguments) {
+        return Err(LineFault::Misused(Misuse::Form));
+    }
+    if has_form && has_word(arguments, "audit", "true") {
+        return Err(LineFault::Misused(Misuse::Audit));
+    }
+    if !has_form && has_text(arguments, "resource") {
+        return Err(LineFault::Misused(Misuse::Resource));
+    }
+    resource_given(alloc, arguments)
+}
+
+// The resource that the words of all uses of `--resource` give.
+fn resource_given(alloc: Global, arguments: &ArgMatches<'_>) -> Result<Resource, LineFault>
+    ensures given { IfOk result (λ resource.
+        resource_in (resource_words (rows_of (found_of arguments.now))) ≡ Ok resource) }
+    ensures refused { IfErr result (λ fault.
+        IsMisuse fault (resource_in (resource_words (rows_of (found_of arguments.now))))) }
+{
+    match arguments.get_strs("resource") {
+        Some(words) => resource_of(alloc, words),
+        None => resource_of(alloc, &[]),
+    }
+}
+
+// Whether an argument was given.
+fn has_text(arguments: &ArgMatches<'_>, id: &str) -> bool
+    ensures { result ≡ is_some (first_of id.now (rows_of (found_of arguments.now))) }
+{
+    arguments.get_str(id).is_some()
+}
+
+// The form that a replay has.
+fn form_in(arguments: &ArgMatches<'_>) -> Form
+    ensures { result ≡ form_in (rows_of (found_of arguments.now)) }
+{
+    match arguments.get_str("as") {
+        Some(word) => form_of(word).unwrap_or(Form::Replies),
+        None => Form::Replies,
+    }
+}
+
+// The form that a word names.
+fn form_of(word: &str) -> Option<Form>
+    ensures { result ≡ form_of word.now }
+{
+    match word {
+        "otlp-json" => Some(Form::OtlpLines),
+        "otlp-bytes" => Some(Form::OtlpBytes),
+        _ => None,
+    }
+}
+
+// Whether `--as` was given a word that names no form.
+fn forms_else(arguments: &ArgMatches<'_>) -> bool
+    ensures { result ≡ forms_else (rows_of (found_of arguments.now)) }
+{
+    match arguments.get_str("as") {
+        Some(word) => form_of(word).is_none(),
+        None => false,
+    }
 }
 
 // The command by its name.
@@ -136,6 +213,7 @@ fn options_of(arguments: &ArgMatches<'_>) -> Options
         strict: has_word(arguments, "deny", "remarks"),
         json: has_word(arguments, "json", "true"),
         audit: has_word(arguments, "audit", "true"),
+        form: form_in(arguments),
         width: number_of(arguments, "width"),
         rate: number_of(arguments, "rate"),
         instances: number_of(arguments, "instances"),

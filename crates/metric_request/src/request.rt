@@ -1,5 +1,6 @@
 //! What a command line asks for.
 use metric_base::Text;
+use metric_resource::Resource;
 
 /// A command of the program.
 #[derive(Clone, Copy, Debug, PartialEq, Eq)]
@@ -35,6 +36,17 @@ pub struct Files {
     pub output: Option<Text>,
 }
 
+/// What a replay prints.
+#[derive(Clone, Copy, Debug, PartialEq, Eq)]
+pub enum Form {
+    /// Each reply, as a line.
+    Replies,
+    /// Each batch as a line of OTLP/JSON.
+    OtlpLines,
+    /// Each batch as the bytes of an OTLP request.
+    OtlpBytes,
+}
+
 /// How a command is done. What does not belong to the command is off, or zero.
 #[derive(Clone, Copy, Debug, PartialEq, Eq)]
 pub struct Options {
@@ -44,6 +56,8 @@ pub struct Options {
     pub json: bool,
     /// Whether the replies are audited before they are printed.
     pub audit: bool,
+    /// What a replay prints.
+    pub form: Form,
     /// How wide a table may be, in columns: 0 where it is not said.
     pub width: u32,
     /// How many recordings a second a process makes on an instrument.
@@ -53,7 +67,7 @@ pub struct Options {
 }
 
 /// What a command line asks for.
-#[derive(Debug, Drop)]
+#[derive(Drop)]
 pub struct Request {
     /// The command.
     pub task: Task,
@@ -61,4 +75,6 @@ pub struct Request {
     pub files: Files,
     /// How it is done.
     pub options: Options,
+    /// The attributes of what produces the batches that a replay prints.
+    pub resource: Resource,
 }

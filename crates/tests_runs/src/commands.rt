@@ -11,7 +11,8 @@ use crate::inputs::{
 };
 use metric_audit::AuditFault;
 use metric_command::{Line, LineFault};
-use metric_commands::{KitFault, run_line};
+use metric_commands::{KitFault, replay_encoded, run_line};
+use metric_export::Plain;
 use metric_io::{CutSink, CutSource};
 use metric_provider::FinishFault;
 use std::alloc::Global;
@@ -619,5 +620,38 @@ fn words_without_a_command_are_told(rt: HostRuntime) {
     ] {
         let told = told_without(&rt, rt.alloc(), fault);
         assert_equal(&rt, told.as_str(), wanted);
+    }
+}
+
+// What a trial writes of its batches alone, in the project's own text.
+fn batches_alone<R: Abort>(rt: &R, alloc: Global, parts: Parts) -> String {
+    let input = parts.concat(alloc).or_fail(rt);
+    let mut source = CutSource::new(input.as_bytes(), None);
+    let mut sink = CutSink::new(alloc, None);
+    replay_encoded(alloc, true, &Plain, &mut source, &mut sink).or_fail(rt);
+    String::from_str(alloc, str::from_utf8(sink.taken()).or_fail(rt)).or_fail(rt)
+}
+
+// The lines of replies that are of no batch.
+const OTHERS: [&str; 4] = ["accepted", "closed", "granted", "refused"];
+
+// The lines of batches among those of replies.
+fn batches_in<R: Abort>(rt: &R, alloc: Global, replies: &str) -> String {
+    let mut batches = String::new(alloc);
+    for line in replies.lines() {
+        if !OTHERS.iter().any(|other| line.starts_with(*other)) {
+            batches.push_str(line).or_fail(rt);
+            batches.push('\n').or_fail(rt);
+        }
+    }
+    batches
+}
+
+#[test]
+fn batches_are_written_alone_in_an_encoding(rt: HostRuntime) {
+    for (parts, wanted) in RUNS {
+        let told = batches_alone(&rt, rt.alloc(), parts);
+        let batches = batches_in(&rt, rt.alloc(), wanted);
+        assert_equal(&rt, told.as_str(), batches.as_str());
     }
 }

@@ -16,7 +16,7 @@ returns-in_err-answer g c =
 
 pub returns : goal.returns
 returns g c =
-    answered _ _ _ _ c.write_answer.result c.in_ok-input.input.items c.deref.result.now (g.C.Command.text c.in_ok-answer.answer)
+    answered _ _ _ _ c.write_answer.result c.in_ok-input.input.items c.deref.result.now (g.C.Command.text c.args.command.now c.in_ok-answer.answer)
     c.in_ok-input.ensures.bytes c.deref.ensures.value
     (g.met.C.Command.answered c.args.command.now c.deref.result.now _ c.in_ok-answer.answer c.in_ok-answer.ensures.ok.is_read c.in_ok-answer.ensures.ok.is_answer)
     c.write_answer.ensures.ok c.write_answer.ensures.prefix c.write_answer.ensures.broken

@@ -1,6 +1,6 @@
 -- a close and a grant are told by what is written for them
 use Rattle.std.proofs.Common.{rules}
-use Rattle.metric_commands.proofs.replies.UnderPlanPartWriterReply.write_part.Goals as goal
+use Rattle.metric_commands.proofs.forms.PrintedReplyForm.write_reply.Goals as goal
 
 pub returns-in-Done-clause-ok : goal.returns-in-Done-clause-ok
 returns-in-Done-clause-ok g c = search rules
