@@ -18,7 +18,7 @@ mod unsafe_part;
 pub use explanation::{Explanation, Mistake, explain_refusal};
 pub use headroom::{Headroom, headrooms, sets_of};
 pub use limit::Limit;
-pub use linting::lint;
+pub use linting::{lint, remark_of};
 pub use position::{Position, locate_in_catalogue, locate_in_config};
 pub use remark::{KeyList, Remark};
 pub use unsafe_part::{UnsafePart, explain_unsafe};

@@ -54,7 +54,8 @@ fn warning_remarks(alloc: Global, warnings: &[Warning]) -> Result<Items<Remark>,
     Ok(remarks)
 }
 
-fn remark_of(warning: Warning) -> Remark
+/// The remark that a warning is.
+pub fn remark_of(warning: Warning) -> Remark
     ensures { result ≡ remark_of warning }
 {
     match warning {

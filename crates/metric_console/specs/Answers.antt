@@ -7,6 +7,7 @@ use Rattle.metric_views.specs.declared.config.Setup.{Setup}
 use Rattle.metric_plan.specs.Plans.{PlanValue}
 use Rattle.metric_resolve.specs.Applying.{all_instruments}
 use Rattle.metric_resolve.specs.Resolved.{streams_of}
+use Rattle.metric_resolve.specs.Warnings.{warnings_of}
 use Rattle.metric_bounds.specs.Amounts.{total_of}
 use Rattle.metric_advice.specs.Headrooms.{IsHeadroom}
 use Rattle.metric_advice.specs.Remarks.{AreRemarks}
@@ -23,10 +24,14 @@ use Rattle.metric_console.specs.declared.notes.Notes.{Notes}
 use Rattle.metric_console.specs.declared.answer.Answer.{Answer}
 use Rattle.metric_console.specs.declared.answer.Answer.TheVariants as answers
 
--- The streams that the parts give, with how often each instrument may be recorded.
+-- The streams that the parts give, with what is to be warned of, and how often each instrument may
+-- be recorded.
 pub record IsListing (parts : Parts) (listing : Listing) : Type 0 where
   pub declared : IsDeclared parts listing.declared.catalogue listing.declared.config
-  pub streams : listing.streams ≡ streams_of listing.declared.catalogue listing.declared.config
+  pub streams : listing.streams.list
+      ≡ streams_of listing.declared.catalogue listing.declared.config
+  pub warnings : listing.streams.warnings
+      ≡ warnings_of listing.declared.catalogue listing.declared.config
   pub totals : listing.totals ≡ map (total_of listing.declared.catalogue)
       (all_instruments listing.declared.catalogue)
 

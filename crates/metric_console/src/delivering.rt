@@ -180,7 +180,14 @@ fn print_notes<W: Sink>(
 {
     for remark in notes.remarks.as_slice() {
         let mut note = String::new(alloc);
-        match push_note(alloc, &mut note, &request.files, texts, notes, *remark) {
+        match push_note(
+            alloc,
+            &mut note,
+            &request.files,
+            texts,
+            &notes.declared,
+            *remark,
+        ) {
             Ok(()) => print(sink, note.as_str())?,
             Err(_) => return Err(KitFault::Memory),
         }

@@ -11,6 +11,7 @@ mod fault;
 mod fleet;
 mod folder;
 mod listing;
+mod marks;
 mod notes;
 mod parts;
 mod program;

@@ -3,17 +3,17 @@ ghost use Rattle.std.specs.Prelude.{IfErr, IfOk};
 ghost use Rattle.metric_commands.specs.Declarations.{IsDeclaredFault};
 ghost use Rattle.metric_console.specs.Answers.{IsListing};
 
+use crate::marks::{Marks, mark_cell, marks_of};
 use crate::rows::stream_row;
 use metric_base::Items;
 use metric_bounds::totals;
 use metric_commands::{Declared, KitFault, declared_of};
 use metric_parts::Parts;
-use metric_resolve::{StreamList, resolve_streams};
+use metric_resolve::{Streams, resolve};
 use metric_sheet::{Cell, Sheet};
-use metric_views::Stream;
 use std::alloc::{AllocError, Global};
 
-static TITLES: [&str; 12] = [
+static TITLES: [&str; 14] = [
     "number",
     "reader",
     "instrument",
@@ -26,13 +26,16 @@ static TITLES: [&str; 12] = [
     "limit",
     "within",
     "bytes",
+    "clash",
+    "unfit",
 ];
 
-/// The streams of a config, with how often each instrument may be recorded.
+/// The streams of a config, with what is to be warned of, and how often each instrument may be recorded.
 pub(crate) struct Listing {
     pub declared: Declared,
-    pub streams: StreamList,
+    pub streams: Streams,
     pub totals: Items<u128>,
+    pub marks: Marks,
 }
 
 impl Drop for Listing {
@@ -41,6 +44,7 @@ impl Drop for Listing {
             declared: _declared,
             streams: _streams,
             totals: _totals,
+            marks: _marks,
         } = self;
     }
 }
@@ -51,12 +55,19 @@ pub(crate) fn listing_of(alloc: Global, parts: &Parts<'_>) -> Result<Listing, Ki
     ensures first { IfErr result (λ fault. IsDeclaredFault fault parts.now) }
 {
     let declared = declared_of(alloc, parts)?;
-    let streams = resolve_streams(alloc, &declared.catalogue, &declared.config)?;
+    let streams = resolve(alloc, &declared.catalogue, &declared.config)?;
     let totals = totals(alloc, &declared.catalogue)?;
+    let marks = marks_of(
+        alloc,
+        streams.list().len(),
+        totals.len(),
+        streams.warnings(),
+    )?;
     Ok(Listing {
         declared,
         streams,
         totals,
+        marks,
     })
 }
 
@@ -66,18 +77,18 @@ impl Sheet for Listing {
     }
 
     fn rows(&self) -> usize {
-        self.streams.len()
+        self.streams.list().len()
     }
 
     fn row(&self, alloc: Global, number: usize) -> Result<Vec<Cell>, AllocError> {
-        match self.streams.as_slice().get(number) {
-            Some(stream) => stream_row(
-                alloc,
-                &self.declared,
-                self.totals.as_slice(),
-                number,
-                stream,
-            ),
+        match self.streams.list().get(number) {
+            Some(stream) => {
+                let totals = self.totals.as_slice();
+                let mut row = stream_row(alloc, &self.declared, totals, number, stream)?;
+                row.push(mark_cell(self.marks.clash_of(number)))?;
+                row.push(mark_cell(self.marks.unfit_of(stream.instrument)))?;
+                Ok(row)
+            }
             None => Ok(Vec::new(alloc)),
         }
     }

@@ -11,7 +11,7 @@ use crate::fault::{ConsoleFault, Role};
 use crate::folder::{Folder, Unread};
 use crate::parts::{Texts, texts_of};
 use crate::replaying::{has_header, input_of, replay_in_form};
-use crate::telling::{stop, tell_line};
+use crate::telling::{stop, tell_line, warn};
 use metric_io::Sink;
 use metric_parts::Parts;
 use metric_request::{LineFault, Request, Task};
@@ -59,20 +59,21 @@ fn run_files<F: Folder, W: Sink, E: Sink>(
         Ok(texts) => texts,
         Err(fault) => return stop(alloc, request, None, fault, errors),
     };
-    match run_texts(alloc, request, &texts, columns, folder, sink) {
+    match run_texts(alloc, request, &texts, columns, folder, sink, errors) {
         Ok(status) => status,
         Err(fault) => stop(alloc, request, Some(&texts), fault, errors),
     }
 }
 
 // Runs a command on the texts of its files. The exit status.
-fn run_texts<F: Folder, W: Sink>(
+fn run_texts<F: Folder, W: Sink, E: Sink>(
     alloc: Global,
     request: &Request,
     texts: &Texts,
     columns: u32,
     folder: &mut F,
     sink: &mut W,
+    errors: &mut E,
 ) -> Result<u8, ConsoleFault>
     ensures { RunsTexts request.now texts.now
         (writing F.made W.contents folder.old folder.new sink.old sink.new)
@@ -81,19 +82,20 @@ fn run_texts<F: Folder, W: Sink>(
     if request.task == Task::Replay {
         run_replay(alloc, request, texts, sink)
     } else {
-        run_answer(alloc, request, texts, columns, folder, sink)
+        run_answer(alloc, request, texts, columns, folder, sink, errors)
     }
 }
 
-// Answers of the texts what a request asks for, and writes the answer. The exit status.
+// Answers of the texts what a request asks for, writes the answer, and tells what is to be warned of. The exit status.
 #[tactic(auto, using(crate::proofs::Devices::device_is_not_refused))]
-fn run_answer<F: Folder, W: Sink>(
+fn run_answer<F: Folder, W: Sink, E: Sink>(
     alloc: Global,
     request: &Request,
     texts: &Texts,
     columns: u32,
     folder: &mut F,
     sink: &mut W,
+    errors: &mut E,
 ) -> Result<u8, ConsoleFault>
     requires { request.now.task ≢ Task.Replay }
     ensures ok { IfOk result (Answers request.now texts.now.parts
@@ -108,6 +110,7 @@ fn run_answer<F: Folder, W: Sink>(
     }
     let answer = answer_of(alloc, task, &texts.parts)?;
     let status = deliver(alloc, request, texts, &answer, columns, folder, sink)?;
+    warn(alloc, request, texts, &answer, errors);
     Ok(status)
 }
 

@@ -3,13 +3,14 @@ ghost use Rattle.std.specs.Prelude.{◌≡◌};
 ghost use Rattle.metric_console.specs.Faults.{status_of};
 ghost use Rattle.metric_console.specs.Told.{IsLineEnd};
 
+use crate::answer::Answer;
 use crate::delivering::print;
 use crate::fault::{ConsoleFault, Role};
 use crate::folder::Unread;
-use crate::notes::Notes;
+use crate::listing::Listing;
 use crate::parts::Texts;
 use crate::replaying::lines_before;
-use metric_advice::Remark;
+use metric_advice::{Remark, remark_of};
 use metric_base::Text;
 use metric_commands::{Declared, KitFault, declared_of};
 use metric_diagnosis::{
@@ -25,6 +26,9 @@ use std::alloc::{AllocError, Global};
 const USAGE: u8 = 2;
 
 const UNWRITTEN: u8 = 5;
+
+// So many warnings are told, since the place of each is looked for in the texts.
+const MOST_WARNINGS: usize = 100;
 
 /// Tells why a command line asks for nothing, and gives the exit status. Help and the version go to `sink`, and are done.
 pub(crate) fn tell_line<W: Sink, E: Sink>(fault: LineFault, sink: &mut W, errors: &mut E) -> u8
@@ -82,6 +86,43 @@ pub(crate) fn stop<E: Sink>(
         Err(_) => print(errors, "memory was refused\n"),
     };
     fault.status()
+}
+
+/// Tells what is to be warned of beside an answer that is written, whatever becomes of the telling.
+pub(crate) fn warn<E: Sink>(
+    alloc: Global,
+    request: &Request,
+    texts: &Texts,
+    answer: &Answer,
+    errors: &mut E,
+) {
+    let _told = match answer {
+        Answer::Streams(listing) => match warnings_of(alloc, &request.files, texts, listing) {
+            Ok(text) => print(errors, text.as_str()),
+            Err(_) => print(errors, "memory was refused\n"),
+        },
+        _ => Ok(()),
+    };
+}
+
+// What is told of the first warnings of a listing, and how many more there are.
+fn warnings_of(
+    alloc: Global,
+    files: &Files,
+    texts: &Texts,
+    listing: &Listing,
+) -> Result<String, AllocError> {
+    let mut told = String::new(alloc);
+    let warnings = listing.streams.warnings();
+    for warning in warnings.iter().take(MOST_WARNINGS) {
+        let remark = remark_of(*warning);
+        push_note(alloc, &mut told, files, texts, &listing.declared, remark)?;
+    }
+    if warnings.len() > MOST_WARNINGS {
+        let more = warnings.len() - MOST_WARNINGS;
+        write!(told, "and {more} more warnings\n")?;
+    }
+    Ok(told)
 }
 
 // A fault for people, with its file and its place.
@@ -246,10 +287,10 @@ pub(crate) fn push_note(
     note: &mut String,
     files: &Files,
     texts: &Texts,
-    notes: &Notes,
+    declared: &Declared,
     remark: Remark,
 ) -> Result<(), AllocError> {
-    let pair = pair_of(files, texts, &notes.declared);
+    let pair = pair_of(files, texts, declared);
     let text = spelled(alloc, diagnose_remark(alloc, pair, remark))?;
     note.push_str(text.as_str())
 }
