@@ -1,9 +1,15 @@
 -- A fault of a device is no refusal.
+use Rattle.std.proofs.Common.{ℕ, Bool, List, Option}
 use Rattle.metric_commands.specs.declared.fault.KitFault.{KitFault}
 use Rattle.metric_commands.specs.declared.fault.KitFault.TheVariants.{Read, Input, Catalogue, Config, Certificate, Check, Make, Audit, Finish, Write, Memory}
-use Rattle.metric_console.specs.Faults.{IsDeviceFault, IsRefused}
+use Rattle.metric_request.specs.declared.request.Files.{Files}
+use Rattle.metric_console.specs.Faults.{IsDeliveryFault, IsDeviceFault, IsRefusal, IsRefused, IsUnread}
+use Rattle.metric_console.specs.Runs.{IsUnstarted}
+use Rattle.metric_console.specs.declared.fault.ConsoleFault.{ConsoleFault}
+use Rattle.metric_console.specs.declared.fault.ConsoleFault.TheVariants.{Kit, Header, Overwrites}
+use Rattle.metric_console.specs.declared.fault.ConsoleFault.TheVariants as faults
 
-pub device_is_not_refused : (fault : KitFault) → IsDeviceFault fault → IsRefused fault → ⊥
+device_is_not_refused : (fault : KitFault) → IsDeviceFault fault → IsRefused fault → ⊥
 device_is_not_refused Read device refused = device
 device_is_not_refused (Input line) device refused = device
 device_is_not_refused (Catalogue fault) device refused = device
@@ -15,3 +21,19 @@ device_is_not_refused (Audit fault) device refused = device
 device_is_not_refused (Finish fault) device refused = device
 device_is_not_refused Write device refused = refused
 device_is_not_refused Memory device refused = refused
+
+-- nor is one of what an answer is written to
+pub delivery_is_no_refusal : (fault : ConsoleFault) → IsDeliveryFault fault → IsRefusal fault → ⊥
+delivery_is_no_refusal (faults.Unread role cause) delivery refused = delivery
+delivery_is_no_refusal (Overwrites role) delivery refused = delivery
+delivery_is_no_refusal (faults.Unwritten cause) delivery refused = refused
+delivery_is_no_refusal (Header role) delivery refused = delivery
+delivery_is_no_refusal (Kit fault) delivery refused = device_is_not_refused fault delivery refused
+
+-- a file that cannot be read does not let a command start
+pub unread_is_unstarted : (same : List ℕ → List ℕ → Option Bool) (files : Files) (fault : ConsoleFault) → IsUnread fault → IsUnstarted same files fault
+unread_is_unstarted same files (faults.Unread role cause) unread = tt
+unread_is_unstarted same files (Overwrites role) unread = absurd unread
+unread_is_unstarted same files (faults.Unwritten cause) unread = unread
+unread_is_unstarted same files (Header role) unread = unread
+unread_is_unstarted same files (Kit fault) unread = unread

@@ -27,6 +27,14 @@ IsDeliveredAnswer output answers.Accepted made made_after contents contents_afte
     IsDelivered None (codes "accepted\n") made made_after contents contents_after
 IsDeliveredAnswer output answer made made_after contents contents_after = made_after ≡ made
 
+-- What is told of an accepted certificate is written whole and once, and so is a text.
+abbrev pub IsPrinted : Answer → Option (List ℕ) → Option (List ℕ) → Type 0
+IsPrinted (answers.Certificate text) contents contents_after = Appends contents contents_after text
+IsPrinted (answers.Picture text) contents contents_after = Appends contents contents_after text
+IsPrinted answers.Accepted contents contents_after =
+    Appends contents contents_after (codes "accepted\n")
+IsPrinted answer contents contents_after = Unit {0}
+
 -- 1 where there are remarks and they are errors, else 0
 abbrev pub answer_status : Bool → Answer → ℕ
 answer_status strict (answers.Notes notes) =

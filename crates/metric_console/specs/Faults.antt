@@ -6,7 +6,7 @@ use Rattle.metric_commands.specs.declared.fault.KitFault.TheVariants as kit
 use Rattle.metric_console.specs.declared.folder.Unread.{Unread}
 use Rattle.metric_console.specs.declared.folder.Unread.TheVariants as unread
 use Rattle.metric_console.specs.declared.fault.ConsoleFault.{ConsoleFault}
-use Rattle.metric_console.specs.declared.fault.ConsoleFault.TheVariants.{Kit, Header}
+use Rattle.metric_console.specs.declared.fault.ConsoleFault.TheVariants.{Kit, Header, Overwrites}
 use Rattle.metric_console.specs.declared.fault.ConsoleFault.TheVariants as faults
 
 -- 4 without memory, else 3
@@ -17,19 +17,28 @@ unread_status _ = 3
 -- The status of a fault of `metric_kit` is that of `metric_kit`.
 abbrev pub status_of : ConsoleFault → ℕ
 status_of (faults.Unread role cause) = unread_status cause
+status_of (Overwrites role) = 2
+status_of (faults.Unwritten cause) = 5
 status_of (Header role) = 3
 status_of (Kit fault) = kit_status fault
 
 abbrev pub IsUnread : ConsoleFault → Type 0
 IsUnread (faults.Unread role cause) = Unit {0}
-IsUnread (Header role) = ⊥
-IsUnread (Kit fault) = ⊥
+IsUnread _ = ⊥
 
 -- The sink failed, or memory was refused.
 abbrev pub IsDeviceFault : KitFault → Type 0
 IsDeviceFault kit.Write = Unit {0}
 IsDeviceFault kit.Memory = Unit {0}
 IsDeviceFault _ = ⊥
+
+-- The sink failed, the file was not made, or memory was refused.
+abbrev pub IsDeliveryFault : ConsoleFault → Type 0
+IsDeliveryFault (faults.Unread role cause) = ⊥
+IsDeliveryFault (Overwrites role) = ⊥
+IsDeliveryFault (faults.Unwritten cause) = Unit {0}
+IsDeliveryFault (Header role) = ⊥
+IsDeliveryFault (Kit fault) = IsDeviceFault fault
 
 -- The fault is not of a device: what was asked for is refused.
 abbrev pub IsRefused : KitFault → Type 0
@@ -39,5 +48,7 @@ IsRefused _ = Unit {0}
 
 abbrev pub IsRefusal : ConsoleFault → Type 0
 IsRefusal (faults.Unread role cause) = Unit {0}
+IsRefusal (Overwrites role) = Unit {0}
+IsRefusal (faults.Unwritten cause) = ⊥
 IsRefusal (Header role) = Unit {0}
 IsRefusal (Kit fault) = IsRefused fault

@@ -1,7 +1,8 @@
 -- What running a request does.
-use Rattle.std.specs.Prelude.{◌≡◌, ◌≢◌, ◌⊎◌, ℕ, not, List, Option, Some, None, Result, Ok}
-use Rattle.std.specs.Prelude.{Err, IfErr, IfOk, IsErr, IsErrAnd, is_some}
+use Rattle.std.specs.Prelude.{◌≡◌, ◌≢◌, ◌⊎◌, ℕ, Bool, true, not, List, Option, Some, None, Result, Ok}
+use Rattle.std.specs.Prelude.{Err, IfErr, IfOk, IfSome, IsErr, IsErrAnd, IsSomeAnd, OnErr, is_some}
 use Rattle.metric_parts.specs.declared.parts.Parts.{Parts}
+use Rattle.metric_request.specs.declared.request.Files.{Files}
 use Rattle.metric_request.specs.declared.request.Request.{Request}
 use Rattle.metric_request.specs.declared.request.Task.{Task}
 use Rattle.metric_request.specs.declared.request.Task.TheVariants.{Replay}
@@ -10,13 +11,16 @@ use Rattle.metric_commands.specs.declared.fault.KitFault.{KitFault}
 use Rattle.metric_commands.specs.declared.fault.KitFault.TheVariants.{Memory}
 use Rattle.metric_console.specs.Answers.{IsAnswer, IsAnswerFault}
 use Rattle.metric_console.specs.Delivered.{IsDeliveredAnswer, answer_status}
-use Rattle.metric_console.specs.Faults.{IsDeviceFault, IsRefusal, IsUnread, status_of}
+use Rattle.metric_console.specs.Faults.{IsDeviceFault, IsRefusal, status_of}
 use Rattle.metric_console.specs.Folders.{MadeFile}
 use Rattle.metric_console.specs.Inputs.{IsReplayIn, input_of}
 use Rattle.metric_console.specs.Readings.{AreTexts}
 use Rattle.metric_console.specs.declared.answer.Answer.{Answer}
 use Rattle.metric_console.specs.declared.fault.ConsoleFault.{ConsoleFault}
 use Rattle.metric_console.specs.declared.fault.ConsoleFault.TheVariants.{Unread, Header, Kit}
+use Rattle.metric_console.specs.declared.fault.ConsoleFault.TheVariants.{Overwrites, Unwritten}
+use Rattle.metric_console.specs.declared.fault.Role.{Role}
+use Rattle.metric_console.specs.declared.fault.Role.TheVariants.{Catalogue}
 use Rattle.metric_console.specs.declared.parts.Texts.{Texts}
 
 -- The files that a folder has made, and the bytes that a sink holds, before and after.
@@ -49,6 +53,8 @@ pub record Answers (request : Request) (parts : Parts) (writing : Writing) (stat
 -- certificate is not there to be checked.
 abbrev pub RefusesFor : Task → Parts → ConsoleFault → Type 0
 RefusesFor task parts (Unread role cause) = parts.certificate ≡ None
+RefusesFor task parts (Overwrites role) = ⊥
+RefusesFor task parts (Unwritten cause) = Unit {0}
 RefusesFor task parts (Header role) = ⊥
 RefusesFor task parts (Kit fault) = IsDeviceFault fault ⊎ IsAnswerFault task fault parts
 
@@ -68,7 +74,7 @@ ReplaysScript request parts script sink (Err (Kit fault)) =
     ⊎ IsReplayed request parts script sink (Err fault)
 ReplaysScript request parts script sink (Err (Header role)) =
     sink.contents_after ≡ sink.contents
-ReplaysScript request parts script sink (Err (Unread role cause)) = ⊥
+ReplaysScript request parts script sink (Err _) = ⊥
 
 -- Nothing is written where there is no script.
 abbrev pub ReplaysText : Request → Parts → Option (List ℕ) → SinkRun → Result ℕ ConsoleFault
@@ -92,6 +98,7 @@ pub record RunsAnswer (request : Request) (parts : Parts) (writing : Writing)
   pub ok : IfOk end (Answers request parts writing)
   pub first : IfErr end (RefusesFor request.task parts)
   pub untouched : IfErr end (λ fault. IsRefusal fault → IsUntouched writing)
+  pub unmade : OnErr end (writing.made_after ≡ writing.made)
 
 -- A replay is run, and each other command answered.
 pub record RunsTexts (request : Request) (texts : Texts) (writing : Writing) (sink : SinkRun)
@@ -107,12 +114,42 @@ pub record RunsRead (held : List ℕ → Option (List ℕ)) (request : Request) 
   pub are_texts : AreTexts held request.files texts
   pub runs : RunsTexts request texts writing sink end
 
--- A file is not read, and nothing is made or written; or the command
--- runs on the texts of the files.
-abbrev pub RunsFiles : (List ℕ → Option (List ℕ)) → Request → Writing → SinkRun
-    → Result ℕ ConsoleFault → Type 0
-RunsFiles held request writing sink end =
-    (IsErrAnd end IsUnread × IsUntouched writing) ⊎ RunsRead held request writing sink end
+-- the path of a file that a command with an output reads
+abbrev pub input_path : Role → Files → List ℕ
+input_path Catalogue files = files.catalogue
+input_path _ files = files.config
+
+-- The output is that file, as far as the folder knows.
+abbrev pub IsOverwriting : (List ℕ → List ℕ → Option Bool) → Files → Role → Type 0
+IsOverwriting same files role = IsSomeAnd files.output
+    (λ path. IfSome (same path (input_path role files)) (λ known. known ≡ true))
+
+-- The path of the output is that of a file that is read.
+abbrev pub NamesInput : Files → Type 0
+NamesInput files =
+    IsSomeAnd files.output (λ path. (path ≡ files.catalogue) ⊎ (path ≡ files.config))
+
+-- The output is a file that is read, or a file cannot be read.
+abbrev pub IsUnstarted : (List ℕ → List ℕ → Option Bool) → Files → ConsoleFault → Type 0
+IsUnstarted same files (Overwrites role) = IsOverwriting same files role
+IsUnstarted same files (Unread role cause) = Unit {0}
+IsUnstarted same files _ = ⊥
+
+-- What a folder knows: the texts of files, and whether two paths lead to one.
+pub record Known : Type 0 where
+  pub held : List ℕ → Option (List ℕ)
+  pub same : List ℕ → List ℕ → Option Bool
+
+abbrev pub known_by : {F : Type 0} → (F → List ℕ → Option (List ℕ))
+    → (F → List ℕ → List ℕ → Option Bool) → F → Known
+known_by held same folder = record { held = held folder; same = same folder }
+
+-- The command does not start, and nothing is made or written; or it runs on the texts of the files,
+-- and the path of its output is that of none.
+abbrev pub RunsFiles : Known → Request → Writing → SinkRun → Result ℕ ConsoleFault → Type 0
+RunsFiles known request writing sink end =
+    (IsErrAnd end (IsUnstarted known.same request.files) × IsUntouched writing)
+    ⊎ ((NamesInput request.files → ⊥) × RunsRead known.held request writing sink end)
 
 -- the exit status of how a command ends
 abbrev pub exit_of : Result ℕ ConsoleFault → ℕ
@@ -120,8 +157,8 @@ exit_of (Ok status) = status
 exit_of (Err fault) = status_of fault
 
 -- A request is run, and its end is told by the exit status.
-pub record RunsRequest (held : List ℕ → Option (List ℕ)) (request : Request) (writing : Writing)
+pub record RunsRequest (known : Known) (request : Request) (writing : Writing)
     (sink : SinkRun) (status : ℕ) : Type 0 where
   pub end : Result ℕ ConsoleFault
-  pub runs : RunsFiles held request writing sink end
+  pub runs : RunsFiles known request writing sink end
   pub is_status : status ≡ exit_of end

@@ -1,11 +1,11 @@
 //! Answers written.
-ghost use Rattle.std.specs.Prelude.{◌≡◌, IfErr, IfOk, OnOk};
+ghost use Rattle.std.specs.Prelude.{◌≡◌, IfErr, IfOk, OnErr, OnOk};
 ghost use Rattle.std.specs.Io.KnownBytes.{Appends};
-ghost use Rattle.metric_console.specs.Delivered.{IsDelivered, IsDeliveredAnswer, answer_status};
-ghost use Rattle.metric_console.specs.Faults.{IsDeviceFault};
+ghost use Rattle.metric_console.specs.Delivered.{IsDelivered, IsDeliveredAnswer, IsPrinted, answer_status};
+ghost use Rattle.metric_console.specs.Faults.{IsDeliveryFault, IsDeviceFault};
 
 use crate::answer::Answer;
-use crate::fault::{of_device, of_sheet};
+use crate::fault::{ConsoleFault, of_device, of_sheet};
 use crate::folder::Folder;
 use crate::notes::Notes;
 use crate::parts::Texts;
@@ -27,7 +27,7 @@ const REMARKED: u8 = 1;
 ///
 /// # Errors
 ///
-/// [`KitFault::Write`] where the sink or the folder failed, and [`KitFault::Memory`].
+/// [`ConsoleFault::Unwritten`] where the folder failed, [`KitFault::Write`] where the sink did, and [`KitFault::Memory`].
 pub(crate) fn deliver<F: Folder, W: Sink>(
     alloc: Global,
     request: &Request,
@@ -36,12 +36,13 @@ pub(crate) fn deliver<F: Folder, W: Sink>(
     columns: u32,
     folder: &mut F,
     sink: &mut W,
-) -> Result<u8, KitFault>
+) -> Result<u8, ConsoleFault>
     ensures delivered { OnOk result (IsDeliveredAnswer request.now.files.output answer.now
         (F.made folder.old) (F.made folder.new) (W.contents sink.old) (W.contents sink.new)) }
     ensures status { IfOk result (λ status.
         status ≡ answer_status request.now.options.strict answer.now) }
-    ensures device { IfErr result IsDeviceFault }
+    ensures unmade { OnErr result (F.made folder.new ≡ F.made folder.old) }
+    ensures device { IfErr result IsDeliveryFault }
 {
     write_answer(alloc, request, texts, answer, columns, folder, sink)?;
     Ok(status_of(request.options.strict, answer))
@@ -56,18 +57,38 @@ fn write_answer<F: Folder, W: Sink>(
     columns: u32,
     folder: &mut F,
     sink: &mut W,
-) -> Result<(), KitFault>
+) -> Result<(), ConsoleFault>
     ensures delivered { OnOk result (IsDeliveredAnswer request.now.files.output answer.now
         (F.made folder.old) (F.made folder.new) (W.contents sink.old) (W.contents sink.new)) }
+    ensures unmade { OnErr result (F.made folder.new ≡ F.made folder.old) }
+    ensures device { IfErr result IsDeliveryFault }
+{
+    match answer {
+        Answer::Certificate(text) | Answer::Picture(text) => {
+            put(&request.files.output, text, folder, sink)
+        }
+        _ => Ok(print_answer(alloc, sink, request, texts, answer, columns)?),
+    }
+}
+
+// Writes an answer to the sink that no file is made of.
+fn print_answer<W: Sink>(
+    alloc: Global,
+    sink: &mut W,
+    request: &Request,
+    texts: &Texts,
+    answer: &Answer,
+    columns: u32,
+) -> Result<(), KitFault>
+    ensures accepted { OnOk result (IsPrinted answer.now (W.contents sink.old) (W.contents sink.new)) }
     ensures device { IfErr result IsDeviceFault }
 {
     match answer {
-        Answer::Certificate(text) => put(&request.files.output, text, folder, sink),
-        Answer::Picture(text) => put(&request.files.output, text, folder, sink),
         Answer::Accepted => print(sink, "accepted\n"),
         Answer::Streams(listing) => { print_sheet(alloc, sink, listing, request.options, columns) }
         Answer::Rooms(rooms) => print_rooms(alloc, sink, rooms, request.options, columns),
         Answer::Notes(notes) => print_notes(alloc, sink, request, texts, notes),
+        Answer::Certificate(text) | Answer::Picture(text) => print(sink, text.as_str()),
     }
 }
 
@@ -87,17 +108,18 @@ fn put<F: Folder, W: Sink>(
     text: &Text,
     folder: &mut F,
     sink: &mut W,
-) -> Result<(), KitFault>
+) -> Result<(), ConsoleFault>
     ensures delivered { OnOk result (IsDelivered path.now text.now
         (F.made folder.old) (F.made folder.new) (W.contents sink.old) (W.contents sink.new)) }
-    ensures device { IfErr result IsDeviceFault }
+    ensures unmade { OnErr result (F.made folder.new ≡ F.made folder.old) }
+    ensures device { IfErr result IsDeliveryFault }
 {
     match path {
         Some(path) => match folder.write(path.as_str(), text.as_str().as_bytes()) {
             Ok(()) => Ok(()),
-            Err(broken) => Err(of_device(broken)),
+            Err(cause) => Err(ConsoleFault::Unwritten { cause }),
         },
-        None => print(sink, text.as_str()),
+        None => Ok(print(sink, text.as_str())?),
     }
 }
 

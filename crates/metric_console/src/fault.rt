@@ -2,7 +2,7 @@
 ghost use Rattle.std.specs.Prelude.{◌≡◌};
 ghost use Rattle.metric_console.specs.Faults.{IsDeviceFault, status_of, unread_status};
 
-use crate::folder::Unread;
+use crate::folder::{Unread, Unwritten};
 use metric_commands::KitFault;
 use metric_io::Broken;
 use metric_sheet::SheetFault;
@@ -31,6 +31,16 @@ pub enum ConsoleFault {
         /// Why.
         cause: Unread,
     },
+    /// The file to write to is one that is read.
+    Overwrites {
+        /// Which.
+        role: Role,
+    },
+    /// The file to write to was not made.
+    Unwritten {
+        /// Why.
+        cause: Unwritten,
+    },
     /// A line of a file begins with `%% `, so that it cannot be a part of an input to replay.
     Header {
         /// Which file.
@@ -47,6 +57,8 @@ impl ConsoleFault {
     {
         match self {
             ConsoleFault::Unread { cause, .. } => unread_status(*cause),
+            ConsoleFault::Overwrites { .. } => 2,
+            ConsoleFault::Unwritten { .. } => 5,
             ConsoleFault::Header { .. } => 3,
             ConsoleFault::Kit(fault) => fault.status(),
         }
@@ -58,7 +70,12 @@ fn unread_status(cause: Unread) -> u8
 {
     match cause {
         Unread::Memory => 4,
-        Unread::Missing | Unread::Unreadable | Unread::NotText => 3,
+        Unread::Missing
+        | Unread::Directory
+        | Unread::Denied
+        | Unread::TooLong
+        | Unread::Unreadable
+        | Unread::NotText => 3,
     }
 }
 

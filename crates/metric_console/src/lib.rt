@@ -22,5 +22,5 @@ mod telling;
 mod time;
 
 pub use fault::ConsoleFault;
-pub use folder::{Folder, Unread};
+pub use folder::{Folder, Unread, Unwritten};
 pub use program::run_request;

@@ -1,8 +1,8 @@
 //! A request, run.
-ghost use Rattle.std.specs.Prelude.{◌≡◌, ◌≢◌, IfErr, IfOk, OnErr};
+ghost use Rattle.std.specs.Prelude.{◌≡◌, ◌≢◌, IfErr, IfOk, MatchOption, OnErr};
 ghost use Rattle.metric_console.specs.Faults.{IsRefusal};
 ghost use Rattle.metric_commands.specs.Commands.{sink_run};
-ghost use Rattle.metric_console.specs.Runs.{Answers, RefusesFor, Replays, RunsRequest, RunsTexts, writing};
+ghost use Rattle.metric_console.specs.Runs.{Answers, IsOverwriting, NamesInput, RefusesFor, Replays, RunsRequest, RunsTexts, known_by, writing};
 ghost use Rattle.metric_console.specs.Told.{IsLineEnd};
 
 use crate::answer::answer_of;
@@ -14,12 +14,12 @@ use crate::replaying::{has_header, input_of, replay_in_form};
 use crate::telling::{stop, tell_line, warn};
 use metric_io::Sink;
 use metric_parts::Parts;
-use metric_request::{LineFault, Request, Task};
+use metric_request::{Files, LineFault, Request, Task};
 use std::alloc::Global;
 
 /// Runs what a command line asks for, in a folder and into a sink, tells on `errors` why it stops, and gives the program's exit
-/// status: 0 where it is done, 1 where the files are refused or remarks are errors, 2 where the words name no command, 3 where a
-/// file is unreadable, 4 without memory, 5 where a write failed. A table is `columns` wide at most where the request does not say
+/// status: 0 where it is done, 1 where the files are refused or remarks are errors, 2 where the words name no command or a file to
+/// write to that is read, 3 where a file is unreadable, 4 without memory, 5 where a write failed. A table is `columns` wide at most where the request does not say
 /// how wide; 0 means that it may be as wide as it likes.
 pub fn run_request<F: Folder, W: Sink, E: Sink>(
     alloc: Global,
@@ -29,7 +29,7 @@ pub fn run_request<F: Folder, W: Sink, E: Sink>(
     sink: &mut W,
     errors: &mut E,
 ) -> u8
-    ensures asked { IfOk request (λ asked. RunsRequest (F.held folder.old) asked
+    ensures asked { IfOk request (λ asked. RunsRequest (known_by F.held F.same folder.old) asked
         (writing F.made W.contents folder.old folder.new sink.old sink.new)
         (sink_run W.contents W.failures sink.old sink.new) result) }
     ensures unasked { IfErr request (λ fault.
@@ -51,10 +51,19 @@ fn run_files<F: Folder, W: Sink, E: Sink>(
     sink: &mut W,
     errors: &mut E,
 ) -> u8
-    ensures { RunsRequest (F.held folder.old) request.now
+    ensures { RunsRequest (known_by F.held F.same folder.old) request.now
         (writing F.made W.contents folder.old folder.new sink.old sink.new)
         (sink_run W.contents W.failures sink.old sink.new) result }
 {
+    if let Some(role) = overwritten(folder, &request.files) {
+        return stop(
+            alloc,
+            request,
+            None,
+            ConsoleFault::Overwrites { role },
+            errors,
+        );
+    }
     let texts = match texts_of(alloc, folder, &request.files) {
         Ok(texts) => texts,
         Err(fault) => return stop(alloc, request, None, fault, errors),
@@ -62,6 +71,23 @@ fn run_files<F: Folder, W: Sink, E: Sink>(
     match run_texts(alloc, request, &texts, columns, folder, sink, errors) {
         Ok(status) => status,
         Err(fault) => stop(alloc, request, Some(&texts), fault, errors),
+    }
+}
+
+// Which of the files that are read the output is.
+fn overwritten<F: Folder>(folder: &F, files: &Files) -> Option<Role>
+    ensures { MatchOption result (NamesInput files.now → ⊥)
+        (IsOverwriting (F.same folder.now) files.now) }
+{
+    let Some(output) = &files.output else {
+        return None;
+    };
+    if folder.is_same(output.as_str(), files.catalogue.as_str()) {
+        Some(Role::Catalogue)
+    } else if folder.is_same(output.as_str(), files.config.as_str()) {
+        Some(Role::Config)
+    } else {
+        None
     }
 }
 
@@ -87,7 +113,7 @@ fn run_texts<F: Folder, W: Sink, E: Sink>(
 }
 
 // Answers of the texts what a request asks for, writes the answer, and tells what is to be warned of. The exit status.
-#[tactic(auto, using(crate::proofs::Devices::device_is_not_refused))]
+#[tactic(auto, using(crate::proofs::Devices::delivery_is_no_refusal))]
 fn run_answer<F: Folder, W: Sink, E: Sink>(
     alloc: Global,
     request: &Request,
@@ -101,7 +127,7 @@ fn run_answer<F: Folder, W: Sink, E: Sink>(
     ensures ok { IfOk result (Answers request.now texts.now.parts
         (writing F.made W.contents folder.old folder.new sink.old sink.new)) }
     ensures first { IfErr result (RefusesFor request.now.task texts.now.parts) }
-    ensures unmade { IfErr result (λ fault. IsRefusal fault → folder.new ≡ folder.old) }
+    ensures unmade { OnErr result (F.made folder.new ≡ F.made folder.old) }
     ensures unwritten { IfErr result (λ fault. IsRefusal fault → sink.new ≡ sink.old) }
 {
     let task = request.task;

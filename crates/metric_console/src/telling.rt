@@ -6,7 +6,7 @@ ghost use Rattle.metric_console.specs.Told.{IsLineEnd};
 use crate::answer::Answer;
 use crate::delivering::print;
 use crate::fault::{ConsoleFault, Role};
-use crate::folder::Unread;
+use crate::folder::{Unread, Unwritten};
 use crate::listing::Listing;
 use crate::parts::Texts;
 use crate::replaying::lines_before;
@@ -134,6 +134,8 @@ fn told(
 ) -> Result<String, AllocError> {
     match fault {
         ConsoleFault::Unread { role, cause } => told_unread(alloc, &request.files, role, cause),
+        ConsoleFault::Overwrites { role } => told_overwritten(alloc, &request.files, role),
+        ConsoleFault::Unwritten { cause } => told_unwritten(alloc, &request.files, cause),
         ConsoleFault::Header { role } => told_header(alloc, &request.files, role),
         ConsoleFault::Kit(fault) => match texts {
             Some(texts) => told_kit(alloc, &request.files, texts, fault),
@@ -151,6 +153,26 @@ fn told_unread(
     let path = path_of(files, role);
     let words = cause.words();
     format!(in alloc; "{path}: {words}\n")
+}
+
+fn told_overwritten(alloc: Global, files: &Files, role: Role) -> Result<String, AllocError> {
+    let path = output_of(files);
+    let input = path_of(files, role);
+    format!(in alloc; "{path}: it is not written, since it is the file {input} that is read\n")
+}
+
+fn told_unwritten(alloc: Global, files: &Files, cause: Unwritten) -> Result<String, AllocError> {
+    let path = output_of(files);
+    let words = cause.words();
+    format!(in alloc; "{path}: {words}\n")
+}
+
+// The path of the file to write to.
+fn output_of(files: &Files) -> &str {
+    match &files.output {
+        Some(path) => path.as_str(),
+        None => "",
+    }
 }
 
 fn told_header(alloc: Global, files: &Files, role: Role) -> Result<String, AllocError> {
@@ -192,6 +214,7 @@ fn told_kit(
         }
         KitFault::Make(fault) => told_make(alloc, files, texts, fault),
         KitFault::Input { line } => told_script(alloc, files, texts, line),
+        KitFault::Write => String::from_str(alloc, "standard output: a write failed\n"),
         KitFault::Certificate(_) | KitFault::Check(_) => {
             told_certificate(alloc, files, texts, fault)
         }

@@ -1,10 +1,16 @@
 //! Files on a disk.
 use metric_base::Text;
-use metric_console::{Folder, Unread};
-use metric_io::{Broken, ReadFault, StdSource, read_all};
+use metric_console::{Folder, Unread, Unwritten};
+use metric_io::{ReadFault, StdSource, read_all};
 use std::alloc::Global;
 use std::fs::{self, File};
-use std::io::ErrorKind;
+use std::io::{Error, ErrorKind, Write};
+
+// The longest input, in bytes.
+const MOST_BYTES: u64 = 67_108_864;
+
+// How many names are tried for a file that is written beside the one that it replaces.
+const MOST_NAMES: u32 = 1_000;
 
 /// The files of the machine.
 #[derive(Clone, Copy)]
@@ -17,33 +23,127 @@ impl Folder for Disk<'_> {
 
     ghost held = { λ _ _. None };
 
+    ghost same = { λ _ _ _. None };
+
     ghost made = { λ _. None };
 
     fn read(&self, alloc: Global, path: &str) -> Result<Text, Unread> {
         match fs::open(self.rt, path) {
-            Ok(file) => text_in(alloc, file),
-            Err(error) if error.kind() == ErrorKind::NotFound => Err(Unread::Missing),
-            Err(_) => Err(Unread::Unreadable),
+            Ok(file) => self.text_in(alloc, path, file),
+            Err(error) => Err(unread(error.kind())),
         }
     }
 
-    fn write(&mut self, path: &str, text: &[u8]) -> Result<(), Broken> {
-        match fs::write(self.rt, path, text) {
+    fn is_same(&self, path: &str, other: &str) -> bool {
+        path == other || self.lead_to_one(path, other)
+    }
+
+    fn write(&mut self, path: &str, text: &[u8]) -> Result<(), Unwritten> {
+        let written = match fs::metadata(self.rt, path) {
+            Ok(found) if found.is_file() => self.write_over(path, text),
+            // A terminal, a pipe or a directory: nothing can stand in its place.
+            Ok(_) => fs::write(self.rt, path, text),
+            Err(_) => self.replace(path, text),
+        };
+        match written {
             Ok(()) => Ok(()),
-            Err(_) => Err(Broken),
+            Err(error) => Err(unwritten(error.kind())),
         }
     }
 }
 
-// The text of an open file.
-fn text_in(alloc: Global, file: File) -> Result<Text, Unread> {
-    let mut source = StdSource::new(file);
-    match read_all(alloc, &mut source) {
-        Ok(bytes) => match String::from_utf8(bytes) {
-            Ok(text) => Ok(Text::from_string(text)),
-            Err(_) => Err(Unread::NotText),
-        },
-        Err(ReadFault::Read) => Err(Unread::Unreadable),
-        Err(ReadFault::Memory) => Err(Unread::Memory),
+impl Disk<'_> {
+    // The text of an open file.
+    fn text_in(&self, alloc: Global, path: &str, file: File) -> Result<Text, Unread> {
+        let mut source = StdSource::new(file);
+        match read_all(alloc, &mut source) {
+            Ok(bytes) => match String::from_utf8(bytes) {
+                Ok(text) => Ok(Text::from_string(text)),
+                Err(_) => Err(Unread::NotText),
+            },
+            Err(ReadFault::Read) => Err(self.cause_of(path)),
+            Err(ReadFault::Memory) => Err(Unread::Memory),
+        }
+    }
+
+    // Why a file that could be opened is not read.
+    fn cause_of(&self, path: &str) -> Unread {
+        match fs::metadata(self.rt, path) {
+            Ok(found) if found.is_dir() => Unread::Directory,
+            Ok(found) if found.len() > MOST_BYTES => Unread::TooLong,
+            _ => Unread::Unreadable,
+        }
+    }
+
+    // Whether two paths that are there lead to one file.
+    fn lead_to_one(&self, path: &str, other: &str) -> bool {
+        match (
+            fs::canonicalize(self.rt, path),
+            fs::canonicalize(self.rt, other),
+        ) {
+            (Ok(one), Ok(two)) => one.as_path() == two.as_path(),
+            _ => false,
+        }
+    }
+
+    // Puts a file in the place of one that is there, and of none of the links that lead to it.
+    fn write_over(&self, path: &str, text: &[u8]) -> Result<(), Error> {
+        let found = fs::canonicalize(self.rt, path)?;
+        self.replace(found.as_str(), text)
+    }
+
+    // Writes a file beside a path, and puts it there once it is whole.
+    fn replace(&self, path: &str, text: &[u8]) -> Result<(), Error> {
+        for number in 0..MOST_NAMES {
+            let beside = format!(in self.rt.alloc(); "{path}.{number}.new")?;
+            match fs::File::create_new(self.rt, beside.as_str()) {
+                Ok(file) => return self.fill_and_move(file, beside.as_str(), path, text),
+                Err(error) if error.kind() == ErrorKind::AlreadyExists => {}
+                Err(error) => return Err(error),
+            }
+        }
+        Err(Error::from(ErrorKind::AlreadyExists))
+    }
+
+    // Writes a new file and moves it to a path, or removes it.
+    fn fill_and_move(
+        &self,
+        mut file: File,
+        beside: &str,
+        path: &str,
+        text: &[u8],
+    ) -> Result<(), Error> {
+        let moved = match file.write_all(text) {
+            Ok(()) => fs::rename(self.rt, beside, path),
+            Err(error) => Err(error),
+        };
+        if moved.is_err() {
+            let _removed = fs::remove_file(self.rt, beside);
+        }
+        moved
+    }
+}
+
+// Why a file is not read that cannot be opened.
+fn unread(kind: ErrorKind) -> Unread {
+    match kind {
+        ErrorKind::NotFound | ErrorKind::NotADirectory => Unread::Missing,
+        ErrorKind::PermissionDenied => Unread::Denied,
+        ErrorKind::IsADirectory => Unread::Directory,
+        _ => Unread::Unreadable,
+    }
+}
+
+// Why a file is not written.
+fn unwritten(kind: ErrorKind) -> Unwritten {
+    match kind {
+        ErrorKind::NotFound | ErrorKind::NotADirectory => Unwritten::Missing,
+        ErrorKind::IsADirectory => Unwritten::Directory,
+        ErrorKind::PermissionDenied | ErrorKind::ReadOnlyFilesystem => Unwritten::Denied,
+        ErrorKind::StorageFull | ErrorKind::QuotaExceeded | ErrorKind::FileTooLarge => {
+            Unwritten::Full
+        }
+        ErrorKind::InvalidFilename => Unwritten::LongName,
+        _ => Unwritten::Unwritable,
     }
 }

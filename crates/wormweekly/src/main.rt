@@ -2,15 +2,21 @@
 #![tactic(auto)]
 
 mod disk;
+mod pipe;
 
 use disk::Disk;
 use metric_console::run_request;
 use metric_io::StdSink;
 use metric_request::{LineFault, Request, request_of};
+use pipe::{Hushed, Watched};
 use std::alloc::{AllocError, Global};
+use std::cell::Cell;
 use std::env;
 use std::io::{BufWriter, ErrorKind, Write};
 use std::process::ExitCode;
+
+// The exit status of a program that writes into a closed pipe and is ended by its signal.
+const CLOSED: u8 = 141;
 
 fn main(rt: HostRuntime) -> ExitCode {
     ExitCode::from(run(&rt, asked(&rt)))
@@ -56,18 +62,26 @@ fn run_into<W: Write + Drop>(
     request: Result<Request, LineFault>,
     output: W,
 ) -> u8 {
+    let is_closed = Cell::new(false);
     let mut folder = Disk { rt };
-    let mut sink = StdSink::new(output);
-    let mut errors = StdSink::new(rt.stderr());
+    let mut sink = StdSink::new(Watched {
+        writer: output,
+        is_closed: &is_closed,
+    });
+    let mut errors = StdSink::new(Hushed {
+        writer: rt.stderr(),
+        is_closed: &is_closed,
+    });
     let columns = columns(rt);
-    run_request(
+    let status = run_request(
         rt.alloc(),
         request,
         columns,
         &mut folder,
         &mut sink,
         &mut errors,
-    )
+    );
+    if is_closed.get() { CLOSED } else { status }
 }
 
 // How wide the terminal is, as the environment says; 0 where it does not.

@@ -1,10 +1,19 @@
--- Where a file is not read, nothing else is done.
+-- Where the output is an input, or a file is not read, nothing else is done.
 use Rattle.std.proofs.Common.{Err, inl, refl}
+use Rattle.metric_console.specs.declared.fault.ConsoleFault.TheVariants.{Overwrites}
+use Rattle.metric_console.proofs.Devices.{unread_is_unstarted}
 use Rattle.metric_console.proofs.program.run_files.Goals as goal
+
+pub returns-in-Some : goal.returns-in-Some
+returns-in-Some g c = record {
+  end = Err (Overwrites c.in-Some.role);
+  runs = inl (c.in-Some.ensures, (refl, refl));
+  is_status = c.stop.ensures;
+}
 
 pub returns-in-Err : goal.returns-in-Err
 returns-in-Err g c = record {
   end = Err c.in-Err.fault;
-  runs = inl (c.in-Err.ensures.unread, (refl, refl));
-  is_status = c.stop.ensures;
+  runs = inl (unread_is_unstarted _ _ _ c.in-Err.ensures.unread, (refl, refl));
+  is_status = c.stop-in-Err.ensures;
 }
