@@ -220,6 +220,19 @@ static struct told open_certified(const struct row *row) {
     return told_opening(answer, &counts, length, room);
 }
 
+/* Fills the handles of the second run by the recorder of a number. */
+static struct told next(const struct row *row) {
+    wormweekly_counts counts = { 9, 9, 9 };
+    struct told told = answered(wormweekly_next(&recorders[row->number], START + 1, &instruments[row->instrument],
+                                                row->handles.instruments, &recorders[row->recorder],
+                                                row->handles.recorders, &readers[row->reader], row->handles.readers,
+                                                &counts));
+    told.numbers[0] = (int64_t)counts.instruments;
+    told.numbers[1] = (int64_t)counts.recorders;
+    told.numbers[2] = (int64_t)counts.readers;
+    return told;
+}
+
 static struct told free_handles(const struct row *row) {
     for (size_t i = 0; i < row->handles.instruments; i++) {
         wormweekly_free_instrument(&instruments[row->instrument + i]);
@@ -676,7 +689,7 @@ static const struct row FREED_ROWS[] = {
     { CALL(settle), ALL_RECORDERS },
 };
 
-/* Two runs of one plan since one time: what is of one is a stranger to the other. */
+/* Two runs of one plan since one time: what is of one is a stranger to the other. Then the first goes over into the next. */
 static const struct row TWIN_ROWS[] = {
     { CALL(open), .catalogue = CATALOGUE, .config = CONFIG, ALL_HANDLES,
       .numbers = { INSTRUMENTS, RECORDERS, READERS } },
@@ -686,6 +699,25 @@ static const struct row TWIN_ROWS[] = {
       .answer = WORMWEEKLY_STRANGER },
     { CALL(settle), .recorder = RECORDERS, .handles.recorders = RECORDERS, .answer = WORMWEEKLY_STRANGER },
     { CALL(settle), ALL_RECORDERS },
+    { CALL(record), .texts = "countrydepaid", GIVEN(PAID), .value = 5 },
+    { CALL(next), SECOND_RUN, ALL_HANDLES, .answer = WORMWEEKLY_OPEN, .numbers = { 9, 9, 9 } },
+    { CALL(free_handles), SECOND_RUN, ALL_HANDLES },
+    { CALL(next), .number = RECORDERS, SECOND_RUN, ALL_HANDLES, .answer = WORMWEEKLY_NOT_OPEN,
+      .numbers = { 9, 9, 9 } },
+    { CALL(next), .number = NIGHT, SECOND_RUN, .answer = WORMWEEKLY_TOO_SHORT,
+      .numbers = { INSTRUMENTS, RECORDERS, READERS } },
+    { CALL(next), .number = NIGHT, SECOND_RUN, ALL_HANDLES, .numbers = { INSTRUMENTS, RECORDERS, READERS } },
+    { CALL(record), .instrument = INSTRUMENTS, .texts = "countrydepaid", GIVEN(PAID), .value = 5,
+      .answer = WORMWEEKLY_STRANGER },
+    { CALL(budget), .instrument = INSTRUMENTS, .recorder = RECORDERS, .numbers = { 5, 0, 0, 5 } },
+    { CALL(record), .instrument = INSTRUMENTS, .recorder = RECORDERS, .texts = "countrydepaid", GIVEN(PAID),
+      .value = 7 },
+    { CALL(collect), .instrument = INSTRUMENTS, .reader = READERS, .time = 9 },
+    { CALL(batch), .reader = READERS, .numbers = { ORDERS, 1, START + 1, 9 } },
+    { CALL(point), .reader = READERS, .numbers = { 1, 1, 1, 0, 1, 7, 0, 0, 0 } },
+    { CALL(settle), ALL_RECORDERS, .numbers = { 1, 0, 0, 5 } },
+    { CALL(settle), .instrument = INSTRUMENTS, .recorder = RECORDERS, .handles.recorders = RECORDERS,
+      .numbers = { 1, 0, 0, 7 } },
 };
 
 static int passed;

@@ -18,9 +18,13 @@ uint32_t wormweekly_open_certified_run(const uint8_t *catalogue, size_t catalogu
                                        size_t recorders_length, wormweekly_reader *readers, size_t readers_length,
                                        wormweekly_counts *counts, uint8_t *fault, size_t fault_room,
                                        size_t *fault_length);
+uint32_t wormweekly_next_run(wormweekly_recorder *recorder, uint64_t start, uint64_t run,
+                             wormweekly_instrument *instruments, size_t instruments_length,
+                             wormweekly_recorder *recorders, size_t recorders_length, wormweekly_reader *readers,
+                             size_t readers_length, wormweekly_counts *counts);
 
 /* 1, 2, 3 and so on, each once in a process. */
-static uint64_t next_run(void) {
+static uint64_t new_number(void) {
     static _Atomic uint64_t last;
     return atomic_fetch_add(&last, 1) + 1;
 }
@@ -30,7 +34,7 @@ uint32_t wormweekly_open(const uint8_t *catalogue, size_t catalogue_length, cons
                          wormweekly_recorder *recorders, size_t recorders_length, wormweekly_reader *readers,
                          size_t readers_length, wormweekly_counts *counts, uint8_t *fault, size_t fault_room,
                          size_t *fault_length) {
-    return wormweekly_open_run(catalogue, catalogue_length, config, config_length, start, next_run(), instruments,
+    return wormweekly_open_run(catalogue, catalogue_length, config, config_length, start, new_number(), instruments,
                                instruments_length, recorders, recorders_length, readers, readers_length, counts, fault,
                                fault_room, fault_length);
 }
@@ -42,7 +46,14 @@ uint32_t wormweekly_open_certified(const uint8_t *catalogue, size_t catalogue_le
                                    size_t readers_length, wormweekly_counts *counts, uint8_t *fault, size_t fault_room,
                                    size_t *fault_length) {
     return wormweekly_open_certified_run(catalogue, catalogue_length, config, config_length, certificate,
-                                         certificate_length, start, next_run(), instruments, instruments_length,
+                                         certificate_length, start, new_number(), instruments, instruments_length,
                                          recorders, recorders_length, readers, readers_length, counts, fault,
                                          fault_room, fault_length);
+}
+
+uint32_t wormweekly_next(wormweekly_recorder *recorder, uint64_t start, wormweekly_instrument *instruments,
+                         size_t instruments_length, wormweekly_recorder *recorders, size_t recorders_length,
+                         wormweekly_reader *readers, size_t readers_length, wormweekly_counts *counts) {
+    return wormweekly_next_run(recorder, start, new_number(), instruments, instruments_length, recorders,
+                               recorders_length, readers, readers_length, counts);
 }

@@ -207,6 +207,13 @@ uint32_t wormweekly_open_certified(const uint8_t *catalogue, size_t catalogue_le
                                    size_t readers_length, wormweekly_counts *counts, uint8_t *fault, size_t fault_room,
                                    size_t *fault_length);
 
+/* Opens the next run of the plan that a recorder is of, since `start`, into other handles that are null, with full budgets: so a
+ * service lives for ever on bounded budgets. Nothing is read or certified again. The run that is there goes on: collect it a last
+ * time, close and settle its instruments, and free it. To a reader of cumulative streams that is a restart. */
+uint32_t wormweekly_next(wormweekly_recorder *recorder, uint64_t start, wormweekly_instrument *instruments,
+                         size_t instruments_length, wormweekly_recorder *recorders, size_t recorders_length,
+                         wormweekly_reader *readers, size_t readers_length, wormweekly_counts *counts);
+
 /* Makes a recording (under the instrument's mutex). */
 uint32_t wormweekly_record(wormweekly_instrument *instrument, wormweekly_recorder *recorder, const uint8_t *texts,
                            size_t texts_length, const wormweekly_attribute *attributes, size_t attributes_length,

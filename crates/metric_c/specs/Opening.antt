@@ -116,6 +116,16 @@ pub record Begins (plan : PlanValue) (start run : ℕ) (before after : AllHeld) 
   pub recorders : AreFirst (new_recorders plan run) before.recorders after.recorders
   pub readers : AreFirst (new_readers plan run) before.readers after.readers
 
+-- A run of the plan begins, and this is how many of each it has.
+pub record BeginsOf (plan : PlanValue) (start run : ℕ) (counts : Counts) (before after : AllHeld)
+    : Type 0 where
+  pub counts_are : counts ≡ counts_of plan
+  pub begins : Begins plan start run before after
+
+-- what the next run of a plan is answered: as an opening, or that the plan is not certified
+abbrev pub IsNextCode : PlanValue → ℕ → Type 0
+IsNextCode plan code = IsOpenCode code ⊎ ((code ≡ 103) × (plan.is_certified ≡ false))
+
 -- A run of such a plan begins, and this is how many of each it has.
 pub record Opens (IsPlan : PlanValue → Type 0) (start run : ℕ) (counts : Counts)
     (before after : AllHeld) : Type 0 where

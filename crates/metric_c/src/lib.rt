@@ -34,6 +34,7 @@ mod ending;
 mod grants;
 mod instrument_handle;
 mod names;
+mod next;
 mod no_plan;
 mod opening;
 mod otlp;
@@ -63,6 +64,7 @@ pub use ending::{
 pub use grants::wormweekly_grant;
 pub use instrument_handle::InstrumentHandle;
 pub use names::{wormweekly_name, wormweekly_reader_name};
+pub use next::wormweekly_next_run;
 pub use opening::{Counts, wormweekly_open_run};
 pub use otlp::wormweekly_otlp;
 pub use prepared::{wormweekly_prepare, wormweekly_record_list, wormweekly_record_prepared};

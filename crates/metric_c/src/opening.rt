@@ -124,7 +124,7 @@ pub(crate) fn open_plan(
     counts: &mut Counts,
 ) -> u32
     requires { IsTrue plan.is_certified }
-    ensures counts { counts.new ≡ counts_of plan }
+    ensures counts { result ≢ 11 → counts.new ≡ counts_of plan }
     ensures opened { let old = held_by instruments.old recorders.old readers.old in
         let new = held_by instruments.new recorders.new readers.new in
         result ≡ 0 → Begins plan start run old new }
@@ -135,7 +135,45 @@ pub(crate) fn open_plan(
     ensures recorders { result ≢ 0 → recorders.new ≡ recorders.old }
     ensures readers { result ≢ 0 → readers.new ≡ readers.old }
 {
-    *counts = counts_of(&plan);
+    match Shared::new(alloc, plan) {
+        Err(_) => MEMORY,
+        Ok(plan) => open_shared(
+            alloc,
+            &plan,
+            start,
+            run,
+            instruments,
+            recorders,
+            readers,
+            counts,
+        ),
+    }
+}
+
+/// The same of a plan that other handles share.
+pub(crate) fn open_shared(
+    alloc: Global,
+    plan: &Shared<Plan>,
+    start: u64,
+    run: u64,
+    instruments: &mut [InstrumentHandle],
+    recorders: &mut [RecorderHandle],
+    readers: &mut [ReaderHandle],
+    counts: &mut Counts,
+) -> u32
+    requires { IsTrue plan.now.is_certified }
+    ensures counts { counts.new ≡ counts_of plan.now }
+    ensures opened { let old = held_by instruments.old recorders.old readers.old in
+        let new = held_by instruments.new recorders.new readers.new in
+        result ≡ 0 → Begins plan.now start run old new }
+    ensures answer { IsOpenCode result }
+    ensures short { result ≡ 102 → lacks_handles counts.new
+        (length instruments.old) (length recorders.old) (length readers.old) ≡ true }
+    ensures instruments { result ≢ 0 → instruments.new ≡ instruments.old }
+    ensures recorders { result ≢ 0 → recorders.new ≡ recorders.old }
+    ensures readers { result ≢ 0 → readers.new ≡ readers.old }
+{
+    *counts = counts_of(plan.get());
     if lacks_handles(counts, instruments.len(), recorders.len(), readers.len()) {
         return TOO_SHORT;
     }
@@ -187,19 +225,18 @@ struct NewRun {
     readers: Vec<ReaderHandle>,
 }
 
-fn new_run(alloc: Global, plan: Plan, start: u64, run: u64) -> Result<NewRun, AllocError>
-    requires { IsTrue plan.is_certified }
+fn new_run(alloc: Global, plan: &Shared<Plan>, start: u64, run: u64) -> Result<NewRun, AllocError>
+    requires { IsTrue plan.now.is_certified }
     ensures instruments { IfOk result (λ made.
-        AreNewInstruments plan start run (instruments_in made.instruments.items)) }
+        AreNewInstruments plan.now start run (instruments_in made.instruments.items)) }
     ensures recorders { IfOk result (λ made.
-        recorders_in made.recorders.items ≡ new_recorders plan run) }
+        recorders_in made.recorders.items ≡ new_recorders plan.now run) }
     ensures readers { IfOk result (λ made.
-        readers_in made.readers.items ≡ new_readers plan run) }
+        readers_in made.readers.items ≡ new_readers plan.now run) }
 {
-    let plan = Shared::new(alloc, plan)?;
     let instruments = new_instruments(alloc, plan.get(), start, run)?;
-    let recorders = new_recorders(alloc, &plan, run)?;
-    let readers = new_readers(alloc, &plan, run)?;
+    let recorders = new_recorders(alloc, plan, run)?;
+    let readers = new_readers(alloc, plan, run)?;
     Ok(NewRun {
         instruments,
         recorders,

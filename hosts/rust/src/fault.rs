@@ -170,6 +170,26 @@ impl fmt::Display for SettleFault {
 
 impl std::error::Error for SettleFault {}
 
+/// Why a run does not go over into the next one.
+#[derive(Clone, Debug, PartialEq, Eq)]
+pub enum RollFault {
+    /// The next one is not opened.
+    Open(OpenFault),
+    /// This one is not settled.
+    Settle(SettleFault),
+}
+
+impl fmt::Display for RollFault {
+    fn fmt(&self, f: &mut fmt::Formatter<'_>) -> fmt::Result {
+        match self {
+            RollFault::Open(fault) => write!(f, "the next run is not opened: {fault}"),
+            RollFault::Settle(fault) => write!(f, "the run is not settled: {fault}"),
+        }
+    }
+}
+
+impl std::error::Error for RollFault {}
+
 /// Why attributes are no resource. They are tried in this order.
 #[derive(Clone, Copy, Debug, PartialEq, Eq)]
 #[non_exhaustive]

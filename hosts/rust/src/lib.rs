@@ -75,8 +75,10 @@ mod texts;
 mod value;
 
 pub use batch::{Batch, Kind, OwnedValue, Point, PointValue, Stream};
-pub use fault::{ListRefusal, OpenFault, Refusal, ResourceFault, SettleFault, UnknownName};
-pub use metrics::{Instrument, Metrics, Spare, Total};
+pub use fault::{
+    ListRefusal, OpenFault, Refusal, ResourceFault, RollFault, SettleFault, UnknownName,
+};
+pub use metrics::{Instrument, Metrics, Rolled, Spare, Total};
 pub use opening::{Opened, open, open_certified};
 pub use reader::Reader;
 pub use recorder::{Budget, Prepared, Recorder};

@@ -1,5 +1,6 @@
 //! The instruments of a run.
-use crate::fault::{Refusal, SettleFault, UnknownName};
+use crate::fault::{Refusal, RollFault, SettleFault, UnknownName};
+use crate::opening::{Opened, next};
 use crate::raw::{self, Handle};
 use crate::recorder::Recorder;
 use std::mem::replace;
@@ -48,6 +49,14 @@ pub struct Spare {
     pub left: u64,
 }
 
+/// A run that has ended, and the next one of its plan.
+pub struct Rolled {
+    /// The next run, with full budgets and new seats.
+    pub next: Opened,
+    /// The total of each instrument of the run that has ended, in order.
+    pub totals: Vec<Total>,
+}
+
 /// What an instrument comes to.
 #[derive(Clone, Copy, Debug, PartialEq, Eq)]
 pub struct Total {
@@ -77,6 +86,38 @@ impl Metrics {
     /// All instruments, in the order of the catalogue.
     pub fn instruments(&self) -> &[Instrument] {
         &self.instruments
+    }
+
+    /// Ends this run by the recorders of all of it, and opens the next one of the same plan, since a time in nanoseconds. So a
+    /// service lives for ever on bounded budgets; to a reader of cumulative streams it is a restart. The instruments of the run
+    /// that has ended are closed. Its readers are left: let each collect a last time, since what was recorded after a reader's
+    /// last batch is in the totals only.
+    ///
+    /// # Errors
+    ///
+    /// A [`RollFault`], with the recorders: the run goes on.
+    pub fn roll_over(
+        &self,
+        mut recorders: Vec<Recorder>,
+        start: u64,
+    ) -> Result<Rolled, (Vec<Recorder>, RollFault)> {
+        let Some(first) = recorders.first_mut() else {
+            return Err((recorders, RollFault::Settle(SettleFault::RecorderMissing)));
+        };
+        // All memory for the next run is taken before this one ends.
+        let next = match next(first, start) {
+            Ok(next) => next,
+            Err(fault) => return Err((recorders, RollFault::Open(fault))),
+        };
+        let totals = match self.settle(&mut recorders) {
+            Ok(totals) => totals,
+            Err(fault) => return Err((recorders, RollFault::Settle(fault))),
+        };
+        for instrument in &self.instruments {
+            // One that is closed already stays closed.
+            let _ = instrument.close();
+        }
+        Ok(Rolled { next, totals })
     }
 
     /// The total of each instrument, in order, where all of them are what the recorders were told. The recorders are all

@@ -178,6 +178,50 @@ impl Texts<'_> {
     }
 }
 
+/// Opens the next run of the plan that a recorder is of.
+pub(crate) fn next(recorder: &mut Recorder, start: u64) -> Result<Opened, OpenFault> {
+    let run = NEXT_RUN.fetch_add(1, Ordering::Relaxed);
+    let mut counts = Counts::default();
+    let mut handles = Handles::nothing(&counts);
+    let mut code = call_next(recorder, start, &mut handles, &mut counts);
+    if code == TOO_SHORT {
+        handles = Handles::nothing(&counts);
+        code = call_next(recorder, start, &mut handles, &mut counts);
+    }
+    match code {
+        0 => named(handles, run).map_err(refused),
+        code => Err(refused(code)),
+    }
+}
+
+fn call_next(
+    recorder: &mut Recorder,
+    start: u64,
+    handles: &mut Handles,
+    counts: &mut Counts,
+) -> u32 {
+    let Handles {
+        instruments,
+        recorders,
+        readers,
+    } = handles;
+    // SAFETY: the lists are borrowed for the call and apart from each other, their handles are null, and the recorder's is
+    // as the library left it.
+    unsafe {
+        raw::wormweekly_next(
+            recorder.handle(),
+            start,
+            instruments.as_mut_ptr(),
+            instruments.len(),
+            recorders.as_mut_ptr(),
+            recorders.len(),
+            readers.as_mut_ptr(),
+            readers.len(),
+            counts,
+        )
+    }
+}
+
 fn refused(code: u32) -> OpenFault {
     match code {
         MEMORY => OpenFault::Memory,

@@ -135,6 +135,17 @@ unsafe extern "C" {
         fault_room: usize,
         fault_length: &mut usize,
     ) -> u32;
+    pub fn wormweekly_next(
+        recorder: &mut Handle,
+        start: u64,
+        instruments: *mut Handle,
+        instruments_length: usize,
+        recorders: *mut Handle,
+        recorders_length: usize,
+        readers: *mut Handle,
+        readers_length: usize,
+        counts: &mut Counts,
+    ) -> u32;
     pub fn wormweekly_prepare(
         recorder: &mut Handle,
         instrument: u32,

@@ -1,5 +1,5 @@
 //! What a service lives on: budgets, grants, names and runs.
-use wormweekly::{Budget, Opened, Refusal, Spare, Total, open};
+use wormweekly::{Budget, Opened, Refusal, RollFault, Rolled, SettleFault, Spare, Total, open};
 
 const CATALOGUE: &str = "format = 2
 [[meter]]
@@ -95,5 +95,48 @@ fn instruments_are_named_where_there_is_no_recorder() -> Result<(), Box<dyn std:
     let orders = opened.metrics.instrument("orders")?;
     assert_eq!((orders.meter(), orders.number()), ("shop", 0));
     assert_eq!(opened.readers[0].name(), "console");
+    Ok(())
+}
+
+#[test]
+fn a_run_goes_over_into_the_next() -> Result<(), Box<dyn std::error::Error>> {
+    let Opened {
+        metrics,
+        mut recorders,
+        mut readers,
+        ..
+    } = opened();
+    let orders = metrics.instrument("orders")?;
+    let old = recorders[0].prepare(orders, &[])?;
+    recorders[0].record_prepared(&old, 5)?;
+    let one = vec![recorders.remove(0)];
+    let (mut one, fault) = metrics
+        .roll_over(one, 10)
+        .err()
+        .expect("a recorder is missing");
+    assert_eq!(fault, RollFault::Settle(SettleFault::RecorderMissing));
+    one[0].record_prepared(&old, 6)?;
+    recorders.append(&mut one);
+    let none = metrics.roll_over(Vec::new(), 10).err();
+    assert!(none.is_some_and(|(left, _)| left.is_empty()));
+    let rolled = metrics
+        .roll_over(recorders, 10)
+        .map_err(|(_, fault)| fault)?;
+    let Rolled { mut next, totals } = rolled;
+    assert_eq!(totals[0], Total { count: 2, sum: 11 });
+    assert_eq!(readers[0].collect(orders, 11)?.lines().count(), 3);
+    assert_eq!(orders.close(), Err(Refusal::Closed));
+    let day = &mut next.recorders[0];
+    assert_eq!((day.name(), day.number()), ("day", 0));
+    assert_eq!(day.record_prepared(&old, 1), Err(Refusal::Stranger));
+    let orders = next.metrics.instrument("orders")?;
+    assert_eq!(day.left(orders)?, 3);
+    day.record(orders, &[], 9)?;
+    let batch = next.readers[0].collect(orders, 20)?;
+    assert!(
+        batch.ends_with("point {} start=10 time=20 value=9\n"),
+        "{batch}"
+    );
+    assert_eq!(next.metrics.settle(&mut next.recorders)?[0].sum, 9);
     Ok(())
 }
