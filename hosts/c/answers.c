@@ -309,6 +309,20 @@ static struct told otlp(const struct row *row) {
     return (struct told){ .answer = answer, .text = length == 0 ? "" : digits };
 }
 
+static struct told prometheus(const struct row *row) {
+    size_t length = 0;
+    uint32_t answer =
+        wormweekly_prometheus(&readers[row->reader], row->kind, clear_buffer(), room_for(row, ROOM), &length);
+    return told_text(answer, length);
+}
+
+static struct told prometheus_target(const struct row *row) {
+    size_t length = 0;
+    uint32_t answer = wormweekly_prometheus_target(row->kind, bytes(row->texts), strlen(row->texts), row->given,
+                                                   row->given_length, clear_buffer(), room_for(row, ROOM), &length);
+    return told_text(answer, length);
+}
+
 static struct told warnings(const struct row *row) {
     size_t length = 0;
     uint32_t answer = wormweekly_warnings(&recorders[row->recorder], clear_buffer(), room_for(row, ROOM), &length);
@@ -475,6 +489,30 @@ static const char ORDERS_LINE[] =
     "op.example\"}]}]}"
     "\n";
 
+/* The same batch in a page of the text format and of OpenMetrics, and what such pages tell of the resource. */
+static const char ORDERS_PAGE[] =
+    "# HELP orders_EUR what was paid\n"
+    "# TYPE orders_EUR gauge\n"
+    "orders_EUR{country=\"de\",paid=\"true\",otel_scope_name=\"shop\",otel_scope_version=\"2\",otel_scope_schema_url=\"https://shop.example\"} 15\n"
+    "orders_EUR{country=\"fr\",paid=\"true\",otel_scope_name=\"shop\",otel_scope_version=\"2\",otel_scope_schema_url=\"https://shop.example\"} -150\n";
+
+static const char ORDERS_OPEN_PAGE[] =
+    "# HELP orders_EUR what was paid\n"
+    "# TYPE orders_EUR gauge\n"
+    "# UNIT orders_EUR EUR\n"
+    "orders_EUR{country=\"de\",paid=\"true\",otel_scope_name=\"shop\",otel_scope_version=\"2\",otel_scope_schema_url=\"https://shop.example\"} 15\n"
+    "orders_EUR{country=\"fr\",paid=\"true\",otel_scope_name=\"shop\",otel_scope_version=\"2\",otel_scope_schema_url=\"https://shop.example\"} -150\n";
+
+static const char TARGET[] =
+    "# HELP target_info Target metadata\n"
+    "# TYPE target_info gauge\n"
+    "target_info{service_name=\"shop\"} 1\n";
+
+static const char OPEN_TARGET[] =
+    "# HELP target Target metadata\n"
+    "# TYPE target info\n"
+    "target_info{service_name=\"shop\"} 1\n";
+
 /* Texts that open nothing, too few handles, and handles that are opened anew. */
 static const struct row OPENING_ROWS[] = {
     { CALL(open), .catalogue = "format = \xff", .config = CONFIG, ALL_HANDLES, .answer = WORMWEEKLY_NO_TEXT },
@@ -525,6 +563,8 @@ static const struct row OPENING_ROWS[] = {
 static const struct row ORDERS_ROWS[] = {
     { CALL(batch), .answer = WORMWEEKLY_UNKNOWN },
     { CALL(text), .text = "" },
+    { CALL(prometheus), .text = "" },
+    { CALL(prometheus), .kind = 1, .text = "" },
     { CALL(otlp), .texts = "service.nameshop", GIVEN(SERVICE), .text = "" },
     { CALL(otlp), .kind = 1, .texts = "service.nameshop", GIVEN(SERVICE), .text = "" },
     { CALL(record), .texts = "countrydepaid", GIVEN(PAID), .value = 5 },
@@ -572,6 +612,11 @@ static const struct row ORDERS_ROWS[] = {
       .answer = WORMWEEKLY_DUPLICATE_KEY },
     { CALL(otlp), .texts = "a", GIVEN(NO_KEY), .answer = WORMWEEKLY_EMPTY_KEY },
     { CALL(otlp), .texts = "a", GIVEN(MANY), .answer = WORMWEEKLY_TOO_MANY },
+    { CALL(prometheus), .text = ORDERS_PAGE },
+    { CALL(prometheus), .kind = 1, .text = ORDERS_OPEN_PAGE },
+    { CALL(prometheus), .kind = 2, .text = ORDERS_OPEN_PAGE },
+    { CALL(prometheus), .kind = 3, .answer = WORMWEEKLY_UNKNOWN },
+    { CALL(prometheus), .is_short = 1, .answer = WORMWEEKLY_TOO_SHORT, .numbers = { sizeof ORDERS_PAGE - 1 } },
     { CALL(stream), .numbers = { 0, 1, 0, 0, 0, 2 } },
     { CALL(stream), .stream = 1, .answer = WORMWEEKLY_UNKNOWN },
     { CALL(stream), .stream = SIZE_MAX, .answer = WORMWEEKLY_UNKNOWN },
@@ -676,6 +721,22 @@ static const struct row QUEUE_ROWS[] = {
     { CALL(warnings), .is_short = 1, .answer = WORMWEEKLY_TOO_SHORT, .numbers = { sizeof WARNINGS - 1 } },
 };
 
+/* A resource in a page, for which no handle is asked. */
+static const struct row TARGET_ROWS[] = {
+    { CALL(prometheus_target), .texts = "service.nameshop", GIVEN(SERVICE), .text = TARGET },
+    { CALL(prometheus_target), .kind = 1, .texts = "service.nameshop", GIVEN(SERVICE), .text = OPEN_TARGET },
+    { CALL(prometheus_target), .kind = 2, .texts = "service.nameshop", GIVEN(SERVICE), .text = OPEN_TARGET },
+    { CALL(prometheus_target), .texts = "", .given = NONE, .text = "" },
+    { CALL(prometheus_target), .texts = "service.nameshop", GIVEN(SERVICE), .is_short = 1,
+      .answer = WORMWEEKLY_TOO_SHORT, .numbers = { sizeof TARGET - 1 } },
+    { CALL(prometheus_target), .kind = 3, .texts = "service.name", GIVEN(SERVICE), .answer = WORMWEEKLY_UNKNOWN },
+    { CALL(prometheus_target), .texts = "service.name", GIVEN(SERVICE), .answer = WORMWEEKLY_NO_TEXT },
+    { CALL(prometheus_target), .texts = "service.nameshopservice.nameshop", GIVEN(SERVICE_TWICE),
+      .answer = WORMWEEKLY_DUPLICATE_KEY },
+    { CALL(prometheus_target), .texts = "a", GIVEN(NO_KEY), .answer = WORMWEEKLY_EMPTY_KEY },
+    { CALL(prometheus_target), .texts = "a", GIVEN(MANY), .answer = WORMWEEKLY_TOO_MANY },
+};
+
 /* Where a recorder and a reader were freed. */
 static const struct row FREED_ROWS[] = {
     { CALL(record), .recorder = NIGHT, .texts = "countrydepaid", GIVEN(PAID) },
@@ -768,6 +829,7 @@ int main(void) {
     check(ROWS(ORDERS_ROWS));
     check(ROWS(ARTICLES_ROWS));
     check(ROWS(QUEUE_ROWS));
+    check(ROWS(TARGET_ROWS));
     wormweekly_free_recorder(&recorders[NIGHT]);
     wormweekly_free_reader(&readers[CHANGES]);
     check_freed(ROWS(FREED_ROWS));

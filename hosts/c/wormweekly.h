@@ -251,6 +251,20 @@ uint32_t wormweekly_otlp(wormweekly_reader *reader, uint32_t json, const uint8_t
                          const wormweekly_attribute *attributes, size_t attributes_length, uint8_t *out, size_t room,
                          size_t *text_length);
 
+/* A PAGE FOR PROMETHEUS. `dialect` is the text format 0.0.4 (0), OpenMetrics 1.0 (1), or that with lines `_created` (2;
+ * WORMWEEKLY_UNKNOWN above). A page is what wormweekly_prometheus_target writes of a resource, then for each instrument in order
+ * what wormweekly_prometheus writes after it was collected, and in OpenMetrics the line "# EOF\n". None needs a mutex. */
+
+/* Writes the lines of the batch that the reader keeps, none before one, and their length. Where there is too little room, only
+ * the length is written. */
+uint32_t wormweekly_prometheus(wormweekly_reader *reader, uint32_t dialect, uint8_t *out, size_t room,
+                               size_t *text_length);
+
+/* The same of a resource, whose attributes are checked as by wormweekly_otlp. One without attributes has no lines. */
+uint32_t wormweekly_prometheus_target(uint32_t dialect, const uint8_t *texts, size_t texts_length,
+                                      const wormweekly_attribute *attributes, size_t attributes_length, uint8_t *out,
+                                      size_t room, size_t *text_length);
+
 /* THE BATCH POINT BY POINT, for a host that writes a format of its own. Streams, points and keys are numbered from 0, the
  * streams within the batch. WORMWEEKLY_UNKNOWN says that there is none of a number. Where there is too little room for a text,
  * its length is written all the same. None needs a mutex. */

@@ -14,6 +14,7 @@ pub mod Prepared
 pub mod Collections
 pub mod Resources
 pub mod Otlp
+pub mod Pages
 pub mod Walking
 pub mod Settlements
 pub mod Closing

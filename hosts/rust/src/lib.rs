@@ -60,9 +60,27 @@
 //!     let _ = recorder.record(orders, &[], 1);
 //! }
 //! ```
+//!
+//! # What leaves
+//!
+//! [`Reader::collect`] answers the project's own text of a batch, [`Reader::batch`] the batch point by point. For a collector
+//! there is [`Reader::otlp`], for Prometheus [`Metrics::page`], each with a [`Resource`] that tells what produces the metrics. The examples
+//! `otlp_push` and `metrics_http` do both with the standard library alone.
+//!
+//! # What a service lives on
+//!
+//! [`Recorder::left`] tells what a recorder has left, [`Recorder::ask`] gets more of what an instrument has to spare
+//! ([`Instrument::spare`]), and [`Metrics::roll_over`] ends a run with its totals and begins the next one with full budgets.
+//!
+//! # What a host owes, and nothing checks
+//!
+//! `malloc`, `realloc` and `free` are of one allocator, which aligns a block to each power of two up to 16 that divides its
+//! size; no call is made from a signal handler, or from the forked child of a process with threads; the library is that of
+//! this crate's version.
 #![warn(missing_docs)]
 
 mod batch;
+mod dialect;
 mod fault;
 mod metrics;
 mod opening;
@@ -75,6 +93,7 @@ mod texts;
 mod value;
 
 pub use batch::{Batch, Kind, OwnedValue, Point, PointValue, Stream};
+pub use dialect::Dialect;
 pub use fault::{
     ListRefusal, OpenFault, Refusal, ResourceFault, RollFault, SettleFault, UnknownName,
 };

@@ -1,7 +1,9 @@
 //! The instruments of a run.
+use crate::dialect::Dialect;
 use crate::fault::{Refusal, RollFault, SettleFault, UnknownName};
 use crate::opening::{Opened, next};
 use crate::raw::{self, Handle};
+use crate::reader::Reader;
 use crate::recorder::Recorder;
 use std::mem::replace;
 use std::sync::{Arc, Mutex, MutexGuard, PoisonError};
@@ -86,6 +88,22 @@ impl Metrics {
     /// All instruments, in the order of the catalogue.
     pub fn instruments(&self) -> &[Instrument] {
         &self.instruments
+    }
+
+    /// Collects all instruments at a time in nanoseconds, in order, and answers a page for Prometheus: the lines of each batch,
+    /// and in OpenMetrics the end. The lines of a [`Resource`](crate::Resource) stand before it. Each lock is held for the
+    /// collection alone.
+    ///
+    /// # Errors
+    ///
+    /// The first [`Refusal`].
+    pub fn page(&self, reader: &mut Reader, now: u64, dialect: Dialect) -> Result<String, Refusal> {
+        let mut page = String::new();
+        for instrument in &self.instruments {
+            reader.collect_kept(instrument, now)?;
+            page += &reader.prometheus(dialect)?;
+        }
+        Ok(page + dialect.end())
     }
 
     /// Ends this run by the recorders of all of it, and opens the next one of the same plan, since a time in nanoseconds. So a

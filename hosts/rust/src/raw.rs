@@ -185,6 +185,23 @@ unsafe extern "C" {
         room: usize,
         text_length: &mut usize,
     ) -> u32;
+    pub fn wormweekly_prometheus(
+        reader: &mut Handle,
+        dialect: u32,
+        out: *mut u8,
+        room: usize,
+        text_length: &mut usize,
+    ) -> u32;
+    pub fn wormweekly_prometheus_target(
+        dialect: u32,
+        texts: *const u8,
+        texts_length: usize,
+        attributes: *const Attribute,
+        attributes_length: usize,
+        out: *mut u8,
+        room: usize,
+        text_length: &mut usize,
+    ) -> u32;
     pub fn wormweekly_batch(reader: &mut Handle, out: &mut Batch) -> u32;
     pub fn wormweekly_stream(reader: &mut Handle, stream: usize, out: &mut Stream) -> u32;
     pub fn wormweekly_point(

@@ -1,5 +1,6 @@
 //! The seats of readers.
 use crate::batch::{Batch, batch_of};
+use crate::dialect::Dialect;
 use crate::fault::{Refusal, ResourceFault};
 use crate::metrics::Instrument;
 use crate::raw::{self, Handle};
@@ -34,7 +35,7 @@ impl Reader {
     // A name of the plan.
     pub(crate) fn name_of(&mut self, kind: u32, number: u32) -> Result<String, u32> {
         let handle = &mut self.handle;
-        // SAFETY: as in `collect`, and the buffer is borrowed for the call.
+        // SAFETY: as in `collect_kept`, and the buffer is borrowed for the call.
         told(|out, length| unsafe {
             raw::wormweekly_reader_name(handle, kind, number, out.as_mut_ptr(), out.len(), length)
         })
@@ -53,11 +54,21 @@ impl Reader {
     ///
     /// A [`Refusal`]. Where it is [`Refusal::Memory`], [`Reader::text`] tells whether the batch is there.
     pub fn collect(&mut self, instrument: &Instrument, now: u64) -> Result<String, Refusal> {
+        self.collect_kept(instrument, now)?;
+        self.text()
+    }
+
+    /// The same without the text. The reader keeps the batch, for [`Reader::text`], [`Reader::batch`], [`Reader::otlp`] and
+    /// [`Reader::prometheus`].
+    ///
+    /// # Errors
+    ///
+    /// A [`Refusal`]; the batch before is kept then.
+    pub fn collect_kept(&mut self, instrument: &Instrument, now: u64) -> Result<(), Refusal> {
+        let mut held = instrument.lock();
         // SAFETY: the handles are as the library left them, and this call has them alone.
-        match unsafe {
-            raw::wormweekly_collect(&mut instrument.lock().handle, &mut self.handle, now)
-        } {
-            0 => self.text(),
+        match unsafe { raw::wormweekly_collect(&mut held.handle, &mut self.handle, now) } {
+            0 => Ok(()),
             code => Err(Refusal::of(code)),
         }
     }
@@ -78,7 +89,7 @@ impl Reader {
     /// [`Refusal::Memory`].
     pub fn text(&mut self) -> Result<String, Refusal> {
         let handle = &mut self.handle;
-        // SAFETY: as in `collect`, and the buffer is borrowed for the call.
+        // SAFETY: as in `collect_kept`, and the buffer is borrowed for the call.
         let text = told(|out, length| unsafe {
             raw::wormweekly_text(handle, out.as_mut_ptr(), out.len(), length)
         });
@@ -106,10 +117,30 @@ impl Reader {
         Ok(String::from_utf8_lossy(&line).into_owned())
     }
 
+    /// The lines of the batch that was collected last in a page for Prometheus, none before one.
+    ///
+    /// # Errors
+    ///
+    /// [`Refusal::Memory`].
+    pub fn prometheus(&mut self, dialect: Dialect) -> Result<String, Refusal> {
+        let handle = &mut self.handle;
+        // SAFETY: as in `collect_kept`, and the buffer is borrowed for the call.
+        let text = told(|out, length| unsafe {
+            raw::wormweekly_prometheus(
+                handle,
+                dialect.number(),
+                out.as_mut_ptr(),
+                out.len(),
+                length,
+            )
+        });
+        text.map_err(Refusal::of)
+    }
+
     fn encoded(&mut self, json: u32, resource: &Resource) -> Result<Vec<u8>, u32> {
         let handle = &mut self.handle;
         let Room { texts, attributes } = resource.room();
-        // SAFETY: as in `collect`, and the buffers are borrowed for the call.
+        // SAFETY: as in `collect_kept`, and the buffers are borrowed for the call.
         told_bytes(|out, length| unsafe {
             raw::wormweekly_otlp(
                 handle,

@@ -1,5 +1,8 @@
 //! What a service lives on: budgets, grants, names and runs.
-use wormweekly::{Budget, Opened, Refusal, RollFault, Rolled, SettleFault, Spare, Total, open};
+use wormweekly::{
+    Budget, Dialect, Opened, Refusal, Resource, ResourceFault, RollFault, Rolled, SettleFault,
+    Spare, Total, open,
+};
 
 const CATALOGUE: &str = "format = 2
 [[meter]]
@@ -96,6 +99,61 @@ fn instruments_are_named_where_there_is_no_recorder() -> Result<(), Box<dyn std:
     assert_eq!((orders.meter(), orders.number()), ("shop", 0));
     assert_eq!(opened.readers[0].name(), "console");
     Ok(())
+}
+
+#[test]
+fn pages_have_all_instruments() -> Result<(), Box<dyn std::error::Error>> {
+    let Opened {
+        metrics,
+        mut recorders,
+        mut readers,
+        ..
+    } = opened();
+    let console = &mut readers[0];
+    assert_eq!(console.prometheus(Dialect::Text)?, "");
+    assert_eq!(metrics.page(console, 1, Dialect::Text)?, "");
+    assert_eq!(metrics.page(console, 1, Dialect::OpenMetrics)?, "# EOF\n");
+    recorders[0].record(metrics.instrument("orders")?, &[], 2)?;
+    recorders[0].record(metrics.instrument("returns")?, &[], 1)?;
+    let page = "# HELP orders_total \n# TYPE orders_total counter\norders_total{otel_scope_name=\"shop\"} 2\n\
+        # HELP returns_total \n# TYPE returns_total counter\nreturns_total{otel_scope_name=\"shop\"} 1\n";
+    assert_eq!(metrics.page(console, 2, Dialect::Text)?, page);
+    let open = page
+        .replace("orders_total ", "orders ")
+        .replace("returns_total ", "returns ");
+    let open = open
+        .replace("orders{", "orders_total{")
+        .replace("returns{", "returns_total{");
+    let open = open + "# EOF\n";
+    assert_eq!(metrics.page(console, 3, Dialect::OpenMetrics)?, open);
+    let last = console.prometheus(Dialect::OpenMetricsCreated)?;
+    assert!(
+        last.ends_with("returns_created{otel_scope_name=\"shop\"} 0.000000000\n"),
+        "{last}"
+    );
+    let shop = Resource::new(&[("service.name", "shop".into())]);
+    let target = "# HELP target_info Target metadata\n# TYPE target_info gauge\n\
+        target_info{service_name=\"shop\"} 1\n";
+    assert_eq!(shop.page(Dialect::Text)?, target);
+    assert_eq!(Resource::default().page(Dialect::OpenMetrics)?, "");
+    let twice = Resource::new(&[("a", 1.into()), ("a", 2.into())]);
+    assert_eq!(twice.page(Dialect::Text), Err(ResourceFault::RepeatedKey));
+    Ok(())
+}
+
+#[test]
+fn clients_choose_a_format() {
+    let accepts = [
+        ("*/*", Dialect::Text),
+        ("text/plain;version=0.0.4;q=0.5", Dialect::Text),
+        (
+            "application/openmetrics-text;version=1.0.0;q=0.8,text/plain;q=0.5",
+            Dialect::OpenMetrics,
+        ),
+    ];
+    for (accept, dialect) in accepts {
+        assert_eq!(Dialect::for_accept(accept), dialect);
+    }
 }
 
 #[test]
