@@ -7,7 +7,8 @@ use crate::watch::Watch;
 use crate::words::Words;
 use crate::works::{Work, least};
 use metric_sdk::{
-    Attr, Batch, Encoding, OtlpBytes, OtlpLines, Plain, Plan, Resource, ResourceFault, ValueRef,
+    Attr, Batch, Dialect, Encoding, Exposition, OtlpBytes, OtlpLines, Plain, Plan, Resource,
+    ResourceFault, ValueRef,
 };
 use std::alloc::Global;
 use std::sync::Wait;
@@ -30,6 +31,8 @@ pub(crate) enum Format {
     Bytes,
     /// A line of OTLP/JSON.
     Lines,
+    /// The lines of a page for Prometheus.
+    Page,
 }
 
 // The lines of the table: their names, the numbers of their kinds of instruments, and what a batch is written as.
@@ -37,9 +40,11 @@ const LINES: &[(&str, u32, Format)] = &[
     ("sum, text", 0, Format::Text),
     ("sum, OTLP bytes", 0, Format::Bytes),
     ("sum, OTLP line", 0, Format::Lines),
+    ("sum, page", 0, Format::Page),
     ("histogram of 15, text", 2, Format::Text),
     ("histogram of 15, OTLP bytes", 2, Format::Bytes),
     ("histogram of 15, OTLP line", 2, Format::Lines),
+    ("histogram of 15, page", 2, Format::Page),
 ];
 
 /// A batch with so many points of an instrument of a kind, and what it is written as.
@@ -132,6 +137,10 @@ pub(crate) fn write<R: Clock>(
         }
         Format::Lines => {
             let encoding = OtlpLines::new(resource(alloc)?);
+            write_in(rt, alloc, written, &encoding, watch)
+        }
+        Format::Page => {
+            let encoding = Exposition::new(Dialect::Text);
             write_in(rt, alloc, written, &encoding, watch)
         }
     }
