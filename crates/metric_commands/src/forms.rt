@@ -80,7 +80,7 @@ fn write_collected<E: Encoding, W: Sink>(
     match write_encoded(alloc, sink, encoding, plan, batch) {
         Ok(()) => Ok(()),
         Err(ExportFault::Memory) => Err(KitFault::Memory),
-        Err(ExportFault::Write | ExportFault::ShutDown) => Err(KitFault::Write),
+        Err(ExportFault::Write | ExportFault::ShutDown | ExportFault::Kept) => Err(KitFault::Write),
     }
 }
 

@@ -5,7 +5,7 @@ use Rattle.metric_io.specs.Counts.{HasFailed}
 use Rattle.metric_io.specs.declared.devices.Broken.{Broken}
 use Rattle.metric_history.specs.declared.batch.Batch.{Batch}
 use Rattle.metric_plan.specs.Plans.{PlanValue}
-use Rattle.metric_export.specs.Exports.{Exports}
+use Rattle.metric_export.specs.Exports.{Exports, Retries}
 use Rattle.metric_export.specs.States.{Answers, GoesOn, TextExporterValue, state_after}
 use Rattle.metric_export.specs.declared.fault.ExportFault.{ExportFault}
 use Rattle.metric_export.specs.declared.fault.ExportFault.TheVariants as fault
@@ -43,6 +43,20 @@ pub record IsFlush {E : Type 0}
   pub keeps : Keeps (contents old) (contents new)
   pub same_text : text new ≡ text old
   pub answers : Answers (state old) (HasFailed (failures old) (failures new)) answer
+  pub goes_on : GoesOn (state old) (state new) answer
+
+-- One call of `retry`, by which nothing of a text is appended that contracts know.
+pub record IsRetry {E : Type 0}
+    (gives : E → E → PlanValue → Result (Unit {0}) ExportFault → Type 0)
+    (text : E → PlanValue → Batch → List ℕ)
+    (contents : E → Option (List ℕ))
+    (state : E → ExporterState)
+    (plan : PlanValue)
+    (old new : E)
+    (answer : Result (Unit {0}) ExportFault) : Type 0 where
+  pub own : Retries gives old new plan answer
+  pub keeps : Keeps (contents old) (contents new)
+  pub same_text : text new ≡ text old
   pub goes_on : GoesOn (state old) (state new) answer
 
 -- One call of `shutdown`, which hands on nothing.

@@ -1,22 +1,37 @@
 -- What a call that hands on a batch appends.
-use Rattle.std.specs.Prelude.{ℕ, List, Option, Result, Ok, Err}
+use Rattle.std.specs.Prelude.{◌≡◌, ◌⊎◌, ℕ, Bool, true, false, List, Option, Result, Ok, Err}
 use Rattle.std.specs.Io.KnownBytes.{Appends, Keeps}
 use Rattle.metric_io.specs.Prefix.{AppendsPrefix}
 use Rattle.metric_history.specs.declared.batch.Batch.{Batch}
 use Rattle.metric_plan.specs.Plans.{PlanValue}
 use Rattle.metric_lines.specs.Batches.{batch_text}
 use Rattle.metric_export.specs.declared.fault.ExportFault.{ExportFault}
-use Rattle.metric_export.specs.declared.fault.ExportFault.TheVariants.{Write, ShutDown, Memory}
+use Rattle.metric_export.specs.declared.fault.ExportFault.TheVariants.{Write, ShutDown, Memory, Kept}
 
 -- the text of a batch of a plan
 abbrev pub plan_text : PlanValue → Batch → List ℕ
 plan_text plan batch = batch_text plan.facts.contents plan.config plan.streams batch
 
 -- what is appended, by the answer: the whole text, a prefix of it where the device
--- failed, and nothing on any other fault
+-- failed or the batch is kept, and nothing on any other fault
 abbrev pub Exports : {T : Type 0} → Option (List ℕ) → Option (List ℕ) → List ℕ
     → Result T ExportFault → Type 0
 Exports old new text (Ok done) = Appends old new text
 Exports old new text (Err Write) = AppendsPrefix old new text
 Exports old new text (Err ShutDown) = Keeps old new
 Exports old new text (Err Memory) = Keeps old new
+Exports old new text (Err Kept) = AppendsPrefix old new text
+
+-- whether a batch was taken, by the answer: it went out, or the exporter keeps it to try it again
+abbrev pub is_taken : Result (Unit {0}) ExportFault → Bool
+is_taken (Ok done) = true
+is_taken (Err Write) = false
+is_taken (Err ShutDown) = false
+is_taken (Err Memory) = false
+is_taken (Err Kept) = true
+
+-- what a new try of what an exporter keeps did: nothing, or what the exporter says of it
+abbrev pub Retries : {E : Type 0} → (E → E → PlanValue → Result (Unit {0}) ExportFault → Type 0)
+    → E → E → PlanValue → Result (Unit {0}) ExportFault → Type 0
+Retries gives old new plan answer =
+    ((new ≡ old) × (answer ≡ Ok tt)) ⊎ gives old new plan answer

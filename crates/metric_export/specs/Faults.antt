@@ -2,17 +2,19 @@
 use Rattle.std.specs.Prelude.{ℕ, List, ◌∷◌, ◌++◌, codes}
 use Rattle.std.specs.Fmt.{decimal}
 use Rattle.metric_export.specs.declared.fault.ExportFault.{ExportFault}
-use Rattle.metric_export.specs.declared.fault.ExportFault.TheVariants.{Write, ShutDown, Memory}
+use Rattle.metric_export.specs.declared.fault.ExportFault.TheVariants.{Write, ShutDown, Memory, Kept}
 
 abbrev pub number_of : ExportFault → ℕ
 number_of Write = 1
 number_of ShutDown = 2
 number_of Memory = 3
+number_of Kept = 4
 
 abbrev pub name_of : ExportFault → List ℕ
 name_of Write = codes "Write"
 name_of ShutDown = codes "ShutDown"
 name_of Memory = codes "Memory"
+name_of Kept = codes "Kept"
 
 -- its number, a space, its name
 abbrev pub export_fault_text : ExportFault → List ℕ

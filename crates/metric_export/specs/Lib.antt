@@ -1,6 +1,7 @@
 pub mod Faults
 pub mod Exports
 pub mod States
+pub mod Handings
 pub mod Queues
 pub mod Attributes
 pub mod Keepings

@@ -1,60 +1,114 @@
 -- An exporter that keeps the batches which another one refused.
-use Rattle.std.specs.Prelude.{◌≡◌, ◌≤◌, ◌+◌, ◌-◌, ℕ, Bool, true, false, List, [], ◌∷◌, ◌++◌, length}
-use Rattle.std.specs.Prelude.{map, take, drop, flat_map, IsErr, OnOk, Result, Ok, Err}
+use Rattle.std.specs.Prelude.{◌≡◌, ◌≢◌, ◌+◌, ◌-◌, ◌*◌, ◌||◌, ◌==◌, ℕ, min, Bool, true, false, List, [], ◌∷◌, ◌++◌, length}
+use Rattle.std.specs.Prelude.{if◌then◌else◌, take, drop, flat_map, is_none, Option, Some, None, Result, Ok, Err}
 use Rattle.metric_io.specs.Counts.{higher_count, next_count}
 use Rattle.metric_history.specs.declared.batch.Batch.{Batch}
+use Rattle.metric_plan.specs.Plans.{PlanValue}
+use Rattle.metric_export.specs.Exports.{is_taken}
+use Rattle.metric_export.specs.Handings.{Exporting, HandsOnInOrder}
+use Rattle.metric_export.specs.States.{Admits}
 use Rattle.metric_export.specs.declared.fault.ExportFault.{ExportFault}
 use Rattle.metric_export.specs.declared.fault.ExportFault.TheVariants as fault
+use Rattle.metric_export.specs.declared.state.ExporterState.{ExporterState}
+use Rattle.metric_export.specs.declared.state.ExporterState.TheVariants.{Open, ShutDown}
 
 -- An exporter that keeps batches, as contracts see it: the exporter below it; the batches that are
--- kept, the oldest first, and how many may be; and counts: of the batches that went out, of those
--- that were dropped since more may not be kept, of those that want of memory kept out, and of the
--- calls in which the device failed.
+-- kept, the oldest first, and how many may be; how many exports in a row only keep their batch after
+-- a try that failed, and how many of these are still to come; its state; and counts: of the batches
+-- that went out, of those that were dropped since more may not be kept, of those that were refused
+-- and not kept, and of the calls in which the device failed.
 pub record QueuedValue (E : Type 0) : Type 0 where
   pub inner : E
   pub kept : List Batch
   pub most : ℕ
+  pub pause : ℕ
+  pub wait : ℕ
+  pub state : ExporterState
   pub sent : ℕ
   pub dropped : ℕ
   pub unkept : ℕ
   pub failures : ℕ
 
--- what is said of a call of an exporter for a batch: the exporter before and
--- after it, the batch and the answer
-abbrev pub Exporting : Type 0 → Type 1
-Exporting E = E → E → Batch → Result (Unit {0}) ExportFault → Type 0
+-- a queue that keeps these batches, and has done nothing yet
+abbrev pub new_queue : {E : Type 0} → E → List Batch → ℕ → QueuedValue E
+new_queue inner kept most = record {
+  inner = inner;
+  kept = kept;
+  most = most;
+  pause = 0;
+  wait = 0;
+  state = Open;
+  sent = 0;
+  dropped = 0;
+  unkept = 0;
+  failures = 0;
+}
 
--- each of these batches was exported once, in order, and taken
-abbrev pub TakesEach : {E : Type 0} → Exporting E → E → E → List Batch → Type 0
-TakesEach exports old new [] = new ≡ old
-TakesEach {E} exports old new (batch ∷ batches) =
-    (mid : E) × (exports old mid batch (Ok tt) × TakesEach exports mid new batches)
+-- ---- one try
 
--- why no more of the batches that are left were tried: there are none, or the first of
--- them was exported once and refused
-abbrev pub StopsBefore : {E : Type 0} → Exporting E → E → E → List Batch
+-- what a try of the new batch came to, by why the kept ones stopped: where they did, it was not tried
+abbrev pub TriesLast : {E : Type 0} → Exporting E → E → E → Batch → ℕ → Option ExportFault → ℕ
     → Result (Unit {0}) ExportFault → Type 0
-StopsBefore exports old new [] answer = (answer ≡ Ok tt) × (new ≡ old)
-StopsBefore exports old new (batch ∷ batches) answer = IsErr answer × exports old new batch answer
+TriesLast exports old new batch taken (Some why) sent told =
+    (new ≡ old) × ((sent ≡ taken) × (told ≡ Err why))
+TriesLast exports old new batch taken None sent told =
+    exports old new batch told × (sent ≡ (if is_taken told then taken + 1 else taken))
 
--- Batches were exported in order, each once, up to the first that was refused: so many were taken.
-pub record TriesInOrder {E : Type 0}
+-- The kept batches were handed on in order, up to the first that was refused, and then the new one,
+-- where none was. So many went out, and this is what the last call answered.
+pub record TriesAll {E : Type 0}
     (exports : Exporting E)
     (old new : E)
-    (batches : List Batch)
+    (kept : List Batch)
+    (batch : Batch)
     (sent : ℕ)
-    (answer : Result (Unit {0}) ExportFault) : Type 0 where
-  pub between : E
-  pub within : sent ≤ length batches
-  pub taken : TakesEach exports old between (take sent batches)
-  pub stopped : StopsBefore exports between new (drop sent batches) answer
+    (told : Result (Unit {0}) ExportFault) : Type 0 where
+  pub mid : E
+  pub taken : ℕ
+  pub refused : Option ExportFault
+  pub first : HandsOnInOrder exports old mid kept taken refused
+  pub last : TriesLast exports mid new batch taken refused sent told
+
+-- whether a try is due: no export is to be let pass, or nothing is kept
+abbrev pub is_due : ℕ → List Batch → Bool
+is_due wait kept = (wait == 0) || (length kept == 0)
+
+-- that is tried only where it is due, else nothing is done
+abbrev pub TriesWhenDue : {E : Type 0} → Bool → Exporting E → E → E → List Batch → Batch → ℕ
+    → Result (Unit {0}) ExportFault → Type 0
+TriesWhenDue true exports old new kept batch sent told =
+    TriesAll exports old new kept batch sent told
+TriesWhenDue false exports old new kept batch sent told =
+    (new ≡ old) × ((sent ≡ 0) × (told ≡ Err fault.Memory))
+
+-- ---- the pause between tries
+
+-- a pause after another try that failed: 1, 3, 7 and so on, up to 63 exports
+abbrev pub longer : ℕ → ℕ
+longer pause = min (2 * pause + 1) 63
+
+-- the pause after a try, and how many exports are then to be let pass
+abbrev pub paused : ℕ → Bool → ℕ
+paused pause true = 0
+paused pause false = longer pause
+
+-- the same after an export, by whether a try was due
+abbrev pub pause_after : Bool → ℕ → Bool → ℕ
+pause_after true pause taken = paused pause taken
+pause_after false pause taken = pause
+
+abbrev pub wait_after : Bool → ℕ → ℕ → Bool → ℕ
+wait_after true wait pause taken = paused pause taken
+wait_after false wait pause taken = wait - 1
+
+-- ---- one export
 
 -- what a batch adds to those that are kept, by whether there is memory to keep it
 abbrev pub entered : Bool → Batch → List Batch
 entered true batch = batch ∷ []
 entered false batch = []
 
--- how many batches more memory kept out
+-- how many batches more were not kept
 abbrev pub kept_out : Bool → ℕ
 kept_out true = 0
 kept_out false = 1
@@ -65,58 +119,152 @@ failures_after failures (Ok done) = failures
 failures_after failures (Err fault.Write) = next_count failures
 failures_after failures (Err fault.ShutDown) = failures
 failures_after failures (Err fault.Memory) = failures
+failures_after failures (Err fault.Kept) = failures
 
--- A batch was handed in: those that were kept and then the new one were exported in order up to the
--- first that was refused. What is left is kept, but for the oldest that are more than may be kept.
--- Only a batch that did not go out is kept out by want of memory.
-pub record HandsIn {E : Type 0}
+-- what a queue answers: what the exporter below answered where the batch went on to that, else
+-- whether it is kept
+abbrev pub answered : Result (Unit {0}) ExportFault → Bool → Result (Unit {0}) ExportFault
+answered told is_in =
+    if is_taken told then told else (if is_in then Err fault.Kept else Err fault.Memory)
+
+-- A batch was handed in to a queue that takes calls: those that were kept and then the new one were
+-- exported in order up to the first that was refused, unless this export was to be let pass. What is
+-- left is kept, but for the oldest that are more than may be kept. Only a batch that did not go out
+-- is not kept: for want of memory, or since none may be.
+pub record HandsInOpen {E : Type 0}
     (exports : Exporting E)
     (old new : QueuedValue E)
     (batch : Batch)
     (answer : Result (Unit {0}) ExportFault) : Type 0 where
   pub sent : ℕ
+  pub told : Result (Unit {0}) ExportFault
   pub lost : ℕ
-  pub is_taken : Bool
-  pub tries : TriesInOrder exports old.inner new.inner (old.kept ++ batch ∷ []) sent answer
-  pub taken_where_sent : OnOk answer (is_taken ≡ true)
-  pub lost_is : lost ≡ length (old.kept ++ entered is_taken batch) - sent - old.most
-  pub kept : new.kept ≡ drop (sent + lost) (old.kept ++ entered is_taken batch)
+  pub is_in : Bool
+  pub tries : TriesWhenDue (is_due old.wait old.kept) exports old.inner new.inner old.kept batch
+      sent told
+  pub in_where_sent : is_taken told ≡ true → is_in ≡ true
+  pub none_may : is_taken told ≡ false → old.most ≡ 0 → is_in ≡ false
+  pub lost_is : lost ≡ length (old.kept ++ entered is_in batch) - sent - old.most
+  pub kept : new.kept ≡ drop (sent + lost) (old.kept ++ entered is_in batch)
+  pub answer_is : answer ≡ answered told is_in
+  pub pause : new.pause ≡ pause_after (is_due old.wait old.kept) old.pause (is_taken told)
+  pub wait : new.wait ≡ wait_after (is_due old.wait old.kept) old.wait old.pause (is_taken told)
   pub counted_sent : new.sent ≡ higher_count old.sent sent
   pub counted_dropped : new.dropped ≡ higher_count old.dropped lost
-  pub counted_unkept : new.unkept ≡ higher_count old.unkept (kept_out is_taken)
-  pub counted_failures : new.failures ≡ failures_after old.failures answer
+  pub counted_unkept : new.unkept ≡ higher_count old.unkept (kept_out is_in)
+  pub failures : new.failures ≡ failures_after old.failures told
   pub most : new.most ≡ old.most
+  pub state : new.state ≡ old.state
 
--- A call passed on to the exporter below changes nothing of what is kept.
-abbrev pub PassesOn : {E : Type 0} → QueuedValue E → QueuedValue E
-    → Result (Unit {0}) ExportFault → Type 0
-PassesOn old new answer =
-    new ≡ record old { inner = new.inner; failures = failures_after old.failures answer }
+-- One call of `export`: where the queue was shut down, nothing is done.
+pub record HandsIn {E : Type 0}
+    (exports : Exporting E)
+    (old new : QueuedValue E)
+    (batch : Batch)
+    (answer : Result (Unit {0}) ExportFault) : Type 0 where
+  pub when_open : old.state ≡ Open → HandsInOpen exports old new batch answer
+  pub when_shut : old.state ≢ Open → new ≡ old
 
--- A flush or a shutdown is passed on to the exporter below, once, and leaves what is kept.
-pub record PassesCallOn {E : Type 0}
+-- ---- one new try of all that is kept
+
+-- what a new try answers: whether something is kept still, else what the exporter below answered
+abbrev pub retried : Option ExportFault → Result (Unit {0}) ExportFault
+    → Result (Unit {0}) ExportFault
+retried (Some why) below = Err fault.Kept
+retried None below = below
+
+-- what a queue passes on of an answer of the exporter below: that one may have been shut down
+-- before, and the queue was not
+abbrev pub passed_on : Result (Unit {0}) ExportFault → Result (Unit {0}) ExportFault
+passed_on (Ok done) = Ok done
+passed_on (Err fault.Write) = Err fault.Write
+passed_on (Err fault.ShutDown) = Err fault.Write
+passed_on (Err fault.Memory) = Err fault.Memory
+passed_on (Err fault.Kept) = Err fault.Kept
+
+-- The kept batches were handed on at once, in order, up to the first that was refused, and then the
+-- exporter below tried again what it keeps. What is left is kept.
+pub record RetriesOpen {E : Type 0}
+    (exports : Exporting E)
+    (retries : E → E → Result (Unit {0}) ExportFault → Type 0)
+    (old new : QueuedValue E)
+    (answer : Result (Unit {0}) ExportFault) : Type 0 where
+  pub mid : E
+  pub sent : ℕ
+  pub refused : Option ExportFault
+  pub below : Result (Unit {0}) ExportFault
+  pub tries : HandsOnInOrder exports old.inner mid old.kept sent refused
+  pub retries_below : retries mid new.inner below
+  pub kept : new.kept ≡ drop sent old.kept
+  pub answer_is : answer ≡ retried refused (passed_on below)
+  pub pause : new.pause ≡ paused old.pause (is_none refused)
+  pub wait : new.wait ≡ paused old.pause (is_none refused)
+  pub counted_sent : new.sent ≡ higher_count old.sent sent
+  pub dropped : new.dropped ≡ old.dropped
+  pub unkept : new.unkept ≡ old.unkept
+  pub failures : new.failures ≡ failures_after old.failures answer
+  pub most : new.most ≡ old.most
+  pub state : new.state ≡ old.state
+
+-- One call of `retry`: where the queue was shut down, nothing is done.
+pub record RetriesKept {E : Type 0}
+    (exports : PlanValue → Exporting E)
+    (retries : PlanValue → E → E → Result (Unit {0}) ExportFault → Type 0)
+    (old new : QueuedValue E)
+    (plan : PlanValue)
+    (answer : Result (Unit {0}) ExportFault) : Type 0 where
+  pub when_open : old.state ≡ Open → RetriesOpen (exports plan) (retries plan) old new answer
+  pub when_shut : old.state ≢ Open → (new ≡ old) × Admits old.state answer
+
+-- ---- calls that are passed on
+
+-- The exporter below was called once, and what is kept stays.
+pub record PassesOnce {E : Type 0}
+    (gives : E → E → Result (Unit {0}) ExportFault → Type 0)
+    (old new : QueuedValue E)
+    (state : ExporterState)
+    (answer : Result (Unit {0}) ExportFault) : Type 0 where
+  pub told : Result (Unit {0}) ExportFault
+  pub call : gives old.inner new.inner told
+  pub answer_is : answer ≡ passed_on told
+  pub kept : new ≡ record old {
+    inner = new.inner;
+    failures = failures_after old.failures answer;
+    state = state;
+  }
+
+-- A flush is passed on to the exporter below, once, unless the queue was shut down.
+pub record PassesFlush {E : Type 0}
     (gives : E → E → Result (Unit {0}) ExportFault → Type 0)
     (old new : QueuedValue E)
     (answer : Result (Unit {0}) ExportFault) : Type 0 where
-  pub call : gives old.inner new.inner answer
-  pub kept : PassesOn old new answer
+  pub passed : old.state ≡ Open → PassesOnce gives old new old.state answer
+  pub unpassed : old.state ≢ Open → new ≡ old
+
+-- So is a shutdown, after which the queue is shut down too.
+pub record PassesShutdown {E : Type 0}
+    (gives : E → E → Result (Unit {0}) ExportFault → Type 0)
+    (old new : QueuedValue E)
+    (answer : Result (Unit {0}) ExportFault) : Type 0 where
+  pub passed : old.state ≡ Open → PassesOnce gives old new ShutDown answer
+  pub unpassed : old.state ≢ Open → new ≡ record old { state = ShutDown }
 
 -- ---- many calls
 
--- A call that handed a batch in, as `HandsIn` tells of it: what was kept before and after
+-- A call that handed a batch in, as `HandsInOpen` tells of it: what was kept before and after
 -- it, whether the batch went out or was kept, how many went out, the oldest first, and
--- how many of the next were dropped.
+-- how many of the next were dropped. A new try is such a call by which no batch came in.
 pub record HandedIn : Type 0 where
   pub before : List Batch
   pub batch : Batch
-  pub is_taken : Bool
+  pub is_in : Bool
   pub sent : ℕ
   pub lost : ℕ
   pub after : List Batch
 
 -- what a call adds to the queue
 abbrev pub entered_by : HandedIn → List Batch
-entered_by call = entered call.is_taken call.batch
+entered_by call = entered call.is_in call.batch
 
 -- all that such a call has before it
 abbrev pub queue_of : HandedIn → List Batch
@@ -139,9 +287,9 @@ abbrev pub kept_after : List Batch → List HandedIn → List Batch
 kept_after kept [] = kept
 kept_after kept (call ∷ calls) = kept_after call.after calls
 
--- the batches that entered an empty queue are, in order, those that went out or were dropped by one
--- call after the other, and then those that are kept
+-- the batches with which a queue was begun and those that entered it are, in order, those that went
+-- out or were dropped by one call after the other, and then those that are kept
 abbrev pub IsAccounted : Type 0
 IsAccounted =
-    (calls : List HandedIn) → HandsInEach [] calls
-    → flat_map entered_by calls ≡ flat_map gone_by calls ++ kept_after [] calls
+    (kept : List Batch) (calls : List HandedIn) → HandsInEach kept calls
+    → kept ++ flat_map entered_by calls ≡ flat_map gone_by calls ++ kept_after kept calls

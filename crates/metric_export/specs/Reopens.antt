@@ -35,6 +35,7 @@ left_open sink (Ok done) = Some sink
 left_open sink (Err fault.Write) = None
 left_open sink (Err fault.ShutDown) = Some sink
 left_open sink (Err fault.Memory) = Some sink
+left_open sink (Err fault.Kept) = Some sink
 
 -- A text was written to a sink, or a prefix of it where the sink failed, which then is let go.
 pub record WritesText {W : Type 0}

@@ -17,6 +17,7 @@ Admits state (Ok done) = state ≡ Open
 Admits state (Err fault.Write) = state ≡ Broken
 Admits state (Err fault.ShutDown) = state ≡ ShutDown
 Admits state (Err fault.Memory) = ⊥
+Admits state (Err fault.Kept) = ⊥
 
 -- what a call may answer, by the state that it finds: an open exporter fails only
 -- where its device failed in this call
@@ -25,6 +26,7 @@ Answers state failed (Ok done) = state ≡ Open
 Answers state failed (Err fault.Write) = (state ≡ Broken) ⊎ ((state ≡ Open) × failed)
 Answers state failed (Err fault.ShutDown) = state ≡ ShutDown
 Answers state failed (Err fault.Memory) = state ≡ Open
+Answers state failed (Err fault.Kept) = state ≡ Open
 
 -- the state after an export or a flush: it stays as it was, but a fault of
 -- the device may break the exporter
@@ -33,6 +35,7 @@ GoesOn old new (Ok done) = new ≡ old
 GoesOn old new (Err fault.Write) = (new ≡ old) ⊎ (new ≡ Broken)
 GoesOn old new (Err fault.ShutDown) = new ≡ old
 GoesOn old new (Err fault.Memory) = new ≡ old
+GoesOn old new (Err fault.Kept) = new ≡ old
 
 -- the state after a call with an answer, where each fault of the device breaks the exporter
 abbrev pub state_after : {T : Type 0} → ExporterState → Result T ExportFault → ExporterState
@@ -40,3 +43,4 @@ state_after state (Ok done) = state
 state_after state (Err fault.Write) = Broken
 state_after state (Err fault.ShutDown) = state
 state_after state (Err fault.Memory) = state
+state_after state (Err fault.Kept) = state

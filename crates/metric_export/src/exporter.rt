@@ -4,7 +4,7 @@ ghost use Rattle.std.specs.Io.KnownBytes.{Keeps};
 ghost use Rattle.metric_io.specs.Counts.{HasFailed};
 ghost use Rattle.metric_history.specs.declared.batch.Batch.{Batch};
 ghost use Rattle.metric_plan.specs.Plans.{PlanValue};
-ghost use Rattle.metric_export.specs.Exports.{Exports};
+ghost use Rattle.metric_export.specs.Exports.{Exports, Retries};
 ghost use Rattle.metric_export.specs.States.{Answers, GoesOn};
 ghost use Rattle.metric_export.specs.declared.fault.ExportFault.{ExportFault};
 ghost use Rattle.metric_export.specs.declared.state.ExporterState.{ExporterState};
@@ -41,6 +41,9 @@ pub trait MetricExporter {
     // What a flush does to it, by the answer.
     ghost flush_gives: { Self → Self → Result (Unit {0}) ExportFault → Type 0 } = { λ _ _ _. Unit {0} };
 
+    // What a new try of what it keeps does to it, by the plan and the answer, for an exporter that keeps batches.
+    ghost retry_gives: { Self → Self → PlanValue → Result (Unit {0}) ExportFault → Type 0 } = { λ _ _ _ _. ⊥ };
+
     // What a shutdown does to it, by the answer.
     ghost shutdown_gives: { Self → Self → Result (Unit {0}) ExportFault → Type 0 };
 
@@ -52,6 +55,7 @@ pub trait MetricExporter {
     ///   of the text was handed on.
     /// - [`ExportFault::ShutDown`] exactly where the exporter was shut down.
     /// - [`ExportFault::Memory`], and nothing was handed on.
+    /// - [`ExportFault::Kept`], and the exporter keeps the batch, to try it again by itself.
     fn export(&mut self, alloc: Global, plan: &Plan, batch: &Batch) -> Result<(), ExportFault>
         ensures text { Exports (contents self.old) (contents self.new)
             (text self.old plan.now batch.now) result }
@@ -70,6 +74,22 @@ pub trait MetricExporter {
             (HasFailed (failures self.old) (failures self.new)) result }
         ensures state { GoesOn (state self.old) (state self.new) result }
         ensures gives { flush_gives self.old self.new result };
+
+    /// Tries again at once what the exporter keeps of earlier calls, as at the end of a service. An exporter that never
+    /// answers [`ExportFault::Kept`] keeps nothing, and has nothing to write here. Nothing is appended that contracts know:
+    /// one that keeps batches tells no `contents`.
+    ///
+    /// # Errors
+    ///
+    /// [`ExportFault::Kept`] where something is kept still, and what an exporter of batches says else.
+    fn retry(&mut self, alloc: Global, plan: &Plan) -> Result<(), ExportFault>
+        ensures text { Keeps (contents self.old) (contents self.new) }
+        ensures same_text { text self.new ≡ text self.old }
+        ensures state { GoesOn (state self.old) (state self.new) result }
+        ensures gives { Retries retry_gives self.old self.new plan.now result }
+    {
+        Ok(())
+    }
 
     /// Flushes, and takes no call from then on, whatever it answers. No text is added. The errors are
     /// those of [`export`](MetricExporter::export).

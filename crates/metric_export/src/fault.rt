@@ -1,5 +1,6 @@
 //! Why a call of an exporter fails.
-ghost use Rattle.std.specs.Prelude.{◌≡◌};
+ghost use Rattle.std.specs.Prelude.{◌≡◌, Err};
+ghost use Rattle.metric_export.specs.Exports.{is_taken};
 ghost use Rattle.metric_export.specs.Faults.{name_of, number_of};
 
 use metric_io::Broken;
@@ -15,9 +16,21 @@ pub enum ExportFault {
     ShutDown,
     /// Memory was refused. Nothing of the batch was written.
     Memory,
+    /// The batch did not go out. The exporter keeps it, and tries it again later: who hands it in again exports it twice.
+    Kept,
 }
 
 impl ExportFault {
+    /// Whether the exporter keeps the batch for which it answers this fault.
+    pub fn is_kept(&self) -> bool
+        ensures { result ≡ is_taken (Err self.now) }
+    {
+        match self {
+            ExportFault::Kept => true,
+            ExportFault::Write | ExportFault::ShutDown | ExportFault::Memory => false,
+        }
+    }
+
     /// The fault's number in printed texts.
     pub fn number(&self) -> u8
         ensures { result ≡ number_of self.now }
@@ -26,6 +39,7 @@ impl ExportFault {
             ExportFault::Write => 1,
             ExportFault::ShutDown => 2,
             ExportFault::Memory => 3,
+            ExportFault::Kept => 4,
         }
     }
 
@@ -37,6 +51,7 @@ impl ExportFault {
             ExportFault::Write => "Write",
             ExportFault::ShutDown => "ShutDown",
             ExportFault::Memory => "Memory",
+            ExportFault::Kept => "Kept",
         }
     }
 }

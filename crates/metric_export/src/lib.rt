@@ -3,7 +3,8 @@
 //! [`write_batch`] writes the text of one batch to a sink, [`write_encoded`] its bytes in another [`Encoding`], [`copy_batch`]
 //! copies one, and [`attributes`] are those of a point. A [`MetricExporter`] takes batch after batch until it is shut down
 //! (Metrics SDK, push metric exporter); [`TextExporter`] writes them to a sink, a [`KeepingExporter`] keeps the batches
-//! in memory, and a [`Queued`] keeps those that the exporter below it refused and tries them again. A [`Ticker`] gives the
+//! in memory, and a [`Queued`] keeps those that the exporter below it refused and tries them again; a [`ToldQueue`] tells its
+//! [`QueueCounts`]. [`export_each`] hands a list on. A [`Ticker`] gives the
 //! moments of a periodic reader: [`ListTicker`] those of a list, [`ClockTicker`] those of a clock, until a [`StopFlag`] is
 //! set.
 #![tactic(auto)]
@@ -14,8 +15,10 @@ mod copies;
 mod encoding;
 mod exporter;
 mod fault;
+mod handing;
 mod keeping_exporter;
 mod laws;
+mod lent;
 mod list_ticker;
 mod point_attributes;
 mod queued;
@@ -24,6 +27,7 @@ mod state;
 mod stop_flag;
 mod text_exporter;
 mod tick;
+mod told_queue;
 mod watch;
 
 pub use batch::{write_batch, write_encoded};
@@ -32,6 +36,7 @@ pub use copies::copy_batch;
 pub use encoding::{Encoding, Plain};
 pub use exporter::MetricExporter;
 pub use fault::ExportFault;
+pub use handing::{Handed, export_each, has_points};
 pub use keeping_exporter::KeepingExporter;
 pub use laws::{shut_down_exporters_stay_shut_down, write_faults_are_of_the_device};
 pub use list_ticker::ListTicker;
@@ -42,3 +47,4 @@ pub use state::ExporterState;
 pub use stop_flag::StopFlag;
 pub use text_exporter::TextExporter;
 pub use tick::{Tick, Ticker};
+pub use told_queue::{QueueCounts, ToldQueue};

@@ -197,6 +197,7 @@ fn write_to<W: Sink + Drop, E: Encoding>(
         Err(ExportFault::Write) => (None, Err(ExportFault::Write)),
         Err(ExportFault::ShutDown) => (Some(sink), Err(ExportFault::ShutDown)),
         Err(ExportFault::Memory) => (Some(sink), Err(ExportFault::Memory)),
+        Err(ExportFault::Kept) => (Some(sink), Err(ExportFault::Kept)),
     }
 }
 

@@ -3,29 +3,34 @@ use Rattle.std.proofs.Common.{◌≡◌, ℕ, ◌+◌, ◌<◌, ◌≤◌, List,
 use Rattle.std.proofs.lemmas.List.{take_all, take_more}
 use Rattle.metric_history.specs.declared.batch.Batch.{Batch}
 use Rattle.metric_export.specs.declared.fault.ExportFault.{ExportFault}
-use Rattle.metric_periodic.specs.Counts.{IsCounted}
-use Rattle.metric_periodic.specs.Exported.{Answering, Exporting, ExportsEach, ExportsOne, IsFlushed, ShutsDown, Tally, failed_after}
+use Rattle.metric_periodic.specs.Counts.{delayed_after, exported_after, refused_after}
+use Rattle.metric_periodic.specs.Exported.{Answering, Exporting, ExportsEach, ExportsOne, IsFlushed, IsRetried, ShutsDown, Tally, failed_after}
 
 -- one call, and its answer counted
 pub one_exported : {E : Type 0} (exports : Exporting E) (a b : Tally E) (batch : Batch) (answer : Result (Unit {0}) ExportFault)
-    → exports a.exporter b.exporter batch answer → IsCounted a.exported a.failed b.exported b.failed answer → b.refused ≡ a.refused
-    → b.unflushed ≡ a.unflushed → ExportsOne exports a b batch
-one_exported exports a b batch answer call counted refused unflushed =
-    record { answer = answer; call = call; counted = counted; refused = refused; unflushed = unflushed }
+    → exports a.exporter b.exporter batch answer → b.exported ≡ exported_after a.exported answer → b.failed ≡ refused_after a.failed answer
+    → b.delayed ≡ delayed_after a.delayed answer → b.refused ≡ a.refused → b.unflushed ≡ a.unflushed → ExportsOne exports a b batch
+one_exported exports a b batch answer call exported failed delayed refused unflushed =
+    record { answer = answer; call = call; exported = exported; failed = failed; delayed = delayed; refused = refused; unflushed = unflushed }
+
+-- a new try of what the exporter keeps
+pub retried_counted : {E : Type 0} (retries : Answering E) (a b : Tally E)
+    (answer : Result (Unit {0}) ExportFault) → retries a.exporter b.exporter answer → b ≡ record a { exporter = b.exporter } → IsRetried retries a b
+retried_counted retries a b answer call counts = record { answer = answer; call = call; counts = counts }
 
 -- a flush, and its failure counted
 pub flushed_counted : {E : Type 0} (flushes : Answering E) (a b : Tally E)
     (answer : Result (Unit {0}) ExportFault) → flushes a.exporter b.exporter answer → b.exported ≡ a.exported
-    → b.failed ≡ a.failed → b.refused ≡ a.refused → b.unflushed ≡ failed_after a.unflushed answer → IsFlushed flushes a b
-flushed_counted flushes a b answer call exported failed refused unflushed =
-    record { answer = answer; call = call; exported = exported; failed = failed; refused = refused; unflushed = unflushed }
+    → b.failed ≡ a.failed → b.delayed ≡ a.delayed → b.refused ≡ a.refused → b.unflushed ≡ failed_after a.unflushed answer → IsFlushed flushes a b
+flushed_counted flushes a b answer call exported failed delayed refused unflushed =
+    record { answer = answer; call = call; exported = exported; failed = failed; delayed = delayed; refused = refused; unflushed = unflushed }
 
 -- a shutdown, and its failure counted
 pub shut_down_counted : {E : Type 0} (shuts_down : Answering E) (a b : Tally E)
     (answer : Result (Unit {0}) ExportFault) → shuts_down a.exporter b.exporter answer → b.exported ≡ a.exported
-    → b.failed ≡ failed_after a.failed answer → b.refused ≡ a.refused → b.unflushed ≡ a.unflushed → ShutsDown shuts_down a b
-shut_down_counted shuts_down a b answer call exported failed refused unflushed =
-    record { answer = answer; call = call; exported = exported; failed = failed; refused = refused; unflushed = unflushed }
+    → b.failed ≡ failed_after a.failed answer → b.delayed ≡ a.delayed → b.refused ≡ a.refused → b.unflushed ≡ a.unflushed → ShutsDown shuts_down a b
+shut_down_counted shuts_down a b answer call exported failed delayed refused unflushed =
+    record { answer = answer; call = call; exported = exported; failed = failed; delayed = delayed; refused = refused; unflushed = unflushed }
 
 -- the calls for some batches, and then for others
 pub all_exported : {E : Type 0} (exports : Exporting E) (a b c : Tally E) (xs ys : List Batch) → ExportsEach exports a b xs → ExportsEach exports b c ys

@@ -8,8 +8,8 @@ use Rattle.metric_history.specs.declared.batch.Batch.{Batch}
 use Rattle.metric_provider.specs.Seats.{CollectorValue, ProviderValue}
 use Rattle.metric_periodic.specs.Collections.{Collected, Collecting, CollectingLast, CollectsLast}
 use Rattle.metric_periodic.specs.Counts.{AreCalls, Handed, HandsOn, HandsOnNothing, HandsOnToEnd, handed}
-use Rattle.metric_periodic.specs.Exported.{Answering, Exporting, ExportsCollected, ExportsEach, HandsOnCollected, IsFlushed, Tally, failed_after}
-use Rattle.metric_periodic.specs.Runs.{IsRun}
+use Rattle.metric_periodic.specs.Exported.{Answering, Exporting, ExportsCollected, ExportsEach, HandsOnCollected, IsFlushed, IsRetried, Tally, failed_after}
+use Rattle.metric_periodic.specs.Runs.{IsRun, ReadsAll}
 use Rattle.metric_periodic.specs.Turns.{AreTurns, Giving, Progress}
 
 -- ---- calls one after the other
@@ -37,7 +37,7 @@ for_each batches = map (λ (batch : Batch). Some batch) batches
 
 -- what an exporter handed on, with its counts
 abbrev pub shown : {E : Type 0} → (E → Option (List ℕ)) → Tally E → Handed
-shown contents counts = handed (contents counts.exporter) counts.exported counts.failed
+shown contents counts = handed (contents counts.exporter) counts.exported counts.failed counts.delayed
 
 -- what is said of a call of `export` tells what was appended, and that the exporter's text stays what it was
 abbrev pub Appending : {E : Type 0} → Exporting E → (E → Batch → List ℕ) → (E → Option (List ℕ)) → Type 0
@@ -59,7 +59,9 @@ handed_each exports text contents appending t a b (batch ∷ batches) is p =
           record {
             answer = one.answer;
             exports = subst (λ (f : Batch → List ℕ). Exports (contents a.exporter) (contents p.0.exporter) (f batch) one.answer) is call.0;
-            counted = one.counted;
+            exported = one.exported;
+            failed = one.failed;
+            delayed = one.delayed;
           },
           rest.0,
         ),
@@ -84,7 +86,16 @@ Keeping {E} gives contents = (old new : E) (answer : Result (Unit {0}) ExportFau
 handed_nothing : {E : Type 0} (flushes : Answering E) (contents : E → Option (List ℕ)) → Keeping flushes contents
     → (a b : Tally E) → IsFlushed flushes a b → HandsOnNothing (shown contents a) (shown contents b)
 handed_nothing flushes contents keeping a b p =
-    record { kept = keeping _ _ _ p.call; exported = p.exported; failed = p.failed }
+    record { kept = keeping _ _ _ p.call; exported = p.exported; failed = p.failed; delayed = p.delayed }
+
+retried_nothing : {E : Type 0} (retries : Answering E) (contents : E → Option (List ℕ)) → Keeping retries contents
+    → (a b : Tally E) → IsRetried retries a b → HandsOnNothing (shown contents a) (shown contents b)
+retried_nothing retries contents keeping a b p = record {
+  kept = keeping _ _ _ p.call;
+  exported = ap (λ (counts : Tally _). counts.exported) p.counts;
+  failed = ap (λ (counts : Tally _). counts.failed) p.counts;
+  delayed = ap (λ (counts : Tally _). counts.delayed) p.counts;
+}
 
 -- nor that the exporter's text changed
 abbrev pub SameText : {E : Type 0} → Answering E → (E → Batch → List ℕ) → Type 0
@@ -121,21 +132,24 @@ failed_or_not old new (Ok done) p = inl p
 failed_or_not old new (Err fault) p = inr p
 
 pub run_hands_on : {T C E : Type 0} (gives : Giving T) (collects : Collecting C) (last : CollectingLast C)
-    (exports : Exporting E) (flushes shuts_down : Answering E) (text : E → Batch → List ℕ)
+    (exports : Exporting E) (flushes retries shuts_down : Answering E) (text : E → Batch → List ℕ)
     (contents : E → Option (List ℕ)) → Appending exports text contents → Keeping flushes contents → SameText flushes text
-    → Keeping shuts_down contents
+    → Keeping retries contents → Keeping shuts_down contents
     → (most : ℕ) (start : Progress T C E) (ticker : T) (stopped : Bool) (kept : Option C) (counts : Tally E)
-    → IsRun gives collects last exports flushes shuts_down most start ticker stopped kept counts
+    → IsRun gives collects last exports flushes retries shuts_down most start ticker stopped kept counts
     → HandsOnToEnd (text start.counts.exporter) (shown contents start.counts) (shown contents counts)
-run_hands_on gives collects last exports flushes shuts_down text contents appending keeping same ending most start ticker stopped kept counts run =
+run_hands_on gives collects last exports flushes retries shuts_down text contents appending keeping same trying ending most start ticker stopped kept counts run =
     let t = text start.counts.exporter in
-    let turns = handed_turns gives collects exports flushes text contents appending keeping same t run.turns.made start _ refl run.turns.turns in
-    let after = handed_collected exports text contents appending t run.after_turns run.before_shutdown run.collected turns.1 run.exported in
+    let reads = run.reads in
+    let turns = handed_turns gives collects exports flushes text contents appending keeping same t reads.turns.made start _ refl reads.turns.turns in
+    let after = handed_collected exports text contents appending t reads.after_turns reads.before_retry reads.collected turns.1 reads.exported in
+    let tried = hands_on_nothing t _ _ (retried_nothing retries contents trying reads.before_retry run.before_shutdown reads.retried) in
     record {
       before = shown contents run.before_shutdown;
-      hands_on = hands_on_more t _ _ _ turns.0 after.0;
+      hands_on = hands_on_more t _ _ _ (hands_on_more t _ _ _ turns.0 after.0) tried;
       kept = ending _ _ _ run.shut_down.call;
       exported = run.shut_down.exported;
+      delayed = run.shut_down.delayed;
       failed = failed_or_not _ _ run.shut_down.answer run.shut_down.failed;
     }
 
@@ -160,11 +174,13 @@ refused_kept exports p now seat kept a b (Err fault) collects exported some =
     refused_some a.refused b.refused (refused_each exports _ b fault.done.items exported)
 
 pub run_keeps_refused : {T E : Type 0} (gives : Giving T) (collects : Collecting CollectorValue) (exports : Exporting E)
-    (flushes shuts_down : Answering E) (p : ProviderValue) (most : ℕ) (start : Progress T CollectorValue E) (ticker : T)
+    (flushes retries shuts_down : Answering E) (p : ProviderValue) (most : ℕ) (start : Progress T CollectorValue E) (ticker : T)
     (stopped : Bool) (kept : Option CollectorValue) (counts : Tally E)
-    → IsRun gives collects (CollectsLast p) exports flushes shuts_down most start ticker stopped kept counts
+    → IsRun gives collects (CollectsLast p) exports flushes retries shuts_down most start ticker stopped kept counts
     → IsSome kept → 0 < counts.refused
-run_keeps_refused gives collects exports flushes shuts_down p most start ticker stopped kept counts run some =
-    let refused : 0 < run.before_shutdown.refused =
-    refused_kept exports p _ run.seat kept run.after_turns run.before_shutdown run.collected run.collects_at run.exported some in
-    rw run.shut_down.refused refused
+run_keeps_refused gives collects exports flushes retries shuts_down p most start ticker stopped kept counts run some =
+    let reads = run.reads in
+    let refused : 0 < reads.before_retry.refused =
+    refused_kept exports p _ reads.seat kept reads.after_turns reads.before_retry reads.collected reads.collects_at reads.exported some in
+    let same : counts.refused ≡ reads.before_retry.refused = run.shut_down.refused ∙ ap (λ (tally : Tally _). tally.refused) reads.retried.counts in
+    rw same refused

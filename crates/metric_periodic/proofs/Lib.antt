@@ -1,3 +1,4 @@
 mod Calling
 mod Turning
 mod Handing
+mod Patience

@@ -5,38 +5,57 @@ use Rattle.metric_io.specs.Counts.{next_count}
 use Rattle.metric_history.specs.declared.batch.Batch.{Batch}
 use Rattle.metric_export.specs.Exports.{Exports}
 use Rattle.metric_export.specs.declared.fault.ExportFault.{ExportFault}
+use Rattle.metric_export.specs.declared.fault.ExportFault.TheVariants as fault
 
 -- what an exporter handed on, where it knows that, and the counts of its
--- exports and of its failed calls
+-- exports, of its failed calls and of the batches that it keeps
 pub record Handed : Type 0 where
   pub contents : Option (List ℕ)
   pub exported : ℕ
   pub failed : ℕ
+  pub delayed : ℕ
 
-abbrev pub handed : Option (List ℕ) → ℕ → ℕ → Handed
-handed contents exported failed =
-    record { contents = contents; exported = exported; failed = failed }
+abbrev pub handed : Option (List ℕ) → ℕ → ℕ → ℕ → Handed
+handed contents exported failed delayed =
+    record { contents = contents; exported = exported; failed = failed; delayed = delayed }
 
--- one call of an exporter was counted by its answer; the counts are those before, and those after
-abbrev pub IsCounted : ℕ → ℕ → ℕ → ℕ → Result (Unit {0}) ExportFault → Type 0
-IsCounted exported failed exported-after failed-after (Ok done) =
-    (exported-after ≡ next_count exported) × (failed-after ≡ failed)
-IsCounted exported failed exported-after failed-after (Err fault) =
-    (exported-after ≡ exported) × (failed-after ≡ next_count failed)
+-- the batches that the exporter took, after one call with an answer
+abbrev pub exported_after : ℕ → Result (Unit {0}) ExportFault → ℕ
+exported_after exported (Ok done) = next_count exported
+exported_after exported (Err fault) = exported
+
+-- those that it neither took nor keeps
+abbrev pub refused_after : ℕ → Result (Unit {0}) ExportFault → ℕ
+refused_after failed (Ok done) = failed
+refused_after failed (Err fault.Write) = next_count failed
+refused_after failed (Err fault.ShutDown) = next_count failed
+refused_after failed (Err fault.Memory) = next_count failed
+refused_after failed (Err fault.Kept) = failed
+
+-- those that it keeps to try them again
+abbrev pub delayed_after : ℕ → Result (Unit {0}) ExportFault → ℕ
+delayed_after delayed (Ok done) = delayed
+delayed_after delayed (Err fault.Write) = delayed
+delayed_after delayed (Err fault.ShutDown) = delayed
+delayed_after delayed (Err fault.Memory) = delayed
+delayed_after delayed (Err fault.Kept) = next_count delayed
 
 -- a batch was handed on, once, and counted by the exporter's answer
 pub record HandsOnOne (text : Batch → List ℕ) (old new : Handed) (batch : Batch) : Type 0 where
   pub answer : Result (Unit {0}) ExportFault
   pub exports : Exports old.contents new.contents (text batch) answer
-  pub counted : IsCounted old.exported old.failed new.exported new.failed answer
+  pub exported : new.exported ≡ exported_after old.exported answer
+  pub failed : new.failed ≡ refused_after old.failed answer
+  pub delayed : new.delayed ≡ delayed_after old.delayed answer
 
--- A flush hands on nothing.
+-- A flush hands on nothing, nor does a new try of what an exporter keeps.
 pub record HandsOnNothing (old new : Handed) : Type 0 where
   pub kept : Keeps old.contents new.contents
   pub exported : new.exported ≡ old.exported
   pub failed : new.failed ≡ old.failed
+  pub delayed : new.delayed ≡ old.delayed
 
--- one call of the exporter, for a batch or a flush
+-- one call of the exporter, for a batch or for none
 abbrev pub IsCall : (Batch → List ℕ) → Handed → Handed → Option Batch → Type 0
 IsCall text old new (Some batch) = HandsOnOne text old new batch
 IsCall text old new None = HandsOnNothing old new
@@ -59,4 +78,5 @@ pub record HandsOnToEnd (text : Batch → List ℕ) (old new : Handed) : Type 0 
   pub hands_on : HandsOn text old before
   pub kept : Keeps before.contents new.contents
   pub exported : new.exported ≡ before.exported
+  pub delayed : new.delayed ≡ before.delayed
   pub failed : (new.failed ≡ before.failed) ⊎ (new.failed ≡ next_count before.failed)

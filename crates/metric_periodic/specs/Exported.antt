@@ -4,22 +4,25 @@ use Rattle.metric_io.specs.Counts.{next_count}
 use Rattle.metric_history.specs.declared.batch.Batch.{Batch}
 use Rattle.metric_export.specs.declared.fault.ExportFault.{ExportFault}
 use Rattle.metric_periodic.specs.Collections.{Collected, batches_of}
-use Rattle.metric_periodic.specs.Counts.{IsCounted}
+use Rattle.metric_periodic.specs.Counts.{delayed_after, exported_after, refused_after}
 
--- an exporter, with the counts of its exports, of those and of its shutdown that failed, of the
--- collections that were refused, and of its flushes that failed
+-- an exporter, with the counts of the batches that it took, of those that it neither took nor keeps
+-- and of its shutdown that failed, of those that it keeps, of the collections that were refused, and
+-- of its flushes that failed
 pub record Tally (E : Type 0) : Type 0 where
   pub exporter : E
   pub exported : ℕ
   pub failed : ℕ
+  pub delayed : ℕ
   pub refused : ℕ
   pub unflushed : ℕ
 
-abbrev pub tally : {E : Type 0} → E → ℕ → ℕ → ℕ → ℕ → Tally E
-tally exporter exported failed refused unflushed = record {
+abbrev pub tally : {E : Type 0} → E → ℕ → ℕ → ℕ → ℕ → ℕ → Tally E
+tally exporter exported failed delayed refused unflushed = record {
   exporter = exporter;
   exported = exported;
   failed = failed;
+  delayed = delayed;
   refused = refused;
   unflushed = unflushed;
 }
@@ -40,7 +43,9 @@ pub record ExportsOne {E : Type 0}
     (batch : Batch) : Type 0 where
   pub answer : Result (Unit {0}) ExportFault
   pub call : exports old.exporter new.exporter batch answer
-  pub counted : IsCounted old.exported old.failed new.exported new.failed answer
+  pub exported : new.exported ≡ exported_after old.exported answer
+  pub failed : new.failed ≡ refused_after old.failed answer
+  pub delayed : new.delayed ≡ delayed_after old.delayed answer
   pub refused : new.refused ≡ old.refused
   pub unflushed : new.unflushed ≡ old.unflushed
 
@@ -73,8 +78,17 @@ pub record IsFlushed {E : Type 0}
   pub call : flushes old.exporter new.exporter answer
   pub exported : new.exported ≡ old.exported
   pub failed : new.failed ≡ old.failed
+  pub delayed : new.delayed ≡ old.delayed
   pub refused : new.refused ≡ old.refused
   pub unflushed : new.unflushed ≡ failed_after old.unflushed answer
+
+-- The exporter tried once more what it keeps.
+pub record IsRetried {E : Type 0}
+    (retries : Answering E)
+    (old new : Tally E) : Type 0 where
+  pub answer : Result (Unit {0}) ExportFault
+  pub call : retries old.exporter new.exporter answer
+  pub counts : new ≡ record old { exporter = new.exporter }
 
 -- The exporter was shut down, and a failure counted.
 pub record ShutsDown {E : Type 0}
@@ -84,6 +98,7 @@ pub record ShutsDown {E : Type 0}
   pub call : shuts_down old.exporter new.exporter answer
   pub exported : new.exported ≡ old.exported
   pub failed : new.failed ≡ failed_after old.failed answer
+  pub delayed : new.delayed ≡ old.delayed
   pub refused : new.refused ≡ old.refused
   pub unflushed : new.unflushed ≡ old.unflushed
 

@@ -1,4 +1,5 @@
 pub mod Collections
+pub mod Each
 pub mod Counts
 pub mod Exported
 pub mod Turns

@@ -3,19 +3,19 @@ use Rattle.std.specs.Prelude.{◌≡◌, ℕ, Bool, Option}
 use Rattle.metric_export.specs.Ticks.{moment_of}
 use Rattle.metric_export.specs.declared.tick.Tick.{Tick}
 use Rattle.metric_periodic.specs.Collections.{Collected, Collecting, CollectingLast}
-use Rattle.metric_periodic.specs.Exported.{Answering, Exporting, ExportsCollected, ShutsDown, Tally}
+use Rattle.metric_periodic.specs.Exported.{Answering, Exporting, ExportsCollected, IsFlushed, IsRetried, ShutsDown, Tally}
 use Rattle.metric_periodic.specs.Turns.{Giving, MakesTurns, Progress, is_stop}
 
 -- After its turns a run makes the last collection, at the moment of the last tick, calls the
--- exporter for each batch that it gave, and shuts the exporter down. The run was stopped where
--- the ticker's last tick was a stop.
-pub record IsRun {T C E : Type 0}
+-- exporter for each batch that it gave, and lets it try once more what it keeps. The run was stopped
+-- where the ticker's last tick was a stop.
+pub record ReadsAll {T C E : Type 0}
     (gives : Giving T)
     (collects : Collecting C)
     (collects_last : CollectingLast C)
     (exports : Exporting E)
     (flushes : Answering E)
-    (shuts_down : Answering E)
+    (retries : Answering E)
     (most : ℕ)
     (start : Progress T C E)
     (ticker : T)
@@ -30,6 +30,45 @@ pub record IsRun {T C E : Type 0}
   pub is_stopped : stopped ≡ is_stop last
   pub collected : Collected
   pub collects_at : collects_last (moment_of last) seat kept collected
+  pub before_retry : Tally E
+  pub exported : ExportsCollected exports after_turns before_retry collected
+  pub retried : IsRetried retries before_retry counts
+
+-- A run that ends with a shutdown of the exporter.
+pub record IsRun {T C E : Type 0}
+    (gives : Giving T)
+    (collects : Collecting C)
+    (collects_last : CollectingLast C)
+    (exports : Exporting E)
+    (flushes : Answering E)
+    (retries : Answering E)
+    (shuts_down : Answering E)
+    (most : ℕ)
+    (start : Progress T C E)
+    (ticker : T)
+    (stopped : Bool)
+    (kept : Option C)
+    (counts : Tally E) : Type 0 where
   pub before_shutdown : Tally E
-  pub exported : ExportsCollected exports after_turns before_shutdown collected
+  pub reads : ReadsAll gives collects collects_last exports flushes retries most start ticker
+      stopped kept before_shutdown
   pub shut_down : ShutsDown shuts_down before_shutdown counts
+
+-- A run that leaves the exporter open, and ends with a flush of it.
+pub record IsOpenRun {T C E : Type 0}
+    (gives : Giving T)
+    (collects : Collecting C)
+    (collects_last : CollectingLast C)
+    (exports : Exporting E)
+    (flushes : Answering E)
+    (retries : Answering E)
+    (most : ℕ)
+    (start : Progress T C E)
+    (ticker : T)
+    (stopped : Bool)
+    (kept : Option C)
+    (counts : Tally E) : Type 0 where
+  pub before_flush : Tally E
+  pub reads : ReadsAll gives collects collects_last exports flushes retries most start ticker
+      stopped kept before_flush
+  pub flushed : IsFlushed flushes before_flush counts

@@ -10,6 +10,11 @@ pub record PeriodicValue (E : Type 0) : Type 0 where
   pub exporter : E
   pub turns : ℕ
 
+-- a reader that goes on over several runs: its exporter with the counts, and the same
+pub record OpenPeriodicValue (E : Type 0) : Type 0 where
+  pub counts : Tally E
+  pub turns : ℕ
+
 -- whether a tick is a stop
 abbrev pub is_stop : Tick → Bool
 is_stop (At moment) = false

@@ -12,6 +12,7 @@ use std::sync::atomic::{AtomicU64, Ordering};
 pub struct RunningCounts {
     exported: AtomicU64,
     failed: AtomicU64,
+    delayed: AtomicU64,
     refused: AtomicU64,
     unflushed: AtomicU64,
 }
@@ -22,6 +23,7 @@ impl RunningCounts {
         RunningCounts {
             exported: AtomicU64::new(0),
             failed: AtomicU64::new(0),
+            delayed: AtomicU64::new(0),
             refused: AtomicU64::new(0),
             unflushed: AtomicU64::new(0),
         }
@@ -32,9 +34,14 @@ impl RunningCounts {
         self.exported.load(Ordering::SeqCst)
     }
 
-    /// The batches that the exporter did not take, and 1 where its shutdown failed.
+    /// The batches that the exporter neither took nor keeps, and 1 where its shutdown failed.
     pub fn failed(&self) -> u64 {
         self.failed.load(Ordering::SeqCst)
+    }
+
+    /// The batches that the exporter keeps to try them again, each once. What became of them the exporter tells.
+    pub fn delayed(&self) -> u64 {
+        self.delayed.load(Ordering::SeqCst)
     }
 
     /// The collections that were refused.
@@ -51,20 +58,21 @@ impl RunningCounts {
 /// Who is told the counts of a running reader. As a trait, so that a run cannot but tell them, all and each in
 /// its place.
 pub(crate) trait Listener {
-    // That it was told these counts: of the batches that the exporter took, of those and of the shutdown that failed, of the
-    // collections that were refused, and of the flushes that failed.
-    ghost told: { Self → ℕ → ℕ → ℕ → ℕ → Type 0 };
+    // That it was told these counts: of the batches that the exporter took, of those and of the shutdown that failed, of those
+    // that it keeps, of the collections that were refused, and of the flushes that failed.
+    ghost told: { Self → ℕ → ℕ → ℕ → ℕ → ℕ → Type 0 };
 
-    fn tell(&self, exported: u64, failed: u64, refused: u64, unflushed: u64)
-        ensures { told self.now exported failed refused unflushed };
+    fn tell(&self, exported: u64, failed: u64, delayed: u64, refused: u64, unflushed: u64)
+        ensures { told self.now exported failed delayed refused unflushed };
 }
 
 impl Listener for RunningCounts {
-    ghost told = { λ _ _ _ _ _. Unit {0} };
+    ghost told = { λ _ _ _ _ _ _. Unit {0} };
 
-    fn tell(&self, exported: u64, failed: u64, refused: u64, unflushed: u64) {
+    fn tell(&self, exported: u64, failed: u64, delayed: u64, refused: u64, unflushed: u64) {
         self.exported.store(exported, Ordering::SeqCst);
         self.failed.store(failed, Ordering::SeqCst);
+        self.delayed.store(delayed, Ordering::SeqCst);
         self.refused.store(refused, Ordering::SeqCst);
         self.unflushed.store(unflushed, Ordering::SeqCst);
     }

@@ -1,8 +1,8 @@
 //! Collections handed on to an exporter, and counted.
 ghost use Rattle.std.specs.Prelude.{◌≡◌};
-ghost use Rattle.metric_export.specs.ExporterCalls.{IsExport, IsFlush, IsShutdown};
-ghost use Rattle.metric_periodic.specs.Counts.{IsCounted};
-ghost use Rattle.metric_periodic.specs.Exported.{ExportsCollected, ExportsEach, ExportsOne, IsFlushed, ShutsDown, with_collection};
+ghost use Rattle.metric_export.specs.ExporterCalls.{IsExport, IsFlush, IsRetry, IsShutdown};
+ghost use Rattle.metric_periodic.specs.Counts.{delayed_after, exported_after, refused_after};
+ghost use Rattle.metric_periodic.specs.Exported.{ExportsCollected, ExportsEach, ExportsOne, IsFlushed, IsRetried, ShutsDown, tally, with_collection};
 
 use crate::counts::Listener;
 use metric_export::{ExportFault, MetricExporter};
@@ -18,8 +18,10 @@ pub(crate) struct Exports<E> {
     pub exporter: E,
     /// The batches that it took.
     pub exported: u64,
-    /// Those that it did not take, and 1 where its shutdown failed.
+    /// Those that it neither took nor keeps, and 1 where its shutdown failed.
     pub failed: u64,
+    /// Those that it keeps to try them again.
+    pub delayed: u64,
     /// The collections that were refused.
     pub refused: u64,
     /// Its flushes that failed.
@@ -35,6 +37,7 @@ impl<E> Model for Exports<E> {
       exporter = e.exporter;
       exported = e.exported;
       failed = e.failed;
+      delayed = e.delayed;
       refused = e.refused;
       unflushed = e.unflushed;
     } };
@@ -43,18 +46,13 @@ impl<E> Model for Exports<E> {
 impl<E: MetricExporter> Exports<E> {
     /// An exporter that was handed nothing yet.
     pub(crate) fn new(exporter: E) -> Exports<E>
-        ensures { result ≡ record {
-          exporter = exporter;
-          exported = 0;
-          failed = 0;
-          refused = 0;
-          unflushed = 0;
-        } }
+        ensures { result ≡ tally exporter 0 0 0 0 0 }
     {
         Exports {
             exporter,
             exported: 0,
             failed: 0,
+            delayed: 0,
             refused: 0,
             unflushed: 0,
         }
@@ -111,24 +109,32 @@ impl<E: MetricExporter> Exports<E> {
 
     // Counts an export by the exporter's answer.
     fn count(&mut self, answer: &Result<(), ExportFault>)
-        ensures counted { IsCounted self.old.exported self.old.failed
-            self.new.exported self.new.failed answer.now }
+        ensures exported { self.new.exported ≡ exported_after self.old.exported answer.now }
+        ensures failed { self.new.failed ≡ refused_after self.old.failed answer.now }
+        ensures delayed { self.new.delayed ≡ delayed_after self.old.delayed answer.now }
         ensures exporter { self.new.exporter ≡ self.old.exporter }
         ensures refused { self.new.refused ≡ self.old.refused }
         ensures unflushed { self.new.unflushed ≡ self.old.unflushed }
     {
         match answer {
             Ok(()) => self.exported = self.exported.saturating_add(1),
+            Err(ExportFault::Kept) => self.delayed = self.delayed.saturating_add(1),
             Err(_) => self.failed = self.failed.saturating_add(1),
         }
     }
 
     /// Tells the counts to who reads them while the reader runs.
     pub(crate) fn tell<L: Listener>(&self, listener: &L)
-        ensures { L.told listener.now self.now.exported self.now.failed self.now.refused
-            self.now.unflushed }
+        ensures { L.told listener.now self.now.exported self.now.failed self.now.delayed
+            self.now.refused self.now.unflushed }
     {
-        listener.tell(self.exported, self.failed, self.refused, self.unflushed);
+        listener.tell(
+            self.exported,
+            self.failed,
+            self.delayed,
+            self.refused,
+            self.unflushed,
+        );
     }
 
     /// Flushes the exporter, and counts its failure.
@@ -141,6 +147,16 @@ impl<E: MetricExporter> Exports<E> {
         if self.exporter.force_flush().is_err() {
             self.unflushed = self.unflushed.saturating_add(1);
         }
+    }
+
+    /// Lets the exporter try once more what it keeps. What became of that the exporter tells.
+    #[tactic(auto, using(crate::proofs::Calling::retried_counted))]
+    pub(crate) fn retry(&mut self, alloc: Global, plan: &Plan)
+        ensures { let retries =
+            IsRetry E.retry_gives E.text E.contents E.state plan.now in
+            IsRetried retries self.old self.new }
+    {
+        let _told = self.exporter.retry(alloc, plan);
     }
 
     /// Shuts the exporter down, and counts its failure.

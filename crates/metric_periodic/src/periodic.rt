@@ -1,7 +1,7 @@
 //! The periodic reader.
 ghost use Rattle.std.specs.Prelude.{◌≡◌, ◌+◌, ◌<◌, ◌≤◌, IsSome, false};
 ghost use Rattle.metric_io.specs.Counts.{higher_count};
-ghost use Rattle.metric_export.specs.ExporterCalls.{IsExport, IsFlush, IsShutdown};
+ghost use Rattle.metric_export.specs.ExporterCalls.{IsExport, IsFlush, IsRetry, IsShutdown};
 ghost use Rattle.metric_export.specs.declared.state.ExporterState.{ExporterState};
 ghost use Rattle.metric_periodic.specs.Collections.{Collects, CollectsLast};
 ghost use Rattle.metric_periodic.specs.Counts.{HandsOnToEnd, handed};
@@ -42,8 +42,10 @@ pub struct PeriodicEnd<E> {
     pub exporter: E,
     /// The batches that the exporter took.
     pub exported: u64,
-    /// The batches that the exporter did not take, and 1 where its shutdown failed.
+    /// The batches that the exporter neither took nor keeps, and 1 where its shutdown failed.
     pub failed: u64,
+    /// The batches that the exporter kept to try them again, each once. What became of them the exporter tells.
+    pub delayed: u64,
     /// The collections that were refused.
     pub refused: u64,
     /// The flushes of the exporter that failed.
@@ -68,7 +70,8 @@ impl<E: MetricExporter> Periodic<E> {
     /// the moment of its tick, calls the exporter once for each batch that the collection gave, and flushes it once.
     ///
     /// When the ticker stops, or was asked as often as it may be, a last collection is made, at the
-    /// moment of the last tick, 0 where there was none; then the exporter is shut down, which flushes it.
+    /// moment of the last tick, 0 where there was none; then the exporter tries once more what it keeps, and is shut down, which
+    /// flushes it.
     pub fn run<R: Wait, B: Book, G: Gate, T: Ticker<R>>(
         self,
         rt: &R,
@@ -80,19 +83,20 @@ impl<E: MetricExporter> Periodic<E> {
         ensures run { let exports = IsExport E.export_gives E.text E.contents E.failures
             E.state provider.now.plan in
             let flushes = IsFlush E.flush_gives E.text E.contents E.failures E.state in
+            let retries = IsRetry E.retry_gives E.text E.contents E.state provider.now.plan in
             let shuts_down = IsShutdown E.shutdown_gives E.contents E.failures E.state in
             IsRun T.next_gives (Collects provider.now) (CollectsLast provider.now)
-            exports flushes shuts_down self.turns
-            (progress ticker.old 0 collector (tally self.exporter 0 0 0 0))
+            exports flushes retries shuts_down self.turns
+            (progress ticker.old 0 collector (tally self.exporter 0 0 0 0 0))
             ticker.new result.stopped result.kept
-            (tally result.exporter result.exported result.failed result.refused
-            result.unflushed) }
+            (tally result.exporter result.exported result.failed result.delayed
+            result.refused result.unflushed) }
         ensures asked { T.asked ticker.new ≤ T.asked ticker.old + self.turns }
         ensures all_turns { result.stopped ≡ false →
             higher_count (T.asked ticker.old) self.turns ≤ T.asked ticker.new }
         ensures handed { HandsOnToEnd (E.text self.exporter provider.now.plan)
-            (handed (E.contents self.exporter) 0 0)
-            (handed (E.contents result.exporter) result.exported result.failed) }
+            (handed (E.contents self.exporter) 0 0 0)
+            (handed (E.contents result.exporter) result.exported result.failed result.delayed) }
         ensures shut_down { E.state result.exporter ≡ ExporterState.ShutDown }
         ensures kept { IsSome result.kept → 0 < result.refused }
     {
@@ -119,19 +123,20 @@ impl<E: MetricExporter> Periodic<E> {
         ensures run { let exports = IsExport E.export_gives E.text E.contents E.failures
             E.state provider.now.plan in
             let flushes = IsFlush E.flush_gives E.text E.contents E.failures E.state in
+            let retries = IsRetry E.retry_gives E.text E.contents E.state provider.now.plan in
             let shuts_down = IsShutdown E.shutdown_gives E.contents E.failures E.state in
             IsRun T.next_gives (Collects provider.now) (CollectsLast provider.now)
-            exports flushes shuts_down self.turns
-            (progress ticker.old 0 collector (tally self.exporter 0 0 0 0))
+            exports flushes retries shuts_down self.turns
+            (progress ticker.old 0 collector (tally self.exporter 0 0 0 0 0))
             ticker.new result.stopped result.kept
-            (tally result.exporter result.exported result.failed result.refused
-            result.unflushed) }
+            (tally result.exporter result.exported result.failed result.delayed
+            result.refused result.unflushed) }
         ensures asked { T.asked ticker.new ≤ T.asked ticker.old + self.turns }
         ensures all_turns { result.stopped ≡ false →
             higher_count (T.asked ticker.old) self.turns ≤ T.asked ticker.new }
         ensures handed { HandsOnToEnd (E.text self.exporter provider.now.plan)
-            (handed (E.contents self.exporter) 0 0)
-            (handed (E.contents result.exporter) result.exported result.failed) }
+            (handed (E.contents self.exporter) 0 0 0)
+            (handed (E.contents result.exporter) result.exported result.failed result.delayed) }
         ensures shut_down { E.state result.exporter ≡ ExporterState.ShutDown }
         ensures kept { IsSome result.kept → 0 < result.refused }
     {
@@ -152,6 +157,7 @@ impl<E: MetricExporter> Periodic<E> {
             exporter: exports.exporter,
             exported: exports.exported,
             failed: exports.failed,
+            delayed: exports.delayed,
             refused: exports.refused,
             unflushed: exports.unflushed,
             stopped,

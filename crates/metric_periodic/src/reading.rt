@@ -1,8 +1,8 @@
 //! The turns of a periodic reader, with any ticker, seat and exporter.
 ghost use Rattle.std.specs.Prelude.{◌≡◌, ◌+◌, ◌≤◌, false};
 ghost use Rattle.metric_io.specs.Counts.{higher_count};
-ghost use Rattle.metric_export.specs.ExporterCalls.{IsExport, IsFlush, IsShutdown};
-ghost use Rattle.metric_periodic.specs.Runs.{IsRun};
+ghost use Rattle.metric_export.specs.ExporterCalls.{IsExport, IsFlush, IsRetry, IsShutdown};
+ghost use Rattle.metric_periodic.specs.Runs.{IsOpenRun, IsRun, ReadsAll};
 ghost use Rattle.metric_periodic.specs.Turns.{IsCollectedAt, MakesTurns, is_stop, progress};
 
 use crate::counts::Listener;
@@ -27,9 +27,7 @@ pub(crate) struct Ended<C, E> {
     pub kept: Option<C>,
 }
 
-/// Collects at each tick, hands on what was collected and flushes the exporter, until the ticker stops or
-/// was asked so many times; then collects once more, at the moment of the last tick, 0 where there was none;
-/// and shuts the exporter down.
+/// Reads to the end, as [`read_all`] says, and shuts the exporter down.
 pub(crate) fn read_to_end<R, P, C: Seat<R, P>, E: MetricExporter, T: Ticker<R>, L: Listener>(
     rt: &R,
     alloc: Global,
@@ -42,31 +40,110 @@ pub(crate) fn read_to_end<R, P, C: Seat<R, P>, E: MetricExporter, T: Ticker<R>, 
     ensures run { let exports =
         IsExport E.export_gives E.text E.contents E.failures E.state plan.now in
         let flushes = IsFlush E.flush_gives E.text E.contents E.failures E.state in
+        let retries = IsRetry E.retry_gives E.text E.contents E.state plan.now in
         let shuts_down = IsShutdown E.shutdown_gives E.contents E.failures E.state in
         IsRun T.next_gives (C.collects provider.now) (C.collects_last provider.now)
-        exports flushes shuts_down turns
+        exports flushes retries shuts_down turns
         (progress ticker.old 0 reading.entry.seat reading.entry.exports)
         ticker.new result.stopped result.kept result.exports }
     ensures asked { T.asked ticker.new ≤ T.asked ticker.old + turns }
     ensures all_turns { result.stopped ≡ false →
         higher_count (T.asked ticker.old) turns ≤ T.asked ticker.new }
     ensures told { L.told reading.entry.listener.now
-        result.exports.exported result.exports.failed result.exports.refused
-        result.exports.unflushed }
+        result.exports.exported result.exports.failed result.exports.delayed
+        result.exports.refused result.exports.unflushed }
 {
     let listener = reading.listener;
+    let ended = read_all(rt, alloc, plan, provider, turns, reading, ticker);
+    let Ended {
+        mut exports,
+        stopped,
+        kept,
+    } = ended;
+    exports.shut_down();
+    exports.tell(listener);
+    Ended {
+        exports,
+        stopped,
+        kept,
+    }
+}
+
+/// Reads to the end, as [`read_all`] says, flushes the exporter, and leaves it open.
+pub(crate) fn read_open<R, P, C: Seat<R, P>, E: MetricExporter, T: Ticker<R>, L: Listener>(
+    rt: &R,
+    alloc: Global,
+    plan: &Plan,
+    provider: &P,
+    turns: u32,
+    reading: Reading<'_, C, E, L>,
+    ticker: &mut T,
+) -> Ended<C, E>
+    ensures run { let exports =
+        IsExport E.export_gives E.text E.contents E.failures E.state plan.now in
+        let flushes = IsFlush E.flush_gives E.text E.contents E.failures E.state in
+        let retries = IsRetry E.retry_gives E.text E.contents E.state plan.now in
+        IsOpenRun T.next_gives (C.collects provider.now) (C.collects_last provider.now)
+        exports flushes retries turns
+        (progress ticker.old 0 reading.entry.seat reading.entry.exports)
+        ticker.new result.stopped result.kept result.exports }
+    ensures asked { T.asked ticker.new ≤ T.asked ticker.old + turns }
+    ensures all_turns { result.stopped ≡ false →
+        higher_count (T.asked ticker.old) turns ≤ T.asked ticker.new }
+    ensures told { L.told reading.entry.listener.now
+        result.exports.exported result.exports.failed result.exports.delayed
+        result.exports.refused result.exports.unflushed }
+{
+    let listener = reading.listener;
+    let ended = read_all(rt, alloc, plan, provider, turns, reading, ticker);
+    let Ended {
+        mut exports,
+        stopped,
+        kept,
+    } = ended;
+    exports.flush();
+    exports.tell(listener);
+    Ended {
+        exports,
+        stopped,
+        kept,
+    }
+}
+
+/// Collects at each tick, hands on what was collected and flushes the exporter, until the ticker stops or
+/// was asked so many times; then collects once more, at the moment of the last tick, 0 where there was none;
+/// and lets the exporter try once more what it keeps.
+fn read_all<R, P, C: Seat<R, P>, E: MetricExporter, T: Ticker<R>, L: Listener>(
+    rt: &R,
+    alloc: Global,
+    plan: &Plan,
+    provider: &P,
+    turns: u32,
+    reading: Reading<'_, C, E, L>,
+    ticker: &mut T,
+) -> Ended<C, E>
+    ensures run { let exports =
+        IsExport E.export_gives E.text E.contents E.failures E.state plan.now in
+        let flushes = IsFlush E.flush_gives E.text E.contents E.failures E.state in
+        let retries = IsRetry E.retry_gives E.text E.contents E.state plan.now in
+        ReadsAll T.next_gives (C.collects provider.now) (C.collects_last provider.now)
+        exports flushes retries turns
+        (progress ticker.old 0 reading.entry.seat reading.entry.exports)
+        ticker.new result.stopped result.kept result.exports }
+    ensures asked { T.asked ticker.new ≤ T.asked ticker.old + turns }
+    ensures all_turns { result.stopped ≡ false →
+        higher_count (T.asked ticker.old) turns ≤ T.asked ticker.new }
+{
     let mut reading = reading;
     let last = make_turns(rt, alloc, plan, provider, turns, &mut reading, ticker);
     let Reading {
         seat,
-        exports,
+        mut exports,
         listener: _,
     } = reading;
     let (collected, kept) = seat.collect_last_at(rt, alloc, provider, last.moment());
-    let mut exports = exports;
     exports.hand_on_collected(alloc, plan, &collected);
-    exports.shut_down();
-    exports.tell(listener);
+    exports.retry(alloc, plan);
     Ended {
         exports,
         stopped: stops(last),
@@ -132,7 +209,8 @@ fn collect_and_export<R, P, C: Seat<R, P>, E: MetricExporter, L: Listener>(
         IsCollectedAt (C.collects provider.now) exports flushes now
         reading.old.seat reading.new.seat reading.old.exports reading.new.exports }
     ensures told { L.told reading.old.listener.now reading.new.exports.exported
-        reading.new.exports.failed reading.new.exports.refused reading.new.exports.unflushed }
+        reading.new.exports.failed reading.new.exports.delayed
+        reading.new.exports.refused reading.new.exports.unflushed }
 {
     let collected = reading.seat.collect_at(rt, alloc, provider, now);
     reading.exports.hand_on_collected(alloc, plan, &collected);

@@ -1,12 +1,14 @@
 -- How a service ends: each reader collects a last time, an exporter is handed what it
 -- collected, and the provider is finished.
 use Rattle.std.specs.Prelude.{◌≡◌, ◌⊎◌, ℕ, Bool, true, ◌&&◌, List, [], ◌∷◌, ◌++◌, Option, Some}
-use Rattle.std.specs.Prelude.{None, Result, Ok, Err, IsErr, drop, is_none, slice_get, take}
+use Rattle.std.specs.Prelude.{None, Result, Ok, Err, drop, filter, is_none, length}
 use Rattle.std.specs.List.{list_all}
 use Rattle.metric_history.specs.declared.batch.Batch.{Batch}
+use Rattle.metric_export.specs.Handings.{Exporting, HandsOnInOrder, has_points}
 use Rattle.metric_export.specs.declared.fault.ExportFault.{ExportFault}
 use Rattle.metric_periodic.specs.Collections.{AreNextBatches}
-use Rattle.metric_periodic.specs.Exported.{Answering, Exporting}
+use Rattle.metric_periodic.specs.Exported.{Answering}
+use Rattle.metric_plan.specs.Plans.{PlanValue}
 use Rattle.metric_provider.specs.Collections.{AllRefused, with_all_seen}
 use Rattle.metric_provider.specs.Seats.{CollectorValue, ProviderValue, RecorderValue}
 use Rattle.metric_provider.specs.Totals.{Finishes, RefusesFinish, seated}
@@ -19,28 +21,15 @@ use Rattle.metric_sdk.specs.declared.ended.Unexported.{Unexported}
 
 -- ---- what an exporter takes
 
--- it was called once for each batch, in order, and took it
-abbrev pub TakesEach : {E : Type 0} → Exporting E → E → E → List Batch → Type 0
-TakesEach exports old new [] = new ≡ old
-TakesEach {E} exports old new (batch ∷ batches) =
-    (mid : E) × (exports old mid batch (Ok tt) × TakesEach exports mid new batches)
-
--- It took so many of some batches, refused the next one by a fault, and was not called again.
-pub record RefusesOne {E : Type 0} (exports : Exporting E) (old new : E) (batches : List Batch)
-    (taken : ℕ) (fault : ExportFault) : Type 0 where
-  pub mid : E
-  pub took : TakesEach exports old mid (take taken batches)
-  pub batch : Batch
-  pub next : slice_get batches taken ≡ Some batch
-  pub refused : exports mid new batch (Err fault)
-
--- Batches were handed on in order, up to the first that was refused,
--- which is left with those after it.
+-- The batches with points were handed on in order, up to the first that the exporter neither took
+-- nor keeps, which is left with those after it.
 abbrev pub HandsOn : {E : Type 0} → Exporting E → E → E → List Batch → Option Unexported → Type 0
-HandsOn exports old new batches None = TakesEach exports old new batches
+HandsOn exports old new batches None =
+    let pointed = filter has_points batches in HandsOnInOrder exports old new pointed (length pointed) None
 HandsOn exports old new batches (Some left) =
-    (taken : ℕ) × (RefusesOne exports old new batches taken left.fault
-    × (left.batches.items ≡ drop taken batches))
+    let pointed = filter has_points batches in
+    (taken : ℕ) × (HandsOnInOrder exports old new pointed taken (Some left.fault)
+    × (left.batches.items ≡ drop taken pointed))
 
 -- ---- how readers end
 
@@ -79,33 +68,55 @@ abbrev pub IsTotal : Bool → ProviderValue → List RecorderValue → Totals �
 IsTotal keeps p seats totals =
     Finishes keeps p.plan seats totals.instruments.items totals.journals.items totals.slips.items
 
--- the exporter was flushed once, and where it failed its fault is told
-abbrev pub FlushesAtEnd : {E : Type 0} → Answering E → E → E → Option ExportFault → Type 0
-FlushesAtEnd flushes old new None = flushes old new (Ok tt)
-FlushesAtEnd flushes old new (Some fault) = flushes old new (Err fault)
+-- a call of the exporter for no batch, and where it failed its fault
+abbrev pub AnswersAtEnd : {E : Type 0} → Answering E → E → E → Option ExportFault → Type 0
+AnswersAtEnd gives old new None = gives old new (Ok tt)
+AnswersAtEnd gives old new (Some fault) = gives old new (Err fault)
 
--- Each reader ended, nothing is left of any, and the exporter was then flushed.
+-- The exporter tried once more what it keeps, and was then flushed, each once; the faults are told.
+pub record SettlesAtEnd {E : Type 0} (retries flushes : Answering E) (old new : E)
+    (unsent unflushed : Option ExportFault) : Type 0 where
+  pub between : E
+  pub retried : AnswersAtEnd retries old between unsent
+  pub flushed : AnswersAtEnd flushes between new unflushed
+
+-- Each reader ended, nothing is left of any, and the exporter then has sent all that it kept and is
+-- flushed.
 pub record EndsClean {E : Type 0} (p : ProviderValue) (now : ℕ) (exports : Exporting E)
-    (flushes : Answering E) (old new : E) (seats : List CollectorValue) : Type 0 where
+    (retries flushes : Answering E) (old new : E) (seats : List CollectorValue) : Type 0 where
   pub ends : List ReaderEnd
   pub between : E
   pub each : EndsEach p now exports old between seats ends
   pub clean : list_all is_clean ends ≡ true
-  pub flushed : FlushesAtEnd flushes between new None
+  pub settled : SettlesAtEnd retries flushes between new None None
 
 -- why a provider is not finished, where also the list of the readers' ends may have wanted memory
 abbrev pub IsUnfinished : Result (Unit {0}) FinishFault → FinishFault → Type 0
 IsUnfinished ended Memory = Unit {0}
 IsUnfinished ended fault = RefusesFinish ended fault
 
+-- the plan is handed out where the provider is finished; else the provider has it
+abbrev pub HandsOutPlan : {T F : Type 0} → PlanValue → Result T F → Option PlanValue → Type 0
+HandsOutPlan plan (Ok totals) handed = handed ≡ Some plan
+HandsOutPlan plan (Err unfinished) handed = handed ≡ None
+
+-- the totals of a provider that is finished, and its plan
+abbrev pub totals_of : {T P F : Type 0} → Result (T × P) F → Result T F
+totals_of (Ok parts) = Ok parts.0
+totals_of (Err unfinished) = Err unfinished
+
+abbrev pub plan_of : {T P F : Type 0} → Result (T × P) F → Option P
+plan_of (Ok parts) = Some parts.1
+plan_of (Err unfinished) = None
+
 -- The first readers ended as is told of each, and the others were not asked, which are none
--- where the provider is finished. The exporter was then flushed.
+-- where the provider is finished. The exporter then tried once more what it keeps, and was flushed.
 pub record EndsSome {E : Type 0} (p : ProviderValue) (now : ℕ) (exports : Exporting E)
-    (flushes : Answering E) (old new : E) (seats : List CollectorValue)
+    (retries flushes : Answering E) (old new : E) (seats : List CollectorValue)
     (ends : List ReaderEnd) (unasked : List CollectorValue)
-    (unflushed : Option ExportFault) : Type 0 where
+    (unsent unflushed : Option ExportFault) : Type 0 where
   pub asked : List CollectorValue
   pub all : seats ≡ asked ++ unasked
   pub between : E
   pub each : EndsEach p now exports old between asked ends
-  pub flushed : FlushesAtEnd flushes between new unflushed
+  pub settled : SettlesAtEnd retries flushes between new unsent unflushed

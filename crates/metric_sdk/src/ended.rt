@@ -3,6 +3,7 @@ use metric_book::Book;
 use metric_contents::Refusal;
 use metric_export::ExportFault;
 use metric_history::Batch;
+use metric_plan::Plan;
 use metric_provider::{Collector, FinishFault, Gate, Provider, Recorder, Totals};
 use std::fmt;
 
@@ -17,10 +18,11 @@ pub struct Uncollected {
     pub refusal: Refusal,
 }
 
-/// Batches that an exporter did not take.
+/// Batches that an exporter neither took nor keeps.
 #[derive(Drop)]
 pub struct Unexported {
-    /// In order. The exporter refused the first, and was not handed the others.
+    /// In order, those with points. The exporter refused the first, and was not handed the others. They can be exported later,
+    /// by the plan.
     pub batches: Vec<Batch>,
     /// Why.
     pub fault: ExportFault,
@@ -31,7 +33,7 @@ pub struct Unexported {
 pub struct ReaderEnd {
     /// Its seat, where its last collection was refused.
     pub uncollected: Option<Uncollected>,
-    /// What its last collection gave and the exporter did not take.
+    /// What its last collection gave and the exporter neither took nor keeps.
     pub unexported: Option<Unexported>,
 }
 
@@ -55,6 +57,10 @@ pub struct EndFault<B: Book, G: Gate> {
     pub readers: Vec<ReaderEnd>,
     /// All readers, where there was no memory to tell how they end: then none was asked.
     pub unasked: Vec<Collector>,
+    /// The plan, where the provider is finished: what was not exported can be exported by it. Else the provider has it.
+    pub plan: Option<Plan>,
+    /// Why the exporter did not send all that it keeps, where it did not: it keeps that still.
+    pub unsent: Option<ExportFault>,
     /// Why the exporter was not flushed at the end, where it was not.
     pub unflushed: Option<ExportFault>,
 }
@@ -67,6 +73,9 @@ impl<B: Book, G: Gate> fmt::Display for EndFault<B, G> {
         }
         for (place, end) in self.readers.iter().enumerate() {
             write_end(f, place, end)?;
+        }
+        if let Some(fault) = self.unsent {
+            write!(f, "; not sent: {fault}")?;
         }
         match self.unflushed {
             Some(fault) => write!(f, "; not flushed: {fault}"),

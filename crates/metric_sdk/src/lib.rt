@@ -29,12 +29,14 @@
 //!    an OTLP receiver takes, both with the attributes of a [`Resource`] (or a [`ResourceFault`]); `TextExporter::of` and
 //!    `ReopeningExporter::of` write in any. An exporter's fault is an [`ExportFault`]: a [`Queued`] keeps what was refused and
 //!    tries it again before the next, so that the window of a delta reader is not lost, and a [`ReopeningExporter`] opens its
-//!    sink anew. An exporter of one's own takes a batch apart: it has the [`StreamPoints`] of each [`Stream`], a [`Point`] the
+//!    sink anew; other threads read the [`QueueCounts`] of a [`ToldQueue`]. An [`OpenPeriodic`] leaves its exporter open at its [`OpenEnd`], and goes on in the next run; in it, and by
+//!    [`collect_each`], a [`RefusedInstrument`] of a [`Collection`] hides no other. [`export_each`] hands a list on and tells
+//!    what was [`Handed`], [`has_points`] what need not be. An exporter of one's own takes a batch apart: it has the [`StreamPoints`] of each [`Stream`], a [`Point`] the
 //!    [`PointValue`] of one series, whose [`attributes`] the plan knows. By hand: a [`Collector`] collects the [`Batch`] of
 //!    one instrument or of all, up to an [`AllFault`], and [`write_batch`] writes its text, [`write_encoded`] its bytes. (A
 //!    collection takes 23 to 54 ns a point.)
 //! 6. **End.** [`shutdown_all`] lets readers collect a last time, exports what they give, flushes, and finishes the provider; an
-//!    [`EndFault`] has each cause, and hands back what is left. `Provider::finish` alone gives the [`Totals`], a [`Total`] for
+//!    [`EndFault`] has each cause, and hands back what is left, with the plan to export it by. `Provider::finish` alone gives the [`Totals`], a [`Total`] for
 //!    each instrument, exactly what the recorders were told, or a [`FinishFault`]; `Provider::finish_keeping` also the plan. Calls
 //!    that hand things back have them in a tuple with the fault: `?` makes a [`ServiceFault`] of each.
 //! 7. **A long life.** Budgets end: [`headrooms`] tells how often each instrument may be recorded, its [`Headroom`]. So
@@ -134,18 +136,23 @@ pub use metric_export::ClockTicker;
 pub use metric_export::Encoding;
 pub use metric_export::ExportFault;
 pub use metric_export::ExporterState;
+pub use metric_export::Handed;
 pub use metric_export::KeepingExporter;
 pub use metric_export::ListTicker;
 pub use metric_export::MetricExporter;
 pub use metric_export::OpenSink;
 pub use metric_export::Plain;
+pub use metric_export::QueueCounts;
 pub use metric_export::Queued;
 pub use metric_export::ReopeningExporter;
 pub use metric_export::StopFlag;
 pub use metric_export::TextExporter;
 pub use metric_export::Tick;
 pub use metric_export::Ticker;
+pub use metric_export::ToldQueue;
 pub use metric_export::attributes;
+pub use metric_export::export_each;
+pub use metric_export::has_points;
 pub use metric_export::write_batch;
 pub use metric_export::write_encoded;
 pub use metric_handles::Adds;
@@ -200,9 +207,14 @@ pub use metric_names::AttrValue;
 pub use metric_names::ValueRef;
 pub use metric_outlets::OtlpBytes;
 pub use metric_outlets::OtlpLines;
+pub use metric_periodic::Collection;
+pub use metric_periodic::OpenEnd;
+pub use metric_periodic::OpenPeriodic;
 pub use metric_periodic::Periodic;
 pub use metric_periodic::PeriodicEnd;
+pub use metric_periodic::RefusedInstrument;
 pub use metric_periodic::RunningCounts;
+pub use metric_periodic::collect_each;
 pub use metric_plan::CheckFault;
 pub use metric_plan::Plan;
 pub use metric_provider::AllFault;

@@ -5,8 +5,8 @@ use crate::asserted::{OrFail, assert_equal};
 use metric_sdk::{
     Batch, Broken, ClockTicker, Collector, CutSink, Encoding, ExportFault, ExporterState,
     KeepingExporter, ListTicker, Marked, MeterProvider, MetricExporter, NoGate, OpenSink, Periodic,
-    PeriodicEnd, Plan, Queued, ReopeningExporter, RunningCounts, StopFlag, TextExporter, Tick,
-    certified_plan, start,
+    PeriodicEnd, Plan, QueueCounts, Queued, Recorder, ReopeningExporter, RunningCounts, StopFlag,
+    TextExporter, Tick, ToldQueue, certified_plan, start,
 };
 use std::alloc::{AllocError, Global};
 use std::process::Abort;
@@ -37,8 +37,8 @@ const TICKS: &[Tick] = &[Tick::At(10), Tick::At(20), Tick::Stop(30)];
 // An exporter whose calls of these numbers, counted from 1, fail. It keeps the time of each batch that it takes, with how many
 // points the first stream has.
 #[derive(Drop)]
-struct Failing {
-    taken: Vec<(u64, usize)>,
+pub(crate) struct Failing {
+    pub(crate) taken: Vec<(u64, usize)>,
     number: u64,
     fails_at: &'static [u64],
     failures: u64,
@@ -90,17 +90,26 @@ fn points_of(batch: &Batch) -> usize {
     }
 }
 
-// A provider of one counter with a recording of 5, and its delta reader.
-fn hit_once<R: Abort + Wait>(rt: &R, alloc: Global, run: u64) -> (MeterProvider, Collector) {
+/// A provider of one counter with the seats of its recorder and of its delta reader.
+pub(crate) type Seats = (MeterProvider, Vec<Recorder>, Vec<Collector>);
+
+/// Such a provider, after a recording of 5.
+pub(crate) fn hit_seats<R: Abort + Wait>(rt: &R, alloc: Global, run: u64) -> Seats {
     let plan = certified_plan(alloc, HITS, DELTA).or_fail(rt);
     match start::<R, Marked, NoGate>(rt, alloc, plan, 0, run, NoGate) {
-        Ok((provider, mut recorders, mut collectors)) => {
+        Ok((provider, mut recorders, collectors)) => {
             let recorder = recorders.first_mut().expect(rt, "no recorder");
             recorder.record(rt, &provider, 0, &[], 5).or_fail(rt);
-            (provider, collectors.pop().expect(rt, "no reader"))
+            (provider, recorders, collectors)
         }
         Err((_, _, refused)) => Err(refused).or_fail(rt),
     }
+}
+
+// The same, and its delta reader.
+fn hit_once<R: Abort + Wait>(rt: &R, alloc: Global, run: u64) -> (MeterProvider, Collector) {
+    let (provider, _recorders, mut collectors) = hit_seats(rt, alloc, run);
+    (provider, collectors.pop().expect(rt, "no reader"))
 }
 
 // The end of a run of the delta reader.
@@ -116,13 +125,15 @@ fn end_of<R: Abort + Wait, E: MetricExporter + Drop>(
 }
 
 // How many batches a queue keeps at most, and which calls of the exporter below it fail. Then the batches that this one took;
-// how many exports of the queue were Ok and how many failed; and how many batches went out, are kept and were dropped.
+// how many exports of the queue went out at once, were refused and were kept; and how many batches went out, are kept, were
+// dropped, and were refused and not kept. After a try that failed the next export is let pass, and the reader's end tries at
+// once.
 struct Case {
     most: usize,
     fails_at: &'static [u64],
     taken: &'static [(u64, usize)],
-    counts: (u64, u64),
-    told: (u64, usize, u64),
+    counts: (u64, u64, u64),
+    told: (u64, usize, u64, u64),
 }
 
 const CASES: &[Case] = &[
@@ -130,68 +141,76 @@ const CASES: &[Case] = &[
         most: 4,
         fails_at: &[],
         taken: &[(10, 1), (20, 0), (30, 0)],
-        counts: (3, 0),
-        told: (3, 0, 0),
+        counts: (3, 0, 0),
+        told: (3, 0, 0, 0),
     },
+    // The second is let pass.
     Case {
         most: 4,
         fails_at: &[1],
         taken: &[(10, 1), (20, 0), (30, 0)],
-        counts: (2, 1),
-        told: (3, 0, 0),
+        counts: (1, 0, 2),
+        told: (3, 0, 0, 0),
     },
+    // The first goes out when the third comes, and the others at the end.
     Case {
         most: 4,
         fails_at: &[1, 3],
         taken: &[(10, 1), (20, 0), (30, 0)],
-        counts: (1, 2),
-        told: (3, 0, 0),
+        counts: (0, 0, 3),
+        told: (3, 0, 0, 0),
     },
     Case {
         most: 1,
         fails_at: &[1, 2],
-        taken: &[(20, 0), (30, 0)],
-        counts: (1, 2),
-        told: (2, 0, 1),
+        taken: &[(30, 0)],
+        counts: (0, 0, 3),
+        told: (1, 0, 2, 0),
     },
     Case {
         most: 4,
         fails_at: &[3],
-        taken: &[(10, 1), (20, 0)],
-        counts: (2, 1),
-        told: (2, 1, 0),
+        taken: &[(10, 1), (20, 0), (30, 0)],
+        counts: (2, 0, 1),
+        told: (3, 0, 0, 0),
     },
     Case {
         most: 2,
         fails_at: &[1, 2, 3],
         taken: &[],
-        counts: (0, 3),
-        told: (0, 2, 1),
+        counts: (0, 0, 3),
+        told: (0, 2, 1, 0),
     },
     Case {
         most: 0,
         fails_at: &[1],
         taken: &[(20, 0), (30, 0)],
-        counts: (2, 1),
-        told: (2, 0, 1),
+        counts: (2, 1, 0),
+        told: (2, 0, 0, 1),
     },
 ];
 
-fn assert_case<R: Abort + Wait>(rt: &R, alloc: Global, case: &Case) {
-    let failing = Failing {
+// An exporter whose calls of these numbers fail, and that has taken nothing.
+pub(crate) fn failing_at(alloc: Global, fails_at: &'static [u64]) -> Failing {
+    Failing {
         taken: Vec::new(alloc),
         number: 0,
-        fails_at: case.fails_at,
+        fails_at,
         failures: 0,
         state: ExporterState::Open,
-    };
+    }
+}
+
+fn assert_case<R: Abort + Wait>(rt: &R, alloc: Global, case: &Case) {
+    let failing = failing_at(alloc, case.fails_at);
     let end = end_of(rt, alloc, Queued::new(alloc, failing, case.most), 70);
     let queue = &end.exporter;
     assert_equal(rt, queue.inner().taken.as_slice(), case.taken);
-    assert_equal(rt, (end.exported, end.failed), case.counts);
+    assert_equal(rt, (end.exported, end.failed, end.delayed), case.counts);
+    let kept = queue.kept().len();
     assert_equal(
         rt,
-        (queue.sent(), queue.kept().len(), queue.dropped()),
+        (queue.sent(), kept, queue.dropped(), queue.unkept()),
         case.told,
     );
 }
@@ -201,6 +220,109 @@ fn a_queue_tries_again_in_order(rt: HostRuntime) {
     for case in CASES {
         assert_case(&rt, rt.alloc(), case);
     }
+}
+
+// Which of ten exports in a row make calls of an exporter below that takes nothing: the first, and then one after each pause of
+// 1 and 3 exports; the next pause is of 7.
+const CALLED: &[u64] = &[1, 1, 2, 2, 2, 2, 3, 3, 3, 3];
+
+#[test]
+fn the_pause_between_tries_grows(rt: HostRuntime) {
+    let alloc = rt.alloc();
+    let (provider, mut collector) = hit_once(&rt, alloc, 77);
+    let batch = collector.collect(&rt, alloc, &provider, 0, 10).or_fail(&rt);
+    let failing = failing_at(alloc, &[1, 2, 3]);
+    let mut queue = Queued::new(alloc, failing, 100);
+    let mut called = Vec::new(alloc);
+    for _turn in 0..CALLED.len() {
+        let answer = queue.export(alloc, provider.plan(), &batch);
+        assert_equal(&rt, answer, Err(ExportFault::Kept));
+        called.push(queue.inner().number).or_fail(&rt);
+    }
+    assert_equal(&rt, called.as_slice(), CALLED);
+    assert_equal(&rt, queue.retry(alloc, provider.plan()), Ok(()));
+    assert_equal(&rt, (queue.sent(), queue.kept().len()), (10, 0));
+}
+
+// A queue over a queue: what the lower one keeps the upper one does not keep too.
+#[test]
+fn what_is_kept_below_is_kept_once(rt: HostRuntime) {
+    let alloc = rt.alloc();
+    let (provider, mut collector) = hit_once(&rt, alloc, 78);
+    let batch = collector.collect(&rt, alloc, &provider, 0, 10).or_fail(&rt);
+    let lower = Queued::new(alloc, failing_at(alloc, &[1]), 4);
+    let mut upper = Queued::new(alloc, lower, 4);
+    let plan = provider.plan();
+    let answer = upper.export(alloc, plan, &batch);
+    assert_equal(&rt, answer, Err(ExportFault::Kept));
+    let kept = (upper.kept().len(), upper.inner().kept().len());
+    assert_equal(&rt, kept, (0, 1));
+    assert_equal(&rt, upper.retry(alloc, plan), Ok(()));
+    assert_equal(&rt, upper.inner().inner().taken.as_slice(), &[(10, 1)]);
+    assert_equal(&rt, upper.shutdown(), Ok(()));
+    let late = [upper.export(alloc, plan, &batch), upper.retry(alloc, plan)];
+    let shut = Err(ExportFault::ShutDown);
+    assert_equal(&rt, late, [shut, shut]);
+    assert_equal(&rt, upper.kept().len(), 0);
+}
+
+#[test]
+fn a_queue_is_begun_with_kept_batches(rt: HostRuntime) {
+    let alloc = rt.alloc();
+    let (provider, mut collector) = hit_once(&rt, alloc, 79);
+    let mut first = Queued::new(alloc, failing_at(alloc, &[1]), 4);
+    let batch = collector.collect(&rt, alloc, &provider, 0, 10).or_fail(&rt);
+    let answer = first.export(alloc, provider.plan(), &batch);
+    assert_equal(&rt, answer, Err(ExportFault::Kept));
+    let (_lost, kept) = first.into_parts();
+    let mut next = Queued::with_kept(failing_at(alloc, &[]), kept, 4);
+    let batch = collector.collect(&rt, alloc, &provider, 0, 20).or_fail(&rt);
+    assert_equal(&rt, next.export(alloc, provider.plan(), &batch), Ok(()));
+    assert_equal(&rt, next.inner().taken.as_slice(), &[(10, 1), (20, 0)]);
+    assert_equal(&rt, next.sent(), 2);
+}
+
+// What other threads read of a queue that may keep one batch, after each of its calls: sent, delayed, dropped, unkept.
+fn told(counts: &QueueCounts) -> (u64, u64, u64, u64) {
+    (
+        counts.sent(),
+        counts.delayed(),
+        counts.dropped(),
+        counts.unkept(),
+    )
+}
+
+#[test]
+fn a_queue_tells_its_counts_while_it_runs(rt: HostRuntime) {
+    let alloc = rt.alloc();
+    let (provider, mut collector) = hit_once(&rt, alloc, 81);
+    let plan = provider.plan();
+    let batch = collector.collect(&rt, alloc, &provider, 0, 10).or_fail(&rt);
+    let counts = QueueCounts::new();
+    let queue = Queued::new(alloc, failing_at(alloc, &[1]), 1);
+    let mut queue = ToldQueue::new(queue, &counts);
+    let kept = Err(ExportFault::Kept);
+    assert_equal(&rt, queue.export(alloc, plan, &batch), kept);
+    assert_equal(&rt, told(&counts), (0, 1, 0, 0));
+    assert_equal(&rt, queue.export(alloc, plan, &batch), kept);
+    assert_equal(&rt, told(&counts), (0, 1, 1, 0));
+    assert_equal(&rt, queue.retry(alloc, plan), Ok(()));
+    assert_equal(&rt, told(&counts), (1, 0, 1, 0));
+    let none = Queued::new(alloc, failing_at(alloc, &[1]), 0);
+    let mut none = ToldQueue::new(none, &counts);
+    let refused = Err(ExportFault::Memory);
+    assert_equal(&rt, none.export(alloc, plan, &batch), refused);
+    assert_equal(&rt, told(&counts), (0, 0, 0, 1));
+}
+
+// An exporter that is lent is called, and is there afterwards.
+#[test]
+fn an_exporter_is_lent(rt: HostRuntime) {
+    let alloc = rt.alloc();
+    let mut keeping = KeepingExporter::new(alloc);
+    let end = end_of(&rt, alloc, &mut keeping, 80);
+    assert_equal(&rt, end.exported, 3);
+    assert_equal(&rt, keeping.batches().len(), 3);
 }
 
 #[test]
@@ -241,12 +363,13 @@ collected 20 0
 collected 30 0
 ";
 
-// The rooms of the sinks, how many exports of a queue were Ok and how many failed, and what the last sink holds.
-const REOPENED: &[(&[usize], (u64, u64), &str)] = &[
-    (&[1_000], (3, 0), ALL),
-    (&[20, 1_000], (2, 1), ALL),
-    (&[20, 3, 1_000], (1, 2), ALL),
-    (&[20], (0, 3), ""),
+// The rooms of the sinks, how many exports of a queue went out at once, were refused and were kept, and what the last sink
+// holds.
+const REOPENED: &[(&[usize], (u64, u64, u64), &str)] = &[
+    (&[1_000], (3, 0, 0), ALL),
+    (&[20, 1_000], (1, 0, 2), ALL),
+    (&[20, 3, 1_000], (0, 0, 3), ALL),
+    (&[20], (0, 0, 3), ""),
 ];
 
 #[test]
@@ -260,7 +383,7 @@ fn a_queue_writes_to_a_sink_that_is_opened_anew(rt: HostRuntime) {
             Queued::new(alloc, ReopeningExporter::new(opener), 4),
             73,
         );
-        assert_equal(&rt, (end.exported, end.failed), *counts);
+        assert_equal(&rt, (end.exported, end.failed, end.delayed), *counts);
         let (exporter, _kept) = end.exporter.into_parts();
         let (_opener, sink) = exporter.into_parts();
         let is_held = match &sink {

@@ -7,6 +7,8 @@
 #[cfg(test)]
 mod asserted;
 #[cfg(test)]
+mod ends;
+#[cfg(test)]
 mod exports;
 #[cfg(test)]
 mod faults;

@@ -310,27 +310,41 @@ const ENDS: &[End] = &[
     End {
         kept: 2,
         room: Some(0),
-        told: "finished; reader 0, 2 batches not exported: 1 Write; reader 1, 2 batches not exported: 1 Write; not flushed: 1 Write
-0 recordings, sum 0
-0 recordings, sum 0
+        told: "ok
+ok
+finished; reader 0, 2 batches not exported: 1 Write; reader 1, 2 batches not exported: 1 Write; not flushed: 1 Write
+1 recordings, sum 3
+1 recordings, sum 3
 ",
     },
     End {
         kept: 2,
         room: None,
-        told: "finished; not flushed: 1 Write
-0 recordings, sum 0
-0 recordings, sum 0
-collected 200 0
-collected 200 0
-collected 200 0
-collected 200 0
+        told: "ok
+ok
+finished; not flushed: 1 Write
+1 recordings, sum 3
+1 recordings, sum 3
+collected 200 1
+stream reader=\"C\" meter=\"m\" version=\"\" schema=\"\" name=\"A\" unit=\"\" description=\"\" kind=sum monotonic=yes temporality=cumulative
+point {} start=5 time=200 value=3
+collected 200 1
+stream reader=\"C\" meter=\"m\" version=\"\" schema=\"\" name=\"B\" unit=\"\" description=\"\" kind=sum monotonic=yes temporality=cumulative
+point {} start=5 time=200 value=3
+collected 200 1
+stream reader=\"D\" meter=\"m\" version=\"\" schema=\"\" name=\"A\" unit=\"\" description=\"\" kind=sum monotonic=yes temporality=delta
+point {} start=5 time=200 value=3
+collected 200 1
+stream reader=\"D\" meter=\"m\" version=\"\" schema=\"\" name=\"B\" unit=\"\" description=\"\" kind=sum monotonic=yes temporality=delta
+point {} start=5 time=200 value=3
 ",
     },
     End {
         kept: 1,
         room: Some(0),
-        told: "not finished: 1 RecorderMissing; reader 0, 2 batches not exported: 1 Write; reader 1, 2 batches not exported: 1 Write; not flushed: 1 Write
+        told: "ok
+ok
+not finished: 1 RecorderMissing; reader 0, 2 batches not exported: 1 Write; reader 1, 2 batches not exported: 1 Write; not flushed: 1 Write
 1 seats
 ",
     },
@@ -341,6 +355,13 @@ fn an_end_tells_each_cause(rt: HostRuntime) {
     for end in ENDS {
         let mut told = String::new(rt.alloc());
         let mut service = opened(&rt, rt.alloc());
+        write_recordings(
+            &mut told,
+            &rt,
+            &service.provider,
+            service.recorders.as_mut_slice(),
+            1,
+        );
         service.recorders.truncate(end.kept);
         let sink = CutSink::new(rt.alloc(), end.room).with_failing_flush();
         write_end(&mut told, &rt, rt.alloc(), service, sink);

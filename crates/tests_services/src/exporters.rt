@@ -70,6 +70,7 @@ const FAULTS: &[ExportFault] = &[
     ExportFault::Write,
     ExportFault::ShutDown,
     ExportFault::Memory,
+    ExportFault::Kept,
 ];
 
 fn write_answer(out: &mut String, answer: Result<(), ExportFault>) -> Result<(), AllocError> {
@@ -168,5 +169,5 @@ fn faults_are_printed(rt: HostRuntime) {
     for fault in FAULTS {
         write_answer(&mut printed, Err(*fault)).or_fail(&rt);
     }
-    assert_equal(&rt, printed.as_str(), "1 Write 2 ShutDown 3 Memory ");
+    assert_equal(&rt, printed.as_str(), "1 Write 2 ShutDown 3 Memory 4 Kept ");
 }

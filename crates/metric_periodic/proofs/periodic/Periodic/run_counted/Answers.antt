@@ -13,10 +13,11 @@ returns-clause-handed g c =
     let e = g.E.MetricExporter in
     let plan = c.args.provider.now.plan in
     rw (← c.self.view_is)
-    (run_hands_on _ _ _ _ _ _ (λ exporter. e.text exporter plan) e.contents
+    (run_hands_on _ _ _ _ _ _ _ (λ exporter. e.text exporter plan) e.contents
     (λ old new batch answer call. (call.appends, ap (λ (f : PlanValue → Batch → List ℕ). f plan) call.same_text))
     (λ old new answer call. call.keeps)
     (λ old new answer call. ap (λ (f : PlanValue → Batch → List ℕ). f plan) call.same_text)
+    (λ old new answer call. call.keeps)
     (λ old new answer call. call.keeps) _ _ _ _ _ _
     (rw (c.plan-plan.ensures, c.new.ensures, ← c.exports.view_is) at c.read_to_end-ended.ensures.run))
 
@@ -27,4 +28,4 @@ returns-clause-shut_down g c =
 
 pub returns-clause-kept : goal.returns-clause-kept
 returns-clause-kept g c =
-    run_keeps_refused _ _ _ _ _ _ _ _ _ _ _ _ (rw (← c.exports.view_is) at c.read_to_end-ended.ensures.run)
+    run_keeps_refused _ _ _ _ _ _ _ _ _ _ _ _ _ (rw (← c.exports.view_is) at c.read_to_end-ended.ensures.run)

@@ -1,8 +1,8 @@
 -- The exporter took each batch so far.
 use Rattle.std.proofs.Common.{take}
 use Rattle.metric_export.specs.ExporterCalls.{IsExport}
-use Rattle.metric_sdk.specs.Endings.{TakesEach}
-use Rattle.metric_sdk.proofs.ending.hand_on_some.Given as goal
+use Rattle.metric_export.specs.Handings.{TakesEach}
+use Rattle.metric_export.proofs.handing.export_each.Given as goal
 
 abbrev pub invariant-loop-taken : goal.invariant-loop-taken
 invariant-loop-taken g l =

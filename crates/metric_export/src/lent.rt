@@ -1,0 +1,44 @@
+//! An exporter that is lent.
+ghost use Rattle.metric_export.specs.Exports.{Retries};
+
+use crate::exporter::MetricExporter;
+use crate::fault::ExportFault;
+use metric_history::Batch;
+use metric_plan::Plan;
+use std::alloc::Global;
+
+/// An exporter that is lent takes each call as it does itself, so a reader that takes its exporter can be lent one.
+impl<E: MetricExporter> MetricExporter for &mut E {
+    ghost text = { λ e. E.text e.now };
+
+    ghost contents = { λ e. E.contents e.now };
+
+    ghost failures = { λ e. E.failures e.now };
+
+    ghost state = { λ e. E.state e.now };
+
+    ghost export_gives = { λ old new. E.export_gives old.now new.now };
+
+    ghost flush_gives = { λ old new. E.flush_gives old.now new.now };
+
+    ghost retry_gives = { λ old new plan answer.
+        Retries E.retry_gives old.now new.now plan answer };
+
+    ghost shutdown_gives = { λ old new. E.shutdown_gives old.now new.now };
+
+    fn export(&mut self, alloc: Global, plan: &Plan, batch: &Batch) -> Result<(), ExportFault> {
+        MetricExporter::export(&mut **self, alloc, plan, batch)
+    }
+
+    fn force_flush(&mut self) -> Result<(), ExportFault> {
+        MetricExporter::force_flush(&mut **self)
+    }
+
+    fn retry(&mut self, alloc: Global, plan: &Plan) -> Result<(), ExportFault> {
+        MetricExporter::retry(&mut **self, alloc, plan)
+    }
+
+    fn shutdown(&mut self) -> Result<(), ExportFault> {
+        MetricExporter::shutdown(&mut **self)
+    }
+}
