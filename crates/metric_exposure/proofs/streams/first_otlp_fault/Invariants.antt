@@ -1,0 +1,9 @@
+-- No stream so far has a fault.
+use Rattle.std.proofs.Common.{◌≡◌, []}
+use Rattle.std.specs.List.{flat_map, range_with_len}
+use Rattle.metric_exposure.specs.declared.outlet.Outlet.TheVariants.{Otlp}
+use Rattle.metric_exposure.specs.Exposures.{faults_at}
+use Rattle.metric_exposure.proofs.streams.first_otlp_fault.Given as goal
+
+abbrev pub invariant-loop-number : goal.invariant-loop-number
+invariant-loop-number l = flat_map (faults_at Otlp l.catalogue l.streams l.reader) (range_with_len 0 l.number) ≡ []

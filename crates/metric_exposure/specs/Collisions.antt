@@ -1,0 +1,33 @@
+-- Names that two families claim.
+use Rattle.std.specs.Prelude.{ℕ, Bool, ◌&&◌, ◌||◌, ◌==◌, List, Option, Some, None, codes}
+use Rattle.std.specs.Prelude.{if◌then◌else◌, slice_get}
+use Rattle.std.specs.List.{filter_map, position_from}
+use Rattle.std.specs.Option.{option_map}
+use Rattle.std.specs.Str.{bytes_eq}
+use Rattle.metric_views.specs.declared.stream.Stream.{Stream}
+use Rattle.metric_family.specs.Families.{claims_of}
+use Rattle.metric_family.specs.Words.{is_among}
+use Rattle.metric_exposure.specs.declared.fault.ExposureFault.{ExposureFault}
+use Rattle.metric_exposure.specs.declared.fault.ExposureFault.TheVariants.{NameCollision}
+
+-- a stream of the reader claims the name
+abbrev pub is_claimed : ℕ → List ℕ → Stream → Bool
+is_claimed reader name stream = stream.reader == reader && is_among (claims_of stream) name
+
+-- the place of the reader's first stream that claims a name
+unfoldable pub first_claim : ℕ → List Stream → List ℕ → Option ℕ
+first_claim reader streams name = position_from (is_claimed reader name) 0 streams
+
+-- the names of what describes the target
+abbrev pub is_of_target : List ℕ → Bool
+is_of_target name = bytes_eq name (codes "target") || bytes_eq name (codes "target_info")
+
+-- the fault of a stream that claims a name which the target claims, or a stream before
+abbrev pub name_fault : ℕ → (List ℕ → Option ℕ) → List ℕ → Option ExposureFault
+name_fault number first name =
+    if is_of_target name then Some (NameCollision number None)
+    else option_map (λ other. NameCollision number (Some other)) (first name)
+
+-- that of the first such name, where these streams claim each name first
+abbrev pub collision_by : ℕ → (List ℕ → Option ℕ) → List (List ℕ) → Option ExposureFault
+collision_by number first names = slice_get (filter_map (name_fault number first) names) 0

@@ -1,0 +1,102 @@
+-- What holds of the streams of a reader that pass the check for pages.
+use Rattle.std.specs.Prelude.{◌≡◌, ◌≢◌, ℕ, ◌+◌, ◌<◌, ◌≤◌, true, false, List, [], ◌∷◌, Some, length}
+use Rattle.std.specs.Prelude.{map}
+use Rattle.std.specs.Prelude.{slice_get}
+use Rattle.metric_aggregate.specs.declared.point_value.PointValue.{PointValue}
+use Rattle.metric_aggregate.specs.declared.point_value.PointValue.TheVariants.{Sum, Last, Buckets}
+use Rattle.metric_contents.specs.declared.contents.Contents.{Contents}
+use Rattle.metric_combinations.specs.Restrictions.{restricted}
+use Rattle.metric_contents.specs.declared.contents.Key.{Key}
+use Rattle.metric_contents.specs.declared.contents.Meter.{Meter}
+use Rattle.metric_views.specs.declared.stream.Stream.{Stream}
+use Rattle.metric_facts.specs.Facts.{is_full_set, key_facts}
+use Rattle.metric_history.specs.declared.batch.Point.{Point}
+use Rattle.metric_history.specs.declared.entry.Entry.{Entry}
+use Rattle.metric_history.specs.Points.{points}
+use Rattle.metric_family.specs.Families.{claims_of, family}
+use Rattle.metric_family.specs.Grammar.{IsLabel, IsName}
+use Rattle.metric_family.specs.Labels.{Label, label_of, point_labels, shown}
+use Rattle.metric_family.specs.Words.{is_among}
+use Rattle.metric_exposure.specs.declared.outlet.Outlet.TheVariants.{Prometheus}
+use Rattle.metric_exposure.specs.Collisions.{is_of_target}
+use Rattle.metric_exposure.specs.Exposures.{exposure_faults, keys_of}
+
+-- The stream has this number, and is the reader's, whose streams pass.
+pub record Passes (contents : Contents) (streams : List Stream) (reader number : ℕ)
+    (stream : Stream) : Type 0 where
+  pub none : exposure_faults Prometheus contents streams reader ≡ []
+  pub at : slice_get streams number ≡ Some stream
+  pub own : stream.reader ≡ reader
+
+-- The family has a name, and each name that it claims is of the grammar.
+abbrev pub NamesAreSound : Type 0
+NamesAreSound =
+    (contents : Contents) (streams : List Stream) (reader number : ℕ) (stream : Stream)
+    → Passes contents streams reader number stream
+    → (family stream ≢ [])
+    × ((name : List ℕ) → is_among (claims_of stream) name ≡ true → IsName name)
+
+-- The label of each kept key is of the grammar.
+abbrev pub LabelsAreSound : Type 0
+LabelsAreSound =
+    (contents : Contents) (streams : List Stream) (reader number : ℕ) (stream : Stream)
+    (place : ℕ) (key : Key) → Passes contents streams reader number stream
+    → slice_get (keys_of contents stream) place ≡ Some key
+    → slice_get stream.kept place ≡ Some true → IsLabel (label_of key.name)
+
+-- No two streams claim one name, and none claims one of the target's.
+abbrev pub FamiliesAreApart : Type 0
+FamiliesAreApart =
+    (contents : Contents) (streams : List Stream) (reader number : ℕ) (stream : Stream)
+    (before : ℕ) (other : Stream) (name : List ℕ)
+    → Passes contents streams reader number stream → Passes contents streams reader before other
+    → before < number → is_among (claims_of other) name ≡ true
+    → is_among (claims_of stream) name ≡ false
+
+abbrev pub NoneClaimsTheTarget : Type 0
+NoneClaimsTheTarget =
+    (contents : Contents) (streams : List Stream) (reader number : ℕ) (stream : Stream)
+    (name : List ℕ) → Passes contents streams reader number stream
+    → is_of_target name ≡ true → is_among (claims_of stream) name ≡ false
+
+-- The set key is a full set of the keys of the stream's instrument.
+abbrev pub IsFull : Contents → Stream → List ℕ → Type 0
+IsFull contents stream set =
+    is_full_set (map key_facts (keys_of contents stream)) set ≡ true
+
+-- what is shown of the series of a set key, of which the stream keeps some keys
+abbrev pub shown_of : Contents → Stream → Meter → List ℕ → List Label
+shown_of contents stream meter set =
+    shown (point_labels meter (keys_of contents stream) stream.kept
+    (Some (restricted stream.kept set)))
+
+-- Set keys of recordings that are shown with the same labels are of one series.
+abbrev pub SeriesAreApart : Type 0
+SeriesAreApart =
+    (contents : Contents) (streams : List Stream) (reader number : ℕ) (stream : Stream)
+    (meter : Meter) (set other : List ℕ) → Passes contents streams reader number stream
+    → length stream.kept ≡ length (keys_of contents stream)
+    → IsFull contents stream set → IsFull contents stream other → length set ≡ length other
+    → shown_of contents stream meter set ≡ shown_of contents stream meter other
+    → restricted stream.kept set ≡ restricted stream.kept other
+
+-- the sums of the first counts, of one more each time
+abbrev pub running : ℕ → List ℕ → List ℕ
+running before [] = []
+running before (count ∷ counts) = (before + count) ∷ running (before + count) counts
+
+-- They rise from a number on, and the last is the count.
+abbrev pub RisesTo : ℕ → ℕ → List ℕ → Type 0
+RisesTo count from [] = from ≡ count
+RisesTo count from (sum ∷ sums) = (from ≤ sum) × RisesTo count sum sums
+
+abbrev pub BucketsRise : PointValue → Type 0
+BucketsRise (Sum value) = Unit {0}
+BucketsRise (Last value) = Unit {0}
+BucketsRise (Buckets count counts sum min max) = RisesTo count 0 (running 0 counts)
+
+-- The buckets of each point of a window rise up to its count.
+abbrev pub ReportedBucketsRise : Type 0
+ReportedBucketsRise =
+    (stream : Stream) (window : List Entry) (place : ℕ) (point : Point)
+    → slice_get (points stream window) place ≡ Some point → BucketsRise point.value

@@ -1,0 +1,32 @@
+//! What holds of streams that pass the check, as laws of the definitions.
+ghost use Rattle.metric_exposure.specs.Laws.{FamiliesAreApart, LabelsAreSound, NamesAreSound, NoneClaimsTheTarget, ReportedBucketsRise, SeriesAreApart};
+
+use metric_family::{families_are_names, labels_are_labels};
+
+/// Where a reader's streams pass for pages, each family has a name, each name that it claims and the label of each kept
+/// key are of Prometheus' grammar. Does nothing.
+pub fn names_and_labels_are_sound()
+    ensures names { NamesAreSound }
+    ensures labels { LabelsAreSound }
+{
+    families_are_names();
+    labels_are_labels();
+}
+
+/// Where a reader's streams pass for pages, no two of them claim one name, and none claims one of the target's. Does
+/// nothing.
+pub fn families_are_apart()
+    ensures streams { FamiliesAreApart }
+    ensures target { NoneClaimsTheTarget }
+{}
+
+/// Where a reader's streams pass for pages, the series of a stream are told apart by the labels that are shown of
+/// them: set keys of recordings whose labels are the same have the same entries of kept keys. Does nothing.
+pub fn series_are_apart()
+    ensures { SeriesAreApart }
+{}
+
+/// The buckets of each point that is reported of recordings rise up to the point's count. Does nothing.
+pub fn buckets_rise_to_the_count()
+    ensures { ReportedBucketsRise }
+{}

@@ -1,0 +1,231 @@
+//! The faults of streams.
+ghost use Rattle.std.specs.Prelude.{◌≡◌, ◌++◌, ◌==◌, ◌&&◌, [], ℕ, List, Some, None, OnOk, if◌then◌else◌};
+ghost use Rattle.std.specs.BTreeMap.{get_by_text};
+ghost use Rattle.std.specs.List.{list_any};
+ghost use Rattle.metric_contents.specs.PlaceLaws.{or_else};
+ghost use Rattle.metric_family.specs.Families.{claims_of};
+ghost use Rattle.metric_family.specs.Words.{is_among};
+ghost use Rattle.metric_exposure.specs.declared.outlet.Outlet.TheVariants.{Otlp, Prometheus};
+ghost use Rattle.metric_exposure.specs.Collisions.{is_claimed};
+ghost use Rattle.metric_exposure.specs.Exposures.{boundaries_of, boundary_faults, exposure_faults, first_of, is_inexact, keys_of};
+ghost use Rattle.metric_exposure.specs.Exposures.{name_faults, page_faults};
+
+use crate::collisions::{Claims, add_claims, collision_of};
+use crate::fault::ExposureFault;
+use crate::keys::add_key_faults;
+use metric_catalogue::Catalogue;
+use metric_contents::Key;
+use metric_family::{MetricType, family_of};
+use metric_views::{Stream, StreamAggregation, Temporality};
+use std::alloc::{AllocError, Global};
+use std::collections::BTreeMap;
+
+// The greatest whole number up to which each is a double.
+const EXACT: u64 = 1 << 53;
+
+/// Puts the faults of a reader's streams for pages last.
+pub(crate) fn add_page_faults(
+    alloc: Global,
+    faults: &mut Vec<ExposureFault>,
+    catalogue: &Catalogue,
+    streams: &[Stream],
+    reader: u32,
+) -> Result<(), AllocError>
+    ensures { OnOk result (faults.new.items ≡ faults.old.items
+        ++ exposure_faults Prometheus catalogue.now streams.now reader) }
+{
+    let mut claims: Claims = BTreeMap::new(alloc);
+    for (number, stream) in streams.iter().enumerate() {
+        add_faults_for(
+            alloc,
+            faults,
+            &mut claims,
+            catalogue,
+            reader,
+            number,
+            stream,
+        )?;
+    }
+    Ok(())
+}
+
+// Puts the faults of a stream for pages last, and keeps what it claims, where it is the reader's.
+#[tactic(auto, using(crate::proofs::Claimed::or_nothing))]
+fn add_faults_for(
+    alloc: Global,
+    faults: &mut Vec<ExposureFault>,
+    claims: &mut Claims,
+    catalogue: &Catalogue,
+    reader: u32,
+    number: usize,
+    stream: &Stream,
+) -> Result<(), AllocError>
+    ensures faults { OnOk result (faults.new.items ≡ faults.old.items
+        ++ (if stream.now.reader == reader
+        then page_faults catalogue.now (get_by_text claims.old) number stream.now else [])) }
+    ensures claims { OnOk result ((name : List ℕ) → get_by_text claims.new name
+        ≡ or_else (get_by_text claims.old name)
+        (if is_claimed reader name stream.now then Some number else None)) }
+{
+    if stream.reader != reader {
+        return Ok(());
+    }
+    add_stream_faults(alloc, faults, claims, catalogue, number, stream)
+}
+
+// Puts the faults of a stream for pages last, and keeps what it claims.
+#[tactic(auto, unfolding(crate::specs::Exposures::page_faults))]
+fn add_stream_faults(
+    alloc: Global,
+    faults: &mut Vec<ExposureFault>,
+    claims: &mut Claims,
+    catalogue: &Catalogue,
+    number: usize,
+    stream: &Stream,
+) -> Result<(), AllocError>
+    ensures faults { OnOk result (faults.new.items ≡ faults.old.items
+        ++ page_faults catalogue.now (get_by_text claims.old) number stream.now) }
+    ensures claims { OnOk result ((name : List ℕ) → get_by_text claims.new name
+        ≡ or_else (get_by_text claims.old name)
+        (if is_among (claims_of stream.now) name then Some number else None)) }
+{
+    if stream.temporality == Temporality::Delta {
+        faults.push(ExposureFault::Delta { stream: number })?;
+    }
+    add_boundary_fault(faults, number, stream)?;
+    add_name_faults(alloc, faults, claims, number, stream)?;
+    let kind = MetricType::of(stream);
+    let keys = keys_of(catalogue, stream);
+    add_key_faults(
+        alloc,
+        faults,
+        number,
+        kind,
+        keys,
+        stream.kept.get().as_slice(),
+    )
+}
+
+// The keys of a stream's instrument.
+fn keys_of<'a>(catalogue: &'a Catalogue, stream: &Stream) -> &'a [Key]
+    ensures { result.now ≡ keys_of catalogue.now stream.now }
+{
+    match catalogue.instruments().get(stream.instrument as usize) {
+        None => &[],
+        Some(instrument) => instrument.keys.as_slice(),
+    }
+}
+
+// Puts the faults of a stream's names last, and keeps what it claims.
+#[tactic(auto, unfolding(metric_family::specs::Families::claims_of))]
+fn add_name_faults(
+    alloc: Global,
+    faults: &mut Vec<ExposureFault>,
+    claims: &mut Claims,
+    number: usize,
+    stream: &Stream,
+) -> Result<(), AllocError>
+    ensures faults { OnOk result (faults.new.items ≡ faults.old.items
+        ++ name_faults (get_by_text claims.old) number stream.now) }
+    ensures claims { OnOk result ((name : List ℕ) → get_by_text claims.new name
+        ≡ or_else (get_by_text claims.old name)
+        (if is_among (claims_of stream.now) name then Some number else None)) }
+{
+    let family = family_of(alloc, stream)?;
+    let kind = MetricType::of(stream);
+    if family.as_str().is_empty() {
+        faults.push(ExposureFault::Nameless { stream: number })?;
+    }
+    if let Some(fault) = collision_of(alloc, claims, number, family.as_str(), kind)? {
+        faults.push(fault)?;
+    }
+    add_claims(alloc, claims, number, family.as_str(), kind)
+}
+
+// Puts the fault of a boundary beyond 2^53 last, where the stream has one.
+fn add_boundary_fault(
+    faults: &mut Vec<ExposureFault>,
+    number: usize,
+    stream: &Stream,
+) -> Result<(), AllocError>
+    ensures { OnOk result (faults.new.items
+        ≡ faults.old.items ++ boundary_faults number stream.now) }
+{
+    if has_inexact_boundary(stream) {
+        faults.push(ExposureFault::Boundary { stream: number })?;
+    }
+    Ok(())
+}
+
+// Whether a boundary is below -2^53 or above 2^53.
+fn has_inexact_boundary(stream: &Stream) -> bool
+    ensures { result ≡ list_any is_inexact (boundaries_of stream.now.aggregation) }
+{
+    match &stream.aggregation {
+        StreamAggregation::Histogram(boundaries) => boundaries
+            .get()
+            .as_slice()
+            .iter()
+            .any(|boundary| boundary.unsigned_abs() > EXACT),
+        _ => false,
+    }
+}
+
+/// Puts the faults of a reader's streams for requests of OTLP last.
+pub(crate) fn add_otlp_faults(
+    faults: &mut Vec<ExposureFault>,
+    catalogue: &Catalogue,
+    streams: &[Stream],
+    reader: u32,
+) -> Result<(), AllocError>
+    ensures { OnOk result (faults.new.items ≡ faults.old.items
+        ++ exposure_faults Otlp catalogue.now streams.now reader) }
+{
+    // For the proof alone: the catalogue has no part in it.
+    let _ = catalogue;
+    for (number, stream) in streams.iter().enumerate() {
+        add_otlp_fault(faults, reader, number, stream)?;
+    }
+    Ok(())
+}
+
+fn add_otlp_fault(
+    faults: &mut Vec<ExposureFault>,
+    reader: u32,
+    number: usize,
+    stream: &Stream,
+) -> Result<(), AllocError>
+    ensures { OnOk result (faults.new.items ≡ faults.old.items
+        ++ (if stream.now.reader == reader then boundary_faults number stream.now else [])) }
+{
+    if stream.reader != reader {
+        return Ok(());
+    }
+    add_boundary_fault(faults, number, stream)
+}
+
+/// The first fault of a reader's streams for requests of OTLP, if there is one.
+pub(crate) fn first_otlp_fault(
+    catalogue: &Catalogue,
+    streams: &[Stream],
+    reader: u32,
+) -> Result<(), ExposureFault>
+    ensures { result ≡ first_of (exposure_faults Otlp catalogue.now streams.now reader) }
+{
+    // For the proof alone: the catalogue has no part in it.
+    let _ = catalogue;
+    for (number, stream) in streams.iter().enumerate() {
+        if is_inexact_for(reader, stream) {
+            return Err(ExposureFault::Boundary { stream: number });
+        }
+    }
+    Ok(())
+}
+
+// Whether a stream is the reader's, and has a boundary beyond 2^53.
+fn is_inexact_for(reader: u32, stream: &Stream) -> bool
+    ensures { result ≡ (stream.now.reader == reader
+        && list_any is_inexact (boundaries_of stream.now.aggregation)) }
+{
+    stream.reader == reader && has_inexact_boundary(stream)
+}
