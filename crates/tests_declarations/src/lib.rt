@@ -24,6 +24,10 @@ mod diagnoses;
 #[cfg(test)]
 mod encoding;
 #[cfg(test)]
+mod exposures;
+#[cfg(test)]
+mod families;
+#[cfg(test)]
 mod memory;
 #[cfg(test)]
 mod patterns;
