@@ -35,6 +35,8 @@
 //!    [`PointValue`] of one series, whose [`attributes`] the plan knows. By hand: a [`Collector`] collects the [`Batch`] of
 //!    one instrument or of all, up to an [`AllFault`], and [`write_batch`] writes its text, [`write_encoded`] its bytes. (A
 //!    collection takes 23 to 54 ns a point.)
+//!    For Prometheus an [`Exposition`] has the lines of a page in a [`Dialect`], and a [`PageExporter`] hands the whole page to
+//!    [`Pages`] after each collection, as to a file that node_exporter reads.
 //! 6. **End.** [`shutdown_all`] lets readers collect a last time, exports what they give, flushes, and finishes the provider; an
 //!    [`EndFault`] has each cause, and hands back what is left, with the plan to export it by. `Provider::finish` alone gives the [`Totals`], a [`Total`] for
 //!    each instrument, exactly what the recorders were told, or a [`FinishFault`]; `Provider::finish_keeping` also the plan. Calls
@@ -155,6 +157,7 @@ pub use metric_export::export_each;
 pub use metric_export::has_points;
 pub use metric_export::write_batch;
 pub use metric_export::write_encoded;
+pub use metric_exposition::Dialect;
 pub use metric_handles::Adds;
 pub use metric_handles::Bound;
 pub use metric_handles::BoundCounter;
@@ -205,8 +208,11 @@ pub use metric_make::make;
 pub use metric_marked::Marked;
 pub use metric_names::AttrValue;
 pub use metric_names::ValueRef;
+pub use metric_outlets::Exposition;
 pub use metric_outlets::OtlpBytes;
 pub use metric_outlets::OtlpLines;
+pub use metric_outlets::PageExporter;
+pub use metric_outlets::Pages;
 pub use metric_periodic::Collection;
 pub use metric_periodic::OpenEnd;
 pub use metric_periodic::OpenPeriodic;

@@ -18,3 +18,5 @@ mod handles;
 mod life;
 #[cfg(test)]
 mod outlets;
+#[cfg(test)]
+mod pages;

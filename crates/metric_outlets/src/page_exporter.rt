@@ -1,0 +1,212 @@
+//! An exporter that replaces a page after each collection.
+ghost use Rattle.std.specs.Prelude.{◌≡◌, ℕ, ◌⊎◌, [], ◌++◌, IfOk, List, None, OnOk, Result, map, slice_set};
+ghost use Rattle.std.specs.List.{flat_map};
+ghost use Rattle.metric_io.specs.declared.devices.Broken.{Broken};
+ghost use Rattle.metric_exposition.specs.Pages.{end_text};
+ghost use Rattle.metric_exposition.specs.Targets.{target_text};
+ghost use Rattle.metric_outlets.specs.PageCalls.{FlushesPage, HandsOnPage, KeepsLines, KeepsPage, ShutsPageDown};
+
+use metric_base::Items;
+use metric_contents::Instrument;
+use metric_export::{ExportFault, ExporterState, MetricExporter};
+use metric_exposition::{Dialect, push_end, push_exposition, push_target};
+use metric_history::Batch;
+use metric_io::Broken;
+use metric_plan::Plan;
+use metric_resource::Resource;
+use std::alloc::{AllocError, Global};
+use std::marker::Model;
+
+/// What pages are handed on to, as a file that a collector of text files reads.
+///
+/// Contracts see what it says of its calls, by which a caller can promise each page that was handed on.
+pub trait Pages {
+    // What the replacement of a page does, by the page and the answer.
+    ghost replaces: { Self → Self → List ℕ → Result (Unit {0}) Broken → Type 0 };
+
+    /// Replaces the page that was there as a whole: who reads sees the one or the other. [`Broken`] where it could not; the
+    /// page before it may then stay. It may be asked again.
+    fn replace(&mut self, page: &[u8]) -> Result<(), Broken>
+        ensures { replaces self.old self.new page.now result };
+}
+
+/// An exporter that keeps the last lines of each instrument, and hands on the page of all of them at each flush: so once after
+/// each collection of a [`Periodic`](https://opentelemetry.io/docs/specs/otel/metrics/sdk/#periodic-exporting-metricreader)
+/// reader, and at a shutdown. It is for one reader, with cumulative streams.
+///
+/// After a failure the next flush hands on the page of all lines again, so that no queue is needed before it. Contracts see
+/// the format, what a page begins with, the lines of each instrument, what takes the pages, the count of its failures, and the
+/// state.
+#[derive(Drop)]
+pub struct PageExporter<P> {
+    dialect: Dialect,
+    target: Items<u8>,
+    lines: Vec<Items<u8>>,
+    pages: P,
+    // The page, written anew at each flush.
+    page: Vec<u8>,
+    failures: u64,
+    state: ExporterState,
+}
+
+impl<P> Model for PageExporter<P> {
+    ghost use Rattle.metric_outlets.specs.PageCalls.{PageExporterValue};
+
+    ghost Value = { PageExporterValue P };
+
+    ghost view = { λ e. record {
+      dialect = e.dialect;
+      target = e.target;
+      lines = e.lines.items;
+      pages = e.pages;
+      failures = e.failures;
+      state = e.state;
+    } };
+}
+
+impl<P: Pages + Drop> PageExporter<P> {
+    /// An exporter of pages of this format for the instruments of the plan, with the attributes of this resource.
+    pub fn new(
+        alloc: Global,
+        plan: &Plan,
+        dialect: Dialect,
+        resource: &Resource,
+        pages: P,
+    ) -> Result<PageExporter<P>, AllocError>
+        ensures { IfOk result (λ e. e ≡ record {
+          dialect = dialect;
+          target = target_text dialect resource.now;
+          lines = map (λ _. []) plan.now.facts.contents.instruments;
+          pages = pages;
+          failures = 0;
+          state = ExporterState.Open;
+        }) }
+    {
+        let mut target = Vec::new(alloc);
+        push_target(alloc, &mut target, dialect, resource)?;
+        let lines = no_lines(alloc, plan.catalogue().instruments())?;
+        Ok(PageExporter {
+            dialect,
+            target: Items::from_vec(target),
+            lines,
+            pages,
+            page: Vec::new(alloc),
+            failures: 0,
+            state: ExporterState::Open,
+        })
+    }
+
+    /// What takes the pages, to look at it.
+    pub fn pages(&self) -> &P
+        ensures { result.now ≡ self.now.pages }
+    {
+        &self.pages
+    }
+
+    // Hands on the page of the lines that are kept.
+    fn hand_on(&mut self) -> Result<(), ExportFault>
+        ensures kept { KeepsPage self.old self.new }
+        ensures state { self.new.state ≡ self.old.state }
+        ensures handed { HandsOnPage P.replaces self.old self.new result
+            ⊎ ((result ≡ Err ExportFault.Memory) × (self.new ≡ self.old)) }
+    {
+        fill_page(
+            &mut self.page,
+            self.dialect,
+            self.target.as_slice(),
+            self.lines.as_slice(),
+        )?;
+        match self.pages.replace(self.page.as_slice()) {
+            Ok(()) => Ok(()),
+            Err(_) => {
+                self.failures = self.failures.saturating_add(1);
+                Err(ExportFault::Write)
+            }
+        }
+    }
+}
+
+// An empty text for each instrument.
+fn no_lines(alloc: Global, instruments: &[Instrument]) -> Result<Vec<Items<u8>>, AllocError>
+    ensures { IfOk result (λ lines. lines.items ≡ map (λ _. []) instruments.now) }
+{
+    instruments.iter().map(|_| Items::new(alloc)).collect(alloc)
+}
+
+// Makes this the page of these lines.
+fn fill_page(
+    page: &mut Vec<u8>,
+    dialect: Dialect,
+    target: &[u8],
+    lines: &[Items<u8>],
+) -> Result<(), AllocError>
+    ensures { OnOk result (page.new.items
+        ≡ target.now ++ flat_map (λ lines. lines) lines.now ++ end_text dialect) }
+{
+    page.clear();
+    page.extend_from_slice(target)?;
+    push_lines(page, lines)?;
+    push_end(page, dialect)
+}
+
+#[tactic(auto, using(metric_text::specs::ListLaws::steps))]
+fn push_lines(page: &mut Vec<u8>, lines: &[Items<u8>]) -> Result<(), AllocError>
+    ensures { OnOk result (page.new.items ≡ page.old.items ++ flat_map (λ lines. lines) lines.now) }
+{
+    for own in lines {
+        page.extend_from_slice(own.as_slice())?;
+    }
+    Ok(())
+}
+
+// Puts lines in place of those of an instrument, if there is one of this number.
+fn put(lines: &mut Vec<Items<u8>>, instrument: u32, own: Items<u8>)
+    ensures { lines.new.items ≡ slice_set lines.old.items instrument own }
+{
+    if let Some(place) = lines.get_mut(instrument as usize) {
+        *place = own;
+    }
+}
+
+impl<P: Pages + Drop> MetricExporter for PageExporter<P> {
+    // A page is replaced, and nothing appended.
+    ghost text = { λ _ _ _. [] };
+
+    ghost contents = { λ _. None };
+
+    ghost failures = { λ e. e.failures };
+
+    ghost state = { λ e. e.state };
+
+    ghost export_gives = { KeepsLines };
+
+    ghost flush_gives = { FlushesPage P.replaces };
+
+    ghost shutdown_gives = { ShutsPageDown P.replaces };
+
+    fn export(&mut self, alloc: Global, plan: &Plan, batch: &Batch) -> Result<(), ExportFault> {
+        self.state.admit()?;
+        let mut lines = Vec::new(alloc);
+        push_exposition(
+            alloc,
+            &mut lines,
+            self.dialect,
+            plan.catalogue(),
+            plan.streams(),
+            batch,
+        )?;
+        put(&mut self.lines, batch.instrument, Items::from_vec(lines));
+        Ok(())
+    }
+
+    fn force_flush(&mut self) -> Result<(), ExportFault> {
+        self.state.admit()?;
+        self.hand_on()
+    }
+
+    fn shutdown(&mut self) -> Result<(), ExportFault> {
+        let answer = self.force_flush();
+        self.state = ExporterState::ShutDown;
+        answer
+    }
+}
