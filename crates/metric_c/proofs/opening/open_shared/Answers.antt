@@ -9,6 +9,7 @@ use Rattle.metric_c.specs.declared.opening.Counts.{Counts}
 use Rattle.metric_c.specs.declared.reader_handle.ReaderHandle.{ReaderHandle}
 use Rattle.metric_c.specs.declared.recorder_handle.RecorderHandle.{RecorderHandle}
 use Rattle.metric_c.specs.Opening.{instruments_in, new_reader_of, new_recorder_of, readers_in, recorders_in}
+use Rattle.metric_plan.specs.Plans.{PlanValue}
 use Rattle.metric_c.proofs.HeldLaws.{first_held}
 use Rattle.metric_c.proofs.RoomLaws.{has_room}
 use Rattle.metric_c.proofs.opening.open_shared.Goals as goal
@@ -18,7 +19,7 @@ place-requires c =
     let all = c.in-Ok.made.instruments.items in
     let long : length all ≡ length c.args.plan.now.facts.contents.instruments =
     sym (length-map all (λ (handle : InstrumentHandle). handle.value)) ∙ c.in-Ok.ensures.instruments.count in
-    omega (arith, long, (has_room c.counts_of.result _ _ _ (sym c.lacks_handles.ensures ∙ c.if-lacks_handles.false)).0, ap (λ (counts : Counts). counts.instruments) c.counts_of.ensures)
+    omega (arith, long, (has_room c.counts_of.result _ _ _ (sym c.lacks_handles.ensures ∙ c.if-lacks_handles.false)).0, ap (λ (counts : Counts). counts.instruments) c.counts_of.ensures, ap (λ (p : PlanValue). length p.facts.contents.instruments) c.get.ensures)
 
 pub place-requires-in-Ok : goal.place-requires-in-Ok
 place-requires-in-Ok c =
@@ -28,7 +29,7 @@ place-requires-in-Ok c =
     sym (length-map all (λ (handle : RecorderHandle). handle.value))
     ∙ ap length c.in-Ok.ensures.recorders
     ∙ length-map-range_with_len (new_recorder_of c.args.plan.now c.args.run) 0 count in
-    omega (arith, long, (has_room c.counts_of.result _ _ _ (sym c.lacks_handles.ensures ∙ c.if-lacks_handles.false)).1, ap (λ (counts : Counts). counts.recorders) c.counts_of.ensures)
+    omega (arith, long, (has_room c.counts_of.result _ _ _ (sym c.lacks_handles.ensures ∙ c.if-lacks_handles.false)).1, ap (λ (counts : Counts). counts.recorders) c.counts_of.ensures, ap (λ (p : PlanValue). length p.facts.contents.recorders) c.get.ensures)
 
 pub place-requires-in-Ok-2 : goal.place-requires-in-Ok-2
 place-requires-in-Ok-2 c =
@@ -38,7 +39,7 @@ place-requires-in-Ok-2 c =
     sym (length-map all (λ (handle : ReaderHandle). handle.value))
     ∙ ap length c.in-Ok.ensures.readers
     ∙ length-map-range_with_len (new_reader_of c.args.plan.now c.args.run) 0 count in
-    omega (arith, long, (has_room c.counts_of.result _ _ _ (sym c.lacks_handles.ensures ∙ c.if-lacks_handles.false)).2, ap (λ (counts : Counts). counts.readers) c.counts_of.ensures)
+    omega (arith, long, (has_room c.counts_of.result _ _ _ (sym c.lacks_handles.ensures ∙ c.if-lacks_handles.false)).2, ap (λ (counts : Counts). counts.readers) c.counts_of.ensures, ap (λ (p : PlanValue). length p.config.readers) c.get.ensures)
 
 pub returns-in-Ok-clause-opened : goal.returns-in-Ok-clause-opened
 returns-in-Ok-clause-opened c = λ done. record {
