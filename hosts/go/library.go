@@ -142,6 +142,24 @@ func openHandles(of *texts) (*handles, uint32, string) {
 	return own, answerDone, ""
 }
 
+// Opens the next run of the plan, in room for as much as there is of this one.
+func (own *handles) next(start uint64) (*handles, uint32) {
+	if own.counts.recorders == 0 {
+		return nil, answerUnknownRecorder
+	}
+	next := &handles{counts: own.counts}
+	next.makeRoom()
+	var counts C.wormweekly_counts
+	answer := C.wormweekly_next(own.recorder(0), C.uint64_t(start), next.instruments, next.counts.instruments,
+		next.recorders, next.counts.recorders, next.readers, next.counts.readers, &counts)
+	if answer != answerDone {
+		next.free()
+		return nil, uint32(answer)
+	}
+	runtime.SetFinalizer(next, (*handles).free)
+	return next, answerDone
+}
+
 func (own *handles) free() {
 	for at := 0; at < int(own.counts.instruments); at++ {
 		C.wormweekly_free_instrument(own.instrument(at))

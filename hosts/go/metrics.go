@@ -21,7 +21,6 @@ type Metrics struct {
 // A run owns the handles. What works on several seats at once goes through its gate.
 type run struct {
 	gate        sync.Mutex
-	texts       texts
 	handles     *handles
 	instruments []*Instrument
 	recorders   []*Recorder
@@ -61,7 +60,7 @@ func Open(catalogue, config string, options ...Option) (*Metrics, error) {
 	case answer != answerDone:
 		return nil, errorOf(answer)
 	}
-	return newMetrics(&run{texts: of, handles: own}), nil
+	return newMetrics(&run{handles: own}), nil
 }
 
 func newMetrics(own *run) *Metrics {
@@ -134,14 +133,12 @@ func (metrics *Metrics) RollOver(start time.Time) ([]Total, error) {
 	if err != nil {
 		return nil, err
 	}
-	next := own.texts
-	next.start = nanoseconds(start)
-	handles, answer, _ := openHandles(&next)
+	next, answer := own.handles.next(nanoseconds(start))
 	if answer != answerDone {
 		return nil, errorOf(answer)
 	}
 	own.handles.free()
-	own.handles, own.texts = handles, next
+	own.handles = next
 	return totals, nil
 }
 

@@ -115,7 +115,6 @@ uint32_t handles_open(Handles *own, const Texts *texts, uint8_t *fault, size_t r
     uint32_t answer;
     pthread_once(&forks_are_counted, count_forks);
     own->born = atomic_load(&forks);
-    own->texts = *texts;
     answer = open_lists(&own->lists, texts, &told);
     if (answer != WORMWEEKLY_DONE) {
         return answer;
@@ -161,18 +160,29 @@ uint32_t handles_settle(Handles *own, size_t instrument, wormweekly_total *total
     return answer;
 }
 
+/* Opens the next run of the plan in room for as much as there is of this one. */
+static uint32_t open_next(const Lists *lists, uint64_t start, Lists *next) {
+    wormweekly_counts counts;
+    next->counts = lists->counts;
+    if (lists->counts.recorders == 0) {
+        return WORMWEEKLY_UNKNOWN_RECORDER;
+    }
+    if (!make_room(next)) {
+        return WORMWEEKLY_MEMORY;
+    }
+    return wormweekly_next(&lists->recorders[0], start, next->instruments, next->counts.instruments, next->recorders,
+                           next->counts.recorders, next->readers, next->counts.readers, &counts);
+}
+
 /* Under all mutexes: the next run takes the place of this one where all is settled. */
-static uint32_t roll_over(Handles *own, wormweekly_total *totals) {
-    Lists *lists = &own->lists, next = { 0 };
-    uint8_t nothing[1];
-    size_t length;
-    const Fault fault = { nothing, 0, &length };
+static uint32_t roll_over(Lists *lists, uint64_t start, wormweekly_total *totals) {
+    Lists next = { 0 };
     uint32_t answer = WORMWEEKLY_DONE;
     for (size_t at = 0; answer == WORMWEEKLY_DONE && at < lists->counts.instruments; at++) {
         answer = wormweekly_settle(&lists->instruments[at], lists->recorders, lists->counts.recorders, &totals[at]);
     }
     if (answer == WORMWEEKLY_DONE) {
-        answer = open_lists(&next, &own->texts, &fault);
+        answer = open_next(lists, start, &next);
     }
     if (answer == WORMWEEKLY_DONE) {
         Lists before = *lists;
@@ -197,18 +207,13 @@ static int lock_readers(Handles *own) {
 
 uint32_t handles_roll_over(Handles *own, uint64_t start, wormweekly_total *totals) {
     const wormweekly_counts counts = own->lists.counts;
-    const uint64_t before = own->texts.start;
     uint32_t answer;
     if (!lock_readers(own)) {
         return HANDLES_IN_USE;
     }
     lock_all(own->recorder_locks, counts.recorders);
     lock_all(own->instrument_locks, counts.instruments);
-    own->texts.start = start;
-    answer = roll_over(own, totals);
-    if (answer != WORMWEEKLY_DONE) {
-        own->texts.start = before;
-    }
+    answer = roll_over(&own->lists, start, totals);
     unlock_all(own->instrument_locks, counts.instruments);
     unlock_all(own->recorder_locks, counts.recorders);
     unlock_all(own->reader_locks, counts.readers);

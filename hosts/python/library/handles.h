@@ -37,7 +37,6 @@ typedef struct {
 
 typedef struct {
     unsigned long born; /* how often the process was forked before */
-    Texts texts;
     Lists lists;
     pthread_mutex_t *instrument_locks, *recorder_locks, *reader_locks;
 } Handles;
@@ -58,7 +57,7 @@ typedef struct {
     size_t instrument;
 } Work;
 
-/* Opens a run of texts that stay where they are. It is called once, without Python's lock, on what is all zero. */
+/* Opens a run. It is called once, without Python's lock, on what is all zero. */
 uint32_t handles_open(Handles *own, const Texts *texts, uint8_t *fault, size_t room, size_t *length);
 
 /* Ends the run and begins the next one in its place, without Python's lock. Writes the total of each instrument.

@@ -18,7 +18,6 @@ typedef struct {
 typedef struct {
     PyObject_HEAD
     PyObject *module;
-    PyObject *texts; /* the arguments of the run, which keep its texts */
     State *state;
     Handles handles;
 } Run;

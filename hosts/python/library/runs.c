@@ -28,7 +28,6 @@ static PyObject *run_new(PyTypeObject *type, PyObject *args, PyObject *keywords)
     }
     run->module = Py_XNewRef(PyType_GetModule(type));
     run->state = run->module == NULL ? NULL : PyModule_GetState(run->module);
-    run->texts = Py_NewRef(args);
     if (run->state != NULL && PyArg_ParseTuple(args, "OOOO", &catalogue, &config, &certificate, &start) &&
         read_text(run, catalogue, &texts.catalogue) && read_text(run, config, &texts.config) &&
         (certificate == Py_None || read_text(run, certificate, &texts.certificate)) &&
@@ -46,7 +45,6 @@ static PyObject *run_new(PyTypeObject *type, PyObject *args, PyObject *keywords)
 static void run_free(Run *run) {
     PyTypeObject *type = Py_TYPE(run);
     handles_free(&run->handles);
-    Py_XDECREF(run->texts);
     Py_XDECREF(run->module);
     ((freefunc)PyType_GetSlot(type, Py_tp_free))(run);
     Py_DECREF(type);
