@@ -389,6 +389,20 @@ func batchOTLP(own *handles, reader int, resource given, json int) ([]byte, uint
 	})
 }
 
+// Writes the batch that a reader keeps as lines of a page.
+func batchPage(own *handles, reader int, dialect Dialect) ([]byte, uint32) {
+	return askBytes(func(out *C.uint8_t, room C.size_t, length *C.size_t) C.uint32_t {
+		return C.wormweekly_prometheus(own.reader(reader), C.uint32_t(dialect), out, room, length)
+	})
+}
+
+func target(resource given, dialect Dialect) ([]byte, uint32) {
+	return askBytes(func(out *C.uint8_t, room C.size_t, length *C.size_t) C.uint32_t {
+		return C.wormweekly_prometheus_target(C.uint32_t(dialect), resource.texts, C.size_t(resource.length),
+			resource.attributes, C.size_t(resource.count), out, room, length)
+	})
+}
+
 // Reads the batch that a reader keeps.
 func batchOf(own *handles, reader int) (Batch, uint32) {
 	var out C.wormweekly_batch_out

@@ -1,8 +1,10 @@
 package prometheus
 
 import (
+	"errors"
 	"net/http"
 	"net/http/httptest"
+	"strings"
 	"testing"
 	"time"
 
@@ -38,24 +40,30 @@ const config = `format = 1
 name = 'page'
 `
 
-const want = `# TYPE http_requests_total counter
-http_requests_total{route="a\"b\\c\nd",cached="true"} 5
+const text = `# HELP target_info Target metadata
+# TYPE target_info gauge
+target_info{service_name="shop"} 1
+# HELP http_requests_total 
+# TYPE http_requests_total counter
+http_requests_total{route="a\"b\\c\nd",cached="true",otel_scope_name="shop"} 5
+# HELP duration_milliseconds 
 # TYPE duration_milliseconds histogram
-duration_milliseconds_bucket{le="10"} 1
-duration_milliseconds_bucket{le="100"} 2
-duration_milliseconds_bucket{le="+Inf"} 3
-duration_milliseconds_sum 561
-duration_milliseconds_count 3
-# TYPE level_m gauge
-level_m -7
+duration_milliseconds_bucket{otel_scope_name="shop",le="10.0"} 1
+duration_milliseconds_bucket{otel_scope_name="shop",le="100.0"} 2
+duration_milliseconds_bucket{otel_scope_name="shop",le="+Inf"} 3
+duration_milliseconds_sum{otel_scope_name="shop"} 561
+duration_milliseconds_count{otel_scope_name="shop"} 3
+# HELP level_meters 
+# TYPE level_meters gauge
+level_meters{otel_scope_name="shop"} -7
 `
 
-func TestThePage(t *testing.T) {
+func opened(t *testing.T) *wormweekly.Metrics {
+	t.Helper()
 	metrics, err := wormweekly.Open(catalogue, config, wormweekly.Since(time.Unix(1, 0)))
 	if err != nil {
 		t.Fatal(err)
 	}
-	one := metrics.Recorders[0]
 	recordings := []struct {
 		instrument int
 		value      int64
@@ -68,16 +76,49 @@ func TestThePage(t *testing.T) {
 		{2, -7, nil},
 	}
 	for _, own := range recordings {
-		if err := one.Record(metrics.Instruments[own.instrument], own.value, own.attributes...); err != nil {
+		instrument := metrics.Instruments[own.instrument]
+		if err := metrics.Recorders[0].Record(instrument, own.value, own.attributes...); err != nil {
 			t.Fatal(err)
 		}
 	}
-	answer := httptest.NewRecorder()
-	Handler(metrics, metrics.Readers[0]).ServeHTTP(answer, httptest.NewRequest(http.MethodGet, "/metrics", nil))
-	if got := answer.Body.String(); got != want || answer.Code != http.StatusOK {
-		t.Errorf("%s\nand not\n%s", got, want)
+	return metrics
+}
+
+func TestThePage(t *testing.T) {
+	metrics := opened(t)
+	handler, err := Handler(metrics, metrics.Readers[0], wormweekly.String("service.name", "shop"))
+	if err != nil {
+		t.Fatal(err)
 	}
-	if kind := answer.Header().Get("Content-Type"); kind != "text/plain; version=0.0.4" {
-		t.Error(kind)
+	cases := []struct{ accept, contentType, begins, ends string }{
+		{"", "text/plain; version=0.0.4; charset=utf-8", text, text},
+		{
+			"application/openmetrics-text;version=1.0.0", "application/openmetrics-text; version=1.0.0; charset=utf-8",
+			"# HELP target Target metadata\n# TYPE target info\n", "# EOF\n",
+		},
+	}
+	for _, one := range cases {
+		request := httptest.NewRequest(http.MethodGet, "/metrics", nil)
+		request.Header.Set("Accept", one.accept)
+		answer := httptest.NewRecorder()
+		handler.ServeHTTP(answer, request)
+		got := answer.Body.String()
+		if !strings.HasPrefix(got, one.begins) || !strings.HasSuffix(got, one.ends) || answer.Code != http.StatusOK {
+			t.Errorf("%s\nand not\n%s", got, one.begins)
+		}
+		if kind := answer.Header().Get("Content-Type"); kind != one.contentType {
+			t.Error(kind)
+		}
+	}
+}
+
+func TestWhatHasNoPage(t *testing.T) {
+	metrics, other := opened(t), opened(t)
+	if _, err := Handler(metrics, other.Readers[0]); !errors.Is(err, wormweekly.ErrStranger) {
+		t.Error(err)
+	}
+	nameless := wormweekly.String("", "shop")
+	if _, err := Handler(metrics, metrics.Readers[0], nameless); !errors.Is(err, wormweekly.ErrEmptyKey) {
+		t.Error(err)
 	}
 }

@@ -15,9 +15,7 @@ from socketserver import ThreadingMixIn
 from typing import TYPE_CHECKING
 from wsgiref.simple_server import WSGIRequestHandler, WSGIServer, make_server
 
-from pages import page
-
-from wormweekly import Metrics, Pool, Reader, Recorder, Refusal
+from wormweekly import Dialect, Metrics, Pool, Reader, Recorder, Refusal
 
 if TYPE_CHECKING:
     from wsgiref.types import StartResponse, WSGIApplication, WSGIEnvironment
@@ -70,13 +68,14 @@ class Metered:
     def __call__(self, environ: WSGIEnvironment, start_response: StartResponse) -> Iterable[bytes]:
         path = environ["PATH_INFO"]
         if path == "/metrics":
-            return self.show(start_response)
+            return self.show(environ, start_response)
         with self.pool.lend() as recorder:
             return self.measure(recorder, path, environ, start_response)
 
-    def show(self, start_response: StartResponse) -> Iterable[bytes]:
-        body = page(self.metrics, self.reader).encode()
-        start_response("200 OK", [("Content-Type", "text/plain; version=0.0.4"), ("Content-Length", str(len(body)))])
+    def show(self, environ: WSGIEnvironment, start_response: StartResponse) -> Iterable[bytes]:
+        dialect = Dialect.accepted(environ.get("HTTP_ACCEPT", ""))
+        body = self.metrics.page(self.reader, {"service.name": "shop"}, dialect=dialect)
+        start_response("200 OK", [("Content-Type", dialect.content_type), ("Content-Length", str(len(body)))])
         return [body]
 
     def measure(

@@ -8,7 +8,13 @@
 #include "handles.h"
 
 /* What this package refuses by itself. The numbers are none of the library's. */
-enum { WRONG_TYPE = 1000, OTHER_THREAD = 1001, FORKED = 1002, IN_USE = HANDLES_IN_USE, WRONG_CLOCK = 1004 };
+enum {
+    WRONG_TYPE = 1000,
+    OTHER_THREAD = 1001,
+    FORKED = 1002,
+    IN_USE = HANDLES_IN_USE,
+    WRONG_CLOCK = 1004
+};
 
 typedef struct {
     PyTypeObject *run, *instrument, *recorder, *reader, *bound;
@@ -64,6 +70,9 @@ typedef struct {
 
 int read_attributes(Run *run, PyObject *mapping, Given *given);
 void free_given(Given *given);
+
+/* A text that the library has room to write into, cut to the room. */
+PyObject *refuse_told(Run *run, uint32_t answer, const uint8_t *text, size_t length, size_t room);
 
 /* Texts that the library writes: `ask` is called until there is room for all. The second lets other threads go on. */
 typedef uint32_t (*Ask)(void *handle, size_t at, size_t number, uint8_t *out, size_t room, size_t *length);

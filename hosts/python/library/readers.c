@@ -117,6 +117,57 @@ static PyObject *collect_otlp(Seat *self, PyObject *const *args, Py_ssize_t coun
     return made;
 }
 
+/* Pages for Prometheus */
+
+static uint32_t page_lines(void *reader, size_t at, size_t dialect, uint8_t *out, size_t room, size_t *length) {
+    (void)at;
+    return wormweekly_prometheus(reader, (uint32_t)dialect, out, room, length);
+}
+
+static PyObject *tell_lines(Run *run, wormweekly_reader *reader, void *dialect) {
+    return ask_long_bytes(run, page_lines, reader, *(const uint32_t *)dialect);
+}
+
+static int read_dialect(Run *run, PyObject *given, uint32_t *dialect) {
+    uint64_t number;
+    if (!read_unsigned(run, given, &number, WORMWEEKLY_UNKNOWN)) {
+        return 0;
+    }
+    *dialect = number < UINT32_MAX ? (uint32_t)number : UINT32_MAX;
+    return 1;
+}
+
+/* _collect_page(instrument, now, dialect) */
+static PyObject *collect_page(Seat *self, PyObject *const *args, Py_ssize_t count) {
+    uint32_t dialect;
+    if (!has_count(self->run, count, 3) || !read_dialect(self->run, args[2], &dialect)) {
+        return NULL;
+    }
+    return collect_as(self, args, tell_lines, &dialect);
+}
+
+static uint32_t target_lines(void *resource, size_t at, size_t dialect, uint8_t *out, size_t room, size_t *length) {
+    const Attributes *of = resource;
+    (void)at;
+    return wormweekly_prometheus_target((uint32_t)dialect, of->bytes, of->length, of->all, of->count, out, room,
+                                        length);
+}
+
+/* _target(attributes of the resource, dialect) */
+static PyObject *target(Seat *self, PyObject *const *args, Py_ssize_t count) {
+    Given given;
+    uint32_t dialect;
+    PyObject *made = NULL;
+    if (!has_count(self->run, count, 2) || !read_dialect(self->run, args[1], &dialect)) {
+        return NULL;
+    }
+    if (read_attributes(self->run, args[0], &given)) {
+        made = ask_long_bytes(self->run, target_lines, &given.own, dialect);
+    }
+    free_given(&given);
+    return made;
+}
+
 static PyObject *last(Seat *self, PyObject *unused) {
     wormweekly_reader *reader = lend(self);
     PyObject *made;
@@ -133,6 +184,8 @@ static PyMethodDef methods[] = {
     { "_collect", (PyCFunction)(void (*)(void))collect, METH_FASTCALL, NULL },
     { "_collect_text", (PyCFunction)(void (*)(void))collect_text, METH_FASTCALL, NULL },
     { "_collect_otlp", (PyCFunction)(void (*)(void))collect_otlp, METH_FASTCALL, NULL },
+    { "_collect_page", (PyCFunction)(void (*)(void))collect_page, METH_FASTCALL, NULL },
+    { "_target", (PyCFunction)(void (*)(void))target, METH_FASTCALL, NULL },
     { "_last", (PyCFunction)last, METH_NOARGS, NULL },
     { NULL, NULL, 0, NULL },
 };

@@ -17,6 +17,11 @@ PyObject *refuse_with(Run *run, uint32_t answer, PyObject *told) {
 
 PyObject *refuse(Run *run, uint32_t answer) { return refuse_with(run, answer, Py_NewRef(Py_None)); }
 
+PyObject *refuse_told(Run *run, uint32_t answer, const uint8_t *text, size_t length, size_t room) {
+    length = length < room ? length : room;
+    return refuse_with(run, answer, PyUnicode_DecodeUTF8((const char *)text, (Py_ssize_t)length, "replace"));
+}
+
 PyObject *refuse_type(Run *run, const char *wanted, PyObject *given) {
     PyObject *name = PyObject_GetAttrString((PyObject *)Py_TYPE(given), "__name__");
     PyObject *told = name == NULL ? NULL : PyUnicode_FromFormat("%s, not %U", wanted, name);

@@ -10,11 +10,7 @@ static PyObject *opened(Run *run, const Texts *texts) {
     Py_BEGIN_ALLOW_THREADS
     answer = handles_open(&run->handles, texts, fault, sizeof fault, &length);
     Py_END_ALLOW_THREADS
-    if (answer != WORMWEEKLY_FAULT) {
-        return done(run, answer);
-    }
-    length = length < sizeof fault ? length : sizeof fault;
-    return refuse_with(run, answer, PyUnicode_DecodeUTF8((const char *)fault, (Py_ssize_t)length, "replace"));
+    return answer == WORMWEEKLY_FAULT ? refuse_told(run, answer, fault, length, sizeof fault) : done(run, answer);
 }
 
 /* Run(catalogue, config, certificate or None, start) */

@@ -5,7 +5,19 @@ import json
 import unittest
 
 from tests.plans import CONFIG, HOME, opened
-from wormweekly import Attributes, BudgetRefusal, Buckets, Kind, Last, Metrics, Point, Stream, Sum, Total
+from wormweekly import (
+    Attributes,
+    Buckets,
+    BudgetRefusal,
+    Dialect,
+    Kind,
+    Last,
+    Metrics,
+    Point,
+    Stream,
+    Sum,
+    Total,
+)
 
 
 class Batches(unittest.TestCase):
@@ -89,6 +101,32 @@ class Batches(unittest.TestCase):
         message = self.all.otlp(requests, shop, 30)
         self.assertIn(b"requests", message)
         self.assertIn(b"service.name", message)
+
+    def test_pages(self) -> None:
+        self.second.record(self.metrics.instrument("requests"), HOME, 42)
+        self.second.record(self.metrics.instrument("temperature"), {}, -7)
+        page = self.metrics.page(self.all, {"service.name": "shop"}).decode()
+        scope = 'otel_scope_name="shop",otel_scope_version="1.0"'
+        lines = [
+            'target_info{service_name="shop"} 1',
+            "# TYPE requests_total counter",
+            f'requests_total{{route="/",status="200",{scope}}} 42',
+            f"temperature{{{scope}}} -7",
+        ]
+        self.assertEqual([line for line in page.splitlines() if line in lines], lines)
+        ends = {Dialect.TEXT: False, Dialect.OPEN_METRICS: True, Dialect.OPEN_METRICS_CREATED: True}
+        for dialect, has_end in ends.items():
+            self.assertEqual(self.metrics.page(self.all, dialect=dialect).endswith(b"# EOF\n"), has_end)
+        created = self.metrics.page(self.all, dialect=Dialect.OPEN_METRICS_CREATED)
+        self.assertIn(b"requests_created{", created)
+
+    def test_dialects(self) -> None:
+        for accept, dialect in [
+            ("", Dialect.TEXT),
+            ("text/plain", Dialect.TEXT),
+            ("application/openmetrics-text;version=1.0.0,text/plain;version=0.0.4;q=0.5", Dialect.OPEN_METRICS),
+        ]:
+            self.assertIs(Dialect.accepted(accept), dialect)
 
     def test_no_recorder(self) -> None:
         instrument = "[[meter.instrument]]\nname = 'i'\nkind = 'counter'\nrange = [0, 1]\n"

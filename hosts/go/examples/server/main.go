@@ -74,8 +74,12 @@ func run(address string) error {
 	if err != nil {
 		return err
 	}
+	page, err := prometheus.Handler(metrics, metrics.Readers[0], wormweekly.String("service.name", "shop"))
+	if err != nil {
+		return err
+	}
 	mux := http.NewServeMux()
-	mux.Handle("/metrics", prometheus.Handler(metrics, metrics.Readers[0]))
+	mux.Handle("/metrics", page)
 	mux.Handle("/", measured(http.HandlerFunc(shop), metrics))
 	if address != "" {
 		return http.ListenAndServe(address, mux)

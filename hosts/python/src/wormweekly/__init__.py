@@ -20,7 +20,18 @@ by a `Refusal`, with the reason as its `name`. After a fork, a run is refused in
 
 from wormweekly._batches import Batch, Buckets, Kind, Last, Point, Stream, Sum, Value
 from wormweekly._library import Bound
-from wormweekly._metrics import Attributes, Budget, Instrument, Metrics, Reader, Recorder, Spare, Total, UnknownName
+from wormweekly._metrics import (
+    Attributes,
+    Budget,
+    Dialect,
+    Instrument,
+    Metrics,
+    Reader,
+    Recorder,
+    Spare,
+    Total,
+    UnknownName,
+)
 from wormweekly._pool import Pool
 from wormweekly._refusals import (
     AttributeRefusal,
@@ -52,6 +63,7 @@ __all__ = [
     "BudgetRefusal",
     "ClockRefusal",
     "ClosedRefusal",
+    "Dialect",
     "InFlight",
     "Instrument",
     "Kind",

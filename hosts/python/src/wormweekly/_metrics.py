@@ -5,6 +5,7 @@ from __future__ import annotations
 import time
 from collections.abc import Mapping
 from dataclasses import dataclass
+from enum import IntEnum
 from typing import TypeVar
 
 from wormweekly import _library
@@ -15,6 +16,26 @@ from wormweekly._scopes import Handler, InFlight, Timer
 Attributes = Mapping[str, Value]
 
 _INSTRUMENT_NAME, _METER_NAME, _RECORDER_NAME, _READER_NAME = range(4)
+
+
+class Dialect(IntEnum):
+    """How a page for Prometheus is written: the text format 0.0.4, OpenMetrics 1.0, or that with lines `_created`."""
+
+    TEXT = 0
+    OPEN_METRICS = 1
+    OPEN_METRICS_CREATED = 2
+
+    @property
+    def content_type(self) -> str:
+        """What a page is served as."""
+        if self is Dialect.TEXT:
+            return "text/plain; version=0.0.4; charset=utf-8"
+        return "application/openmetrics-text; version=1.0.0; charset=utf-8"
+
+    @classmethod
+    def accepted(cls, accept: str) -> Dialect:
+        """That for whoever asks with this header `Accept`."""
+        return cls.OPEN_METRICS if "application/openmetrics-text" in accept else cls.TEXT
 
 
 class UnknownName(LookupError):
@@ -31,7 +52,7 @@ class Total:
 
 @dataclass(frozen=True, slots=True)
 class Budget:
-    """How many recordings a recorder may make on an instrument, declared and granted; how many it made; what is left."""
+    """How many recordings a recorder may make on an instrument, declared and granted; how many it made; the rest."""
 
     declared: int
     granted: int
@@ -150,6 +171,12 @@ class Reader(_library.Reader):
         the other are one message. Keep one that was not taken: a delta reader does not give its window again."""
         return self._collect_otlp(instrument, time.time_ns() if now is None else now, resource, json)
 
+    def prometheus(
+        self, instrument: Instrument, now: int | None = None, dialect: Dialect = Dialect.TEXT
+    ) -> bytes:
+        """The same as lines of a page for Prometheus. `Metrics.page` has a whole one."""
+        return self._collect_page(instrument, time.time_ns() if now is None else now, dialect)
+
     def last(self) -> Batch | None:
         """The batch that was collected last, none before one."""
         told = self._last()
@@ -203,6 +230,21 @@ class Metrics:
     def settle(self) -> tuple[Total, ...]:
         """The total of each instrument, in order, each compared with what its recorders were told."""
         return tuple(_total(*self._run.settle(one.number)) for one in self.instruments)
+
+    def page(
+        self,
+        reader: Reader,
+        resource: Attributes | None = None,
+        now: int | None = None,
+        dialect: Dialect = Dialect.TEXT,
+    ) -> bytes:
+        """A page for Prometheus of all instruments, collected by a cumulative reader, with the attributes of the
+        resource as `target_info`."""
+        at = time.time_ns() if now is None else now
+        page = [reader._target(resource or {}, dialect)]
+        page += (reader.prometheus(instrument, at, dialect) for instrument in self.instruments)
+        page += [] if dialect is Dialect.TEXT else [b"# EOF\n"]
+        return b"".join(page)
 
     def roll_over(self, start: int | None = None) -> tuple[Total, ...]:
         """Ends the run, and begins the next one of the same plan in its place, since a time in nanoseconds, or now:

@@ -1,0 +1,67 @@
+package wormweekly
+
+import (
+	"bytes"
+	"strings"
+	"time"
+)
+
+// A Dialect is how a page for Prometheus is written.
+type Dialect uint32
+
+// The dialects: the text format 0.0.4, OpenMetrics 1.0, and that with lines `_created`.
+const (
+	Text Dialect = iota
+	OpenMetrics
+	OpenMetricsCreated
+)
+
+// Accepted is the dialect for whoever asks with this header Accept.
+func Accepted(accept string) Dialect {
+	if strings.Contains(accept, "application/openmetrics-text") {
+		return OpenMetrics
+	}
+	return Text
+}
+
+// ContentType is what a page is served as.
+func (dialect Dialect) ContentType() string {
+	if dialect == Text {
+		return "text/plain; version=0.0.4; charset=utf-8"
+	}
+	return "application/openmetrics-text; version=1.0.0; charset=utf-8"
+}
+
+// Prometheus collects an instrument as Collect does, and answers lines of a page. Metrics.Page has a whole one.
+func (reader *Reader) Prometheus(instrument *Instrument, now time.Time, dialect Dialect) ([]byte, error) {
+	reader.mutex.Lock()
+	defer reader.mutex.Unlock()
+	if err := reader.collect(instrument, now); err != nil {
+		return nil, err
+	}
+	lines, answer := batchPage(reader.run.handles, reader.number, dialect)
+	return lines, errorOn(instrument, answer)
+}
+
+// Page is a page for Prometheus of all instruments, collected by a cumulative reader, with the attributes of the
+// resource as target_info.
+func (metrics *Metrics) Page(reader *Reader, now time.Time, dialect Dialect, resource ...Attr) ([]byte, error) {
+	of := giveMany(lengthOf(resource), resource)
+	defer of.free()
+	about, answer := target(of, dialect)
+	if answer != answerDone {
+		return nil, errorOf(answer)
+	}
+	page := bytes.NewBuffer(about)
+	for _, instrument := range metrics.run.instruments {
+		lines, err := reader.Prometheus(instrument, now, dialect)
+		if err != nil {
+			return nil, err
+		}
+		page.Write(lines)
+	}
+	if dialect != Text {
+		page.WriteString("# EOF\n")
+	}
+	return page.Bytes(), nil
+}
