@@ -109,6 +109,8 @@ impl<R: Wait, B: Book, G: Gate> Held<B> for Inside<'_, R, B, G> {
 
     ghost closes = { λ _ _ _. Unit {0} };
 
+    // Inlined down to the slot, as are the calls of a seat that lead here: a list of one is then no loop.
+    #[inline(always)]
     fn record_each(
         &mut self,
         facts: &Facts,
@@ -191,6 +193,7 @@ fn grant<B: Book>(
 
 // Makes recordings, one after the other, and tells their recorder of each, up to the first that is refused. The slot's
 // facts are compared once for all of them.
+#[inline(always)]
 fn record_each<R: Wait, B: Book, G: Gate>(
     rt: &R,
     gate: &G,
@@ -220,6 +223,7 @@ fn record_each<R: Wait, B: Book, G: Gate>(
 }
 
 // Makes a recording, and tells its recorder of it.
+#[inline(always)]
 fn record_one<B: Book>(
     slot: &mut Slot<B>,
     is_own: bool,

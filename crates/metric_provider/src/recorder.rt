@@ -212,6 +212,7 @@ impl Recorder {
     }
 
     // Makes a recording that the seat may make, as a list of one.
+    #[inline(always)]
     fn record_one<B: Book, H: Held<B>>(
         &mut self,
         held: &mut H,
@@ -239,6 +240,7 @@ impl Recorder {
     }
 
     // Makes recordings that the seat may make, and tells it of them, up to the first that is refused.
+    #[inline(always)]
     fn record_each<B: Book, H: Held<B>>(
         &mut self,
         held: &mut H,
@@ -304,6 +306,7 @@ impl Recorder {
     }
 
     // Makes recordings that the seat may make, and tells it of them without slips, up to the first that is refused.
+    #[inline(always)]
     fn record_told<B: Book, H: Held<B>>(
         &mut self,
         held: &mut H,
