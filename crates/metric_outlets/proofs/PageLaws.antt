@@ -5,6 +5,10 @@ use Rattle.metric_export.specs.declared.fault.ExportFault.TheVariants as fault
 use Rattle.metric_export.specs.declared.state.ExporterState.TheVariants.{ShutDown}
 use Rattle.metric_outlets.specs.PageCalls.{FlushesPage, HandsOnPage, PageExporterValue, Replacing, ShutsPageDown}
 
+-- the exporter, after which no call is taken
+abbrev closed : {P : Type 0} → PageExporterValue P → PageExporterValue P
+closed e = record e { state = ShutDown }
+
 pub shut_down : {P : Type 0} (replaces : Replacing P) (old new : PageExporterValue P) (answer : Result (Unit {0}) ExportFault)
     → FlushesPage replaces old new answer → ShutsPageDown replaces old (record new { state = ShutDown }) answer
 shut_down replaces old new answer flushes = record {
@@ -12,7 +16,7 @@ shut_down replaces old new answer flushes = record {
   state = refl;
   handed = λ was_open. elim (flushes.handed was_open) [
     | inl handed ↦ inl (record { told = handed.told; call = handed.call; passed = handed.passed; counted = handed.counted })
-    | inr refused ↦ inr (refused.0, ap (λ e. record e { state = ShutDown }) refused.1)
+    | inr refused ↦ inr (refused.0, ap closed refused.1)
   ];
-  unhanded = λ closed. ap (λ e. record e { state = ShutDown }) (flushes.unhanded closed);
+  unhanded = λ was_closed. ap closed (flushes.unhanded was_closed);
 }
