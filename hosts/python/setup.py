@@ -34,7 +34,7 @@ setup(
             extra_objects=[str(archive)],
             depends=[str(archive), str(header), *map(str, SOURCES.glob("*.h"))],
             define_macros=[("Py_LIMITED_API", "0x030A0000")],
-            extra_compile_args=["-std=gnu11", "-Wall", "-Wextra", "-Werror", "-fvisibility=hidden"],
+            extra_compile_args=["-std=gnu11", "-Wall", "-Wextra", "-fvisibility=hidden"],
             extra_link_args=["-Wl,--exclude-libs,ALL", "-lpthread"],
             py_limited_api=True,
         )
