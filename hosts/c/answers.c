@@ -323,6 +323,15 @@ static struct told prometheus_target(const struct row *row) {
     return told_text(answer, length);
 }
 
+/* Writes the length of the fault, and as much of it as has room. */
+static struct told expose(const struct row *row) {
+    size_t length = 9, room = room_for(row, ROOM);
+    struct told told = answered(wormweekly_expose(&readers[row->reader], clear_buffer(), room, &length));
+    told.numbers[0] = (int64_t)length;
+    told.text = written(WORMWEEKLY_DONE, told.answer != WORMWEEKLY_FAULT ? 0 : length < room ? length : room);
+    return told;
+}
+
 static struct told warnings(const struct row *row) {
     size_t length = 0;
     uint32_t answer = wormweekly_warnings(&recorders[row->recorder], clear_buffer(), room_for(row, ROOM), &length);
@@ -563,6 +572,9 @@ static const struct row OPENING_ROWS[] = {
 static const struct row ORDERS_ROWS[] = {
     { CALL(batch), .answer = WORMWEEKLY_UNKNOWN },
     { CALL(text), .text = "" },
+    { CALL(expose) },
+    { CALL(expose), .reader = CHANGES, .answer = WORMWEEKLY_FAULT, .numbers = { 19 }, .text = "1 Delta of stream 4" },
+    { CALL(expose), .reader = CHANGES, .is_short = 1, .answer = WORMWEEKLY_FAULT, .numbers = { 19 }, .text = "1" },
     { CALL(prometheus), .text = "" },
     { CALL(prometheus), .kind = 1, .text = "" },
     { CALL(otlp), .texts = "service.nameshop", GIVEN(SERVICE), .text = "" },

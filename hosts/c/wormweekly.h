@@ -255,6 +255,10 @@ uint32_t wormweekly_otlp(wormweekly_reader *reader, uint32_t json, const uint8_t
  * WORMWEEKLY_UNKNOWN above). A page is what wormweekly_prometheus_target writes of a resource, then for each instrument in order
  * what wormweekly_prometheus writes after it was collected, and in OpenMetrics the line "# EOF\n". None needs a mutex. */
 
+/* Whether the streams of a reader can stand in a page: a server would hold each sample, and take none for another. A fault
+ * (WORMWEEKLY_FAULT) is told in `fault`, as far as there is room, with its whole length. Ask before anything is recorded. */
+uint32_t wormweekly_expose(wormweekly_reader *reader, uint8_t *fault, size_t fault_room, size_t *fault_length);
+
 /* Writes the lines of the batch that the reader keeps, none before one, and their length. Where there is too little room, only
  * the length is written. */
 uint32_t wormweekly_prometheus(wormweekly_reader *reader, uint32_t dialect, uint8_t *out, size_t room,

@@ -15,6 +15,7 @@ pub mod Collections
 pub mod Resources
 pub mod Otlp
 pub mod Pages
+pub mod Exposed
 pub mod Walking
 pub mod Settlements
 pub mod Closing

@@ -31,6 +31,7 @@ mod codes;
 mod collections;
 mod empty;
 mod ending;
+mod exposed;
 mod grants;
 mod instrument_handle;
 mod names;
@@ -62,6 +63,7 @@ pub use ending::{
     may_be_sent, wormweekly_close, wormweekly_free_instrument, wormweekly_free_reader,
     wormweekly_free_recorder,
 };
+pub use exposed::wormweekly_expose;
 pub use grants::wormweekly_grant;
 pub use instrument_handle::InstrumentHandle;
 pub use names::{wormweekly_name, wormweekly_reader_name};

@@ -93,6 +93,7 @@ fn main() -> Result<(), Box<dyn Error>> {
         mut readers,
         ..
     } = open(CATALOGUE, CONFIG, 1_000_000_000)?;
+    readers[0].expose()?;
     let (orders, took) = (metrics.instrument("orders")?, metrics.instrument("took")?);
     recorders[0].record(orders, &[("country", "de".into())], 2)?;
     recorders[0].record(took, &[], 7)?;

@@ -232,6 +232,30 @@ impl fmt::Display for ResourceFault {
 
 impl std::error::Error for ResourceFault {}
 
+/// Why a reader's streams cannot stand in a page for Prometheus.
+#[derive(Clone, Debug, PartialEq, Eq)]
+#[non_exhaustive]
+pub enum ExposureFault {
+    /// The first fault, with its stream: samples of a page would be lost without a word, or the page would be refused.
+    Fault(String),
+    /// Memory was refused.
+    Memory,
+    /// The library answered a number that this crate does not know.
+    Other(u32),
+}
+
+impl fmt::Display for ExposureFault {
+    fn fmt(&self, f: &mut fmt::Formatter<'_>) -> fmt::Result {
+        match self {
+            ExposureFault::Fault(text) => write!(f, "{text}"),
+            ExposureFault::Memory => write!(f, "memory was refused"),
+            ExposureFault::Other(code) => write!(f, "the library answered {code}"),
+        }
+    }
+}
+
+impl std::error::Error for ExposureFault {}
+
 /// There is no instrument of this name, or more than one.
 #[derive(Clone, Debug, PartialEq, Eq)]
 pub struct UnknownName(pub String);

@@ -64,7 +64,8 @@
 //! # What leaves
 //!
 //! [`Reader::collect`] answers the project's own text of a batch, [`Reader::batch`] the batch point by point. For a collector
-//! there is [`Reader::otlp`], for Prometheus [`Metrics::page`], each with a [`Resource`] that tells what produces the metrics. The examples
+//! there is [`Reader::otlp`], for Prometheus [`Metrics::page`], each with a [`Resource`] that tells what produces the metrics;
+//! [`Reader::expose`] says before anything is recorded whether a server would hold each sample of a page. The examples
 //! `otlp_push` and `metrics_http` do both with the standard library alone.
 //!
 //! # What a service lives on
@@ -95,7 +96,8 @@ mod value;
 pub use batch::{Batch, Kind, OwnedValue, Point, PointValue, Stream};
 pub use dialect::Dialect;
 pub use fault::{
-    ListRefusal, OpenFault, Refusal, ResourceFault, RollFault, SettleFault, UnknownName,
+    ExposureFault, ListRefusal, OpenFault, Refusal, ResourceFault, RollFault, SettleFault,
+    UnknownName,
 };
 pub use metrics::{Instrument, Metrics, Rolled, Spare, Total};
 pub use opening::{Opened, open, open_certified};

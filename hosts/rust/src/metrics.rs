@@ -92,7 +92,7 @@ impl Metrics {
 
     /// Collects all instruments at a time in nanoseconds, in order, and answers a page for Prometheus: the lines of each batch,
     /// and in OpenMetrics the end. The lines of a [`Resource`](crate::Resource) stand before it. Each lock is held for the
-    /// collection alone.
+    /// collection alone. [`Reader::expose`] tells beforehand whether a server will hold each sample.
     ///
     /// # Errors
     ///

@@ -185,6 +185,12 @@ unsafe extern "C" {
         room: usize,
         text_length: &mut usize,
     ) -> u32;
+    pub fn wormweekly_expose(
+        reader: &mut Handle,
+        fault: *mut u8,
+        fault_room: usize,
+        fault_length: &mut usize,
+    ) -> u32;
     pub fn wormweekly_prometheus(
         reader: &mut Handle,
         dialect: u32,

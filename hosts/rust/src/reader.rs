@@ -1,7 +1,7 @@
 //! The seats of readers.
 use crate::batch::{Batch, batch_of};
 use crate::dialect::Dialect;
-use crate::fault::{Refusal, ResourceFault};
+use crate::fault::{ExposureFault, Refusal, ResourceFault};
 use crate::metrics::Instrument;
 use crate::raw::{self, Handle};
 use crate::resource::Resource;
@@ -115,6 +115,35 @@ impl Reader {
     pub fn otlp_line(&mut self, resource: &Resource) -> Result<String, ResourceFault> {
         let line = self.encoded(1, resource).map_err(ResourceFault::of)?;
         Ok(String::from_utf8_lossy(&line).into_owned())
+    }
+
+    /// Whether the streams of the reader can stand in a page for Prometheus: no sample of the page would be lost, or taken for
+    /// another. Ask before anything is recorded.
+    ///
+    /// # Errors
+    ///
+    /// The first [`ExposureFault`].
+    pub fn expose(&mut self) -> Result<(), ExposureFault> {
+        let mut fault = vec![0u8; 256];
+        let mut length = 0;
+        // SAFETY: as in `collect_kept`, and the buffer is borrowed for the call.
+        let code = unsafe {
+            raw::wormweekly_expose(
+                &mut self.handle,
+                fault.as_mut_ptr(),
+                fault.len(),
+                &mut length,
+            )
+        };
+        fault.truncate(length);
+        match code {
+            0 => Ok(()),
+            11 => Err(ExposureFault::Memory),
+            103 => Err(ExposureFault::Fault(
+                String::from_utf8_lossy(&fault).into_owned(),
+            )),
+            code => Err(ExposureFault::Other(code)),
+        }
     }
 
     /// The lines of the batch that was collected last in a page for Prometheus, none before one.

@@ -1,7 +1,7 @@
 //! What a service lives on: budgets, grants, names and runs.
 use wormweekly::{
-    Budget, Dialect, Opened, Refusal, Resource, ResourceFault, RollFault, Rolled, SettleFault,
-    Spare, Total, open,
+    Budget, Dialect, ExposureFault, Opened, Refusal, Resource, ResourceFault, RollFault, Rolled,
+    SettleFault, Spare, Total, open,
 };
 
 const CATALOGUE: &str = "format = 2
@@ -110,6 +110,7 @@ fn pages_have_all_instruments() -> Result<(), Box<dyn std::error::Error>> {
         ..
     } = opened();
     let console = &mut readers[0];
+    console.expose()?;
     assert_eq!(console.prometheus(Dialect::Text)?, "");
     assert_eq!(metrics.page(console, 1, Dialect::Text)?, "");
     assert_eq!(metrics.page(console, 1, Dialect::OpenMetrics)?, "# EOF\n");
@@ -138,6 +139,15 @@ fn pages_have_all_instruments() -> Result<(), Box<dyn std::error::Error>> {
     assert_eq!(Resource::default().page(Dialect::OpenMetrics)?, "");
     let twice = Resource::new(&[("a", 1.into()), ("a", 2.into())]);
     assert_eq!(twice.page(Dialect::Text), Err(ResourceFault::RepeatedKey));
+    Ok(())
+}
+
+#[test]
+fn what_a_server_would_lose_is_told() -> Result<(), Box<dyn std::error::Error>> {
+    let config = "format = 1\n[[reader]]\nname = 'delta'\ntemporality = { counter = 'delta' }\n";
+    let mut opened = open(CATALOGUE, config, 0)?;
+    let fault = ExposureFault::Fault("1 Delta of stream 0".to_owned());
+    assert_eq!(opened.readers[0].expose(), Err(fault));
     Ok(())
 }
 
