@@ -403,6 +403,15 @@ func target(resource given, dialect Dialect) ([]byte, uint32) {
 	})
 }
 
+// Whether the streams of a reader can stand in a page; a fault is told as a text.
+func expose(own *handles, reader int) (uint32, string) {
+	fault := make([]byte, 4096)
+	var length C.size_t
+	out := (*C.uint8_t)(unsafe.Pointer(&fault[0]))
+	answer := C.wormweekly_expose(own.reader(reader), out, C.size_t(len(fault)), &length)
+	return uint32(answer), string(fault[:min(int(length), len(fault))])
+}
+
 // Reads the batch that a reader keeps.
 func batchOf(own *handles, reader int) (Batch, uint32) {
 	var out C.wormweekly_batch_out

@@ -2,6 +2,7 @@ package wormweekly
 
 import (
 	"bytes"
+	"fmt"
 	"strings"
 	"time"
 )
@@ -30,6 +31,18 @@ func (dialect Dialect) ContentType() string {
 		return "text/plain; version=0.0.4; charset=utf-8"
 	}
 	return "application/openmetrics-text; version=1.0.0; charset=utf-8"
+}
+
+// Expose says whether the streams of a reader can stand in a page: a server would hold each sample, and take none for
+// another. Where not, the error wraps ErrNotExposed and tells the first fault. Ask before anything is recorded.
+func (reader *Reader) Expose() error {
+	reader.mutex.Lock()
+	defer reader.mutex.Unlock()
+	answer, fault := expose(reader.run.handles, reader.number)
+	if answer == answerFault {
+		return fmt.Errorf("%w: %s", ErrNotExposed, fault)
+	}
+	return errorOf(answer)
 }
 
 // Prometheus collects an instrument as Collect does, and answers lines of a page. Metrics.Page has a whole one.

@@ -9,10 +9,14 @@ import (
 )
 
 // Handler answers each request with a page of all instruments, collected then, with the attributes of the resource. The
-// error says why there is none: a resource that is not taken, or a reader of another run.
+// error says why there is none: streams that can not stand in one, a resource that is not taken, or a reader of another
+// run.
 func Handler(
 	metrics *wormweekly.Metrics, reader *wormweekly.Reader, resource ...wormweekly.Attr,
 ) (http.Handler, error) {
+	if err := reader.Expose(); err != nil {
+		return nil, err
+	}
 	if _, err := metrics.Page(reader, time.Now(), wormweekly.Text, resource...); err != nil {
 		return nil, err
 	}

@@ -58,9 +58,9 @@ duration_milliseconds_count{otel_scope_name="shop"} 3
 level_meters{otel_scope_name="shop"} -7
 `
 
-func opened(t *testing.T) *wormweekly.Metrics {
+func opened(t *testing.T, more string) *wormweekly.Metrics {
 	t.Helper()
-	metrics, err := wormweekly.Open(catalogue, config, wormweekly.Since(time.Unix(1, 0)))
+	metrics, err := wormweekly.Open(catalogue, config+more, wormweekly.Since(time.Unix(1, 0)))
 	if err != nil {
 		t.Fatal(err)
 	}
@@ -85,7 +85,7 @@ func opened(t *testing.T) *wormweekly.Metrics {
 }
 
 func TestThePage(t *testing.T) {
-	metrics := opened(t)
+	metrics := opened(t, "")
 	handler, err := Handler(metrics, metrics.Readers[0], wormweekly.String("service.name", "shop"))
 	if err != nil {
 		t.Fatal(err)
@@ -113,7 +113,11 @@ func TestThePage(t *testing.T) {
 }
 
 func TestWhatHasNoPage(t *testing.T) {
-	metrics, other := opened(t), opened(t)
+	metrics, other := opened(t, ""), opened(t, "")
+	windows := opened(t, "temporality = { counter = 'delta', histogram = 'delta' }\n")
+	if _, err := Handler(windows, windows.Readers[0]); !errors.Is(err, wormweekly.ErrNotExposed) {
+		t.Error(err)
+	}
 	if _, err := Handler(metrics, other.Readers[0]); !errors.Is(err, wormweekly.ErrStranger) {
 		t.Error(err)
 	}

@@ -64,6 +64,7 @@ class Metered:
         self.duration = metrics.instrument("http.duration")
         self.in_flight = metrics.instrument("http.in_flight")
         self.pool = Pool(metrics.recorders)
+        self.reader.expose()
 
     def __call__(self, environ: WSGIEnvironment, start_response: StartResponse) -> Iterable[bytes]:
         path = environ["PATH_INFO"]

@@ -13,7 +13,8 @@ enum {
     OTHER_THREAD = 1001,
     FORKED = 1002,
     IN_USE = HANDLES_IN_USE,
-    WRONG_CLOCK = 1004
+    WRONG_CLOCK = 1004,
+    NOT_EXPOSED = 1005
 };
 
 typedef struct {

@@ -119,6 +119,22 @@ static PyObject *collect_otlp(Seat *self, PyObject *const *args, Py_ssize_t coun
 
 /* Pages for Prometheus */
 
+/* Whether the streams can stand in a page. */
+static PyObject *expose(Seat *self, PyObject *unused) {
+    uint8_t fault[4096];
+    size_t length = 0;
+    uint32_t answer;
+    wormweekly_reader *reader = lend(self);
+    (void)unused;
+    if (reader == NULL) {
+        return NULL;
+    }
+    answer = wormweekly_expose(reader, fault, sizeof fault, &length);
+    handles_take_reader(&self->run->handles, self->number);
+    return answer == WORMWEEKLY_FAULT ? refuse_told(self->run, NOT_EXPOSED, fault, length, sizeof fault)
+                                      : done(self->run, answer);
+}
+
 static uint32_t page_lines(void *reader, size_t at, size_t dialect, uint8_t *out, size_t room, size_t *length) {
     (void)at;
     return wormweekly_prometheus(reader, (uint32_t)dialect, out, room, length);
@@ -186,6 +202,7 @@ static PyMethodDef methods[] = {
     { "_collect_otlp", (PyCFunction)(void (*)(void))collect_otlp, METH_FASTCALL, NULL },
     { "_collect_page", (PyCFunction)(void (*)(void))collect_page, METH_FASTCALL, NULL },
     { "_target", (PyCFunction)(void (*)(void))target, METH_FASTCALL, NULL },
+    { "expose", (PyCFunction)expose, METH_NOARGS, NULL },
     { "_last", (PyCFunction)last, METH_NOARGS, NULL },
     { NULL, NULL, 0, NULL },
 };

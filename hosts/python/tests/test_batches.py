@@ -10,6 +10,7 @@ from wormweekly import (
     Buckets,
     BudgetRefusal,
     Dialect,
+    ExposureFault,
     Kind,
     Last,
     Metrics,
@@ -103,6 +104,7 @@ class Batches(unittest.TestCase):
         self.assertIn(b"service.name", message)
 
     def test_pages(self) -> None:
+        self.all.expose()
         self.second.record(self.metrics.instrument("requests"), HOME, 42)
         self.second.record(self.metrics.instrument("temperature"), {}, -7)
         page = self.metrics.page(self.all, {"service.name": "shop"}).decode()
@@ -119,6 +121,11 @@ class Batches(unittest.TestCase):
             self.assertEqual(self.metrics.page(self.all, dialect=dialect).endswith(b"# EOF\n"), has_end)
         created = self.metrics.page(self.all, dialect=Dialect.OPEN_METRICS_CREATED)
         self.assertIn(b"requests_created{", created)
+
+    def test_what_can_not_stand_in_a_page(self) -> None:
+        with self.assertRaises(ExposureFault) as caught:
+            self.new.expose()
+        self.assertEqual(caught.exception.name, "NotExposed")
 
     def test_dialects(self) -> None:
         for accept, dialect in [

@@ -239,7 +239,7 @@ class Metrics:
         dialect: Dialect = Dialect.TEXT,
     ) -> bytes:
         """A page for Prometheus of all instruments, collected by a cumulative reader, with the attributes of the
-        resource as `target_info`."""
+        resource as `target_info`. Ask `Reader.expose` first, once."""
         at = time.time_ns() if now is None else now
         page = [reader._target(resource or {}, dialect)]
         page += (reader.prometheus(instrument, at, dialect) for instrument in self.instruments)

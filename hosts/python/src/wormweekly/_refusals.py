@@ -94,6 +94,12 @@ class OpenFault(Refusal, ValueError):
     names = {103: ("Fault", "the catalogue or the config is at fault")}
 
 
+class ExposureFault(Refusal, ValueError):
+    """The streams of a reader can not stand in a page: a server would refuse samples, or take one for another."""
+
+    names = {1005: ("NotExposed", "the streams of the reader can not stand in a page")}
+
+
 class TypeRefusal(Refusal, TypeError):
     """An argument is of another type."""
 
@@ -130,6 +136,7 @@ _FAMILIES = (
     MemoryRefusal,
     ResourceRefusal,
     OpenFault,
+    ExposureFault,
     TypeRefusal,
     ThreadRefusal,
     ClockRefusal,
