@@ -30,6 +30,7 @@ pub fn write_batch<W: Sink>(
         HasFailed (W.failures sink.old) (W.failures sink.new) }
     ensures memory { IsErrOf result ExportFault.Memory → sink.new ≡ sink.old }
     ensures not_shut_down { IsErrOf result ExportFault.ShutDown → ⊥ }
+    ensures not_kept { IsErrOf result ExportFault.Kept → ⊥ }
 {
     write_encoded(alloc, sink, &Plain, plan, batch)
 }
@@ -53,6 +54,7 @@ pub fn write_encoded<W: Sink, E: Encoding>(
         HasFailed (W.failures sink.old) (W.failures sink.new) }
     ensures memory { IsErrOf result ExportFault.Memory → sink.new ≡ sink.old }
     ensures not_shut_down { IsErrOf result ExportFault.ShutDown → ⊥ }
+    ensures not_kept { IsErrOf result ExportFault.Kept → ⊥ }
 {
     let text = text_of(alloc, encoding, plan, batch)?;
     write_all(sink, &text)?;
