@@ -26,6 +26,7 @@ FAMILIES = {
     "library.requests": "library_requests",
     "sizes": "sizes_bytes",
     "weights": "weights",
+    "lowest": "lowest",
     "orders": "orders",
     "jobs.active": "jobs_active",
     "duration": "duration_milliseconds",
