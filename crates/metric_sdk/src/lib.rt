@@ -29,14 +29,17 @@
 //!    an OTLP receiver takes, both with the attributes of a [`Resource`] (or a [`ResourceFault`]); `TextExporter::of` and
 //!    `ReopeningExporter::of` write in any. An exporter's fault is an [`ExportFault`]: a [`Queued`] keeps what was refused and
 //!    tries it again before the next, so that the window of a delta reader is not lost, and a [`ReopeningExporter`] opens its
-//!    sink anew; other threads read the [`QueueCounts`] of a [`ToldQueue`]. An [`OpenPeriodic`] leaves its exporter open at its [`OpenEnd`], and goes on in the next run; in it, and by
-//!    [`collect_each`], a [`RefusedInstrument`] of a [`Collection`] hides no other. [`export_each`] hands a list on and tells
-//!    what was [`Handed`], [`has_points`] what need not be. An exporter of one's own takes a batch apart: it has the [`StreamPoints`] of each [`Stream`], a [`Point`] the
+//!    sink anew; other threads read the [`QueueCounts`] of a [`ToldQueue`]. An [`OpenPeriodic`] leaves its exporter open at its
+//!    [`OpenEnd`], and goes on in the next run; in it, and by [`collect_each`], a [`RefusedInstrument`] of a [`Collection`]
+//!    hides no other. [`export_each`] hands a list on and tells what was [`Handed`], [`has_points`] what need not be. An
+//!    exporter of one's own takes a batch apart: it has the [`StreamPoints`] of each [`Stream`], a [`Point`] the
 //!    [`PointValue`] of one series, whose [`attributes`] the plan knows. By hand: a [`Collector`] collects the [`Batch`] of
 //!    one instrument or of all, up to an [`AllFault`], and [`write_batch`] writes its text, [`write_encoded`] its bytes. (A
 //!    collection takes 23 to 54 ns a point.)
 //!    For Prometheus an [`Exposition`] has the lines of a page in a [`Dialect`], and a [`PageExporter`] hands the whole page to
-//!    [`Pages`] after each collection, as to a file that node_exporter reads.
+//!    [`Pages`] after each collection, as to a file that node_exporter reads. Before anything is recorded, [`expose`] tells
+//!    whether a server would hold each sample of a reader's pages, and [`expose_to_otlp`] whether each boundary leaves as it
+//!    is, or the first [`ExposureFault`].
 //! 6. **End.** [`shutdown_all`] lets readers collect a last time, exports what they give, flushes, and finishes the provider; an
 //!    [`EndFault`] has each cause, and hands back what is left, with the plan to export it by. `Provider::finish` alone gives the [`Totals`], a [`Total`] for
 //!    each instrument, exactly what the recorders were told, or a [`FinishFault`]; `Provider::finish_keeping` also the plan. Calls
@@ -158,6 +161,9 @@ pub use metric_export::has_points;
 pub use metric_export::write_batch;
 pub use metric_export::write_encoded;
 pub use metric_exposition::Dialect;
+pub use metric_exposure::ExposureFault;
+pub use metric_exposure::expose;
+pub use metric_exposure::expose_to_otlp;
 pub use metric_handles::Adds;
 pub use metric_handles::Bound;
 pub use metric_handles::BoundCounter;

@@ -13,8 +13,8 @@ use json_lines::JsonLines;
 use metric_sdk::{
     Attr, BoundCounter, ClockTicker, Collector, Counted, Counter, Gauge, Histogram, MeterProvider,
     MetricExporter, OtlpLines, Periodic, Plan, Recorder, Refusal, Resource, Runs, ServiceFault,
-    StdSink, StopFlag, TextExporter, UpDownCounter, ValueRef, counter, gauge, histogram, now, open,
-    take_reader, up_down_counter,
+    StdSink, StopFlag, TextExporter, UpDownCounter, ValueRef, counter, expose_to_otlp, gauge,
+    histogram, now, open, take_reader, up_down_counter,
 };
 use std::env;
 use std::fs::{self, File, OpenOptions};
@@ -151,6 +151,8 @@ fn serve<R: Threads + Wait + Clock + Sync + AllocGlobal>(
     let (shop, stop) = (Shop::new(provider.plan())?, StopFlag::new());
     let all = take_reader(provider.plan(), &mut readers, "all").context("no reader \"all\"")?;
     let new = take_reader(provider.plan(), &mut readers, "new").context("no reader \"new\"")?;
+    // No boundary may leave as another one, since the protocol has doubles for them.
+    expose_to_otlp(provider.plan(), all.number())?;
     let mut workers = Vec::new(rt.alloc());
     for seat in recorders {
         let seat = Counted::new(rt.alloc(), provider.plan(), seat);
