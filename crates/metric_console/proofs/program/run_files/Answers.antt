@@ -14,6 +14,6 @@ returns-in-Some g c = record {
 pub returns-in-Err : goal.returns-in-Err
 returns-in-Err g c = record {
   end = Err c.in-Err.fault;
-  runs = inl (unread_is_unstarted _ _ _ c.in-Err.ensures.unread, (refl, refl));
+  runs = inl (unread_is_unstarted (g.F.Folder.same c.args.folder.now) c.args.request.now.files c.in-Err.fault c.in-Err.ensures.unread, (refl, refl));
   is_status = c.stop-in-Err.ensures;
 }
