@@ -56,32 +56,43 @@ fn run(rt: &HostRuntime, request: Result<Request, LineFault>) -> u8 {
     }
 }
 
-// Runs a request into a writer, and tells on standard error why it stops.
+// Runs a request into a writer. The exit status; that of a closed pipe, where the writer is one.
 fn run_into<W: Write + Drop>(
     rt: &HostRuntime,
     request: Result<Request, LineFault>,
     output: W,
 ) -> u8 {
     let is_closed = Cell::new(false);
+    let status = run_watched(rt, request, output, rt.stderr(), &is_closed);
+    if is_closed.get() { CLOSED } else { status }
+}
+
+// Runs a request into a writer, and tells another one why it stops, unless the pipe of the first is closed.
+fn run_watched<W: Write + Drop, E: Write + Drop>(
+    rt: &HostRuntime,
+    request: Result<Request, LineFault>,
+    output: W,
+    told: E,
+    is_closed: &Cell<bool>,
+) -> u8 {
     let mut folder = Disk { rt };
     let mut sink = StdSink::new(Watched {
         writer: output,
-        is_closed: &is_closed,
+        is_closed,
     });
     let mut errors = StdSink::new(Hushed {
-        writer: rt.stderr(),
-        is_closed: &is_closed,
+        writer: told,
+        is_closed,
     });
     let columns = columns(rt);
-    let status = run_request(
+    run_request(
         rt.alloc(),
         request,
         columns,
         &mut folder,
         &mut sink,
         &mut errors,
-    );
-    if is_closed.get() { CLOSED } else { status }
+    )
 }
 
 // How wide the terminal is, as the environment says; 0 where it does not.
