@@ -58,17 +58,24 @@ impl<'a> Ledger<'a> {
     pub fn gaps(&self) -> u64 {
         self.gaps
     }
+}
 
-    // Adds up the points of a batch.
-    fn add(&mut self, batch: &Batch) {
-        for stream in batch.streams.as_slice() {
-            for point in stream.points.as_slice() {
-                if let PointValue::Sum(sum) = &point.value {
-                    self.sum = self.sum.saturating_add(*sum);
-                }
+// The sum of the points of a batch.
+fn sum_in(batch: &Batch) -> i64 {
+    let mut all: i64 = 0;
+    for stream in batch.streams.as_slice() {
+        for point in stream.points.as_slice() {
+            if let PointValue::Sum(sum) = &point.value {
+                all = all.saturating_add(*sum);
             }
         }
     }
+    all
+}
+
+// 1 where the window of a batch begins neither where the one before ended nor with a run, else 0.
+fn gap_before(batch: &Batch, mark: u64) -> u64 {
+    u64::from(batch.from != mark && batch.from != 0)
 }
 
 impl MetricExporter for Ledger<'_> {
@@ -90,11 +97,9 @@ impl MetricExporter for Ledger<'_> {
             self.failures = self.failures.saturating_add(1);
             return Err(ExportFault::Write);
         }
-        if batch.from != self.mark && batch.from != 0 {
-            self.gaps = self.gaps.saturating_add(1);
-        }
+        self.gaps = self.gaps.saturating_add(gap_before(batch, self.mark));
         self.mark = batch.mark;
-        self.add(batch);
+        self.sum = self.sum.saturating_add(sum_in(batch));
         Ok(())
     }
 
