@@ -320,9 +320,14 @@ fn a_queue_tells_its_counts_while_it_runs(rt: HostRuntime) {
 fn an_exporter_is_lent(rt: HostRuntime) {
     let alloc = rt.alloc();
     let mut keeping = KeepingExporter::new(alloc);
-    let end = end_of(&rt, alloc, &mut keeping, 80);
-    assert_equal(&rt, end.exported, 3);
+    let exported = exported_by(&rt, alloc, &mut keeping);
+    assert_equal(&rt, exported, 3);
     assert_equal(&rt, keeping.batches().len(), 3);
+}
+
+// How many batches a reader hands on to an exporter that it is lent.
+fn exported_by<R: Wait + Abort>(rt: &R, alloc: Global, exporter: &mut KeepingExporter) -> u64 {
+    end_of(rt, alloc, exporter, 80).exported
 }
 
 #[test]

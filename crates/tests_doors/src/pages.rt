@@ -1,5 +1,4 @@
 //! Tests of pages that are replaced after each collection.
-ghost use Rattle.std.specs.Prelude.{Unit};
 
 use crate::asserted::{OrFail, assert_equal};
 use metric_sdk::{
