@@ -9,7 +9,8 @@ use Rattle.metric_aggregate.specs.Value.{sum_of}
 abbrev pub fits_i64 : ℤ → Bool
 fits_i64 z = int_le (negsuc (2 ^ 63 - 1)) z && int_lt z (pos (2 ^ 63))
 
--- whether a kept sum of the values is in i64, and a count of them in u64
+-- # in range (profile)
+-- A kept sum of a list is in i64, and a count of it in u64.
 abbrev pub in_range : Aggregation → List ℤ → Bool
 in_range SumAggregation values = fits_i64 (sum_of values)
 in_range LastValueAggregation values = true

@@ -20,3 +20,6 @@ sum_fits_in_range a added value s =
 pub sum_is_empty_of_none : (a : SumAgg) (added : List ℤ) → StandsSum a added
     → a.is_empty ≡ (length added == 0)
 sum_is_empty_of_none a added s = s.is_empty
+
+-- # stands for a list (profile)
+-- The running numbers of an aggregator are those of these values, added in this order.

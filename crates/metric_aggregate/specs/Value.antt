@@ -9,6 +9,8 @@ use Rattle.metric_aggregate.specs.Aggregation.{HistogramAggregation}
 use Rattle.metric_aggregate.specs.declared.point_value.PointValue.{PointValue}
 use Rattle.metric_aggregate.specs.declared.point_value.PointValue.TheVariants.{Sum, Last, Buckets}
 
+-- # sum, last value (SDK, sum and last value aggregation) [sum_of, last_of]
+-- The sum of all values without a limit; the value that was added last.
 abbrev pub sum_of : List ℤ → ℤ
 sum_of values = fold ◌+ℤ◌ (pos 0) values
 
@@ -16,7 +18,8 @@ sum_of values = fold ◌+ℤ◌ (pos 0) values
 abbrev pub last_of : List ℤ → ℤ
 last_of values = slice_index_or values (length values - 1) (pos 0)
 
--- the least value, or the other one where there is none
+-- # least, greatest value (SDK, explicit bucket histogram aggregation) [least_or, greatest_or]
+-- The least and the greatest value of a list.
 abbrev pub least_or : ℤ → List ℤ → ℤ
 least_or none [] = none
 least_or none (x ∷ xs) = int_min x (least_or x xs)
@@ -26,7 +29,8 @@ abbrev pub greatest_or : ℤ → List ℤ → ℤ
 greatest_or none [] = none
 greatest_or none (x ∷ xs) = int_max x (greatest_or x xs)
 
--- the bucket into which a value falls: how many boundaries are less than it
+-- # bucket of a value (SDK, explicit bucket histogram aggregation)
+-- How many boundaries are less than the value.
 abbrev pub bucket_of : List ℤ → ℤ → ℕ
 bucket_of boundaries value = count_by (λ boundary. int_lt boundary value) boundaries
 
@@ -35,7 +39,8 @@ abbrev pub bucket_count : List ℤ → List ℤ → ℕ → ℕ
 bucket_count boundaries values bucket =
     count_by (λ value. bucket_of boundaries value == bucket) values
 
--- that of each bucket, of which there is one more than there are boundaries
+-- # bucket counts (SDK, explicit bucket histogram aggregation)
+-- For each bucket how many values fall into it; there is one bucket more than there are boundaries.
 abbrev pub bucket_counts : List ℤ → List ℤ → List ℕ
 bucket_counts boundaries values =
     map (bucket_count boundaries values) (range_with_len 0 (length boundaries + 1))
@@ -45,7 +50,8 @@ abbrev pub kept_sum : Bool → List ℤ → Option ℤ
 kept_sum true values = Some (sum_of values)
 kept_sum false values = None
 
--- what a point reports of one value or more
+-- # value of a list (SDK, aggregation)
+-- What a point reports of the list, by its aggregation.
 abbrev pub value_of : Aggregation → List ℤ → PointValue
 value_of SumAggregation values = Sum (sum_of values)
 value_of LastValueAggregation values = Last (last_of values)

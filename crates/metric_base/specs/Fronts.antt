@@ -1,7 +1,8 @@
 -- Where a list stops being the beginning of a whole one. `IsWhole` says which lists are whole.
 use Rattle.std.specs.Prelude.{◌≡◌, ℕ, List, [], ◌∷◌, ◌++◌, length}
 
--- Some whole list begins with these elements.
+-- # beginning of a whole list (profile)
+-- Elements with which some whole list begins; a test says which lists are whole.
 pub record BeginsWhole {X : Type 0} (IsWhole : List X → Type 0) (front : List X) : Type 0 where
   pub more : List X
   pub is_whole : IsWhole (front ++ more)
@@ -12,8 +13,9 @@ abbrev pub IsStuck : {X : Type 0} → (List X → Type 0) → List X → List X 
 IsStuck IsWhole front [] = IsWhole front → ⊥
 IsStuck IsWhole front (x ∷ rest) = BeginsWhole IsWhole (front ++ x ∷ []) → ⊥
 
--- The element at this place, counted from 0, is the first with which no whole list goes on. Where
--- the elements are the beginning of a whole list and no whole list, it is the place after the last.
+-- # place where a list breaks off (profile)
+-- The first element with which no whole list goes on; where the elements begin a whole list and are
+-- none, the place after the last.
 pub record BreaksOffAt {X : Type 0} (IsWhole : List X → Type 0) (xs : List X) (place : ℕ)
     : Type 0 where
   pub before : List X

@@ -5,7 +5,9 @@ use Rattle.std.specs.Int.{int_min, int_max}
 use Rattle.metric_contents.specs.declared.contents.Contents.{Contents}
 use Rattle.metric_contents.specs.Budgets.{amount_of, spare_at}
 
--- the budgets of all recorders for the instrument of a number, and its spare budget
+-- # total, amount, low, high (profile) [total_of, amount_with, low_with, high_with]
+-- The total of an instrument's budgets and its spare; that times its range; and how low and how
+-- high a sum of so many values can be.
 unfoldable pub total_of : Contents → ℕ → ℕ
 total_of contents instrument =
     sum_by (λ recorder. amount_of recorder instrument) contents.recorders

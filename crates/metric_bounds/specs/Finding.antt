@@ -53,7 +53,9 @@ abbrev pub LimitsFind : {F : Type 0} → SafetyFaults F → Contents → List St
 LimitsFind faults contents streams =
     Each (λ stream. Asks (SetsFit contents stream) faults.limit_exceeded) streams
 
--- what is found in all
+-- # first part of safety that fails (SDK, cardinality limits; data model, identity)
+-- Identities; then of each instrument its counts, amount, least and greatest sum; then of each
+-- stream its series.
 abbrev pub SafetyFinds : {F : Type 0} → SafetyFaults F → Contents → List Stream → Option F → Type 0
 SafetyFinds faults contents streams =
     Then (Asks (AreDistinct contents streams) faults.collision)

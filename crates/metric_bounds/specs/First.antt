@@ -1,7 +1,9 @@
 -- First faults: what several questions, asked one after the other, find.
 use Rattle.std.specs.Prelude.{◌≡◌, ◌≢◌, ◌⊎◌, List, [], ◌∷◌, Option, Some, None, Result, Ok, Err}
 
--- P is asked, and the fault is found where it fails
+-- # first fault (profile) [Asks, Then, Each, Reports]
+-- Questions asked one after the other: what the first finds, else what the next finds; nothing
+-- where none fails.
 abbrev pub Asks : {F : Type 0} → Type 0 → F → Option F → Type 0
 Asks P fault None = P
 Asks P fault (Some found) = (¬ P) × (found ≡ fault)

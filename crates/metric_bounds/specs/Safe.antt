@@ -57,6 +57,8 @@ pub record AreSafe (contents : Contents) (streams : List Stream) : Type 0 where
   pub instruments : AreSafeInstruments contents streams
   pub sets : All (SetsFit contents) streams
 
--- a catalogue and a config are safe
+-- # safe (profile)
+-- Identities are distinct; total and amount are u64; where a sum is kept low and high are i64; no
+-- stream can have more series than its limit.
 abbrev pub IsSafe : Contents → Config → Type 0
 IsSafe contents config = AreSafe contents (streams_of contents config)

@@ -26,7 +26,9 @@ abbrev pub product_within : Stream → Option Instrument → ℕ
 product_within stream None = 1
 product_within stream (Some instrument) = product_over stream.kept instrument.keys
 
--- how many distinct sets of the kept keys there are, whichever combinations are allowed
+-- # product of a stream (profile)
+-- The product over its kept keys of the number of declared values, one more where the key is
+-- optional.
 unfoldable pub product_of : Contents → Stream → ℕ
 product_of contents stream =
     product_within stream (slice_get contents.instruments stream.instrument)
@@ -35,8 +37,9 @@ abbrev pub list_within : Stream → Option Instrument → Option (List (List ℕ
 list_within stream None = None
 list_within stream (Some instrument) = option_map (restrictions stream.kept) instrument.allowed
 
--- the distinct sets of the kept keys that the allowed combinations leave, rising, where the
--- instrument lists its combinations
+-- # list of a stream (profile)
+-- The distinct sets of the kept keys that the allowed combinations of its instrument leave, rising,
+-- where the instrument lists them.
 unfoldable pub listed_of : Contents → Stream → Option (List (List ℕ))
 listed_of contents stream = list_within stream (slice_get contents.instruments stream.instrument)
 
@@ -44,8 +47,8 @@ abbrev pub count_or : ℕ → Option (List (List ℕ)) → ℕ
 count_or other None = other
 count_or other (Some list) = length list
 
--- how many distinct sets of the kept keys recordings of a stream may have: as many as
--- are listed, or else the product
+-- # sets of a stream (profile)
+-- As many as its list has, or the product where there is no list; never more than the product.
 unfoldable pub sets_of : Contents → Stream → ℕ
 sets_of contents stream = count_or (product_of contents stream) (listed_of contents stream)
 

@@ -14,6 +14,8 @@ keeps_sum_by Sum kind = true
 keeps_sum_by LastValue kind = false
 keeps_sum_by (Histogram boundaries) kind = is_monotonic kind
 
+-- # kept sum (SDK, explicit bucket histogram aggregation)
+-- A sum stream, or a histogram of a counter or a histogram.
 abbrev pub keeps_sum : Stream → Bool
 keeps_sum stream = keeps_sum_by stream.aggregation stream.kind
 

@@ -16,10 +16,12 @@ use Rattle.metric_catalogue.specs.declared.meters.Metered.{Metered}
 use Rattle.metric_catalogue.specs.declared.fault.CatalogueDefect.TheVariants.{DuplicateInstrument, DuplicateMeter}
 use Rattle.metric_catalogue.specs.declared.fault.CatalogueFault.TheVariants.{At}
 use Rattle.metric_catalogue.specs.declared.fault.CataloguePlace.{CataloguePlace}
+use Rattle.metric_catalogue.specs.declared.fault.CatalogueSpot.{CatalogueSpot}
+use Rattle.metric_catalogue.specs.declared.fault.CatalogueField.TheVariants as fields
 use Rattle.metric_catalogue.specs.declared.fault.CataloguePlace.TheVariants as place
 use Rattle.metric_catalogue.specs.Allowed.{allowed_field, allowed_of}
 use Rattle.metric_catalogue.specs.Catalogues.{format_of_top, nothing_metered, top_fields}
-use Rattle.metric_catalogue.specs.Faults.{faults_at}
+use Rattle.metric_catalogue.specs.Faults.{faults_at, field_at}
 use Rattle.metric_catalogue.specs.Instruments.{advice_field, head_of, instrument_fields, instrument_name, instrument_of, is_instrument, limits_field, only_instrument_fields, range_field, spare_field, spare_within}
 use Rattle.metric_catalogue.specs.Keys.{key_of}
 use Rattle.metric_catalogue.specs.Meters.{is_meter, meter_of, with_meter}
@@ -42,8 +44,8 @@ LacksBoth table = (get_member (codes "allowed") table ≡ None) × (get_member (
 fields_none : (at : CataloguePlace) (table : Members) (done : Unit {0}) → only_instrument_fields 1 at table ≡ Ok done → LacksBoth table
 unfolding only_instrument_fields instrument_fields
 fields_none at table done e = (
-  none_other (faults_at at) (instrument_fields 1) (codes "allowed") table done e refl,
-  none_other (faults_at at) (instrument_fields 1) (codes "spare") table done e refl,
+  none_other (faults_at (field_at at fields.Unknown)) (instrument_fields 1) (codes "allowed") table done e refl,
+  none_other (faults_at (field_at at fields.Unknown)) (instrument_fields 1) (codes "spare") table done e refl,
 )
 
 name_none : (at : CataloguePlace) (table : Members) (name : List ℕ) → instrument_name 1 at table ≡ Ok name → LacksBoth table
@@ -54,24 +56,25 @@ head_none : (at : CataloguePlace) (table : Members) (head : Head) → head_of 1 
 unfolding head_of
 head_none at table head e0 = after_ok (instrument_name 1 at table) _ head e0 (λ name made _. name_none at table name made)
 
-spare_none : (at : CataloguePlace) (table : Members) (spare : ℕ) → get_member (codes "spare") table ≡ None → spare_field at table ≡ Ok spare → spare ≡ 0
+spare_none : (at : CatalogueSpot) (table : Members) (spare : ℕ) → get_member (codes "spare") table ≡ None → spare_field at table ≡ Ok spare → spare ≡ 0
 unfolding spare_field
 spare_none at table spare none e = sym (ok_is 0 spare (Ok 0) refl (sym (ap (spare_within at) none) ∙ e))
 
-limits_none : (at : CataloguePlace) (is_taken : Bool) (table : Members) (limits : Limits) → LacksBoth table
-    → limits_field at is_taken table ≡ Ok limits → (limits.allowed ≡ None) × (limits.spare ≡ 0)
+limits_none : (number : ℕ) (is_taken : Bool) (table : Members) (limits : Limits) → LacksBoth table
+    → limits_field number is_taken table ≡ Ok limits → (limits.allowed ≡ None) × (limits.spare ≡ 0)
 unfolding limits_field
-limits_none at is_taken table limits (no_rows, no_spare) e0 =
-    after_ok (tables_field (faults_at at) 8 (codes "key") table) _ limits e0 (λ tables _ e1.
-    after_ok (allowed_field at table) _ limits e1 (λ rows listed e2.
-    after_ok (spare_field at table) _ limits e2 (λ spare spared e3.
-    let (_, e4) = require_ok (not is_taken) (At DuplicateInstrument at) _ limits e3 in
-    after_ok (each (key_of at) [] tables) _ limits e4 (λ keys _ e5.
-    after_ok (allowed_of at keys rows) _ limits e5 (λ allowed combined e6.
+limits_none number is_taken table limits (no_rows, no_spare) e0 =
+    let at = place.Instrument number in
+    after_ok (tables_field (faults_at (field_at at fields.Key)) 8 (codes "key") table) _ limits e0 (λ tables _ e1.
+    after_ok (allowed_field (field_at at fields.Allowed) table) _ limits e1 (λ rows listed e2.
+    after_ok (spare_field (field_at at fields.Spare) table) _ limits e2 (λ spare spared e3.
+    let (_, e4) = require_ok (not is_taken) (At DuplicateInstrument (field_at at fields.Name)) _ limits e3 in
+    after_ok (each (key_of number) [] tables) _ limits e4 (λ keys _ e5.
+    after_ok (allowed_of (field_at at fields.Allowed) keys rows) _ limits e5 (λ allowed combined e6.
     let made : Limits = record { keys = keys; allowed = allowed; spare = spare } in
     let same : limits ≡ made = sym (ok_is made limits (Ok made) refl e6) in
-    let empty : allowed ≡ None = sym (ok_is None allowed (Ok None) refl (sym (ap (allowed_of at keys) (rows_none at table rows no_rows listed)) ∙ combined)) in
-    (ap (λ (l : Limits). l.allowed) same ∙ empty, ap (λ (l : Limits). l.spare) same ∙ spare_none at table spare no_spare spared))))))
+    let empty : allowed ≡ None = sym (ok_is None allowed (Ok None) refl (sym (ap (allowed_of (field_at at fields.Allowed) keys) (rows_none (field_at at fields.Allowed) table rows no_rows listed)) ∙ combined)) in
+    (ap (λ (l : Limits). l.allowed) same ∙ empty, ap (λ (l : Limits). l.spare) same ∙ spare_none (field_at at fields.Spare) table spare no_spare spared))))))
 
 instrument_none : (meter : ℕ) (before : List Instrument) (table : Members) (instrument : Instrument) → instrument_of 1 meter before table ≡ Ok instrument → IsFirst instrument
 unfolding instrument_of
@@ -80,10 +83,10 @@ instrument_none meter before table instrument e0 =
     after_ok (head_of 1 at table) _ instrument e0 (λ head headed e1.
     after_ok (range_field at head.kind table) _ instrument e1 (λ range _ e2.
     after_ok (advice_field at table) _ instrument e2 (λ advice _ e3.
-    after_ok (limits_field at (list_any (is_instrument meter head.name) before) table) _ instrument e3 (λ limits limited e4.
+    after_ok (limits_field (length before) (list_any (is_instrument meter head.name) before) table) _ instrument e3 (λ limits limited e4.
     let made : Instrument = record { meter = meter; name = head.name; kind = head.kind; unit = head.unit; description = head.description; lo = range.0; hi = range.1; advice = advice; keys = limits.keys; allowed = limits.allowed; spare = limits.spare } in
     let same : instrument ≡ made = sym (ok_is made instrument (Ok made) refl e4) in
-    let (no_rows, no_spare) = limits_none at (list_any (is_instrument meter head.name) before) table limits (head_none at table head headed) limited in
+    let (no_rows, no_spare) = limits_none (length before) (list_any (is_instrument meter head.name) before) table limits (head_none at table head headed) limited in
     (ap (λ (i : Instrument). i.allowed) same ∙ no_rows, ap (λ (i : Instrument). i.spare) same ∙ no_spare)))))
 
 instruments_plain : (format meter : ℕ) (before : List Instrument) (tables : List Members) (after : List Instrument) → each (instrument_of format meter) before tables ≡ Ok after
@@ -102,8 +105,8 @@ unfolding with_meter
 meter_plain format before table after e0 plain =
     let at = place.Meter (length before.meters) in
     after_ok (meter_of at table) _ after e0 (λ meter _ e1.
-    after_ok (tables_field (faults_at at) _ (codes "instrument") table) _ after e1 (λ tables _ e2.
-    let (_, e3) = require_ok (not (list_any (is_meter meter) before.meters)) (At DuplicateMeter at) _ after e2 in
+    after_ok (tables_field (faults_at (field_at at fields.Instrument)) _ (codes "instrument") table) _ after e1 (λ tables _ e2.
+    let (_, e3) = require_ok (not (list_any (is_meter meter) before.meters)) (At DuplicateMeter (field_at at fields.Name)) _ after e2 in
     after_ok (each (instrument_of format (length before.meters)) before.instruments tables) _ after e3 (λ instruments made e4.
     let all : Metered = record { meters = before.meters ++ meter ∷ []; instruments = instruments } in
     subst (λ (m : Metered). All (IsPlain format) m.instruments) (ok_is all after (Ok all) refl e4) (instruments_plain format (length before.meters) before.instruments tables instruments made plain))))
@@ -141,8 +144,8 @@ some_made (Some y) e x h = ap Some (ok_is y x (Ok y) refl h)
 pub format_made : (table : Members) (format : ℕ) → format_of_top table ≡ Ok format → (format ≡ 1) ⊎ (format ≡ 2)
 unfolding format_of_top format_up_to
 format_made table format e0 =
-    let faults = faults_at place.Top in
-    after_ok (only faults top_fields table) _ format e0 (λ _ _ e1.
+    let faults = faults_at (field_at place.Top fields.Format) in
+    after_ok (only (faults_at (field_at place.Top fields.Unknown)) top_fields table) _ format e0 (λ _ _ e1.
     after_ok (field faults (codes "format") table) _ format e1 (λ d _ e2.
     after_ok (integer_of faults d) _ format e2 (λ z _ e3.
     one_or_two z format (some_made (number_between 1 2 z) faults.wrong_kind format e3))))

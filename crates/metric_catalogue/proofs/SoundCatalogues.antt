@@ -18,9 +18,10 @@ use Rattle.metric_catalogue.specs.declared.meters.Metered.{Metered}
 use Rattle.metric_catalogue.specs.declared.fault.CatalogueDefect.TheVariants.{BadRange, DuplicateBudget, DuplicateMeter, DuplicateRecorder, UnknownInstrument}
 use Rattle.metric_catalogue.specs.declared.fault.CatalogueFault.TheVariants.{At}
 use Rattle.metric_catalogue.specs.declared.fault.CataloguePlace.{CataloguePlace}
+use Rattle.metric_catalogue.specs.declared.fault.CatalogueField.TheVariants as fields
 use Rattle.metric_catalogue.specs.declared.fault.CataloguePlace.TheVariants as place
 use Rattle.metric_catalogue.specs.Catalogues.{contents_declared, contents_of, format_of_top, nothing_metered}
-use Rattle.metric_catalogue.specs.Faults.{faults_at}
+use Rattle.metric_catalogue.specs.Faults.{faults_at, field_at}
 use Rattle.metric_catalogue.specs.Instruments.{instrument_of}
 use Rattle.metric_catalogue.specs.Meters.{is_meter, meter_of, only_meter_fields, with_meter}
 use Rattle.metric_catalogue.specs.Recorders.{amount_field, amount_from, budget_fields, budget_of, budgeted, budgets_field, is_recorder, number_below, number_field, recorder_fields, recorder_name, recorder_of}
@@ -42,14 +43,14 @@ texts_made : (at : CataloguePlace) (table : Members) (meter : Meter) → meter_o
 unfolding meter_of
 texts_made at table meter e0 =
     after_ok (only_meter_fields at table) _ meter e0 (λ _ _ e1.
-    after_ok (needed_text at (codes "name") table) _ meter e1 (λ name named e2.
-    after_ok (free_text at (codes "version") table) _ meter e2 (λ version versioned e3.
-    after_ok (free_text at (codes "schema_url") table) _ meter e3 (λ schema_url located e4.
+    after_ok (needed_text (field_at at fields.Name) (codes "name") table) _ meter e1 (λ name named e2.
+    after_ok (free_text (field_at at fields.Version) (codes "version") table) _ meter e2 (λ version versioned e3.
+    after_ok (free_text (field_at at fields.SchemaUrl) (codes "schema_url") table) _ meter e3 (λ schema_url located e4.
     let made : Meter = record { name = name; version = version; schema_url = schema_url } in
     let sound : IsSoundMeter made = record {
-      name = needed_made at (codes "name") table name named;
-      version = free_made at (codes "version") table version versioned;
-      schema_url = free_made at (codes "schema_url") table schema_url located;
+      name = needed_made (field_at at fields.Name) (codes "name") table name named;
+      version = free_made (field_at at fields.Version) (codes "version") table version versioned;
+      schema_url = free_made (field_at at fields.SchemaUrl) (codes "schema_url") table schema_url located;
     } in
     subst IsSoundMeter (ok_is made meter (Ok made) refl e4) sound))))
 
@@ -83,12 +84,12 @@ meter_made format before table after e0 so_far =
     let at = place.Meter (length before.meters) in
     let number = length before.meters in
     after_ok (meter_of at table) _ after e0 (λ meter textual e1.
-    after_ok (tables_field (faults_at at) (512 - length before.instruments) (codes "instrument") table) _ after e1 (λ tables listed e2.
-    let (new, e3) = require_ok (not (list_any (is_meter meter) before.meters)) (At DuplicateMeter at) _ after e2 in
+    after_ok (tables_field (faults_at (field_at at fields.Instrument)) (512 - length before.instruments) (codes "instrument") table) _ after e1 (λ tables listed e2.
+    let (new, e3) = require_ok (not (list_any (is_meter meter) before.meters)) (At DuplicateMeter (field_at at fields.Name)) _ after e2 in
     after_ok (each (instrument_of format number) before.instruments tables) _ after e3 (λ instruments made e4.
     let all : Metered = record { meters = before.meters ++ meter ∷ []; instruments = instruments } in
     let long : length all.meters ≡ number + 1 = length-append before.meters (meter ∷ []) in
-    let short = tables_few (faults_at at) (512 - length before.instruments) (codes "instrument") table tables listed in
+    let short = tables_few (faults_at (field_at at fields.Instrument)) (512 - length before.instruments) (codes "instrument") table tables listed in
     let count = each_length (instrument_of format number) before.instruments tables instruments made in
     let few = so_far.few in
     let earlier : AreSound (IsSoundInstrument (number + 1)) AreInstrumentsApart before.instruments = record {
@@ -132,20 +133,23 @@ below_made count (pos m) n e = by (nat_lt m count) refl e
 numbers_apart : (instrument : ℕ) (other : Budget) → is_budget instrument other ≡ false → other.instrument ≢ instrument
 numbers_apart instrument other e = λ same. true≢false (sym (eq-eqb other.instrument instrument same) ∙ e)
 
-budget_made : (at : CataloguePlace) (count : ℕ) (before : List Budget) (table : Members) (budget : Budget) → budget_of at count before table ≡ Ok budget
+budget_made : (recorder count : ℕ) (before : List Budget) (table : Members) (budget : Budget) → budget_of recorder count before table ≡ Ok budget
     → IsNext (IsSoundBudget count) (λ o b. o.instrument ≢ b.instrument) before budget
 unfolding budget_of budgeted amount_field
-budget_made at count before table budget e0 =
-    after_ok (only (faults_at at) budget_fields table) _ budget e0 (λ _ _ e1.
-    after_ok (budgeted at count table) _ budget e1 (λ instrument numbered e2.
-    after_ok (amount_field at table) _ budget e2 (λ amount counted e3.
-    let (new, e4) = require_ok (not (list_any (is_budget instrument) before)) (At DuplicateBudget at) _ budget e3 in
+budget_made recorder count before table budget e0 =
+    let at = place.Budget recorder (length before) in
+    let numbered_at = field_at at fields.Instrument in
+    let counted_at = field_at at fields.Amount in
+    after_ok (only (faults_at (field_at at fields.Unknown)) budget_fields table) _ budget e0 (λ _ _ e1.
+    after_ok (budgeted numbered_at count table) _ budget e1 (λ instrument numbered e2.
+    after_ok (amount_field counted_at table) _ budget e2 (λ amount counted e3.
+    let (new, e4) = require_ok (not (list_any (is_budget instrument) before)) (At DuplicateBudget numbered_at) _ budget e3 in
     let known : instrument < count =
-    after_ok (number_field at (codes "instrument") table) _ instrument numbered (λ z _ told.
-    below_made count z instrument (some_made (number_below count z) (At UnknownInstrument at) instrument told)) in
+    after_ok (number_field numbered_at (codes "instrument") table) _ instrument numbered (λ z _ told.
+    below_made count z instrument (some_made (number_below count z) (At UnknownInstrument numbered_at) instrument told)) in
     let limited : amount < 2 ^ 63 =
-    after_ok (number_field at (codes "amount") table) _ amount counted (λ z _ told.
-    amount_made z amount (some_made (amount_from z) (At BadRange at) amount told)) in
+    after_ok (number_field counted_at (codes "amount") table) _ amount counted (λ z _ told.
+    amount_made z amount (some_made (amount_from z) (At BadRange counted_at) amount told)) in
     let made : Budget = record { instrument = instrument; amount = amount } in
     let next : IsNext (IsSoundBudget count) (λ o b. o.instrument ≢ b.instrument) before made = record {
       sound = record { known = known; limited = limited };
@@ -154,19 +158,20 @@ budget_made at count before table budget e0 =
     subst (IsNext (IsSoundBudget count) (λ o b. o.instrument ≢ b.instrument) before) (ok_is made budget (Ok made) refl e4) next)))
 
 -- budgets of distinct instruments, of a recorder whose name is not taken
-budgets_made : (at : CataloguePlace) (count : ℕ) (is_taken : Bool) (table : Members) (budgets : List Budget) → budgets_field at count is_taken table ≡ Ok budgets
+budgets_made : (number count : ℕ) (is_taken : Bool) (table : Members) (budgets : List Budget) → budgets_field number count is_taken table ≡ Ok budgets
     → (not is_taken ≡ true) × IsSoundList 512 (IsSoundBudget count) (λ o b. o.instrument ≢ b.instrument) budgets
 unfolding budgets_field
-budgets_made at count is_taken table budgets e0 =
-    after_ok (tables_field (faults_at at) 512 (codes "budget") table) _ budgets e0 (λ tables listed e1.
-    let (new, e2) = require_ok (not is_taken) (At DuplicateRecorder at) _ budgets e1 in
-    let few = tables_few (faults_at at) 512 (codes "budget") table tables listed in
-    (new, made_sound 512 (IsSoundBudget count) (λ o b. o.instrument ≢ b.instrument) (budget_of at count) (budget_made at count) tables budgets e2 few))
+budgets_made number count is_taken table budgets e0 =
+    let at = place.Recorder number in
+    after_ok (tables_field (faults_at (field_at at fields.Budget)) 512 (codes "budget") table) _ budgets e0 (λ tables listed e1.
+    let (new, e2) = require_ok (not is_taken) (At DuplicateRecorder (field_at at fields.Name)) _ budgets e1 in
+    let few = tables_few (faults_at (field_at at fields.Budget)) 512 (codes "budget") table tables listed in
+    (new, made_sound 512 (IsSoundBudget count) (λ o b. o.instrument ≢ b.instrument) (budget_of number count) (budget_made number count) tables budgets e2 few))
 
 recorder_name_made : (at : CataloguePlace) (table : Members) (name : List ℕ) → recorder_name at table ≡ Ok name → IsLabel name
 unfolding recorder_name
 recorder_name_made at table name e0 =
-    after_ok (only (faults_at at) recorder_fields table) _ name e0 (λ _ _ named. label_made at table name named)
+    after_ok (only (faults_at (field_at at fields.Unknown)) recorder_fields table) _ name e0 (λ _ _ named. label_made (field_at at fields.Name) table name named)
 
 recorder_made : (count : ℕ) (before : List Recorder) (table : Members) (recorder : Recorder) → recorder_of count before table ≡ Ok recorder
     → IsNext (IsSoundRecorder count) (λ o r. o.name ≢ r.name) before recorder
@@ -174,8 +179,8 @@ unfolding recorder_of
 recorder_made count before table recorder e0 =
     let at = place.Recorder (length before) in
     after_ok (recorder_name at table) _ recorder e0 (λ name named e1.
-    after_ok (budgets_field at count (list_any (is_recorder name) before) table) _ recorder e1 (λ budgets budgeted e2.
-    let (new, sound_budgets) = budgets_made at count (list_any (is_recorder name) before) table budgets budgeted in
+    after_ok (budgets_field (length before) count (list_any (is_recorder name) before) table) _ recorder e1 (λ budgets budgeted e2.
+    let (new, sound_budgets) = budgets_made (length before) count (list_any (is_recorder name) before) table budgets budgeted in
     let made : Recorder = record { name = name; budgets = budgets } in
     let next : IsNext (IsSoundRecorder count) (λ o r. o.name ≢ r.name) before made = record {
       sound = record {
@@ -214,8 +219,8 @@ pub contents_made : (table : Members) (c : Contents) → contents_of table ≡ O
 unfolding contents_of
 contents_made table c e0 =
     after_ok (format_of_top table) _ c e0 (λ format told e1.
-    after_ok (tables_field (faults_at place.Top) 64 (codes "meter") table) _ c e1 (λ meters metered e2.
-    after_ok (tables_field (faults_at place.Top) 64 (codes "recorder") table) _ c e2 (λ recorders recorded e3.
-    let few_meters = tables_few (faults_at place.Top) 64 (codes "meter") table meters metered in
-    let few_recorders = tables_few (faults_at place.Top) 64 (codes "recorder") table recorders recorded in
+    after_ok (tables_field (faults_at (field_at place.Top fields.Meter)) 64 (codes "meter") table) _ c e1 (λ meters metered e2.
+    after_ok (tables_field (faults_at (field_at place.Top fields.Recorder)) 64 (codes "recorder") table) _ c e2 (λ recorders recorded e3.
+    let few_meters = tables_few (faults_at (field_at place.Top fields.Meter)) 64 (codes "meter") table meters metered in
+    let few_recorders = tables_few (faults_at (field_at place.Top fields.Recorder)) 64 (codes "recorder") table recorders recorded in
     declared_made format meters recorders c (format_made table format told) few_meters few_recorders e3)))

@@ -21,8 +21,10 @@ use Rattle.metric_catalogue.specs.declared.instruments.Limits.{Limits}
 use Rattle.metric_catalogue.specs.declared.fault.CatalogueDefect.TheVariants.{BadBoundaries, BadName, BadRange, BadUnit, DuplicateInstrument}
 use Rattle.metric_catalogue.specs.declared.fault.CatalogueFault.TheVariants.{At}
 use Rattle.metric_catalogue.specs.declared.fault.CataloguePlace.{CataloguePlace}
+use Rattle.metric_catalogue.specs.declared.fault.CatalogueSpot.{CatalogueSpot}
+use Rattle.metric_catalogue.specs.declared.fault.CatalogueField.TheVariants as fields
 use Rattle.metric_catalogue.specs.declared.fault.CataloguePlace.TheVariants as place
-use Rattle.metric_catalogue.specs.Faults.{faults_at}
+use Rattle.metric_catalogue.specs.Faults.{faults_at, field_at}
 use Rattle.metric_catalogue.specs.Instruments.{advice_field, boundaries_of, boundaries_within, head_of, instrument_name, instrument_of, is_instrument, is_range, kind_field, only_instrument_fields, limits_field, pair_field, range_field, spare_field, spare_within, unit_field}
 use Rattle.metric_catalogue.specs.Allowed.{allowed_field, allowed_of}
 use Rattle.metric_catalogue.specs.Keys.{key_of}
@@ -46,12 +48,13 @@ range_is kind lo hi e = by (int_le lo hi) refl (is_monotonic kind) refl e
 
 range_made : (at : CataloguePlace) (kind : Kind) (table : Members) (range : ℤ × ℤ) → range_field at kind table ≡ Ok range → is_range kind range ≡ true
 unfolding range_field
-range_made at kind table range e0 =
+range_made table_at kind table range e0 =
+    let at = field_at table_at fields.Range in
     after_ok (pair_field at table) _ range e0 (λ pair _ e1.
     let (fits, e2) = require_ok (is_range kind pair) (At BadRange at) _ range e1 in
     subst (λ (r : ℤ × ℤ). is_range kind r ≡ true) (ok_is pair range (Ok pair) refl e2) fits)
 
-boundaries_made : (at : CataloguePlace) (d : Data) (boundaries : List ℤ) → boundaries_of at d ≡ Ok boundaries → AreBoundaries boundaries
+boundaries_made : (at : CatalogueSpot) (d : Data) (boundaries : List ℤ) → boundaries_of at d ≡ Ok boundaries → AreBoundaries boundaries
 unfolding boundaries_of integers_of
 boundaries_made at d boundaries e0 =
     after_ok (integers_of (faults_at at) 128 d) _ boundaries e0 (λ read made e1.
@@ -64,7 +67,7 @@ boundaries_made at d boundaries e0 =
     let sound : AreBoundaries read = record { few = few; rising = rising } in
     subst AreBoundaries (ok_is read boundaries (Ok read) refl e2) sound)
 
-within_made : (at : CataloguePlace) (d : Option Data) (advice : Option (List ℤ)) → boundaries_within at d ≡ Ok advice → IfSome advice AreBoundaries
+within_made : (at : CatalogueSpot) (d : Option Data) (advice : Option (List ℤ)) → boundaries_within at d ≡ Ok advice → IfSome advice AreBoundaries
 within_made at None advice e = subst (λ (o : Option (List ℤ)). IfSome o AreBoundaries) (ok_is None advice (Ok None) refl e) tt
 within_made at (Some d) advice e0 =
     after_ok (boundaries_of at d) _ advice e0 (λ boundaries made e1.
@@ -72,7 +75,7 @@ within_made at (Some d) advice e0 =
 
 advice_made : (at : CataloguePlace) (table : Members) (advice : Option (List ℤ)) → advice_field at table ≡ Ok advice → IfSome advice AreBoundaries
 unfolding advice_field
-advice_made at table advice e = within_made at (get_member (codes "boundaries") table) advice e
+advice_made at table advice e = within_made (field_at at fields.Boundaries) (get_member (codes "boundaries") table) advice e
 
 -- what a check of a text answered in the words of the table
 told : {D E : Type 0} (f : D → E) (r : Result (List ℕ) D) (text : List ℕ) → with_fault f r ≡ Ok text → r ≡ Ok text
@@ -82,14 +85,16 @@ told f (Err d) text e = absurd cc
 -- what is read as a name or a unit is one
 name_made : (format : ℕ) (at : CataloguePlace) (table : Members) (name : List ℕ) → instrument_name format at table ≡ Ok name → IsName name
 unfolding instrument_name
-name_made format at table name e0 =
-    after_ok (only_instrument_fields format at table) _ name e0 (λ _ _ e1.
+name_made format table_at table name e0 =
+    let at = field_at table_at fields.Name in
+    after_ok (only_instrument_fields format table_at table) _ name e0 (λ _ _ e1.
     after_ok (text_field (faults_at at) (codes "name") table) _ name e1 (λ text _ e2.
     name_of-IsName text name (told (λ _. At BadName at) (name_of text) name e2)))
 
 unit_made : (at : CataloguePlace) (table : Members) (unit : List ℕ) → unit_field at table ≡ Ok unit → IsUnit unit
 unfolding unit_field
-unit_made at table unit e0 =
+unit_made table_at table unit e0 =
+    let at = field_at table_at fields.Unit in
     after_ok (optional_text (faults_at at) (codes "unit") table) _ unit e0 (λ text _ e1.
     unit_of-IsUnit (unwrap_or text []) unit (told (λ _. At BadUnit at) (unit_of (unwrap_or text [])) unit e1))
 
@@ -105,9 +110,9 @@ head_made format at table head e0 =
     after_ok (instrument_name format at table) _ head e0 (λ name named e1.
     after_ok (kind_field at table) _ head e1 (λ kind _ e2.
     after_ok (unit_field at table) _ head e2 (λ unit united e3.
-    after_ok (free_text at (codes "description") table) _ head e3 (λ description described e4.
+    after_ok (free_text (field_at at fields.Description) (codes "description") table) _ head e3 (λ description described e4.
     let made : Head = record { name = name; kind = kind; unit = unit; description = description } in
-    let sound : IsSoundHead made = record { name = name_made format at table name named; unit = unit_made at table unit united; description = free_made at (codes "description") table description described } in
+    let sound : IsSoundHead made = record { name = name_made format at table name named; unit = unit_made at table unit united; description = free_made (field_at at fields.Description) (codes "description") table description described } in
     subst IsSoundHead (ok_is made head (Ok made) refl e4) sound))))
 
 -- an instrument of another name without case, or of another meter
@@ -126,13 +131,13 @@ amount_made (pos m) n e = by (nat_lt m (2 ^ 63)) refl e
     by true h e = let same : m ≡ n = cc in grind (arith, nat_tests)
     by false h e = absurd cc
 
-spare_within_made : (at : CataloguePlace) (d : Option Data) (spare : ℕ) → spare_within at d ≡ Ok spare → spare < 2 ^ 63
+spare_within_made : (at : CatalogueSpot) (d : Option Data) (spare : ℕ) → spare_within at d ≡ Ok spare → spare < 2 ^ 63
 spare_within_made at None spare e = subst (λ (n : ℕ). n < 2 ^ 63) (ok_is 0 spare (Ok 0) refl e) (omega arith)
 spare_within_made at (Some d) spare e0 =
     after_ok (integer_of (faults_at at) d) _ spare e0 (λ z _ told.
     amount_made z spare (some_made (amount_from z) (At BadRange at) spare told))
 
-spare_made : (at : CataloguePlace) (table : Members) (spare : ℕ) → spare_field at table ≡ Ok spare → spare < 2 ^ 63
+spare_made : (at : CatalogueSpot) (table : Members) (spare : ℕ) → spare_field at table ≡ Ok spare → spare < 2 ^ 63
 unfolding spare_field
 spare_made at table spare e = spare_within_made at (get_member (codes "spare") table) spare e
 
@@ -143,22 +148,23 @@ record AreSoundLimits (limits : Limits) : Type 0 where
   spare : limits.spare < 2 ^ 63
 
 -- those of an instrument whose name is not taken
-limits_made : (at : CataloguePlace) (is_taken : Bool) (table : Members) (limits : Limits) → limits_field at is_taken table ≡ Ok limits
+limits_made : (number : ℕ) (is_taken : Bool) (table : Members) (limits : Limits) → limits_field number is_taken table ≡ Ok limits
     → (not is_taken ≡ true) × AreSoundLimits limits
 unfolding limits_field
-limits_made at is_taken table limits e0 =
-    after_ok (tables_field (faults_at at) 8 (codes "key") table) _ limits e0 (λ tables listed e1.
-    after_ok (allowed_field at table) _ limits e1 (λ rows told_rows e2.
-    after_ok (spare_field at table) _ limits e2 (λ spare spared e3.
-    let (new, e4) = require_ok (not is_taken) (At DuplicateInstrument at) _ limits e3 in
-    after_ok (each (key_of at) [] tables) _ limits e4 (λ keys keyed e5.
-    after_ok (allowed_of at keys rows) _ limits e5 (λ allowed combined e6.
-    let sound_keys = made_sound 8 IsSoundKey (λ o k. o.name ≢ k.name) (key_of at) (key_made at) tables keys keyed (tables_few (faults_at at) 8 (codes "key") table tables listed) in
+limits_made number is_taken table limits e0 =
+    let at = place.Instrument number in
+    after_ok (tables_field (faults_at (field_at at fields.Key)) 8 (codes "key") table) _ limits e0 (λ tables listed e1.
+    after_ok (allowed_field (field_at at fields.Allowed) table) _ limits e1 (λ rows told_rows e2.
+    after_ok (spare_field (field_at at fields.Spare) table) _ limits e2 (λ spare spared e3.
+    let (new, e4) = require_ok (not is_taken) (At DuplicateInstrument (field_at at fields.Name)) _ limits e3 in
+    after_ok (each (key_of number) [] tables) _ limits e4 (λ keys keyed e5.
+    after_ok (allowed_of (field_at at fields.Allowed) keys rows) _ limits e5 (λ allowed combined e6.
+    let sound_keys = made_sound 8 IsSoundKey (λ o k. o.name ≢ k.name) (key_of number) (key_made number) tables keys keyed (tables_few (faults_at (field_at at fields.Key)) 8 (codes "key") table tables listed) in
     let made : Limits = record { keys = keys; allowed = allowed; spare = spare } in
     let sound : AreSoundLimits made = record {
       keys = sound_keys;
-      allowed = allowed_made at keys sound_keys.few rows (rows_few at table rows told_rows) allowed combined;
-      spare = spare_made at table spare spared;
+      allowed = allowed_made (field_at at fields.Allowed) keys sound_keys.few rows (rows_few (field_at at fields.Allowed) table rows told_rows) allowed combined;
+      spare = spare_made (field_at at fields.Spare) table spare spared;
     } in
     (new, subst AreSoundLimits (ok_is made limits (Ok made) refl e6) sound))))))
 
@@ -170,8 +176,8 @@ instrument_made format meter meters known before table instrument e0 =
     after_ok (head_of format at table) _ instrument e0 (λ head headed e1.
     after_ok (range_field at head.kind table) _ instrument e1 (λ range ranged e2.
     after_ok (advice_field at table) _ instrument e2 (λ advice advised e3.
-    after_ok (limits_field at (list_any (is_instrument meter head.name) before) table) _ instrument e3 (λ limits limited e4.
-    let (new, sound_limits) = limits_made at (list_any (is_instrument meter head.name) before) table limits limited in
+    after_ok (limits_field (length before) (list_any (is_instrument meter head.name) before) table) _ instrument e3 (λ limits limited e4.
+    let (new, sound_limits) = limits_made (length before) (list_any (is_instrument meter head.name) before) table limits limited in
     let (ordered, not_negative) = range_is head.kind range.0 range.1 (range_made at head.kind table range ranged) in
     let sound_head = head_made format at table head headed in
     let made : Instrument = record { meter = meter; name = head.name; kind = head.kind; unit = head.unit; description = head.description; lo = range.0; hi = range.1; advice = advice; keys = limits.keys; allowed = limits.allowed; spare = limits.spare } in

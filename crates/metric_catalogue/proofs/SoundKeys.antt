@@ -14,8 +14,11 @@ use Rattle.metric_contents.specs.declared.contents.Key.{Key}
 use Rattle.metric_catalogue.specs.declared.fault.CatalogueDefect.TheVariants.{BadName, DuplicateKey, DuplicateValue, MissingField, ReservedKey, TooMany}
 use Rattle.metric_catalogue.specs.declared.fault.CatalogueFault.TheVariants.{At}
 use Rattle.metric_catalogue.specs.declared.fault.CataloguePlace.{CataloguePlace}
-use Rattle.metric_catalogue.specs.Faults.{faults_at}
-use Rattle.metric_catalogue.specs.Keys.{key_name, key_of, only_key_fields, optional_field, some_values, value_at, values_field}
+use Rattle.metric_catalogue.specs.declared.fault.CataloguePlace.TheVariants as places
+use Rattle.metric_catalogue.specs.declared.fault.CatalogueSpot.{CatalogueSpot}
+use Rattle.metric_catalogue.specs.declared.fault.CatalogueField.TheVariants as fields
+use Rattle.metric_catalogue.specs.Faults.{entry_at, faults_at, field_at}
+use Rattle.metric_catalogue.specs.Keys.{key_name, key_of, next_value, only_key_fields, optional_field, some_values, value_at, values_field}
 use Rattle.metric_contents.specs.KeyNames.{is_key}
 use Rattle.metric_contents.specs.SameValues.{same_value-Decides}
 use Rattle.metric_contents.specs.Places.{has_repeat, place, repeats_after, same_value}
@@ -25,7 +28,7 @@ use Rattle.std.proofs.lemmas.Bool.{not-true, or_parts}
 use Rattle.metric_catalogue.proofs.SoundLists.{IsNext, apart_by, each_length, list_few, made_sound, texts_apart}
 
 -- a short text is the text, and is a free text
-short_made : (at : CataloguePlace) (text name : List ℕ) → short_text (faults_at at) text ≡ Ok name → (text ≡ name) × IsFreeText name
+short_made : (at : CatalogueSpot) (text name : List ℕ) → short_text (faults_at at) text ≡ Ok name → (text ≡ name) × IsFreeText name
 unfolding short_text
 short_made at text name e =
     let (short, e1) = require_ok (nat_le (length (chars text)) 1023) (At TooMany at) _ name e in
@@ -33,18 +36,18 @@ short_made at text name e =
     let few : IsFreeText text = grind (arith, nat_tests) in
     (same, subst IsFreeText same few)
 
-pub needed_made : (at : CataloguePlace) (name : List ℕ) (table : Members) (text : List ℕ) → needed_text at name table ≡ Ok text → IsFreeText text
+pub needed_made : (at : CatalogueSpot) (name : List ℕ) (table : Members) (text : List ℕ) → needed_text at name table ≡ Ok text → IsFreeText text
 unfolding needed_text
 needed_made at name table text e0 =
     after_ok (text_field (faults_at at) name table) _ text e0 (λ t _ e1. (short_made at t text e1).1)
 
-pub free_made : (at : CataloguePlace) (name : List ℕ) (table : Members) (text : List ℕ) → free_text at name table ≡ Ok text → IsFreeText text
+pub free_made : (at : CatalogueSpot) (name : List ℕ) (table : Members) (text : List ℕ) → free_text at name table ≡ Ok text → IsFreeText text
 unfolding free_text
 free_made at name table text e0 =
     after_ok (optional_text (faults_at at) name table) _ text e0 (λ t _ e1. (short_made at (unwrap_or t []) text e1).1)
 
 -- the name of a key or a recorder is a label
-pub label_made : (at : CataloguePlace) (table : Members) (name : List ℕ) → label_field at table ≡ Ok name → IsLabel name
+pub label_made : (at : CatalogueSpot) (table : Members) (name : List ℕ) → label_field at table ≡ Ok name → IsLabel name
 unfolding label_field
 label_made at table name e0 =
     after_ok (text_field (faults_at at) (codes "name") table) _ name e0 (λ text _ e1.
@@ -55,14 +58,15 @@ label_made at table name e0 =
 
 name_made : (at : CataloguePlace) (table : Members) (name : List ℕ) → key_name at table ≡ Ok name → IsLabel name × (name ≢ codes "otel.metric.overflow")
 unfolding key_name
-name_made at table name e0 =
-    after_ok (only_key_fields at table) _ name e0 (λ _ _ e1.
+name_made table_at table name e0 =
+    let at = field_at table_at fields.Name in
+    after_ok (only_key_fields table_at table) _ name e0 (λ _ _ e1.
     after_ok (label_field at table) _ name e1 (λ text made e2.
     let (other, e3) = require_ok (not (bytes_eq text (codes "otel.metric.overflow"))) (At ReservedKey at) _ name e2 in
     let apart = texts_apart text (codes "otel.metric.overflow") (not-true (bytes_eq text (codes "otel.metric.overflow")) other) in
     (label_made at table name (made ∙ e3), subst (λ (t : List ℕ). t ≢ codes "otel.metric.overflow") (ok_is text name (Ok text) refl e3) apart)))
 
-value_made : (at : CataloguePlace) (d : Data) (value : AttrValue) → value_at at d ≡ Ok value → IsSoundValue value
+value_made : (at : CatalogueSpot) (d : Data) (value : AttrValue) → value_at at d ≡ Ok value → IsSoundValue value
 value_made at (string text) value e0 =
     after_ok (short_text (faults_at at) text) _ value e0 (λ short made e1. subst IsSoundValue (ok_is (Text short) value (Ok (Text short)) refl e1) (short_made at text short made).1)
 value_made at (integer number) value e = subst IsSoundValue (ok_is (Whole number) value (Ok (Whole number)) refl e) tt
@@ -89,20 +93,20 @@ differ_after before (value ∷ left) all e =
     subst (AllPairs (λ (v w : AttrValue). v ≢ w)) (append_assoc before (value ∷ []) left) (differ_after (before ++ value ∷ []) left more rest)
 
 -- each value by itself
-value_next : (at : CataloguePlace) (before : List AttrValue) (d : Data) (value : AttrValue) → value_at at d ≡ Ok value → IsNext IsSoundValue (λ _ _. Unit {0}) before value
-value_next at before d value e = record { sound = value_made at d value e; apart = λ k x within. tt }
+value_next : (at : CatalogueSpot) (before : List AttrValue) (d : Data) (value : AttrValue) → next_value at before d ≡ Ok value → IsNext IsSoundValue (λ _ _. Unit {0}) before value
+value_next at before d value e = record { sound = value_made (entry_at at (length before)) d value e; apart = λ k x within. tt }
 
-some_made : (at : CataloguePlace) (table : Members) (values : List AttrValue) → some_values at table ≡ Ok values → (0 < length values) × IsSoundList 1000 IsSoundValue (λ _ _. Unit {0}) values
+some_made : (at : CatalogueSpot) (table : Members) (values : List AttrValue) → some_values at table ≡ Ok values → (0 < length values) × IsSoundList 1000 IsSoundValue (λ _ _. Unit {0}) values
 unfolding some_values
 some_made at table values e0 =
     after_ok (field (faults_at at) (codes "values") table) _ values e0 (λ d _ e1.
     after_ok (list_of (faults_at at) 1000 d) _ values e1 (λ ds listed e2.
     let (full, e3) = require_ok (not (length ds == 0)) (At MissingField at) _ values e2 in
-    let same = each_length (λ _ x. value_at at x) [] ds values e3 in
+    let same = each_length (next_value at) [] ds values e3 in
     let some : 0 < length ds = grind (arith, nat_tests) in
-    (omega arith, made_sound 1000 IsSoundValue (λ _ _. Unit {0}) (λ _ x. value_at at x) (value_next at) ds values e3 (list_few (faults_at at) 1000 d ds listed))))
+    (omega arith, made_sound 1000 IsSoundValue (λ _ _. Unit {0}) (next_value at) (value_next at) ds values e3 (list_few (faults_at at) 1000 d ds listed))))
 
-values_made : (at : CataloguePlace) (table : Members) (values : List AttrValue) → values_field at table ≡ Ok values → (0 < length values) × IsSoundList 1000 IsSoundValue (λ value other. value ≢ other) values
+values_made : (at : CatalogueSpot) (table : Members) (values : List AttrValue) → values_field at table ≡ Ok values → (0 < length values) × IsSoundList 1000 IsSoundValue (λ value other. value ≢ other) values
 unfolding values_field
 values_made at table values e0 =
     after_ok (some_values at table) _ values e0 (λ vs made e1.
@@ -112,15 +116,16 @@ values_made at table values e0 =
     let differ = differ_after [] vs (λ i j d before within. absurd (omega arith)) (not-true (has_repeat vs) distinct) in
     (some, record { few = sound.few; each = sound.each; apart = subst (AllPairs (λ (v w : AttrValue). v ≢ w)) same differ }))
 
-pub key_made : (at : CataloguePlace) (before : List Key) (table : Members) (key : Key) → key_of at before table ≡ Ok key → IsNext IsSoundKey (λ other k. other.name ≢ k.name) before key
+pub key_made : (instrument : ℕ) (before : List Key) (table : Members) (key : Key) → key_of instrument before table ≡ Ok key → IsNext IsSoundKey (λ other k. other.name ≢ k.name) before key
 unfolding key_of
-key_made at before table key e0 =
+key_made instrument before table key e0 =
+    let at = places.Key instrument (length before) in
     after_ok (key_name at table) _ key e0 (λ name named e1.
-    after_ok (values_field at table) _ key e1 (λ values valued e2.
-    after_ok (optional_field at table) _ key e2 (λ optional _ e3.
-    let (new, e4) = require_ok (not (list_any (is_key name) before)) (At DuplicateKey at) _ key e3 in
+    after_ok (values_field (field_at at fields.Values) table) _ key e1 (λ values valued e2.
+    after_ok (optional_field (field_at at fields.Optional) table) _ key e2 (λ optional _ e3.
+    let (new, e4) = require_ok (not (list_any (is_key name) before)) (At DuplicateKey (field_at at fields.Name)) _ key e3 in
     let (label, other) = name_made at table name named in
-    let (some, distinct) = values_made at table values valued in
+    let (some, distinct) = values_made (field_at at fields.Values) table values valued in
     let made : Key = record { name = name; values = values; optional = optional } in
     let next : IsNext IsSoundKey (λ o k. o.name ≢ k.name) before made = record {
       sound = record { name = label; not_reserved = other; some = some; values = distinct };

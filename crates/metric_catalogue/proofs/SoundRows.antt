@@ -13,9 +13,9 @@ use Rattle.metric_table.specs.Fields.{all_integers_of, list_of}
 use Rattle.metric_contents.specs.declared.contents.Key.{Key}
 use Rattle.metric_catalogue.specs.declared.fault.CatalogueDefect.TheVariants.{BadCombination, DuplicateCombination}
 use Rattle.metric_catalogue.specs.declared.fault.CatalogueFault.TheVariants.{At}
-use Rattle.metric_catalogue.specs.declared.fault.CataloguePlace.{CataloguePlace}
+use Rattle.metric_catalogue.specs.declared.fault.CatalogueSpot.{CatalogueSpot}
 use Rattle.metric_catalogue.specs.Allowed.{allowed_field, allowed_of, is_entry_of, is_row, row_of, row_set, rows_within, set_of_row}
-use Rattle.metric_catalogue.specs.Faults.{faults_at}
+use Rattle.metric_catalogue.specs.Faults.{entry_at, faults_at}
 use Rattle.metric_contents.specs.KeySets.{is_key_entry, is_key_set}
 use Rattle.metric_catalogue.specs.Sound.{AreSoundRows, IsSoundRow}
 use Rattle.metric_catalogue.proofs.SoundLists.{IsNext, apart_by, list_few, made_sound, texts_apart}
@@ -56,10 +56,11 @@ row_sound keys entries few e =
     let own = row_length keys entries e in
     record { full = row_full keys entries (8 - length entries) e; long = omega (arith, all, read, left, own, few) }
 
-row_made : (at : CataloguePlace) (keys : List Key) → length keys ≤ 8 → (before : List (List ℕ)) (d : Data) (set : List ℕ) → row_of at keys before d ≡ Ok set
+row_made : (at : CatalogueSpot) (keys : List Key) → length keys ≤ 8 → (before : List (List ℕ)) (d : Data) (set : List ℕ) → row_of at keys before d ≡ Ok set
     → IsNext (IsSoundRow keys) (λ row other. row ≢ other) before set
 unfolding row_of set_of_row
-row_made at keys few before d set e0 =
+row_made field keys few before d set e0 =
+    let at = entry_at field (length before) in
     after_ok (set_of_row at keys d) _ set e0 (λ row made e1.
     let (new, e2) = require_ok (not (allows before row)) (At DuplicateCombination at) _ set e1 in
     after_ok (all_integers_of (faults_at at) d) _ row made (λ entries _ e3.
@@ -71,7 +72,7 @@ row_made at keys few before d set e0 =
     subst (IsNext (IsSoundRow keys) (λ r o. r ≢ o) before) (ok_is row set (Ok row) refl e2) next))
 
 -- the combinations that a few rows are
-pub allowed_made : (at : CataloguePlace) (keys : List Key) → length keys ≤ 8 → (rows : Option (List Data)) → IfSome rows (λ ds. length ds ≤ 4096)
+pub allowed_made : (at : CatalogueSpot) (keys : List Key) → length keys ≤ 8 → (rows : Option (List Data)) → IfSome rows (λ ds. length ds ≤ 4096)
     → (allowed : Option (List (List ℕ))) → allowed_of at keys rows ≡ Ok allowed → IfSome allowed (AreSoundRows keys)
 allowed_made at keys few None listed allowed e = subst (λ (o : Option (List (List ℕ))). IfSome o (AreSoundRows keys)) (ok_is None allowed (Ok None) refl e) tt
 allowed_made at keys few (Some rows) listed allowed e0 =
@@ -79,18 +80,18 @@ allowed_made at keys few (Some rows) listed allowed e0 =
     subst (λ (o : Option (List (List ℕ))). IfSome o (AreSoundRows keys)) (ok_is (Some sets) allowed (Ok (Some sets)) refl e1)
     (made_sound 4096 (IsSoundRow keys) (λ r o. r ≢ o) (row_of at keys) (row_made at keys few) rows sets made listed))
 
-few_within : (at : CataloguePlace) (d : Option Data) (rows : Option (List Data)) → rows_within at d ≡ Ok rows → IfSome rows (λ ds. length ds ≤ 4096)
+few_within : (at : CatalogueSpot) (d : Option Data) (rows : Option (List Data)) → rows_within at d ≡ Ok rows → IfSome rows (λ ds. length ds ≤ 4096)
 few_within at None rows e = subst (λ (o : Option (List Data)). IfSome o (λ ds. length ds ≤ 4096)) (ok_is None rows (Ok None) refl e) tt
 few_within at (Some d) rows e0 =
     after_ok (list_of (faults_at at) 4096 d) _ rows e0 (λ values made e1.
     subst (λ (o : Option (List Data)). IfSome o (λ ds. length ds ≤ 4096)) (ok_is (Some values) rows (Ok (Some values)) refl e1) (list_few (faults_at at) 4096 d values made))
 
 -- a table lists a few rows
-pub rows_few : (at : CataloguePlace) (table : Members) (rows : Option (List Data)) → allowed_field at table ≡ Ok rows → IfSome rows (λ ds. length ds ≤ 4096)
+pub rows_few : (at : CatalogueSpot) (table : Members) (rows : Option (List Data)) → allowed_field at table ≡ Ok rows → IfSome rows (λ ds. length ds ≤ 4096)
 unfolding allowed_field
 rows_few at table rows e = few_within at (get_member (codes "allowed") table) rows e
 
 -- a table that has no such field lists none
-pub rows_none : (at : CataloguePlace) (table : Members) (rows : Option (List Data)) → get_member (codes "allowed") table ≡ None → allowed_field at table ≡ Ok rows → rows ≡ None
+pub rows_none : (at : CatalogueSpot) (table : Members) (rows : Option (List Data)) → get_member (codes "allowed") table ≡ None → allowed_field at table ≡ Ok rows → rows ≡ None
 unfolding allowed_field
 rows_none at table rows none e = sym (ok_is None rows (Ok None) refl (sym (ap (rows_within at) none) ∙ e))

@@ -22,7 +22,8 @@ use Rattle.metric_catalogue.specs.declared.fault.CatalogueDefect.TheVariants.{
   DuplicateCombination,
 }
 
--- its number among the faults, and its name
+-- # printed defect (profile)
+-- Its number among the faults, and its name.
 abbrev pub defect_text : CatalogueDefect → List ℕ
 defect_text MissingField = codes "2 MissingField"
 defect_text WrongKind = codes "3 WrongKind"

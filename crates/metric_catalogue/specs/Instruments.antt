@@ -25,10 +25,12 @@ use Rattle.metric_catalogue.specs.declared.fault.CatalogueDefect.TheVariants.{
 }
 use Rattle.metric_catalogue.specs.declared.fault.CatalogueFault.TheVariants.{At}
 use Rattle.metric_catalogue.specs.declared.fault.CataloguePlace.{CataloguePlace}
+use Rattle.metric_catalogue.specs.declared.fault.CatalogueSpot.{CatalogueSpot}
+use Rattle.metric_catalogue.specs.declared.fault.CatalogueField.TheVariants as fields
 use Rattle.metric_catalogue.specs.declared.fault.CataloguePlace.TheVariants as place
 use Rattle.metric_base.specs.Boundaries.{is_rising}
 use Rattle.metric_catalogue.specs.Allowed.{allowed_field, allowed_of}
-use Rattle.metric_catalogue.specs.Faults.{faults_at, pair_faults_at}
+use Rattle.metric_catalogue.specs.Faults.{faults_at, field_at, pair_faults_at}
 use Rattle.metric_contents.specs.Kinds.{kind_named, is_monotonic}
 use Rattle.metric_catalogue.specs.Recorders.{amount_from}
 use Rattle.metric_catalogue.specs.Texts.{free_text}
@@ -44,24 +46,28 @@ instrument_fields format =
 -- an instrument has no other fields
 unfoldable pub only_instrument_fields : ℕ → CataloguePlace → Members
     → Result (Unit {0}) CatalogueFault
-only_instrument_fields format at table = only (faults_at at) (instrument_fields format) table
+only_instrument_fields format at table =
+    only (faults_at (field_at at fields.Unknown)) (instrument_fields format) table
 
 -- the name of an instrument, of a table with no other fields
 unfoldable pub instrument_name : ℕ → CataloguePlace → Members → Result (List ℕ) CatalogueFault
-instrument_name format at table = do
-  _ ← only_instrument_fields format at table
+instrument_name format table_at table = do
+  _ ← only_instrument_fields format table_at table
+  let at = field_at table_at fields.Name
   text ← text_field (faults_at at) (codes "name") table
   with_fault (λ _. At BadName at) (name_of text)
 
 -- the kind of an instrument
 unfoldable pub kind_field : CataloguePlace → Members → Result Kind CatalogueFault
-kind_field at table = do
+kind_field table_at table = do
+  let at = field_at table_at fields.Kind
   text ← text_field (faults_at at) (codes "kind") table
   require_some (kind_named text) (At WrongKind at)
 
 -- the unit of an instrument, empty where it is left out
 unfoldable pub unit_field : CataloguePlace → Members → Result (List ℕ) CatalogueFault
-unit_field at table = do
+unit_field table_at table = do
+  let at = field_at table_at fields.Unit
   text ← optional_text (faults_at at) (codes "unit") table
   with_fault (λ _. At BadUnit at) (unit_of (unwrap_or text []))
 
@@ -71,11 +77,11 @@ head_of format at table = do
   name ← instrument_name format at table
   kind ← kind_field at table
   unit ← unit_field at table
-  description ← free_text at (codes "description") table
+  description ← free_text (field_at at fields.Description) (codes "description") table
   Ok (record { name = name; kind = kind; unit = unit; description = description })
 
 -- two whole numbers
-abbrev pub pair_of : CataloguePlace → List Data → Result (ℤ × ℤ) CatalogueFault
+abbrev pub pair_of : CatalogueSpot → List Data → Result (ℤ × ℤ) CatalogueFault
 pair_of at (lo ∷ hi ∷ []) = do
   low ← integer_of (faults_at at) lo
   high ← integer_of (faults_at at) hi
@@ -87,7 +93,7 @@ abbrev pub is_range : Kind → ℤ × ℤ → Bool
 is_range kind range = int_le range.0 range.1 && (not (is_monotonic kind) || int_le (pos 0) range.0)
 
 -- the two numbers of a range
-unfoldable pub pair_field : CataloguePlace → Members → Result (ℤ × ℤ) CatalogueFault
+unfoldable pub pair_field : CatalogueSpot → Members → Result (ℤ × ℤ) CatalogueFault
 pair_field at table = do
   d ← field (faults_at at) (codes "range") table
   values ← list_of (pair_faults_at at) 2 d
@@ -95,20 +101,21 @@ pair_field at table = do
 
 -- the range of an instrument's values
 unfoldable pub range_field : CataloguePlace → Kind → Members → Result (ℤ × ℤ) CatalogueFault
-range_field at kind table = do
+range_field table_at kind table = do
+  let at = field_at table_at fields.Range
   range ← pair_field at table
   _ ← require (is_range kind range) (At BadRange at)
   Ok range
 
 -- boundaries that rise
-unfoldable pub boundaries_of : CataloguePlace → Data → Result (List ℤ) CatalogueFault
+unfoldable pub boundaries_of : CatalogueSpot → Data → Result (List ℤ) CatalogueFault
 boundaries_of at d = do
   boundaries ← integers_of (faults_at at) 128 d
   _ ← require (is_rising boundaries) (At BadBoundaries at)
   Ok boundaries
 
 -- boundaries, where there are any
-abbrev pub boundaries_within : CataloguePlace → Option Data
+abbrev pub boundaries_within : CatalogueSpot → Option Data
     → Result (Option (List ℤ)) CatalogueFault
 boundaries_within at None = Ok None
 boundaries_within at (Some d) = do
@@ -117,7 +124,8 @@ boundaries_within at (Some d) = do
 
 -- the advised boundaries of an instrument
 unfoldable pub advice_field : CataloguePlace → Members → Result (Option (List ℤ)) CatalogueFault
-advice_field at table = boundaries_within at (get_member (codes "boundaries") table)
+advice_field at table =
+    boundaries_within (field_at at fields.Boundaries) (get_member (codes "boundaries") table)
 
 -- the instrument is of this meter and has this name without ASCII case
 abbrev pub is_instrument : ℕ → List ℕ → Instrument → Bool
@@ -125,36 +133,39 @@ is_instrument meter name instrument =
     (instrument.meter == meter) && bytes_eq (folded instrument.name) (folded name)
 
 -- a spare budget, 0 where there is none
-abbrev pub spare_within : CataloguePlace → Option Data → Result ℕ CatalogueFault
+abbrev pub spare_within : CatalogueSpot → Option Data → Result ℕ CatalogueFault
 spare_within at None = Ok 0
 spare_within at (Some d) = do
   number ← integer_of (faults_at at) d
   require_some (amount_from number) (At BadRange at)
 
--- the spare budget of an instrument
-unfoldable pub spare_field : CataloguePlace → Members → Result ℕ CatalogueFault
+-- # spare budget of an instrument (profile)
+-- The whole number that its table gives, 0 where it gives none.
+unfoldable pub spare_field : CatalogueSpot → Members → Result ℕ CatalogueFault
 spare_field at table = spare_within at (get_member (codes "spare") table)
 
--- what limits the recordings of an instrument: its keys, the combinations of their values that it
+-- what limits the recordings of the instrument of a number: its keys, the combinations of their values that it
 -- allows where it lists them, and its spare budget, unless its name is taken
-unfoldable pub limits_field : CataloguePlace → Bool → Members → Result Limits CatalogueFault
-limits_field at is_taken table = do
-  tables ← tables_field (faults_at at) 8 (codes "key") table
-  rows ← allowed_field at table
-  spare ← spare_field at table
-  _ ← require (not is_taken) (At DuplicateInstrument at)
-  keys ← each (key_of at) [] tables
-  allowed ← allowed_of at keys rows
+unfoldable pub limits_field : ℕ → Bool → Members → Result Limits CatalogueFault
+limits_field number is_taken table = do
+  let at = place.Instrument number
+  tables ← tables_field (faults_at (field_at at fields.Key)) 8 (codes "key") table
+  rows ← allowed_field (field_at at fields.Allowed) table
+  spare ← spare_field (field_at at fields.Spare) table
+  _ ← require (not is_taken) (At DuplicateInstrument (field_at at fields.Name))
+  keys ← each (key_of number) [] tables
+  allowed ← allowed_of (field_at at fields.Allowed) keys rows
   Ok (record { keys = keys; allowed = allowed; spare = spare })
 
--- one more instrument of a meter in a file of this format, after those of the file before it
+-- # instruments of a meter (API, Instrument)
+-- One table after another, each with those before it in sight.
 unfoldable pub instrument_of : ℕ → ℕ → List Instrument → Members → Result Instrument CatalogueFault
 instrument_of format meter before table = do
   let at = place.Instrument (length before)
   head ← head_of format at table
   range ← range_field at head.kind table
   advice ← advice_field at table
-  limits ← limits_field at (list_any (is_instrument meter head.name) before) table
+  limits ← limits_field (length before) (list_any (is_instrument meter head.name) before) table
   Ok (record {
     meter = meter;
     name = head.name;

@@ -9,3 +9,4 @@ pub mod Meters
 pub mod Recorders
 pub mod Catalogues
 pub mod Sound
+pub mod FieldWords

@@ -12,8 +12,9 @@ use Rattle.metric_catalogue.specs.declared.fault.CatalogueFault.{CatalogueFault}
 use Rattle.metric_catalogue.specs.declared.fault.CatalogueDefect.TheVariants.{DuplicateMeter}
 use Rattle.metric_catalogue.specs.declared.fault.CatalogueFault.TheVariants.{At}
 use Rattle.metric_catalogue.specs.declared.fault.CataloguePlace.{CataloguePlace}
+use Rattle.metric_catalogue.specs.declared.fault.CatalogueField.TheVariants as fields
 use Rattle.metric_catalogue.specs.declared.fault.CataloguePlace.TheVariants as place
-use Rattle.metric_catalogue.specs.Faults.{faults_at}
+use Rattle.metric_catalogue.specs.Faults.{faults_at, field_at}
 use Rattle.metric_catalogue.specs.Instruments.{instrument_of}
 use Rattle.metric_catalogue.specs.Texts.{needed_text, free_text}
 
@@ -23,15 +24,15 @@ meter_fields = codes "name" ∷ codes "version" ∷ codes "schema_url" ∷ codes
 
 -- a meter has no other fields
 unfoldable pub only_meter_fields : CataloguePlace → Members → Result (Unit {0}) CatalogueFault
-only_meter_fields at table = only (faults_at at) meter_fields table
+only_meter_fields at table = only (faults_at (field_at at fields.Unknown)) meter_fields table
 
 -- a meter without its instruments
 unfoldable pub meter_of : CataloguePlace → Members → Result Meter CatalogueFault
 meter_of at table = do
   _ ← only_meter_fields at table
-  name ← needed_text at (codes "name") table
-  version ← free_text at (codes "version") table
-  schema_url ← free_text at (codes "schema_url") table
+  name ← needed_text (field_at at fields.Name) (codes "name") table
+  version ← free_text (field_at at fields.Version) (codes "version") table
+  schema_url ← free_text (field_at at fields.SchemaUrl) (codes "schema_url") table
   Ok (record { name = name; version = version; schema_url = schema_url })
 
 -- the two meters have the same name, version and schema URL
@@ -45,7 +46,9 @@ unfoldable pub with_meter : ℕ → Metered → Members → Result Metered Catal
 with_meter format before table = do
   let at = place.Meter (length before.meters)
   meter ← meter_of at table
-  tables ← tables_field (faults_at at) (512 - length before.instruments) (codes "instrument") table
-  _ ← require (not (list_any (is_meter meter) before.meters)) (At DuplicateMeter at)
+  tables ← tables_field (faults_at (field_at at fields.Instrument))
+      (512 - length before.instruments) (codes "instrument") table
+  _ ← require (not (list_any (is_meter meter) before.meters))
+      (At DuplicateMeter (field_at at fields.Name))
   instruments ← each (instrument_of format (length before.meters)) before.instruments tables
   Ok (record { meters = before.meters ++ meter ∷ []; instruments = instruments })

@@ -16,7 +16,8 @@ use Rattle.metric_contents.specs.declared.contents.Recorder.{Recorder}
 use Rattle.metric_contents.specs.KeySets.{is_key_set}
 use Rattle.metric_contents.specs.Kinds.{is_monotonic}
 
--- A list has at most so many elements, a fact holds of each, and any two are apart.
+-- # sound list (profile)
+-- At most so many elements, a fact of each, and any two apart.
 pub record IsSoundList {X : Type 0} (most : ℕ) (P : X → Type 0) (AreApart : X → X → Type 0)
     (xs : List X) : Type 0 where
   pub few : length xs ≤ most
@@ -96,9 +97,11 @@ pub record IsSoundRecorder (instruments : ℕ) (recorder : Recorder) : Type 0 wh
   pub budgets : IsSoundList 512 (IsSoundBudget instruments)
       (λ budget other. budget.instrument ≢ other.instrument) recorder.budgets
 
--- The format is 1, in which no instrument lists combinations or has a spare budget, or 2.
--- There are at most 64 meters, 512 instruments and 64 recorders. Meters differ in name,
--- version or schema URL, recorders in name.
+-- # sound catalogue (profile)
+-- Every limit of the format holds, of counts and of lengths; ranges are not empty and fit their
+-- kinds, boundaries rise, what has to be distinct is, rows are sets of their keys, budgets are for
+-- known instruments and below 2^63, as is each spare; in format 1 no instrument lists combinations
+-- or has a spare.
 pub record IsSound (c : Contents) : Type 0 where
   pub format : (c.format ≡ 1) ⊎ (c.format ≡ 2)
   pub plain : c.format ≡ 1

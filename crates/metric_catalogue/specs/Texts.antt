@@ -6,23 +6,23 @@ use Rattle.metric_table.specs.Fields.{text_field, optional_text, short_text}
 use Rattle.metric_catalogue.specs.declared.fault.CatalogueFault.{CatalogueFault}
 use Rattle.metric_catalogue.specs.declared.fault.CatalogueDefect.TheVariants.{BadName}
 use Rattle.metric_catalogue.specs.declared.fault.CatalogueFault.TheVariants.{At}
-use Rattle.metric_catalogue.specs.declared.fault.CataloguePlace.{CataloguePlace}
+use Rattle.metric_catalogue.specs.declared.fault.CatalogueSpot.{CatalogueSpot}
 use Rattle.metric_catalogue.specs.Faults.{faults_at}
 
 -- a needed text
-unfoldable pub needed_text : CataloguePlace → List ℕ → Members → Result (List ℕ) CatalogueFault
+unfoldable pub needed_text : CatalogueSpot → List ℕ → Members → Result (List ℕ) CatalogueFault
 needed_text at name table = do
   text ← text_field (faults_at at) name table
   short_text (faults_at at) text
 
 -- a text that may be left out, and is then empty
-unfoldable pub free_text : CataloguePlace → List ℕ → Members → Result (List ℕ) CatalogueFault
+unfoldable pub free_text : CatalogueSpot → List ℕ → Members → Result (List ℕ) CatalogueFault
 free_text at name table = do
   text ← optional_text (faults_at at) name table
   short_text (faults_at at) (unwrap_or text [])
 
 -- the name of a key or a recorder, which is any text but the empty one
-unfoldable pub label_field : CataloguePlace → Members → Result (List ℕ) CatalogueFault
+unfoldable pub label_field : CatalogueSpot → Members → Result (List ℕ) CatalogueFault
 label_field at table = do
   text ← text_field (faults_at at) (codes "name") table
   _ ← require (not (length text == 0)) (At BadName at)

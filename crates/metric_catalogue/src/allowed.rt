@@ -1,12 +1,12 @@
 //! The allowed combinations of an instrument.
-ghost use Rattle.std.specs.Prelude.{◌≡◌, ◌≤◌, ◌≤ℤ◌, ◌+◌, None, Some, [], if◌then◌else◌, length, map, pos, unsigned_abs, IsTrue, IfOk, IfSome, OnOk};
+ghost use Rattle.std.specs.Prelude.{◌≡◌, ◌≤◌, ◌<◌, ◌≤ℤ◌, ◌+◌, None, Some, [], if◌then◌else◌, length, map, pos, unsigned_abs, IsTrue, IfOk, IfSome, OnOk};
 ghost use Rattle.std.specs.Option.{option_map};
 ghost use Rattle.toml.specs.View.{table_view, view};
 ghost use Rattle.metric_base.specs.Steps.{Advances, Gives, each, with_next};
 ghost use Rattle.metric_table.specs.Fields.{Reads, whole_in};
 ghost use Rattle.metric_catalogue.specs.Allowed.{allowed_field, allowed_of, is_entry_of, is_row, row_of, row_set, set_of_row};
 
-use crate::fault::{CatalogueDefect, CatalogueFault, CataloguePlace};
+use crate::fault::{CatalogueDefect, CatalogueFault, CatalogueSpot};
 use crate::texts::faults_at;
 use metric_combinations::{CombinationRows, Combinations};
 use metric_contents::{Key, SetKey};
@@ -18,7 +18,7 @@ use toml::{Table, Value};
 #[tactic(auto, unfolding(crate::specs::Allowed::allowed_field))]
 pub(crate) fn allowed_field<'a>(
     table: &'a Table,
-    at: CataloguePlace,
+    at: CatalogueSpot,
 ) -> Result<Option<&'a [Value]>, CatalogueFault>
     ensures exact { Reads (option_map (λ rows. map view rows.now)) result
         (allowed_field at (table_view table.now)) }
@@ -38,7 +38,7 @@ pub(crate) fn allowed_of(
     alloc: Global,
     rows: Option<&[Value]>,
     keys: &[Key],
-    at: CataloguePlace,
+    at: CatalogueSpot,
 ) -> Result<Option<Combinations>, CatalogueFault>
     requires rows { IfSome rows (λ listed. length listed.now ≤ 4096) }
     requires keys { length keys.now ≤ 8 }
@@ -58,7 +58,7 @@ fn combinations_of(
     alloc: Global,
     rows: &[Value],
     keys: &[Key],
-    at: CataloguePlace,
+    at: CatalogueSpot,
 ) -> Result<Combinations, CatalogueFault>
     requires rows { length rows.now ≤ 4096 }
     requires keys { length keys.now ≤ 8 }
@@ -78,13 +78,15 @@ fn put_row(
     read: &mut CombinationRows,
     row: &Value,
     keys: &[Key],
-    at: CataloguePlace,
+    at: CatalogueSpot,
 ) -> Result<(), CatalogueFault>
-    requires { length keys.now ≤ 8 }
+    requires keys { length keys.now ≤ 8 }
+    requires few { length read.old < 4096 }
     ensures exact { Advances CatalogueFault.Memory result read.new
         (with_next (row_of at keys.now) read.old (view row.now)) }
     ensures longer { OnOk result (length read.new ≡ length read.old + 1) }
 {
+    let at = at.entry(read.len() as u32);
     let set = set_of_row(row, keys, at)?;
     if read.push(set)? {
         Ok(())
@@ -94,7 +96,7 @@ fn put_row(
 }
 
 #[tactic(auto, unfolding(crate::specs::Allowed::set_of_row))]
-fn set_of_row(row: &Value, keys: &[Key], at: CataloguePlace) -> Result<SetKey, CatalogueFault>
+fn set_of_row(row: &Value, keys: &[Key], at: CatalogueSpot) -> Result<SetKey, CatalogueFault>
     requires { length keys.now ≤ 8 }
     ensures { result ≡ set_of_row at keys.now (view row.now) }
 {

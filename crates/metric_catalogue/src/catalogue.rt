@@ -9,10 +9,10 @@ ghost use Rattle.metric_catalogue.specs.Meters.{with_meter};
 ghost use Rattle.metric_catalogue.specs.Sound.{IsSound};
 ghost use Rattle.metric_catalogue.specs.Catalogues.{catalogue_of, contents_declared, contents_of, document_of, format_of_top, nothing_metered};
 
-use crate::fault::{CatalogueFault, CataloguePlace};
+use crate::fault::{CatalogueFault, CatalogueField, CataloguePlace};
 use crate::meters::{Metered, add_meters};
 use crate::recorders::recorders_of;
-use crate::texts::faults_at;
+use crate::texts::{faults_at, unknown_at};
 use metric_base::{Few, Items};
 use metric_contents::{
     Attr, Contents, Instrument, Meter, OwnedAttr, Recorder, Refusal, SetKey, encode_of,
@@ -24,7 +24,7 @@ use std::marker::Model;
 use toml::Table;
 
 // The fields of the top table.
-const TOP_FIELDS: [&str; 3] = ["format", "meter", "recorder"];
+pub(crate) const TOP_FIELDS: [&str; 3] = ["format", "meter", "recorder"];
 
 /// The instruments of a program with their meters and keys, and its recorders with their budgets.
 /// Instruments and recorders are numbered from 0 in the order of the file.
@@ -48,7 +48,7 @@ impl Catalogue {
     /// The catalogue that a text in TOML is, or its first fault: the top table first, then each meter,
     /// each of its instruments and each of that one's keys, then each recorder and each of its budgets;
     /// in a table first a field that has no place there, then the fields in the order of the format,
-    /// then a table that stands twice.
+    /// then a table that stands twice. The fault has the field that is wrong first, and of `values` and `allowed` the entry.
     #[tactic(auto, unfolding(crate::specs::Catalogues::catalogue_of))]
     pub fn read(alloc: Global, text: &str) -> Result<Catalogue, CatalogueFault>
         ensures { Gives CatalogueFault.Memory result (catalogue_of text.now) }
@@ -171,9 +171,10 @@ fn contents_of(alloc: Global, table: &Table) -> Result<Contents, CatalogueFault>
     ensures { Gives CatalogueFault.Memory result (contents_of (table_view table.now)) }
 {
     let format = format_of_top(table)?;
-    let faults = faults_at(CataloguePlace::Top);
-    let meters = tables_field(alloc, table, "meter", 64, &faults)?;
-    let recorders = tables_field(alloc, table, "recorder", 64, &faults)?;
+    let of_meters = faults_at(CataloguePlace::Top.field(CatalogueField::Meter));
+    let meters = tables_field(alloc, table, "meter", 64, &of_meters)?;
+    let of_recorders = faults_at(CataloguePlace::Top.field(CatalogueField::Recorder));
+    let recorders = tables_field(alloc, table, "recorder", 64, &of_recorders)?;
     contents_declared(alloc, format, meters.as_slice(), recorders.as_slice())
 }
 
@@ -220,7 +221,8 @@ fn metered_of(alloc: Global, tables: &[&Table], format: u8) -> Result<Metered, C
 fn format_of_top(table: &Table) -> Result<u8, CatalogueFault>
     ensures { result ≡ format_of_top (table_view table.now) }
 {
-    let faults = faults_at(CataloguePlace::Top);
-    only(table, &TOP_FIELDS, &faults)?;
+    let unknown = unknown_at(CataloguePlace::Top);
+    only(table, &TOP_FIELDS, &unknown)?;
+    let faults = faults_at(CataloguePlace::Top.field(CatalogueField::Format));
     format_up_to(table, 2, &faults)
 }

@@ -1,20 +1,120 @@
 //! Why a text is no catalogue.
+ghost use Rattle.std.specs.Prelude.{◌≡◌};
+ghost use Rattle.metric_catalogue.specs.Faults.{entry_at, field_at};
+
 use std::alloc::AllocError;
 use std::fmt;
 use thiserror::Error;
 
-/// The innermost meter, instrument or recorder whose table has a fault. Each is numbered from 0 in the
-/// order of the file, instruments through all meters.
+/// The table that has a fault. Meters, instruments and recorders are numbered from 0 in the order of the file, instruments
+/// through all meters; keys from 0 in their instrument, and budgets in their recorder.
 #[derive(Clone, Copy, Debug, PartialEq, Eq, Drop)]
 pub enum CataloguePlace {
     /// The top table.
     Top,
     /// The meter of this number.
     Meter(u32),
-    /// The instrument of this number, or one of its keys.
+    /// The instrument of this number.
     Instrument(u32),
-    /// The recorder of this number, or one of its budgets.
+    /// Of the instrument of the first number, the key of the second.
+    Key(u32, u32),
+    /// The recorder of this number.
     Recorder(u32),
+    /// Of the recorder of the first number, the budget of the second.
+    Budget(u32, u32),
+}
+
+/// A field of a table of a catalogue.
+#[derive(Clone, Copy, Debug, PartialEq, Eq, Drop)]
+pub enum CatalogueField {
+    /// A field that the format does not name for the table: the first such one, by name.
+    Unknown,
+    /// `format` at the top.
+    Format,
+    /// `meter` at the top.
+    Meter,
+    /// `recorder` at the top.
+    Recorder,
+    /// `name` of a meter, an instrument, a key or a recorder.
+    Name,
+    /// `version` of a meter.
+    Version,
+    /// `schema_url` of a meter.
+    SchemaUrl,
+    /// `instrument` of a meter, or of a budget.
+    Instrument,
+    /// `kind` of an instrument.
+    Kind,
+    /// `unit` of an instrument.
+    Unit,
+    /// `description` of an instrument.
+    Description,
+    /// `range` of an instrument.
+    Range,
+    /// `boundaries` of an instrument.
+    Boundaries,
+    /// `key` of an instrument.
+    Key,
+    /// `allowed` of an instrument.
+    Allowed,
+    /// `spare` of an instrument.
+    Spare,
+    /// `values` of a key.
+    Values,
+    /// `optional` of a key.
+    Optional,
+    /// `budget` of a recorder.
+    Budget,
+    /// `amount` of a budget.
+    Amount,
+}
+
+/// Where a fault is: the field of a table, and the entry of its list where the fault is of one.
+#[derive(Clone, Copy, Debug, PartialEq, Eq, Drop)]
+pub struct CatalogueSpot {
+    /// The table.
+    pub place: CataloguePlace,
+    /// The first of its fields that is wrong.
+    pub field: CatalogueField,
+    /// The number of the value or the row in the field's list, from 0.
+    pub entry: Option<u32>,
+}
+
+impl CataloguePlace {
+    // A field of the table.
+    pub(crate) fn field(self, field: CatalogueField) -> CatalogueSpot
+        ensures { result ≡ field_at self field }
+    {
+        CatalogueSpot {
+            place: self,
+            field,
+            entry: None,
+        }
+    }
+}
+
+impl CatalogueSpot {
+    // An entry of the field's list.
+    pub(crate) fn entry(self, number: u32) -> CatalogueSpot
+        ensures { result ≡ entry_at self number }
+    {
+        CatalogueSpot {
+            place: self.place,
+            field: self.field,
+            entry: Some(number),
+        }
+    }
+}
+
+impl fmt::Display for CatalogueSpot {
+    ghost use Rattle.std.specs.Prelude.{Some};
+    ghost use Rattle.metric_catalogue.specs.FaultPlaces.{place_text};
+
+    ghost output = { λ spot. Some (place_text spot.place) };
+
+    fn fmt<W: fmt::Write>(&self, f: &mut fmt::Formatter<W>) -> fmt::Result {
+        self.place.fmt(f)
+    }
 }
 
 /// What is wrong with a table of a catalogue.
@@ -64,9 +164,9 @@ pub enum CatalogueFault {
     /// The text is no TOML.
     #[error("1 NotToml")]
     NotToml,
-    /// A table at this place has a defect.
+    /// The field of a table has a defect, and is the first that has one.
     #[error("{0} at {1}")]
-    At(CatalogueDefect, CataloguePlace),
+    At(CatalogueDefect, CatalogueSpot),
     /// Memory was refused.
     #[error("18 Memory")]
     Memory,
@@ -123,8 +223,12 @@ impl fmt::Display for CataloguePlace {
         match self {
             CataloguePlace::Top => f.write_str("top"),
             CataloguePlace::Meter(number) => write!(f, "meter {number}"),
-            CataloguePlace::Instrument(number) => write!(f, "instrument {number}"),
-            CataloguePlace::Recorder(number) => write!(f, "recorder {number}"),
+            CataloguePlace::Instrument(number) | CataloguePlace::Key(number, _) => {
+                write!(f, "instrument {number}")
+            }
+            CataloguePlace::Recorder(number) | CataloguePlace::Budget(number, _) => {
+                write!(f, "recorder {number}")
+            }
         }
     }
 }

@@ -3,14 +3,18 @@ ghost use Rattle.std.specs.Prelude.{◌≡◌, ◌≤◌, ◌<◌, ◌+◌, [], 
 ghost use Rattle.std.specs.List.{list_any};
 ghost use Rattle.toml.specs.View.{table_view, view};
 ghost use Rattle.metric_base.specs.Steps.{Gives, Advances, each};
+ghost use Rattle.metric_catalogue.specs.Faults.{field_at};
 ghost use Rattle.metric_catalogue.specs.Texts.{free_text};
 ghost use Rattle.metric_catalogue.specs.Instruments.{advice_field, boundaries_of, head_of, instrument_name, instrument_of, is_instrument, is_range, kind_field, only_instrument_fields, pair_field, pair_of, range_field, limits_field, spare_field, unit_field};
 
 use crate::allowed::{allowed_field, allowed_of};
-use crate::fault::{CatalogueDefect, CatalogueFault, CataloguePlace};
+use crate::fault::{
+    CatalogueDefect, CatalogueFault, CatalogueField, CataloguePlace, CatalogueSpot,
+};
 use crate::keys::keys_of;
+use crate::known::instrument_names;
 use crate::recorders::amount_from;
-use crate::texts::{faults_at, free_text, pair_faults_at};
+use crate::texts::{faults_at, free_text, pair_faults_at, unknown_at};
 use metric_base::{Boundaries, Few, Items, Shared, Text, is_rising};
 use metric_combinations::Combinations;
 use metric_contents::{Instrument, Key, Kind};
@@ -23,7 +27,7 @@ use std::alloc::Global;
 use toml::{Table, Value};
 
 // The fields of an instrument's table, of which format 1 has all but the last two.
-const INSTRUMENT_FIELDS: [&str; 9] = [
+pub(crate) const INSTRUMENT_FIELDS: [&str; 9] = [
     "name",
     "kind",
     "unit",
@@ -150,7 +154,7 @@ fn instrument_of(
     let range = range_field(table, head.kind, at)?;
     let advice = advice_field(alloc, table, at)?;
     let is_taken = has_instrument(before, meter, head.name.get());
-    let limits = limits_field(alloc, table, at, is_taken)?;
+    let limits = limits_field(alloc, table, before.len() as u32, is_taken)?;
     Ok(head.instrument(meter, range, advice, limits))
 }
 
@@ -160,20 +164,33 @@ fn instrument_of(
 fn limits_field(
     alloc: Global,
     table: &Table,
-    at: CataloguePlace,
+    number: u32,
     is_taken: bool,
 ) -> Result<Limits, CatalogueFault>
     ensures { Gives CatalogueFault.Memory result
-        (limits_field at is_taken (table_view table.now)) }
+        (limits_field number is_taken (table_view table.now)) }
 {
-    let tables = tables_field(alloc, table, "key", 8, &faults_at(at))?;
-    let rows = allowed_field(table, at)?;
-    let spare = spare_field(table, at)?;
+    let at = CataloguePlace::Instrument(number);
+    let tables = tables_field(
+        alloc,
+        table,
+        "key",
+        8,
+        &faults_at(at.field(CatalogueField::Key)),
+    )?;
+    let rows = allowed_field(table, at.field(CatalogueField::Allowed))?;
+    let spare = spare_field(table, at.field(CatalogueField::Spare))?;
     if is_taken {
-        return Err(CatalogueFault::At(CatalogueDefect::DuplicateInstrument, at));
+        let name = at.field(CatalogueField::Name);
+        return Err(CatalogueFault::At(CatalogueDefect::DuplicateInstrument, name));
     }
-    let keys = keys_of(alloc, tables.as_slice(), at)?;
-    let allowed = allowed_of(alloc, rows, keys.as_slice(), at)?;
+    let keys = keys_of(alloc, tables.as_slice(), number)?;
+    let allowed = allowed_of(
+        alloc,
+        rows,
+        keys.as_slice(),
+        at.field(CatalogueField::Allowed),
+    )?;
     Ok(Limits {
         keys: Few::from_items(keys),
         allowed,
@@ -183,7 +200,7 @@ fn limits_field(
 
 // The spare budget of an instrument, 0 where the table leaves it out.
 #[tactic(auto, unfolding(crate::specs::Instruments::spare_field))]
-fn spare_field(table: &Table, at: CataloguePlace) -> Result<u64, CatalogueFault>
+fn spare_field(table: &Table, at: CatalogueSpot) -> Result<u64, CatalogueFault>
     ensures { result ≡ spare_field at (table_view table.now) }
 {
     match member(table, "spare") {
@@ -230,7 +247,7 @@ fn head_of(
     })
 }
 
-#[tactic(auto, unfolding(crate::specs::Instruments::only_instrument_fields), using(crate::proofs::FieldNames::field_names))]
+#[tactic(auto, unfolding(crate::specs::Instruments::only_instrument_fields))]
 fn only_instrument_fields(
     table: &Table,
     format: u8,
@@ -238,12 +255,7 @@ fn only_instrument_fields(
 ) -> Result<(), CatalogueFault>
     ensures { result ≡ only_instrument_fields format at (table_view table.now) }
 {
-    let faults = faults_at(at);
-    if format == 1 {
-        only(table, &INSTRUMENT_FIELDS[..7], &faults)
-    } else {
-        only(table, &INSTRUMENT_FIELDS, &faults)
-    }
+    only(table, instrument_names(format), &unknown_at(at))
 }
 
 #[tactic(auto, unfolding(crate::specs::Instruments::instrument_name))]
@@ -256,6 +268,7 @@ fn instrument_name(
     ensures { Gives CatalogueFault.Memory result (instrument_name format at (table_view table.now)) }
 {
     only_instrument_fields(table, format, at)?;
+    let at = at.field(CatalogueField::Name);
     let text = text_field(table, "name", &faults_at(at))?;
     match Name::parse(alloc, text) {
         Ok(name) => Ok(Shared::new(alloc, name)?),
@@ -268,6 +281,7 @@ fn instrument_name(
 fn kind_field(table: &Table, at: CataloguePlace) -> Result<Kind, CatalogueFault>
     ensures { result ≡ kind_field at (table_view table.now) }
 {
+    let at = at.field(CatalogueField::Kind);
     let text = text_field(table, "kind", &faults_at(at))?;
     Kind::named(text).ok_or(CatalogueFault::At(CatalogueDefect::WrongKind, at))
 }
@@ -280,6 +294,7 @@ fn unit_field(
 ) -> Result<Shared<Unit>, CatalogueFault>
     ensures { Gives CatalogueFault.Memory result (unit_field at (table_view table.now)) }
 {
+    let at = at.field(CatalogueField::Unit);
     let text = optional_text(table, "unit", &faults_at(at))?;
     match Unit::parse(alloc, text.unwrap_or("")) {
         Ok(unit) => Ok(Shared::new(alloc, unit)?),
@@ -294,9 +309,15 @@ fn description_field(
     at: CataloguePlace,
 ) -> Result<Shared<Text>, CatalogueFault>
     ensures { Gives CatalogueFault.Memory result
-        (free_text at (codes "description") (table_view table.now)) }
+        (free_text (field_at at CatalogueField.Description) (codes "description")
+        (table_view table.now)) }
 {
-    let description = free_text(alloc, table, "description", at)?;
+    let description = free_text(
+        alloc,
+        table,
+        "description",
+        at.field(CatalogueField::Description),
+    )?;
     Ok(Shared::new(alloc, description)?)
 }
 
@@ -304,6 +325,7 @@ fn description_field(
 fn range_field(table: &Table, kind: Kind, at: CataloguePlace) -> Result<(i64, i64), CatalogueFault>
     ensures { result ≡ range_field at kind (table_view table.now) }
 {
+    let at = at.field(CatalogueField::Range);
     let (lo, hi) = pair_field(table, at)?;
     if !is_range(kind, lo, hi) {
         return Err(CatalogueFault::At(CatalogueDefect::BadRange, at));
@@ -312,7 +334,7 @@ fn range_field(table: &Table, kind: Kind, at: CataloguePlace) -> Result<(i64, i6
 }
 
 #[tactic(auto, unfolding(crate::specs::Instruments::pair_field))]
-fn pair_field(table: &Table, at: CataloguePlace) -> Result<(i64, i64), CatalogueFault>
+fn pair_field(table: &Table, at: CatalogueSpot) -> Result<(i64, i64), CatalogueFault>
     ensures { result ≡ pair_field at (table_view table.now) }
 {
     let value = required(table, "range", &faults_at(at))?;
@@ -320,7 +342,7 @@ fn pair_field(table: &Table, at: CataloguePlace) -> Result<(i64, i64), Catalogue
     pair_of(values, at)
 }
 
-fn pair_of(values: &[Value], at: CataloguePlace) -> Result<(i64, i64), CatalogueFault>
+fn pair_of(values: &[Value], at: CatalogueSpot) -> Result<(i64, i64), CatalogueFault>
     ensures { result ≡ pair_of at (map view values.now) }
 {
     let faults = faults_at(at);
@@ -350,7 +372,7 @@ fn advice_field(
 {
     match member(table, "boundaries") {
         Some(value) => {
-            let boundaries = boundaries_of(alloc, value, at)?;
+            let boundaries = boundaries_of(alloc, value, at.field(CatalogueField::Boundaries))?;
             Ok(Some(boundaries))
         }
         None => Ok(None),
@@ -361,7 +383,7 @@ fn advice_field(
 fn boundaries_of(
     alloc: Global,
     value: &Value,
-    at: CataloguePlace,
+    at: CatalogueSpot,
 ) -> Result<Shared<Boundaries>, CatalogueFault>
     ensures { Gives CatalogueFault.Memory result (boundaries_of at (view value.now)) }
 {

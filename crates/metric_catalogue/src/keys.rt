@@ -1,14 +1,15 @@
 //! The keys of an instrument.
-ghost use Rattle.std.specs.Prelude.{◌≡◌, ◌≤◌, ◌==◌, [], not, length, map, IfOk};
+ghost use Rattle.std.specs.Prelude.{◌≡◌, ◌≤◌, ◌<◌, ◌==◌, [], not, length, map, IfOk};
 ghost use Rattle.std.specs.List.{list_any};
 ghost use Rattle.toml.specs.View.{table_view, view};
 ghost use Rattle.metric_base.specs.Steps.{Gives, each};
-ghost use Rattle.metric_table.specs.Fields.{each_alone};
-ghost use Rattle.metric_catalogue.specs.Keys.{key_name, key_of, only_key_fields, optional_field, some_values, value_at, values_field};
+ghost use Rattle.metric_catalogue.specs.Keys.{key_name, key_of, next_value, only_key_fields, optional_field, some_values, value_at, values_field};
 ghost use Rattle.metric_contents.specs.KeyNames.{is_key};
 
-use crate::fault::{CatalogueDefect, CatalogueFault, CataloguePlace};
-use crate::texts::{copy_short, faults_at, label_field};
+use crate::fault::{
+    CatalogueDefect, CatalogueFault, CatalogueField, CataloguePlace, CatalogueSpot,
+};
+use crate::texts::{copy_short, faults_at, label_field, unknown_at};
 use metric_base::{Items, Text};
 use metric_contents::{Key, Values};
 use metric_names::AttrValue;
@@ -17,21 +18,22 @@ use std::alloc::Global;
 use toml::{Table, Value};
 
 // The fields of a key's table.
-const KEY_FIELDS: [&str; 3] = ["name", "values", "optional"];
+pub(crate) const KEY_FIELDS: [&str; 3] = ["name", "values", "optional"];
 
 // The keys of an instrument.
 pub(crate) fn keys_of(
     alloc: Global,
     tables: &[&Table],
-    at: CataloguePlace,
+    instrument: u32,
 ) -> Result<Items<Key>, CatalogueFault>
+    requires { length tables.now ≤ 8 }
     ensures exact { Gives CatalogueFault.Memory result
-        (each (key_of at) [] (map (λ t. table_view t.now) tables.now)) }
+        (each (key_of instrument) [] (map (λ t. table_view t.now) tables.now)) }
     ensures few { IfOk result (λ keys. length keys ≤ length tables.now) }
 {
     let mut keys = Items::new(alloc);
     for table in tables {
-        let key = key_of(alloc, table, at, keys.as_slice())?;
+        let key = key_of(alloc, table, instrument, keys.as_slice())?;
         keys.push(key)?;
     }
     Ok(keys)
@@ -41,16 +43,20 @@ pub(crate) fn keys_of(
 fn key_of(
     alloc: Global,
     table: &Table,
-    at: CataloguePlace,
+    instrument: u32,
     before: &[Key],
 ) -> Result<Key, CatalogueFault>
-    ensures { Gives CatalogueFault.Memory result (key_of at before.now (table_view table.now)) }
+    requires { length before.now < 8 }
+    ensures { Gives CatalogueFault.Memory result
+        (key_of instrument before.now (table_view table.now)) }
 {
+    let at = CataloguePlace::Key(instrument, before.len() as u32);
     let name = key_name(alloc, table, at)?;
-    let values = values_field(alloc, table, at)?;
-    let optional = optional_field(table, at)?;
+    let values = values_field(alloc, table, at.field(CatalogueField::Values))?;
+    let optional = optional_field(table, at.field(CatalogueField::Optional))?;
     if has_key(before, &name) {
-        return Err(CatalogueFault::At(CatalogueDefect::DuplicateKey, at));
+        let name = at.field(CatalogueField::Name);
+        return Err(CatalogueFault::At(CatalogueDefect::DuplicateKey, name));
     }
     Ok(Key {
         name,
@@ -69,11 +75,11 @@ fn has_key(keys: &[Key], name: &Text) -> bool
 fn only_key_fields(table: &Table, at: CataloguePlace) -> Result<(), CatalogueFault>
     ensures { result ≡ only_key_fields at (table_view table.now) }
 {
-    only(table, &KEY_FIELDS, &faults_at(at))
+    only(table, &KEY_FIELDS, &unknown_at(at))
 }
 
 #[tactic(auto, unfolding(crate::specs::Keys::optional_field))]
-fn optional_field(table: &Table, at: CataloguePlace) -> Result<bool, CatalogueFault>
+fn optional_field(table: &Table, at: CatalogueSpot) -> Result<bool, CatalogueFault>
     ensures { result ≡ optional_field at (table_view table.now) }
 {
     flag_or(table, "optional", false, &faults_at(at))
@@ -85,6 +91,7 @@ fn key_name(alloc: Global, table: &Table, at: CataloguePlace) -> Result<Text, Ca
     ensures { Gives CatalogueFault.Memory result (key_name at (table_view table.now)) }
 {
     only_key_fields(table, at)?;
+    let at = at.field(CatalogueField::Name);
     let name = label_field(alloc, table, at)?;
     if name.as_str() == "otel.metric.overflow" {
         return Err(CatalogueFault::At(CatalogueDefect::ReservedKey, at));
@@ -94,7 +101,7 @@ fn key_name(alloc: Global, table: &Table, at: CataloguePlace) -> Result<Text, Ca
 
 // The values of a key, of which none stands twice.
 #[tactic(auto, unfolding(crate::specs::Keys::values_field))]
-fn values_field(alloc: Global, table: &Table, at: CataloguePlace) -> Result<Values, CatalogueFault>
+fn values_field(alloc: Global, table: &Table, at: CatalogueSpot) -> Result<Values, CatalogueFault>
     ensures { Gives CatalogueFault.Memory result (values_field at (table_view table.now)) }
 {
     let values = some_values(alloc, table, at)?;
@@ -106,7 +113,7 @@ fn values_field(alloc: Global, table: &Table, at: CataloguePlace) -> Result<Valu
 fn some_values(
     alloc: Global,
     table: &Table,
-    at: CataloguePlace,
+    at: CatalogueSpot,
 ) -> Result<Items<AttrValue>, CatalogueFault>
     ensures exact { Gives CatalogueFault.Memory result (some_values at (table_view table.now)) }
     ensures few { IfOk result (λ values. length values ≤ 1000) }
@@ -123,22 +130,36 @@ fn some_values(
 fn values_at(
     alloc: Global,
     values: &[Value],
-    at: CataloguePlace,
+    at: CatalogueSpot,
 ) -> Result<Items<AttrValue>, CatalogueFault>
+    requires { length values.now ≤ 1000 }
     ensures exact { Gives CatalogueFault.Memory result
-        (each_alone (value_at at) (map view values.now)) }
+        (each (next_value at) [] (map view values.now)) }
     ensures few { IfOk result (λ read. length read ≤ length values.now) }
 {
     let mut read = Items::new(alloc);
     for value in values {
-        let value = value_at(alloc, value, at)?;
+        let value = next_value(alloc, value, at, read.as_slice())?;
         read.push(value)?;
     }
     Ok(read)
 }
 
+// One more value, after those before it.
+fn next_value(
+    alloc: Global,
+    value: &Value,
+    at: CatalogueSpot,
+    before: &[AttrValue],
+) -> Result<AttrValue, CatalogueFault>
+    requires { length before.now < 1000 }
+    ensures { Gives CatalogueFault.Memory result (next_value at before.now (view value.now)) }
+{
+    value_at(alloc, value, at.entry(before.len() as u32))
+}
+
 // The attribute value that a value is.
-fn value_at(alloc: Global, value: &Value, at: CataloguePlace) -> Result<AttrValue, CatalogueFault>
+fn value_at(alloc: Global, value: &Value, at: CatalogueSpot) -> Result<AttrValue, CatalogueFault>
     ensures { Gives CatalogueFault.Memory result (value_at at (view value.now)) }
 {
     match value {

@@ -6,12 +6,14 @@ mod catalogue;
 mod fault;
 mod instruments;
 mod keys;
+mod known;
 mod meters;
 mod recorders;
 mod texts;
 
 pub use catalogue::Catalogue;
-pub use fault::{CatalogueDefect, CatalogueFault, CataloguePlace};
+pub use fault::{CatalogueDefect, CatalogueFault, CatalogueField, CataloguePlace, CatalogueSpot};
+pub use known::field_names;
 pub use metric_contents::{
     Attr, Budget, Contents, Instrument, Key, Kind, Meter, OwnedAttr, Recorder, Refusal, SetKey,
     Values, encode_ignores_order,

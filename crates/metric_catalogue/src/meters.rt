@@ -5,9 +5,11 @@ ghost use Rattle.toml.specs.View.{table_view};
 ghost use Rattle.metric_base.specs.Steps.{Gives, Advances, in_turn, require};
 ghost use Rattle.metric_catalogue.specs.Meters.{is_meter, meter_of, only_meter_fields, with_meter};
 
-use crate::fault::{CatalogueDefect, CatalogueFault, CataloguePlace};
+use crate::fault::{
+    CatalogueDefect, CatalogueFault, CatalogueField, CataloguePlace, CatalogueSpot,
+};
 use crate::instruments::add_instruments;
-use crate::texts::{faults_at, free_text, needed_text};
+use crate::texts::{faults_at, free_text, needed_text, unknown_at};
 use metric_base::Items;
 use metric_contents::{Instrument, Meter};
 use metric_table::{only, tables_field};
@@ -15,7 +17,7 @@ use std::alloc::Global;
 use toml::Table;
 
 // The fields of a meter's table.
-const METER_FIELDS: [&str; 4] = ["name", "version", "schema_url", "instrument"];
+pub(crate) const METER_FIELDS: [&str; 4] = ["name", "version", "schema_url", "instrument"];
 
 // The meters so far, with all their instruments.
 #[derive(Drop)]
@@ -63,8 +65,14 @@ fn add_meter(
     let at = CataloguePlace::Meter(number);
     let meter = meter_of(alloc, table, at)?;
     let most = 512 - metered.instruments.len();
-    let tables = tables_field(alloc, table, "instrument", most, &faults_at(at))?;
-    put_meter(&mut metered.meters, meter, at)?;
+    let tables = tables_field(
+        alloc,
+        table,
+        "instrument",
+        most,
+        &faults_at(at.field(CatalogueField::Instrument)),
+    )?;
+    put_meter(&mut metered.meters, meter, at.field(CatalogueField::Name))?;
     let instruments = &mut metered.instruments;
     add_instruments(alloc, tables.as_slice(), format, number, instruments)
 }
@@ -73,7 +81,7 @@ fn add_meter(
 fn put_meter(
     meters: &mut Items<Meter>,
     meter: Meter,
-    at: CataloguePlace,
+    at: CatalogueSpot,
 ) -> Result<(), CatalogueFault>
     ensures exact { Gives CatalogueFault.Memory result
         (require (not (list_any (is_meter meter) meters.old))
@@ -104,7 +112,7 @@ fn is_meter(other: &Meter, meter: &Meter) -> bool
 fn only_meter_fields(table: &Table, at: CataloguePlace) -> Result<(), CatalogueFault>
     ensures { result ≡ only_meter_fields at (table_view table.now) }
 {
-    only(table, &METER_FIELDS, &faults_at(at))
+    only(table, &METER_FIELDS, &unknown_at(at))
 }
 
 #[tactic(auto, unfolding(crate::specs::Meters::meter_of))]
@@ -112,9 +120,14 @@ fn meter_of(alloc: Global, table: &Table, at: CataloguePlace) -> Result<Meter, C
     ensures { Gives CatalogueFault.Memory result (meter_of at (table_view table.now)) }
 {
     only_meter_fields(table, at)?;
-    let name = needed_text(alloc, table, "name", at)?;
-    let version = free_text(alloc, table, "version", at)?;
-    let schema_url = free_text(alloc, table, "schema_url", at)?;
+    let name = needed_text(alloc, table, "name", at.field(CatalogueField::Name))?;
+    let version = free_text(alloc, table, "version", at.field(CatalogueField::Version))?;
+    let schema_url = free_text(
+        alloc,
+        table,
+        "schema_url",
+        at.field(CatalogueField::SchemaUrl),
+    )?;
     Ok(Meter {
         name,
         version,

@@ -4,12 +4,14 @@ ghost use Rattle.std.specs.List.{list_any};
 ghost use Rattle.toml.specs.View.{table_view};
 ghost use Rattle.metric_base.specs.Steps.{Gives, each};
 ghost use Rattle.metric_table.specs.Fields.{only};
-ghost use Rattle.metric_catalogue.specs.Faults.{faults_at};
+ghost use Rattle.metric_catalogue.specs.Faults.{faults_at, field_at};
 ghost use Rattle.metric_catalogue.specs.Recorders.{amount_field, amount_from, budget_of, budgeted, budgets_field, is_recorder, number_below, number_field, recorder_fields, recorder_name, recorder_of};
 ghost use Rattle.metric_contents.specs.Budgets.{is_budget};
 
-use crate::fault::{CatalogueDefect, CatalogueFault, CataloguePlace};
-use crate::texts::{faults_at, label_field};
+use crate::fault::{
+    CatalogueDefect, CatalogueFault, CatalogueField, CataloguePlace, CatalogueSpot,
+};
+use crate::texts::{faults_at, label_field, unknown_at};
 use metric_base::{Few, Items, Text};
 use metric_contents::{Budget, Recorder};
 use metric_table::{integer_of, only, required, tables_field};
@@ -17,10 +19,10 @@ use std::alloc::Global;
 use toml::Table;
 
 // The fields of a recorder's table.
-const RECORDER_FIELDS: [&str; 2] = ["name", "budget"];
+pub(crate) const RECORDER_FIELDS: [&str; 2] = ["name", "budget"];
 
 // The fields of a budget's table.
-const BUDGET_FIELDS: [&str; 2] = ["instrument", "amount"];
+pub(crate) const BUDGET_FIELDS: [&str; 2] = ["instrument", "amount"];
 
 // The recorders of a catalogue with so many instruments.
 pub(crate) fn recorders_of(
@@ -55,7 +57,7 @@ fn recorder_of(
     let at = CataloguePlace::Recorder(before.len() as u32);
     let name = recorder_name(alloc, table, at)?;
     let is_taken = has_recorder(before, &name);
-    let budgets = budgets_field(alloc, table, count, at, is_taken)?;
+    let budgets = budgets_field(alloc, table, count, before.len() as u32, is_taken)?;
     Ok(Recorder { name, budgets })
 }
 
@@ -64,7 +66,7 @@ fn recorder_name(alloc: Global, table: &Table, at: CataloguePlace) -> Result<Tex
     ensures { Gives CatalogueFault.Memory result (recorder_name at (table_view table.now)) }
 {
     only_recorder_fields(table, at)?;
-    label_field(alloc, table, at)
+    label_field(alloc, table, at.field(CatalogueField::Name))
 }
 
 // The budgets of a recorder, unless its name is taken, which is told before a fault of a budget.
@@ -73,25 +75,29 @@ fn budgets_field(
     alloc: Global,
     table: &Table,
     count: u32,
-    at: CataloguePlace,
+    number: u32,
     is_taken: bool,
 ) -> Result<Few<Budget, 512>, CatalogueFault>
     ensures { Gives CatalogueFault.Memory result
-        (budgets_field at count is_taken (table_view table.now)) }
+        (budgets_field number count is_taken (table_view table.now)) }
 {
-    let tables = tables_field(alloc, table, "budget", 512, &faults_at(at))?;
+    let at = CataloguePlace::Recorder(number);
+    let faults = faults_at(at.field(CatalogueField::Budget));
+    let tables = tables_field(alloc, table, "budget", 512, &faults)?;
     if is_taken {
-        return Err(CatalogueFault::At(CatalogueDefect::DuplicateRecorder, at));
+        let name = at.field(CatalogueField::Name);
+        return Err(CatalogueFault::At(CatalogueDefect::DuplicateRecorder, name));
     }
-    let budgets = budgets_of(alloc, tables.as_slice(), count, at)?;
+    let budgets = budgets_of(alloc, tables.as_slice(), count, number)?;
     Ok(Few::from_items(budgets))
 }
 
 #[tactic(auto, using(crate::proofs::FieldNames::field_names))]
 fn only_recorder_fields(table: &Table, at: CataloguePlace) -> Result<(), CatalogueFault>
-    ensures { result ≡ only (faults_at at) recorder_fields (table_view table.now) }
+    ensures { result
+        ≡ only (faults_at (field_at at CatalogueField.Unknown)) recorder_fields (table_view table.now) }
 {
-    only(table, &RECORDER_FIELDS, &faults_at(at))
+    only(table, &RECORDER_FIELDS, &unknown_at(at))
 }
 
 fn has_recorder(recorders: &[Recorder], name: &Text) -> bool
@@ -104,15 +110,16 @@ fn budgets_of(
     alloc: Global,
     tables: &[&Table],
     count: u32,
-    at: CataloguePlace,
+    recorder: u32,
 ) -> Result<Items<Budget>, CatalogueFault>
+    requires { length tables.now ≤ 512 }
     ensures exact { Gives CatalogueFault.Memory result
-        (each (budget_of at count) [] (map (λ t. table_view t.now) tables.now)) }
+        (each (budget_of recorder count) [] (map (λ t. table_view t.now) tables.now)) }
     ensures few { IfOk result (λ budgets. length budgets ≤ length tables.now) }
 {
     let mut budgets = Items::new(alloc);
     for table in tables {
-        let budget = budget_of(table, count, at, budgets.as_slice())?;
+        let budget = budget_of(table, count, recorder, budgets.as_slice())?;
         budgets.push(budget)?;
     }
     Ok(budgets)
@@ -122,16 +129,19 @@ fn budgets_of(
 fn budget_of(
     table: &Table,
     count: u32,
-    at: CataloguePlace,
+    recorder: u32,
     before: &[Budget],
 ) -> Result<Budget, CatalogueFault>
-    ensures { result ≡ budget_of at count before.now (table_view table.now) }
+    requires { length before.now < 512 }
+    ensures { result ≡ budget_of recorder count before.now (table_view table.now) }
 {
-    only(table, &BUDGET_FIELDS, &faults_at(at))?;
-    let instrument = budgeted(table, count, at)?;
-    let amount = amount_field(table, at)?;
+    let at = CataloguePlace::Budget(recorder, before.len() as u32);
+    only(table, &BUDGET_FIELDS, &unknown_at(at))?;
+    let instrument = budgeted(table, count, at.field(CatalogueField::Instrument))?;
+    let amount = amount_field(table, at.field(CatalogueField::Amount))?;
     if has_budget(before, instrument) {
-        return Err(CatalogueFault::At(CatalogueDefect::DuplicateBudget, at));
+        let instrument = at.field(CatalogueField::Instrument);
+        return Err(CatalogueFault::At(CatalogueDefect::DuplicateBudget, instrument));
     }
     Ok(Budget { instrument, amount })
 }
@@ -143,7 +153,7 @@ fn has_budget(budgets: &[Budget], instrument: u32) -> bool
 }
 
 #[tactic(auto, unfolding(crate::specs::Recorders::budgeted))]
-fn budgeted(table: &Table, count: u32, at: CataloguePlace) -> Result<u32, CatalogueFault>
+fn budgeted(table: &Table, count: u32, at: CatalogueSpot) -> Result<u32, CatalogueFault>
     ensures { result ≡ budgeted at count (table_view table.now) }
 {
     let number = number_field(table, "instrument", at)?;
@@ -152,7 +162,7 @@ fn budgeted(table: &Table, count: u32, at: CataloguePlace) -> Result<u32, Catalo
 
 // A whole number that a budget needs.
 #[tactic(auto, unfolding(crate::specs::Recorders::number_field))]
-fn number_field(table: &Table, name: &str, at: CataloguePlace) -> Result<i64, CatalogueFault>
+fn number_field(table: &Table, name: &str, at: CatalogueSpot) -> Result<i64, CatalogueFault>
     ensures { result ≡ number_field at name.now (table_view table.now) }
 {
     let faults = faults_at(at);
@@ -171,7 +181,7 @@ fn number_below(count: u32, number: i64) -> Option<u32>
 }
 
 #[tactic(auto, unfolding(crate::specs::Recorders::amount_field))]
-fn amount_field(table: &Table, at: CataloguePlace) -> Result<u64, CatalogueFault>
+fn amount_field(table: &Table, at: CatalogueSpot) -> Result<u64, CatalogueFault>
     ensures { result ≡ amount_field at (table_view table.now) }
 {
     let number = number_field(table, "amount", at)?;

@@ -3,17 +3,26 @@ ghost use Rattle.std.specs.Prelude.{◌≡◌, ◌==◌, length};
 ghost use Rattle.toml.specs.View.{table_view};
 ghost use Rattle.metric_base.specs.Steps.{Gives};
 ghost use Rattle.metric_table.specs.Fields.{short_text};
-ghost use Rattle.metric_catalogue.specs.Faults.{faults_at, pair_faults_at};
+ghost use Rattle.metric_catalogue.specs.Faults.{faults_at, field_at, pair_faults_at};
 ghost use Rattle.metric_catalogue.specs.Texts.{free_text, label_field, needed_text};
 
-use crate::fault::{CatalogueDefect, CatalogueFault, CataloguePlace};
+use crate::fault::{
+    CatalogueDefect, CatalogueFault, CatalogueField, CataloguePlace, CatalogueSpot,
+};
 use metric_base::Text;
 use metric_table::{FieldFaults, optional_text, short_text, text_field};
 use std::alloc::Global;
 use toml::Table;
 
-// What the fields of a table at this place answer for their faults.
-pub(crate) fn faults_at(at: CataloguePlace) -> FieldFaults<CatalogueFault>
+// What a field that the format does not name for the table answers for its faults.
+pub(crate) fn unknown_at(at: CataloguePlace) -> FieldFaults<CatalogueFault>
+    ensures { result ≡ faults_at (field_at at CatalogueField.Unknown) }
+{
+    faults_at(at.field(CatalogueField::Unknown))
+}
+
+// What a field of a table answers for its faults.
+pub(crate) fn faults_at(at: CatalogueSpot) -> FieldFaults<CatalogueFault>
     ensures { result ≡ faults_at at }
 {
     FieldFaults {
@@ -26,7 +35,7 @@ pub(crate) fn faults_at(at: CataloguePlace) -> FieldFaults<CatalogueFault>
 }
 
 // The same where a list of another length is of another kind.
-pub(crate) fn pair_faults_at(at: CataloguePlace) -> FieldFaults<CatalogueFault>
+pub(crate) fn pair_faults_at(at: CatalogueSpot) -> FieldFaults<CatalogueFault>
     ensures { result ≡ pair_faults_at at }
 {
     FieldFaults {
@@ -42,7 +51,7 @@ pub(crate) fn pair_faults_at(at: CataloguePlace) -> FieldFaults<CatalogueFault>
 pub(crate) fn copy_short(
     alloc: Global,
     text: &str,
-    at: CataloguePlace,
+    at: CatalogueSpot,
 ) -> Result<Text, CatalogueFault>
     ensures { Gives CatalogueFault.Memory result (short_text (faults_at at) text.now) }
 {
@@ -56,7 +65,7 @@ pub(crate) fn needed_text(
     alloc: Global,
     table: &Table,
     name: &str,
-    at: CataloguePlace,
+    at: CatalogueSpot,
 ) -> Result<Text, CatalogueFault>
     ensures { Gives CatalogueFault.Memory result (needed_text at name.now (table_view table.now)) }
 {
@@ -70,7 +79,7 @@ pub(crate) fn free_text(
     alloc: Global,
     table: &Table,
     name: &str,
-    at: CataloguePlace,
+    at: CatalogueSpot,
 ) -> Result<Text, CatalogueFault>
     ensures { Gives CatalogueFault.Memory result (free_text at name.now (table_view table.now)) }
 {
@@ -83,7 +92,7 @@ pub(crate) fn free_text(
 pub(crate) fn label_field(
     alloc: Global,
     table: &Table,
-    at: CataloguePlace,
+    at: CatalogueSpot,
 ) -> Result<Text, CatalogueFault>
     ensures { Gives CatalogueFault.Memory result (label_field at (table_view table.now)) }
 {

@@ -45,7 +45,8 @@ certificate_of table = do
   claims ← claims_of table
   formatted claims
 
--- what the certificate says that a text is
+-- # certificate of a text (profile)
+-- What the table that `toml` reads says, or that it is none.
 abbrev pub certificate_from : List ℕ → Result Claims CertFault
 certificate_from text = do
   table ← require_some (parse_document text) NotToml

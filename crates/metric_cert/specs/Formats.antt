@@ -19,6 +19,7 @@ has_list stream = is_list stream.by
 abbrev pub is_format_of : List StreamSets → ℕ → Bool
 is_format_of streams format = format == 2 || (format == 1 && not (list_any has_list streams))
 
--- what is claimed is of a format that there is
+-- # claims of a format (profile)
+-- The format is 2, or 1, in which no stream is by list.
 abbrev pub is_formatted : Claims → Bool
 is_formatted claims = is_format_of claims.streams claims.format

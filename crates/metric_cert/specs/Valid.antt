@@ -152,8 +152,10 @@ pub record IsOrderOf (contents : Contents) (streams : List Stream) (reader : ℕ
   pub rising : AllPairs (λ a b. IsBelow (identity_at contents streams a)
       (identity_at contents streams b)) order.streams
 
--- One true reason for each pair in order, one entry for each stream in order, one bound for each
--- instrument in order, and one order for each reader in order. The format makes no difference.
+-- # valid certificate (profile)
+-- One true reason for each pair of view and instrument, the streams of the definition, an order for
+-- each reader that rises by identity, a bound for each instrument, each number true and in range,
+-- and each list that of its stream.
 pub record IsValid (contents : Contents) (config : Config) (certificate : Claims) : Type 0 where
   pub reasons : AllZip (IsReasonOf contents config) (all_pairs contents config) certificate.reasons
   pub streams : AllZip (IsEntryOf contents) (streams_of contents config) certificate.streams

@@ -191,7 +191,9 @@ StreamsFind contents config certificate streams =
     (Then (BoundsFind contents streams certificate.bounds)
     (SetsFind contents streams certificate.streams)))
 
--- what the check of a certificate finds
+-- # what the check finds (profile)
+-- The first fault of reasons, streams, orders, bounds and sets, each asked only where those before
+-- it found nothing.
 abbrev pub CheckFinds : Contents → Config → Claims → Option CheckFault → Type 0
 CheckFinds contents config certificate =
     Then (ReasonsFind contents config certificate.reasons)

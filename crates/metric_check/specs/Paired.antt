@@ -3,8 +3,9 @@
 use Rattle.std.specs.Prelude.{◌≡◌, List, [], ◌∷◌, Option, Some, None}
 use Rattle.metric_bounds.specs.First.{Then}
 
--- what is found at the first pair that has a fault; or that an element that is due is missing; or
--- after the last, that there are more
+-- # first fault along two lists (profile)
+-- What is found at the first pair that has a fault, or that an element is missing, or that there
+-- are more.
 abbrev pub EachPaired : {X Y F : Type 0} → (X → Y → Option F → Type 0) → F → F → List X → List Y
     → Option F → Type 0
 EachPaired Finds missing more [] [] found = found ≡ None

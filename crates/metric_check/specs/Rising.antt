@@ -31,8 +31,8 @@ abbrev pub named_by : List ReaderOrder → ℕ
 named_by [] = 0
 named_by (order ∷ orders) = length order.streams + named_by orders
 
--- What is tested of all orders: there is one for each reader, each names own streams that rise, and
--- all together as many as there are.
+-- # tested orders (profile)
+-- One for each reader, of own streams that rise, and as many in all as there are streams.
 abbrev pub AreTested : Contents → Config → List Stream → List ReaderOrder → Type 0
 AreTested contents config streams orders =
     (length orders ≡ length config.readers) × AreOwnOrders contents streams orders

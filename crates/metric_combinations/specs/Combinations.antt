@@ -3,7 +3,8 @@ use Rattle.std.specs.Prelude.{ℕ, Bool, true, List, Option, Some, None}
 use Rattle.std.specs.List.{list_any}
 use Rattle.std.specs.Str.{bytes_eq}
 
--- whether a set key is among the rows
+-- # among rows (profile)
+-- Some row is the set key.
 abbrev pub allows : List (List ℕ) → List ℕ → Bool
 allows rows set = list_any (λ row. bytes_eq row set) rows
 

@@ -21,6 +21,7 @@ abbrev pub is_set_at : List (List ℕ) → List ℕ → Option ℕ → Bool
 is_set_at rows set None = false
 is_set_at rows set (Some place) = is_set set (slice_get rows place)
 
--- whether the trie leads from the set key to a row that is equal to it
+-- # finds (profile) [finds, end_of]
+-- A trie leads from a set key, one step for each key, to a row that is equal to it.
 abbrev pub finds : Trie → List (List ℕ) → List ℕ → Bool
 finds trie rows set = is_set_at rows set (end_of trie.steps.items trie.root (take trie.depth set))

@@ -22,7 +22,8 @@ abbrev pub amount_from : Option Recorder → ℕ → ℕ
 amount_from None instrument = 0
 amount_from (Some recorder) instrument = amount_of recorder instrument
 
--- how many recordings the recorder of this number may make on the instrument of that number
+-- # budget (profile)
+-- What a recorder may record on an instrument, 0 where none is declared.
 abbrev pub budget_at : List Recorder → ℕ → ℕ → ℕ
 budget_at recorders recorder instrument = amount_from (slice_get recorders recorder) instrument
 
@@ -31,6 +32,7 @@ abbrev pub spare_in : Option Instrument → ℕ
 spare_in None = 0
 spare_in (Some instrument) = instrument.spare
 
--- the same of the instrument of this number
+-- # spare (profile)
+-- How many recordings on an instrument may be granted beside the budgets, 0 where none is declared.
 abbrev pub spare_at : List Instrument → ℕ → ℕ
 spare_at instruments instrument = spare_in (slice_get instruments instrument)

@@ -91,7 +91,10 @@ allowed_set instrument attrs = do
   set ← set_of instrument.keys attrs
   permitted instrument.allowed set
 
--- the set key of attributes for the instrument of this number
+-- # set key of attributes (Common, attribute; profile) [encode_of, allowed_set, set_key,
+-- has_declared_value]
+-- For each declared key one plus the place of its value, 0 where it is absent, where the instrument
+-- allows the combination; or the first refusal.
 unfoldable pub encode_of : List Instrument → ℕ → List Given → Result (List ℕ) Refusal
 encode_of instruments number attrs = do
   instrument ← require_some (slice_get instruments number) UnknownInstrument

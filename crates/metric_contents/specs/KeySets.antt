@@ -9,7 +9,8 @@ use Rattle.metric_contents.specs.declared.contents.Key.{Key}
 abbrev pub is_key_entry : Key → ℕ → Bool
 is_key_entry key entry = if entry == 0 then key.optional else nat_le entry (length key.values)
 
--- whether a set key has an entry of each key, and 0 in the places that are left
+-- # set of keys (profile)
+-- A set key with an entry of each key, and 0 in the places that are left.
 abbrev pub is_key_set : List Key → List ℕ → Bool
 is_key_set [] set = list_all (λ entry. entry == 0) set
 is_key_set (key ∷ keys) [] = false

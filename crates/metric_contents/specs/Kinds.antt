@@ -5,7 +5,8 @@ use Rattle.metric_contents.specs.declared.contents.Kind.{Kind}
 use Rattle.metric_contents.specs.declared.contents.Kind.TheVariants.{Counter, UpDownCounter}
 use Rattle.metric_contents.specs.declared.contents.Kind.TheVariants.{Histogram, Gauge}
 
--- the kind of this name in files
+-- # kind's name, monotonic kind (API, instrument kinds) [kind_named, is_monotonic]
+-- `counter`, `up_down_counter`, `histogram`, `gauge`; counter and histogram.
 abbrev pub kind_named : List ℕ → Option Kind
 kind_named text =
     if bytes_eq text (codes "counter") then Some Counter

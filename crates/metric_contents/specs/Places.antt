@@ -14,7 +14,8 @@ same_value (Whole a) (Whole b) = int_eq a b
 same_value (Flag a) (Flag b) = if a then b else not b
 same_value _ _ = false
 
--- the place of a value in a list, counted from 0
+-- # place of a value (profile)
+-- Its place in the list that a key declares.
 abbrev pub place : List AttrValue → AttrValue → Option ℕ
 place values value = position_from (same_value value) 0 values
 

@@ -57,3 +57,6 @@ name_of Stranger = codes "Stranger"
 -- both, as the refusal is printed
 abbrev pub refusal_text : Refusal → List ℕ
 refusal_text refusal = decimal (number_of refusal) ++ (codes " " ++ name_of refusal)
+
+-- # refusal (profile) [Refusal, refusal_text]
+-- Why an event is refused, with its printed number and name.

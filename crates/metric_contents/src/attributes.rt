@@ -1,6 +1,8 @@
 //! The attributes of a recording.
 ghost use Rattle.std.specs.Prelude.{◌≡◌};
 ghost use Rattle.metric_names.specs.Values.{value_of};
+ghost use Rattle.metric_names.specs.declared.value.AttrValue.TheVariants.{Flag, Text as IsText, Whole};
+ghost use Rattle.metric_contents.specs.Attributes.{given_by};
 
 use metric_base::Text;
 use metric_names::{AttrValue, ValueRef};
@@ -12,6 +14,32 @@ pub struct Attr<'a> {
     pub key: &'a str,
     /// The value.
     pub value: ValueRef<'a>,
+}
+
+impl<'a> Attr<'a> {
+    /// The attribute of this key whose value is a text.
+    pub const fn text(key: &'a str, value: &'a str) -> Attr<'a>
+        ensures { given_by result ≡ (key.now, IsText value.now) }
+    {
+        let value = ValueRef::Text(value);
+        Attr { key, value }
+    }
+
+    /// The attribute of this key whose value is a whole number.
+    pub const fn whole(key: &'a str, value: i64) -> Attr<'a>
+        ensures { given_by result ≡ (key.now, Whole value) }
+    {
+        let value = ValueRef::Whole(value);
+        Attr { key, value }
+    }
+
+    /// The attribute of this key whose value is a flag.
+    pub const fn flag(key: &'a str, value: bool) -> Attr<'a>
+        ensures { given_by result ≡ (key.now, Flag value) }
+    {
+        let value = ValueRef::Flag(value);
+        Attr { key, value }
+    }
 }
 
 /// An attribute that is owned (Common concepts, attribute).

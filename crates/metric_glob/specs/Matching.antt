@@ -41,7 +41,9 @@ stands_at pattern place x =
     nat_lt place (length pattern)
     && (not (takes_any (slice_index pattern place)) && stands_for (slice_index pattern place) x)
 
--- a piece of text that a pattern character stands for
+-- # piece (SDK, instrument selection criteria)
+-- Any text for `*`; one character for `?`; for any other pattern character the same character
+-- without ASCII case.
 abbrev pub IsPiece : ℕ → List ℕ → Type 0
 IsPiece c piece = MatchBool (takes_any c) ⊤ ((x : ℕ) × (piece ≡ x ∷ []) × IsTrue (stands_for c x))
 
@@ -50,7 +52,8 @@ pub record IsDivision (pattern : List ℕ) (pieces : List (List ℕ)) (text : Li
   pub fit : AllZip IsPiece pattern pieces
   pub spell : text ≡ concat pieces
 
--- the text divides into pieces, one for each pattern character
+-- # match (SDK, instrument selection criteria)
+-- A text is a concatenation of pieces, one for each pattern character.
 pub record Matches (pattern text : List ℕ) : Type 0 where
   pub pieces : List (List ℕ)
   pub division : IsDivision pattern pieces text

@@ -8,11 +8,13 @@ use Rattle.metric_glob.specs.declared.pattern.PatternFault.{PatternFault}
 use Rattle.metric_glob.specs.declared.pattern.PatternFault.TheVariants.{Empty, BadCharacter}
 use Rattle.metric_glob.specs.declared.pattern.PatternFault.TheVariants.{TooLong}
 
--- A pattern is a text of 1 to 255 printable ASCII characters.
+-- # pattern (profile)
+-- A text of 1 to 255 printable ASCII characters.
 abbrev pub IsPattern : List ℕ → Type 0
 IsPattern text = (1 ≤ length text) × IsTrue (list_all is_printable text) × (length text ≤ 255)
 
--- what a text is as a pattern: itself, or the first of the faults in this order
+-- # pattern of a text (profile)
+-- The text itself where it is a pattern, else the first of Empty, BadCharacter, TooLong.
 abbrev pub pattern_of : List ℕ → Result (List ℕ) PatternFault
 pattern_of text = do
   _ ← require (nat_le 1 (length text)) Empty

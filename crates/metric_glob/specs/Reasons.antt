@@ -16,8 +16,9 @@ any_lengths (c ∷ cs) [] = []
 any_lengths (c ∷ cs) (piece ∷ pieces) =
     if takes_any c then length piece ∷ any_lengths cs pieces else any_lengths cs pieces
 
--- the text divides into pieces, one for each pattern character, and each `*`
--- takes as many characters as is given
+-- # takes (profile)
+-- Numbers that spell a text: it divides into pieces, and the lengths of the pieces of `*` are these
+-- numbers in order.
 pub record Spells (pattern takes text : List ℕ) : Type 0 where
   pub pieces : List (List ℕ)
   pub division : IsDivision pattern pieces text
@@ -46,8 +47,9 @@ RowStays pattern text rows at =
 abbrev pub AreClosed : List ℕ → List ℕ → List (List ℕ) → Type 0
 AreClosed pattern text rows = (at : ℕ) → at ≤ length text → RowStays pattern text rows at
 
--- Rows of pattern places, one row for each place of the text, that hold the pattern's start, are
--- closed under steps, and do not have the pattern's end in the last.
+-- # rows (profile)
+-- For each place of the text a strictly rising row of pattern places; the first has place 0, all
+-- are closed under steps, the last is without the pattern's end.
 pub record ShutsOut (pattern text : List ℕ) (rows : List (List ℕ)) : Type 0 where
   pub count : length rows ≡ length text + 1
   pub rising : All IsStrictlyIncreasing rows
@@ -55,12 +57,14 @@ pub record ShutsOut (pattern text : List ℕ) (rows : List (List ℕ)) : Type 0 
   pub closed : AreClosed pattern text rows
   pub ends : ¬ Contains (row_at rows (length text)) (length pattern)
 
--- what is tested of a reason
+-- # confirmed reason (profile)
+-- Takes that spell the text, or rows that shut it out.
 abbrev pub Confirms : List ℕ → List ℕ → Reason → Type 0
 Confirms pattern text (Takes takes) = Spells pattern takes text
 Confirms pattern text (Rows rows) = ShutsOut pattern text rows
 
--- what a confirmed reason shows
+-- # what a reason shows (profile)
+-- Takes show a match, rows show that there is none.
 abbrev pub Shows : List ℕ → List ℕ → Reason → Type 0
 Shows pattern text (Takes takes) = Matches pattern text
 Shows pattern text (Rows rows) = ¬ Matches pattern text

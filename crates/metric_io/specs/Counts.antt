@@ -9,11 +9,14 @@ use Rattle.metric_io.specs.declared.devices.SourceFault.TheVariants.{Interrupted
 abbrev pub higher_count : ℕ → ℕ → ℕ
 higher_count n by = min (n + by) (2 ^ 64 - 1)
 
--- a count that is one higher, or at its top
+-- # counts of a source (profile) [next_count, counts_after]
+-- How often it was asked, interrupted, and failed, told by the source alone; each count stops at
+-- 2^64 - 1.
 abbrev pub next_count : ℕ → ℕ
 next_count n = higher_count n 1
 
--- the count of failures rose, or is at its top: the device failed in between
+-- # has failed (profile)
+-- Between two moments the count of failures rose, or stands at its top.
 abbrev pub HasFailed : ℕ → ℕ → Type 0
 HasFailed old new = next_count old ≤ new
 
@@ -29,7 +32,8 @@ counts_after old (Err Interrupted) =
 counts_after old (Err Broken) =
     record old { reads = next_count old.reads; failures = next_count old.failures }
 
--- a write that answers an error, or takes nothing of something, is a failure, and no other
+-- # failure of a write, a flush (profile) [CountsWrite, CountsFlush]
+-- A write that answers an error, or takes nothing of something; a flush that answers an error.
 abbrev pub CountsWrite : {E : Type 0} → ℕ → ℕ → Result ℕ E → List ℕ → Type 0
 CountsWrite old new r buf = MatchResult r
     (λ n. (0 < n → new ≡ old) × (length buf ≡ 0 → new ≡ old)
@@ -39,3 +43,7 @@ CountsWrite old new r buf = MatchResult r
 -- a flush that answers an error is a failure, and no other
 abbrev pub CountsFlush : {T E : Type 0} → ℕ → ℕ → Result T E → Type 0
 CountsFlush old new r = MatchResult r (λ _. new ≡ old) (λ _. new ≡ next_count old)
+
+-- # source, sink (profile) [Source]
+-- What bytes are read from and written to, in the shapes of std's `Read` and `Write`; a read may
+-- also tell an interruption.

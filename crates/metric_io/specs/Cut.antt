@@ -7,8 +7,8 @@ use Rattle.metric_io.specs.declared.counts.ReadCounts.{ReadCounts}
 use Rattle.metric_io.specs.declared.devices.SourceFault.{SourceFault}
 use Rattle.metric_io.specs.declared.devices.SourceFault.TheVariants.{Interrupted, Broken}
 
--- A source over memory: the bytes that are left, the most that one read gives, the read that a
--- signal interrupts and the read from which on it fails, both counted from 1, and its counts.
+-- # state of a cut device (profile) [SourceState, SinkState]
+-- What is left or held, the place of failure, the most of one call, the counts.
 pub record SourceState : Type 0 where
   pub rest : List ℕ
   pub most : ℕ

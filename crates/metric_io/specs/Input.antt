@@ -18,7 +18,9 @@ pub record ReachesReadLimit (old new : ReadCounts) (input : Option (List ℕ)) :
   pub gave : IfSome input
       (λ xs. higher_count old.interruptions most_reads ≤ new.interruptions + length xs)
 
--- The source failed, or has more bytes than an input may have, or was read as often as it may be.
+-- # read fault (profile) [IsReadFault, ReachesReadLimit]
+-- The source failed, or had more than 67,108,864 bytes, or was asked 4,194,304 times and each time
+-- gave a byte or was interrupted.
 abbrev pub IsReadFault : ReadCounts → ReadCounts → Option (List ℕ) → Type 0
 IsReadFault old new input =
     HasFailed old.failures new.failures

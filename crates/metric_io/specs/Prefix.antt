@@ -7,7 +7,8 @@ use Rattle.std.proofs.lemmas.Grind.{flat_map-append}
 use Rattle.std.proofs.lemmas.List.{drop_more}
 use Rattle.std.proofs.KnownBytes.{Appends-nil, Appends-trans, Appends-kept}
 
--- What the sink holds is what it held, and then a prefix of the text.
+-- # appends a prefix (profile)
+-- A sink holds what it held and then some first part of a text.
 pub record AppendsPrefix (old new : Option (List ℕ)) (text : List ℕ) : Type 0 where
   pub done : List ℕ
   pub rest : List ℕ

@@ -24,8 +24,8 @@ pub record DescribedStream : Type 0 where
   pub instrument : Instrument
   pub meter : Meter
 
--- the stream of a number. A number that names no stream, reader,
--- instrument or meter describes nothing.
+-- # stream that is described (profile)
+-- The plan's stream of a number with its reader, its instrument and that one's meter.
 unfoldable pub described_stream : Contents → Setup → List Stream → ℕ → Option DescribedStream
 described_stream catalogue config streams number = do
   stream ← slice_get streams number
@@ -68,7 +68,8 @@ abbrev pub streams_text : Contents → Setup → List Stream → Batch → List 
 streams_text catalogue config streams batch =
     flat_map (stream_text catalogue config streams batch) batch.streams
 
--- the text of a batch: its first line, then its streams
+-- # text of a batch (profile)
+-- The line of the collection, then each stream that has points, with its points.
 unfoldable pub batch_text : Contents → Setup → List Stream → Batch → List ℕ
 batch_text catalogue config streams batch =
     head_text batch ++ streams_text catalogue config streams batch

@@ -32,7 +32,9 @@ abbrev pub attributes_of : List Key → List Bool → List ℕ → List Attribut
 attributes_of keys kept set =
     filter_map (λ x. attribute_of x.0 x.1.0 x.1.1) (zip keys (zip kept set))
 
--- the attributes of a series, or the mark of the overflow series
+-- # attributes of a series (SDK, cardinality limits, overflow attribute)
+-- Of the declared keys in order those that are kept and present, with their values; the overflow
+-- series has `otel.metric.overflow`.
 unfoldable pub series_text : List Key → List Bool → Option (List ℕ) → List ℕ
 series_text keys kept (Some set) = joined attribute_text (attributes_of keys kept set)
 series_text keys kept None = pair_text (codes "otel.metric.overflow") (Flag true)

@@ -15,7 +15,8 @@ signed label number = label ++ signed_decimal number
 unfoldable pub listed : {X : Type 0} → (X → List ℕ) → List ℕ → List X → List ℕ
 listed text label values = label ++ list_text text values
 
--- a piece, where a label is written before what it names
+-- # piece (profile)
+-- A label with a text, a quoted text or a number; a line is a list of pieces.
 abbrev pub piece_text : Piece → List ℕ
 piece_text (Text text) = text.now
 piece_text (Quoted label text) = labelled label.now text.now

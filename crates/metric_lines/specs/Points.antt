@@ -43,7 +43,8 @@ covered_text keys kept start time set = concat (
     ∷ numbered (codes "} start=") start
     ∷ numbered (codes " time=") time ∷ [])
 
--- the line of a point, with the times of its batch
+-- # line of a point (profile)
+-- What the formats say of one point.
 unfoldable pub point_text : List Key → List Bool → ℕ → ℕ → Point → List ℕ
 point_text keys kept start time point =
     covered_text keys kept start time point.set ++ value_text point.value

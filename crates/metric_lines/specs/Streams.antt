@@ -83,7 +83,8 @@ shown_line number stream reader instrument = concat (
     ∷ names_text instrument.keys stream.kept
     ∷ codes "]\n" ∷ [])
 
--- the same, or nothing where the stream names no reader or no instrument
+-- # line of a shown stream, of a warning (profile) [shown_text, warning_text]
+-- What the formats say of one stream and of one warning.
 abbrev pub shown_text : Contents → Setup → ℕ → Stream → List ℕ
 shown_text contents config number stream =
     option_map_or

@@ -159,7 +159,10 @@ pub record IsMadeFor (contents : Contents) (config : Config) (streams : List Str
   pub bounds : AllZip (IsBoundAt contents streams) (all_instruments contents) certificate.bounds
   pub orders : AllZip (IsOrderOf contents streams) (all_readers config) certificate.orders
 
--- what the maker gives
+-- # what the maker gives (SDK, instrument selection criteria; profile)
+-- The first criterion that is given and fails, else a confirmed reason by the name; by product
+-- where that is within the limit, else by list where there is one within it, else by budget; the
+-- catalogue's format.
 abbrev pub IsMade : Contents → Config → Claims → Type 0
 IsMade contents config = IsMadeFor contents config (streams_of contents config)
 

@@ -12,22 +12,26 @@ use Rattle.metric_names.specs.declared.name.NameFault.{NameFault}
 use Rattle.metric_names.specs.declared.name.NameFault.TheVariants.{Empty, FirstLetter, BadCharacter}
 use Rattle.metric_names.specs.declared.name.NameFault.TheVariants.{TooLong}
 
--- a letter, a digit, `_`, `.`, `-` or `/`
+-- # name character (API, instrument name syntax)
+-- An ASCII letter or digit, `_`, `.`, `-` or `/`.
 abbrev pub is_name_character : ℕ → Bool
 is_name_character c = is_ascii_alphanumeric c || (c == 95 || (c == 46 || (c == 45 || c == 47)))
 
--- A name is a letter, and then at most 254 name characters.
+-- # name (API, instrument name syntax)
+-- An ASCII letter, and then at most 254 name characters.
 abbrev pub IsName : List ℕ → Type 0
 IsName [] = ⊥
 IsName (first ∷ rest) =
     IsTrue (is_ascii_alphabetic first) × IsTrue (list_all is_name_character rest)
     × (length rest ≤ 254)
 
--- the place of the first character that does not pass
+-- # first other character (profile)
+-- The place of the first character that does not pass a test, counted from 0.
 abbrev pub first_other : (ℕ → Bool) → List ℕ → Option ℕ
 first_other passes text = position_from (λ c. not (passes c)) 0 text
 
--- what a text is as a name: itself, or the first of the faults in this order
+-- # name of a text (API, instrument name syntax; the order is profile)
+-- The text itself where it is a name, else the first of Empty, FirstLetter, BadCharacter, TooLong.
 abbrev pub name_of : List ℕ → Result (List ℕ) NameFault
 name_of text = do
   first ← require_some (slice_get text 0) Empty
@@ -36,15 +40,18 @@ name_of text = do
   _ ← require (nat_le (length text) 255) TooLong
   Ok text
 
--- a text without ASCII case
+-- # folded (API, instrument name syntax)
+-- A text with its ASCII capitals made small.
 abbrev pub folded : List ℕ → List ℕ
 folded text = map to_ascii_lowercase text
 
--- two names are the same without ASCII case
+-- # same name (API, instrument name syntax)
+-- Two names whose folded texts are equal.
 abbrev pub IsSameName : List ℕ → List ℕ → Type 0
 IsSameName name other = folded name ≡ folded other
 
--- the order of folded texts by bytes
+-- # order of names (profile)
+-- The order of folded texts by bytes.
 abbrev pub fold_order : List ℕ → List ℕ → Ordering
 fold_order name other = slice_cmp nat_cmp (folded name) (folded other)
 

@@ -11,11 +11,13 @@ use Rattle.metric_names.specs.declared.unit.UnitFault.TheVariants.{BadCharacter,
 abbrev pub is_printable : ℕ → Bool
 is_printable c = is_in_range 32 126 c
 
--- A unit is a text of at most 63 printable ASCII characters.
+-- # unit (API, instrument unit; "printable" is profile)
+-- A text of at most 63 printable ASCII characters, the empty text too.
 abbrev pub IsUnit : List ℕ → Type 0
 IsUnit text = IsTrue (list_all is_printable text) × (length text ≤ 63)
 
--- what a text is as a unit: itself, or the first of the faults in this order
+-- # unit of a text (API, instrument unit; the order is profile)
+-- The text itself where it is a unit, else the first of BadCharacter, TooLong.
 abbrev pub unit_of : List ℕ → Result (List ℕ) UnitFault
 unit_of text = do
   _ ← require_none (first_other is_printable text) BadCharacter

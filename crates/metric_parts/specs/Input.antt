@@ -6,11 +6,14 @@ use Rattle.std.specs.Str.{is_utf8}
 use Rattle.metric_base.specs.Fronts.{BreaksOffAt}
 use Rattle.metric_parts.specs.declared.needs.Needs.{Needs}
 
--- a line that stands inside a part: it is UTF-8, and does not begin as a header does
+-- # content line (profile)
+-- A line inside a part: it is UTF-8 and does not begin with `%% `.
 abbrev pub is_content : List ℕ → Bool
 is_content line = is_utf8 line && not (starts_with nat_eq line (codes "%% "))
 
--- the lines of the four parts, without their headers
+-- # contents, printed parts (profile) [Contents, printed]
+-- The lines of the four parts without their headers; each part's header and then its contents, in
+-- order.
 pub record Contents : Type 0 where
   pub catalogue : List (List ℕ)
   pub config : List (List ℕ)
@@ -32,7 +35,8 @@ before_script parts =
 abbrev pub printed : Contents → List (List ℕ)
 printed parts = before_script parts ++ optional_part (codes "%% script") parts.script
 
--- The lines are what the parts print, and the parts that a command needs are there.
+-- # input (profile)
+-- Lines that are what parts print, and in which the parts that the command needs are there.
 pub record IsInput (needs : Needs) (lines : List (List ℕ)) (parts : Contents) : Type 0 where
   pub whole : lines ≡ printed parts
   pub catalogue : IsTrue (list_all is_content parts.catalogue)
@@ -42,7 +46,8 @@ pub record IsInput (needs : Needs) (lines : List (List ℕ)) (parts : Contents) 
   pub has_certificate : IsTrue needs.certificate → IsSome parts.certificate
   pub has_script : IsTrue needs.script → IsSome parts.script
 
--- The lines are some input.
+-- # first faulty line (profile) [IsSomeInput, IsFirstFault]
+-- The line at which lines break off that are to be an input, counted from 1.
 pub record IsSomeInput (needs : Needs) (lines : List (List ℕ)) : Type 0 where
   pub parts : Contents
   pub is_input : IsInput needs lines parts

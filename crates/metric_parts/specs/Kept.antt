@@ -9,7 +9,8 @@ use Rattle.metric_parts.specs.Texts.{joined, ScriptLines}
 abbrev pub script_of : Contents → List (List ℕ) → ScriptLines
 script_of parts lines = record { first_line = length (before_script parts) + 2; lines = lines }
 
--- the texts of the parts that a command needs
+-- # what is read of an input (profile) [read_of, IsRead]
+-- The texts of catalogue and config, and of certificate and script where they are needed.
 abbrev pub read_of : Needs → Contents → Parts
 read_of needs parts = record {
   catalogue = joined parts.catalogue;

@@ -50,8 +50,8 @@ fits contents config reader instrument view =
     fits_with (slice_get config.readers reader) (slice_get config.views view)
     (slice_get contents.instruments instrument)
 
--- the view of a number applies to an instrument for a reader: it selects the
--- instrument, and its aggregation fits
+-- # applies (SDK, View) [applies, applying]
+-- A view selects an instrument, and its aggregation, else the reader's, fits the kind.
 abbrev pub applies : Contents → Config → ℕ → ℕ → ℕ → Bool
 applies contents config reader instrument view =
     is_selected contents config instrument view && fits contents config reader instrument view
@@ -66,7 +66,8 @@ abbrev pub or_default : List ℕ → List (Option ℕ)
 or_default [] = None ∷ []
 or_default (view ∷ views) = map (λ v. Some v) (view ∷ views)
 
--- by which views a reader sees an instrument
+-- # views for an instrument (SDK, View)
+-- The views that apply for a reader, in order, or only the default where none applies.
 abbrev pub views_for : Contents → Config → ℕ → ℕ → List (Option ℕ)
 views_for contents config reader instrument =
     or_default (applying contents config reader instrument)

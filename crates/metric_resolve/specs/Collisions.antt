@@ -32,7 +32,8 @@ identity_with stream meter =
       name = folded stream.name;
     }
 
--- the identity of a stream
+-- # identity (data model, identity; API, instrument name)
+-- Reader, meter name, version and schema URL, and the stream's name folded to ASCII lower case.
 unfoldable pub identity_of : Contents → Stream → Option Identity
 identity_of contents stream =
     option_map (identity_with stream) (meter_at contents stream.instrument)
@@ -60,7 +61,8 @@ collision_at contents streams b =
     (option_and_then (first_of contents (take b streams))
     (option_and_then (identity_of contents) (slice_get streams b)))
 
--- the warnings of streams, in order
+-- # collision (profile)
+-- A stream with an earlier one of its identity, of which the first is named.
 unfoldable pub collisions_of : Contents → List Stream → List Warning
 collisions_of contents streams =
     filter_map (collision_at contents streams) (range_with_len 0 (length streams))

@@ -32,7 +32,9 @@ unfoldable pub streams_of_reader : Contents → Config → ℕ → List Stream
 streams_of_reader contents config reader =
     flat_map (streams_of_instrument contents config reader) (all_instruments contents)
 
--- all streams, by reader. The number of a stream is its place in this list.
+-- # streams of a config (SDK, View, stream configuration)
+-- What those views, or the default, make of the instrument, without what is dropped, by reader,
+-- instrument and view; a stream's number is its place.
 unfoldable pub streams_of : Contents → Config → List Stream
 streams_of contents config = flat_map (streams_of_reader contents config) (all_readers config)
 

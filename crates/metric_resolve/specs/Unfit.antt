@@ -41,6 +41,7 @@ unfit_of_view contents config number =
     filter_map (unfit_with contents number (slice_get config.views number))
     (all_instruments contents)
 
--- the warnings of all views, in order
+-- # unfit pair (profile)
+-- A view that itself names a sum and selects a gauge.
 unfoldable pub unfit_of : Contents → Config → List Warning
 unfit_of contents config = flat_map (unfit_of_view contents config) (all_views config)

@@ -8,7 +8,8 @@ use Rattle.metric_resolve.specs.Resolved.{streams_of}
 use Rattle.metric_resolve.specs.Unfit.{unfit_of}
 use Rattle.metric_resolve.specs.Collisions.{collisions_of}
 
--- first the views that do not fit, then the collisions
+-- # warnings (profile)
+-- The unfit pairs by view and instrument, then the collisions by the later stream.
 abbrev pub warnings_of : Contents → Config → List Warning
 warnings_of contents config =
     unfit_of contents config ++ collisions_of contents (streams_of contents config)

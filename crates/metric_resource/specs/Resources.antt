@@ -27,7 +27,8 @@ has_repeated_key [] = false
 has_repeated_key (attribute ∷ others) =
     list_any (is_of attribute.key) others || has_repeated_key others
 
--- the attributes of a resource, or the first fault
+-- # resource (SDK, resource; the limit is profile)
+-- At most 64 attributes, none with an empty key, none twice; or the first fault.
 unfoldable pub resource_of : List OwnedAttr → Result (List OwnedAttr) ResourceFault
 resource_of attributes = do
   _ ← require (nat_le (length attributes) 64) TooMany

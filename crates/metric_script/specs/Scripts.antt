@@ -7,7 +7,8 @@ use Rattle.metric_history.specs.declared.event.Event.{Event}
 use Rattle.metric_parts.specs.Texts.{ScriptLines}
 use Rattle.metric_script.specs.Spelling.{start_text, event_text, FitsEvent}
 
--- a line that is passed over: it is empty, or begins with `#`
+-- # line that is passed over (profile)
+-- It is empty or begins with `#`.
 abbrev pub is_passed_over : List ℕ → Bool
 is_passed_over [] = true
 is_passed_over (b ∷ line) = b == 35
@@ -16,13 +17,15 @@ is_passed_over (b ∷ line) = b == 35
 abbrev pub read_lines : List (List ℕ) → List (List ℕ)
 read_lines lines = filter (λ line. not (is_passed_over line)) lines
 
--- The lines that are not passed over spell the start, and then each event.
+-- # script (profile)
+-- Lines of which those that are not passed over spell the start and then each event.
 pub record IsScript (lines : List (List ℕ)) (start : ℕ) (events : List Event) : Type 0 where
   pub spelled : read_lines lines ≡ start_text start ∷ map event_text events
   pub start_fits : start < 2 ^ 64
   pub events_fit : AllByRecursion FitsEvent events
 
--- The lines are some script.
+-- # first faulty line of a script (profile) [IsSomeScript, IsFirstFault, IsFirstFaultAt]
+-- The line at which lines break off that are to be a script, and its number in the whole input.
 pub record IsSomeScript (lines : List (List ℕ)) : Type 0 where
   pub start : ℕ
   pub events : List Event

@@ -12,7 +12,9 @@ use Rattle.metric_text.specs.Written.{IsValue, pair_text}
 abbrev pub attribute_text : OwnedAttr → List ℕ
 attribute_text attr = 32 ∷ pair_text attr.key attr.value
 
--- the first line of a script, after which its events stand
+-- # line of the start, line of an event (profile) [start_text, event_text, attribute_text]
+-- `start`, `record`, `collect`, `close` and `grant` with their numbers, values and attributes, a
+-- blank before each.
 abbrev pub start_text : ℕ → List ℕ
 start_text start = codes "start " ++ decimal start
 
@@ -35,8 +37,8 @@ event_text (Grant recorder instrument amount) =
 abbrev pub FitsAttribute : OwnedAttr → Type 0
 FitsAttribute attr = IsUtf8 attr.key × IsValue attr.value
 
--- an event whose parts a program can hold: numbers are u32, times and granted
--- amounts are u64, and values are i64
+-- # event that a program can hold (profile)
+-- Its numbers, its value and its texts are within their types.
 abbrev pub FitsEvent : Event → Type 0
 FitsEvent (Record recorder instrument attrs value) =
     (recorder < 2 ^ 32) × (instrument < 2 ^ 32) × FitsSigned w64 value

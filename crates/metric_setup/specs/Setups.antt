@@ -40,7 +40,8 @@ pub record IsDeclared (catalogue config : List ℕ) (contents : Contents) (setup
 abbrev pub bounded_flags : Contents → List Stream → List Bool
 bounded_flags contents streams = map (λ s. nat_le (product_of contents s) s.limit) streams
 
--- The texts are safe, and this is the plan that they come to.
+-- # certified plan of two texts (profile)
+-- The plan of the catalogue and the config that the texts are, where they are safe together.
 pub record IsCertifiedPlan (catalogue config : List ℕ) (plan : PlanValue) : Type 0 where
   pub contents : Contents
   pub setup : Setup
@@ -67,7 +68,8 @@ pub record IsUnsafeSetup (catalogue config : List ℕ) (fault : MakeFault) : Typ
   pub declared : IsDeclared catalogue config contents setup
   pub found : IsUnsafe contents setup fault
 
--- The fault is the first that the texts have, unless memory was refused.
+-- # first fault of two texts (profile)
+-- Of the catalogue, then of the config, then the first part of safety that fails.
 abbrev pub IsFirstFault : SetupFault → List ℕ → List ℕ → Type 0
 IsFirstFault (Catalogue fault) catalogue config = catalogue_of catalogue ≡ Err fault
 IsFirstFault (Config fault) catalogue config = IsFaultyConfig catalogue config fault
@@ -119,7 +121,9 @@ pub record IsClaimed (catalogue config certificate : List ℕ) (contents : Conte
   pub declared : IsDeclared catalogue config contents setup
   pub is_certificate : certificate_from certificate ≡ Ok claims
 
--- The certificate is valid, and this is the plan that it certifies.
+-- # plan of three texts (profile)
+-- The plan that a certificate certifies, where the texts are a catalogue, a config and a
+-- certificate that is valid for them.
 pub record IsVouchedPlan (catalogue config certificate : List ℕ) (plan : PlanValue) : Type 0 where
   pub contents : Contents
   pub setup : Setup
@@ -145,8 +149,9 @@ pub record IsRefusedCheck (catalogue config certificate : List ℕ) (fault : Che
   pub claimed : IsClaimed catalogue config certificate contents setup claims
   pub found : CheckFinds contents setup claims (Some fault)
 
--- The fault is the first of the catalogue, the config, the certificate and its
--- check, unless memory was refused.
+-- # first fault of three texts (profile)
+-- Of the catalogue, then of the config, then of the certificate, then the first that its check
+-- finds.
 abbrev pub IsFirstClaimFault : SetupFault → List ℕ → List ℕ → List ℕ → Type 0
 IsFirstClaimFault (Catalogue fault) catalogue config certificate =
     catalogue_of catalogue ≡ Err fault
@@ -179,7 +184,8 @@ Vouches (Err _) contents setup certificate = ⊥
 
 -- ---- no certificate
 
--- the plan of a trial, or that its budgets cannot be counted, unless memory was refused
+-- # plan of a trial (profile)
+-- The plan of a catalogue and a config without a certificate, where the budgets can be counted.
 abbrev pub Tries : Result PlanValue SetupFault → Contents → Setup → Type 0
 Tries (Ok plan) contents setup =
     (is_counted contents ≡ true) × (plan ≡ plan_of false [] contents setup)

@@ -28,19 +28,24 @@ names_of (member name d ms) = name ∷ names_of ms
 abbrev pub is_among : List (List ℕ) → List ℕ → Bool
 is_among names key = list_any (λ name. bytes_eq name key) names
 
--- the table has no field beside these
+-- # only these fields (profile)
+-- The table has no field beside the names.
 unfoldable pub only : {F : Type 0} → FieldFaults F → List (List ℕ) → Members → Result (Unit {0}) F
 only faults names table = require (list_all (is_among names) (names_of table)) faults.unknown
 
--- the value of a needed field
+-- # needed field (profile)
+-- The value of a field, or MissingField.
 unfoldable pub field : {F : Type 0} → FieldFaults F → List ℕ → Members → Result Data F
 field faults name table = require_some (get_member name table) faults.missing
 
--- a text
+-- # text, whole number, flag, table, list (profile) [text_of, integer_of, flag_or, table_of,
+-- list_of]
+-- A value of that kind, or WrongKind; a list longer than its limit is TooMany.
 unfoldable pub text_of : {F : Type 0} → FieldFaults F → Data → Result (List ℕ) F
 text_of faults d = require_some (as_str d) faults.wrong_kind
 
--- the text of a needed field
+-- # text of a field (profile) [text_field, optional_text]
+-- The text of a needed field; the text of a field where the table has it.
 unfoldable pub text_field : {F : Type 0} → FieldFaults F → List ℕ → Members → Result (List ℕ) F
 text_field faults name table = do
   d ← field faults name table
@@ -58,7 +63,8 @@ unfoldable pub optional_text : {F : Type 0} → FieldFaults F → List ℕ → M
     → Result (Option (List ℕ)) F
 optional_text faults name table = text_within faults (get_member name table)
 
--- a text of at most 1,023 characters
+-- # free text (profile) [short_text, short_text_of]
+-- A text of at most 1,023 characters, or TooMany.
 unfoldable pub short_text : {F : Type 0} → FieldFaults F → List ℕ → Result (List ℕ) F
 short_text faults text = do
   _ ← require (nat_le (length (chars text)) 1023) faults.too_many
@@ -82,7 +88,8 @@ abbrev pub number_between : ℕ → ℕ → ℤ → Option ℕ
 number_between low high (pos n) = if nat_le low n && nat_le n high then Some n else None
 number_between low high (negsuc n) = None
 
--- the format, which is a whole number from 1 to the latest
+-- # format field (profile)
+-- The field `format` is a whole number from 1 to the latest.
 unfoldable pub format_up_to : {F : Type 0} → FieldFaults F → ℕ → Members → Result ℕ F
 format_up_to faults latest table = do
   d ← field faults (codes "format") table
@@ -129,19 +136,21 @@ tables_within faults most (Some d) = do
   values ← list_of faults most d
   tables_of faults values
 
--- the tables of a field that is a list of at most so many tables, or none
--- where the table does not have it
+-- # tables of a field (profile)
+-- The tables of a list of at most so many, or none where the table does not have the field.
 unfoldable pub tables_field : {F : Type 0} → FieldFaults F → ℕ → List ℕ → Members
     → Result (List Members) F
 tables_field faults most name table = tables_within faults most (get_member name table)
 
--- a list of at most so many whole numbers
+-- # lists of numbers and of texts (profile) [integers_of, texts_of]
+-- Each value by itself, up to the first fault.
 unfoldable pub integers_of : {F : Type 0} → FieldFaults F → ℕ → Data → Result (List ℤ) F
 integers_of faults most d = do
   values ← list_of faults most d
   each_alone (integer_of faults) values
 
--- a list of whole numbers, of any length
+-- # list of numbers of any length (profile)
+-- The same without a limit.
 unfoldable pub all_integers_of : {F : Type 0} → FieldFaults F → Data → Result (List ℤ) F
 all_integers_of faults d = do
   values ← require_some (as_list d) faults.wrong_kind
@@ -162,3 +171,6 @@ unfoldable pub texts_of : {F : Type 0} → FieldFaults F → ℕ → Data → Re
 texts_of faults most d = do
   values ← list_of faults most d
   each_alone (short_text_of faults) values
+
+-- # faults of a place (profile) [FieldFaults]
+-- What each kind of fault of a field is at the table's place.

@@ -10,7 +10,8 @@ abbrev pub begins_with_feed : List ℕ → Bool
 begins_with_feed [] = false
 begins_with_feed (b ∷ bytes) = is_feed b
 
--- A line feed ends a line, and a carriage return before it is dropped. The last line feed may be
+-- # lines (profile)
+-- A line feed ends a line, one carriage return before it is dropped, the last line feed may be
 -- missing.
 abbrev pub lines_of : List ℕ → List (List ℕ)
 lines_of [] = []

@@ -4,7 +4,8 @@ use Rattle.std.specs.Fmt.{decimal}
 use Rattle.std.specs.List.{join_by}
 use Rattle.metric_text.specs.Written.{quoted}
 
--- what each is written as, with commas between
+-- # list (profile) [joined, list_text, led_by]
+-- Spellings with commas between, with brackets around them or with a text before the first.
 abbrev pub joined : {X : Type 0} → (X → List ℕ) → List X → List ℕ
 joined text xs = join_by text (44 ∷ []) xs
 
@@ -17,7 +18,8 @@ abbrev pub led_by : {X : Type 0} → List ℕ → (X → List ℕ) → List X �
 led_by before text [] = []
 led_by before text (x ∷ xs) = before ++ (text x ++ led_by (44 ∷ []) text xs)
 
--- a label with a text in quotes
+-- # label (profile) [labelled, numbered]
+-- A text with a quoted text or a number after it.
 unfoldable pub labelled : List ℕ → List ℕ → List ℕ
 labelled label text = label ++ quoted text
 

@@ -24,7 +24,8 @@ Tells view (Ok x) read = read ≡ Some (view x)
 Tells view (Err Bad) read = read ≡ None
 Tells view (Err Memory) read = Unit {0}
 
--- what follows a keyword
+-- # what stands first (profile) [after_in, number_in, signed_in, text_in, value_in]
+-- A keyword, a number, a text in quotes or a value, with what follows it.
 abbrev pub after_in : List ℕ → List ℕ → Option (List ℕ)
 after_in [] bytes = Some bytes
 after_in (c ∷ keyword) [] = None
@@ -41,11 +42,13 @@ split_before passes (b ∷ bytes) =
     if passes b then ([], b ∷ bytes)
     else (b ∷ (split_before passes bytes).0, (split_before passes bytes).1)
 
--- the bytes up to the first space, and the rest from that space on
+-- # word (profile)
+-- The bytes up to the first space or the end.
 abbrev pub word_in : List ℕ → List ℕ × List ℕ
 word_in bytes = split_before is_space bytes
 
--- a word that is the decimal spelling of a number below the limit
+-- # number that a word spells (profile) [number_of, signed_of]
+-- The one whose decimal spelling the word is, within the type's limit.
 unfoldable pub number_of : ℕ → List ℕ → Option ℕ
 number_of limit word =
     if nat_lt (digits_value 10 word) limit && bytes_eq (decimal (digits_value 10 word)) word

@@ -22,7 +22,9 @@ letter_of b =
 abbrev pub escape : ℕ → List ℕ
 escape b = option_map_or (λ letter. 92 ∷ letter ∷ []) (letter_of b) (b ∷ [])
 
--- a text in quotes
+-- # text in quotes (profile) [quoted, escape]
+-- `"`, the characters, `"`; quote, backslash, line feed, carriage return and tab are written with a
+-- backslash, all else stands for itself.
 abbrev pub quoted : List ℕ → List ℕ
 quoted text = 34 ∷ (flat_map escape text ++ 34 ∷ [])
 
@@ -30,13 +32,15 @@ abbrev pub flag_text : Bool → List ℕ
 flag_text true = codes "true"
 flag_text false = codes "false"
 
--- an attribute's value: a text in quotes, a number in decimal, or `true` or `false`
+-- # spelling of a value (profile)
+-- A text in quotes, an i64 in decimal, `true` or `false`.
 abbrev pub value_text : AttrValue → List ℕ
 value_text (Text text) = quoted text
 value_text (Whole number) = signed_decimal number
 value_text (Flag flag) = flag_text flag
 
--- a key in quotes with its value
+-- # key with its value (profile)
+-- The quoted key, `=`, the value.
 abbrev pub pair_text : List ℕ → AttrValue → List ℕ
 pair_text key value = quoted key ++ (61 ∷ value_text value)
 

@@ -15,19 +15,21 @@ use Rattle.metric_views.specs.declared.choices.ByKind.{ByKind}
 use Rattle.metric_views.specs.declared.choices.Temporality.TheVariants.{Cumulative}
 use Rattle.metric_views.specs.declared.config.Reader.{Reader}
 use Rattle.metric_views.specs.declared.fault.ConfigPlace.{ConfigPlace}
+use Rattle.metric_views.specs.declared.fault.ConfigSpot.{ConfigSpot}
+use Rattle.metric_views.specs.declared.fault.ConfigField.TheVariants as fields
 use Rattle.metric_views.specs.declared.fault.ConfigPlace.TheVariants as places
 use Rattle.metric_views.specs.declared.fault.ViewFault.{ViewFault}
 use Rattle.metric_views.specs.declared.fault.ViewDefect.TheVariants.{WrongKind, BadName, BadLimit, DuplicateReader, TooMany}
 use Rattle.metric_views.specs.declared.fault.ViewFault.TheVariants.{At}
 use Rattle.metric_views.specs.Choices.{choice_for, is_unfit}
-use Rattle.metric_views.specs.Faults.{faults_at}
+use Rattle.metric_views.specs.Faults.{faults_at, field_at, of_kind}
 use Rattle.metric_views.specs.Readers.{aggregation_for, aggregation_of, choice_at, choice_within, choices_by_kind, choices_field, choices_of, choices_within, for_all, has_reader, is_limit, kind_names, limit_of, reader_choices, reader_fields, reader_name, reader_of, temporality_of}
 use Rattle.metric_catalogue.specs.Sound.{IsFreeText}
 use Rattle.metric_views.specs.Sound.{IsLimit, IsSoundReader}
 
 -- a test that did not hold
 -- a short text is the text, and is short
-pub short_made : (at : ConfigPlace) (text name : List ℕ) → short_text (faults_at at) text ≡ Ok name → (text ≡ name) × IsFreeText name
+pub short_made : (at : ConfigSpot) (text name : List ℕ) → short_text (faults_at at) text ≡ Ok name → (text ≡ name) × IsFreeText name
 unfolding short_text
 short_made at text name e =
     let (short, e1) = require_ok (nat_le (length (chars text)) 1023) (At TooMany at) _ name e in
@@ -39,7 +41,7 @@ short_made at text name e =
 limit_in : (number : ℤ) → is_limit number ≡ true → IsLimit (nat_abs number)
 limit_in number e = grind (arith, ints)
 
-pub limit_made : (at : ConfigPlace) (d : Data) (limit : ℕ) → limit_of at d ≡ Ok limit → IsLimit limit
+pub limit_made : (at : ConfigSpot) (d : Data) (limit : ℕ) → limit_of at d ≡ Ok limit → IsLimit limit
 unfolding limit_of
 limit_made at d limit e0 =
     after_ok (integer_of (faults_at at) d) _ limit e0 (λ number _ e1.
@@ -47,7 +49,7 @@ limit_made at d limit e0 =
     subst IsLimit (ok_is (nat_abs number) limit (Ok (nat_abs number)) refl e2) (limit_in number within))
 
 -- what is read as a reader's aggregation fits the kind
-fit_made : (at : ConfigPlace) (kind : Kind) (d : Data) (aggregation : Aggregation) → aggregation_for at kind d ≡ Ok aggregation → is_unfit kind aggregation ≡ false
+fit_made : (at : ConfigSpot) (kind : Kind) (d : Data) (aggregation : Aggregation) → aggregation_for at kind d ≡ Ok aggregation → is_unfit kind aggregation ≡ false
 unfolding aggregation_for
 fit_made at kind d aggregation e0 =
     after_ok (aggregation_of at d) _ aggregation e0 (λ named _ e1.
@@ -64,22 +66,22 @@ choice_made {T} P usual read first each name table t e = within (get_member name
     within None e1 = subst P (ok_is usual t (Ok usual) refl e1) first
     within (Some d) e1 = each d t e1
 
-table_made : {T : Type 0} (P : Kind → T → Type 0) (usual : T) (chosen : ConfigPlace → Kind → Data → Result T ViewFault) (at : ConfigPlace) → ((kind : Kind) → P kind usual)
-    → ((kind : Kind) (d : Data) (t : T) → chosen at kind d ≡ Ok t → P kind t)
+table_made : {T : Type 0} (P : Kind → T → Type 0) (usual : T) (chosen : ConfigSpot → Kind → Data → Result T ViewFault) (at : ConfigSpot) → ((kind : Kind) → P kind usual)
+    → ((spot : ConfigSpot) (kind : Kind) (d : Data) (t : T) → chosen spot kind d ≡ Ok t → P kind t)
     → (table : Members) (choices : ByKind T) → choices_of usual chosen at table ≡ Ok choices → (kind : Kind) → P kind (choice_for choices kind)
 unfolding choices_of choices_by_kind
 table_made {T} P usual chosen at first each table choices e0 =
     after_ok (only (faults_at at) kind_names table) _ choices e0 (λ _ _ e1.
-    after_ok (choice_at usual (chosen at Counter) (codes "counter") table) _ choices e1 (λ counter c e2.
-    after_ok (choice_at usual (chosen at UpDownCounter) (codes "up_down_counter") table) _ choices e2 (λ up_down_counter u e3.
-    after_ok (choice_at usual (chosen at Histogram) (codes "histogram") table) _ choices e3 (λ histogram h e4.
-    after_ok (choice_at usual (chosen at Gauge) (codes "gauge") table) _ choices e4 (λ gauge g e5.
+    after_ok (choice_at usual (chosen (of_kind at Counter) Counter) (codes "counter") table) _ choices e1 (λ counter c e2.
+    after_ok (choice_at usual (chosen (of_kind at UpDownCounter) UpDownCounter) (codes "up_down_counter") table) _ choices e2 (λ up_down_counter u e3.
+    after_ok (choice_at usual (chosen (of_kind at Histogram) Histogram) (codes "histogram") table) _ choices e3 (λ histogram h e4.
+    after_ok (choice_at usual (chosen (of_kind at Gauge) Gauge) (codes "gauge") table) _ choices e4 (λ gauge g e5.
     let made : ByKind T = record { counter = counter; up_down_counter = up_down_counter; histogram = histogram; gauge = gauge } in
     let sound : (kind : Kind) → P kind (choice_for made kind) = λ kind. by_kind made
-    (choice_made (P Counter) usual (chosen at Counter) (first Counter) (each Counter) (codes "counter") table counter c)
-    (choice_made (P UpDownCounter) usual (chosen at UpDownCounter) (first UpDownCounter) (each UpDownCounter) (codes "up_down_counter") table up_down_counter u)
-    (choice_made (P Histogram) usual (chosen at Histogram) (first Histogram) (each Histogram) (codes "histogram") table histogram h)
-    (choice_made (P Gauge) usual (chosen at Gauge) (first Gauge) (each Gauge) (codes "gauge") table gauge g) kind in
+    (choice_made (P Counter) usual (chosen (of_kind at Counter) Counter) (first Counter) (each (of_kind at Counter) Counter) (codes "counter") table counter c)
+    (choice_made (P UpDownCounter) usual (chosen (of_kind at UpDownCounter) UpDownCounter) (first UpDownCounter) (each (of_kind at UpDownCounter) UpDownCounter) (codes "up_down_counter") table up_down_counter u)
+    (choice_made (P Histogram) usual (chosen (of_kind at Histogram) Histogram) (first Histogram) (each (of_kind at Histogram) Histogram) (codes "histogram") table histogram h)
+    (choice_made (P Gauge) usual (chosen (of_kind at Gauge) Gauge) (first Gauge) (each (of_kind at Gauge) Gauge) (codes "gauge") table gauge g) kind in
     subst (λ (cs : ByKind T). (kind : Kind) → P kind (choice_for cs kind)) (ok_is made choices (Ok made) refl e5) sound)))))
   where
     by_kind : (made : ByKind T) → P Counter made.counter → P UpDownCounter made.up_down_counter → P Histogram made.histogram → P Gauge made.gauge
@@ -89,8 +91,8 @@ table_made {T} P usual chosen at first each table choices e0 =
     by_kind made c u h g Histogram = h
     by_kind made c u h g Gauge = g
 
-choices_made : {T : Type 0} (P : Kind → T → Type 0) (usual : T) (chosen : ConfigPlace → Kind → Data → Result T ViewFault) (at : ConfigPlace) → ((kind : Kind) → P kind usual)
-    → ((kind : Kind) (d : Data) (t : T) → chosen at kind d ≡ Ok t → P kind t)
+choices_made : {T : Type 0} (P : Kind → T → Type 0) (usual : T) (chosen : ConfigSpot → Kind → Data → Result T ViewFault) (at : ConfigSpot) → ((kind : Kind) → P kind usual)
+    → ((spot : ConfigSpot) (kind : Kind) (d : Data) (t : T) → chosen spot kind d ≡ Ok t → P kind t)
     → (name : List ℕ) (table : Members) (choices : ByKind T) → choices_field usual chosen at name table ≡ Ok choices → (kind : Kind) → P kind (choice_for choices kind)
 unfolding choices_field
 choices_made {T} P usual chosen at first each name table choices e = within (get_member name table) e
@@ -117,7 +119,7 @@ record IsSoundName (before : List Reader) (name : List ℕ) : Type 0 where
   short : IsFreeText name
   new : has_reader before name ≡ false
 
-name_made : (before : List Reader) (at : ConfigPlace) (table : Members) (name : List ℕ) → reader_name before at table ≡ Ok name → IsSoundName before name
+name_made : (before : List Reader) (at : ConfigSpot) (table : Members) (name : List ℕ) → reader_name before at table ≡ Ok name → IsSoundName before name
 unfolding reader_name
 name_made before at table name e0 =
     after_ok (text_field (faults_at at) (codes "name") table) _ name e0 (λ text _ e1.
@@ -133,19 +135,19 @@ pub reader_made : (before : List Reader) (table : Members) (reader : Reader) →
 unfolding reader_of reader_choices
 reader_made before table reader e0 =
     let at = places.Reader (length before) in
-    after_ok (only (faults_at at) reader_fields table) _ reader e0 (λ _ _ e1.
-    after_ok (reader_name before at table) _ reader e1 (λ name named e2.
+    after_ok (only (faults_at (field_at at fields.Unknown)) reader_fields table) _ reader e0 (λ _ _ e1.
+    after_ok (reader_name before (field_at at fields.Name) table) _ reader e1 (λ name named e2.
     after_ok (reader_choices at table) _ reader e2 (λ choices chosen e3.
-    after_ok (choices_field Cumulative (λ at _ d. temporality_of at d) at (codes "temporality") table) _ choices chosen (λ temporality _ c1.
-    after_ok (choices_field aggregations.Default aggregation_for at (codes "aggregation") table) _ choices c1 (λ aggregation fit c2.
-    after_ok (choices_field 2000 (λ at _ d. limit_of at d) at (codes "limit") table) _ choices c2 (λ limit limited c3.
-    let own = name_made before at table name named in
+    after_ok (choices_field Cumulative (λ at _ d. temporality_of at d) (field_at at fields.Temporality) (codes "temporality") table) _ choices chosen (λ temporality _ c1.
+    after_ok (choices_field aggregations.Default aggregation_for (field_at at fields.Aggregation) (codes "aggregation") table) _ choices c1 (λ aggregation fit c2.
+    after_ok (choices_field 2000 (λ at _ d. limit_of at d) (field_at at fields.Limit) (codes "limit") table) _ choices c2 (λ limit limited c3.
+    let own = name_made before (field_at at fields.Name) table name named in
     let same = ok_is (temporality, aggregation, limit) choices (Ok (temporality, aggregation, limit)) refl c3 in
     let made : Reader = record { name = name; temporality = choices.0; aggregation = choices.1; limit = choices.2 } in
     let fits : (kind : Kind) → is_unfit kind (choice_for aggregation kind) ≡ false =
-    choices_made (λ kind a. is_unfit kind a ≡ false) aggregations.Default aggregation_for at usual_fits (fit_made at) (codes "aggregation") table aggregation fit in
+    choices_made (λ kind a. is_unfit kind a ≡ false) aggregations.Default aggregation_for (field_at at fields.Aggregation) usual_fits fit_made (codes "aggregation") table aggregation fit in
     let limits : (kind : Kind) → IsLimit (choice_for limit kind) =
-    choices_made (λ _ n. IsLimit n) 2000 (λ at _ d. limit_of at d) at (λ _. (omega arith, omega arith)) (λ _. limit_made at) (codes "limit") table limit limited in
+    choices_made (λ _ n. IsLimit n) 2000 (λ at _ d. limit_of at d) (field_at at fields.Limit) (λ _. (omega arith, omega arith)) (λ spot _. limit_made spot) (codes "limit") table limit limited in
     let sound : IsSoundReader before made = record {
       named = own.named;
       short = own.short;

@@ -12,11 +12,13 @@ use Rattle.metric_views.specs.declared.config.Settings.{Settings}
 use Rattle.metric_views.specs.declared.config.Setup.{Setup}
 use Rattle.metric_views.specs.declared.config.View.{View}
 use Rattle.metric_views.specs.declared.fault.ConfigPlace.{ConfigPlace}
+use Rattle.metric_views.specs.declared.fault.ConfigSpot.{ConfigSpot}
+use Rattle.metric_views.specs.declared.fault.ConfigField.TheVariants as fields
 use Rattle.metric_views.specs.declared.fault.ConfigPlace.TheVariants as places
 use Rattle.metric_views.specs.declared.fault.ViewFault.{ViewFault}
 use Rattle.metric_views.specs.declared.fault.ViewFault.TheVariants.{NotToml}
 use Rattle.metric_views.specs.Configs.{config_of, setup_of_table, setup_of_tables, tables_of_top}
-use Rattle.metric_views.specs.Faults.{faults_at}
+use Rattle.metric_views.specs.Faults.{faults_at, field_at}
 use Rattle.metric_views.specs.Readers.{aggregation_of, limit_of, reader_of, readers_of}
 use Rattle.metric_catalogue.specs.Sound.{IsFreeText}
 use Rattle.metric_views.specs.Sound.{AreSoundCriteria, AreSoundSettings, IsLimit, IsSoundReader, IsSoundSetup, IsSoundView}
@@ -32,15 +34,15 @@ all_made {X} {Y} P step gives xs ys e = in_turn_keeps (All P) (with_next step) k
     keeps before x after made so_far =
         after_ok (step before x) _ after made (λ y is last. subst (All P) (ok_is (before ++ y ∷ []) after (Ok (before ++ y ∷ [])) refl last) (All-push P before y so_far (gives before x y is)))
 
-short_text_made : (at : ConfigPlace) (d : Data) (text : List ℕ) → short_text_of (faults_at at) d ≡ Ok text → IsFreeText text
+short_text_made : (at : ConfigSpot) (d : Data) (text : List ℕ) → short_text_of (faults_at at) d ≡ Ok text → IsFreeText text
 unfolding short_text_of
 short_text_made at d text e0 = after_ok (text_of (faults_at at) d) _ text e0 (λ read _ e1. (short_made at read text e1).1)
 
-text_made : (at : ConfigPlace) (d : Data) (text : List ℕ) → text_at at d ≡ Ok text → IsFreeText text
+text_made : (at : ConfigSpot) (d : Data) (text : List ℕ) → text_at at d ≡ Ok text → IsFreeText text
 unfolding text_at
 text_made at d text e = short_text_made at d text e
 
-keys_made : (at : ConfigPlace) (d : Data) (keys : List (List ℕ)) → keys_at at d ≡ Ok keys → All IsFreeText keys
+keys_made : (at : ConfigSpot) (d : Data) (keys : List (List ℕ)) → keys_at at d ≡ Ok keys → All IsFreeText keys
 unfolding keys_at texts_of
 keys_made at d keys e0 =
     after_ok (list_of (faults_at at) 64 d) _ keys e0 (λ values _ e1. all_made IsFreeText (λ _ x. short_text_of (faults_at at) x) (λ _ x text is. short_text_made at x text is) values keys e1)
@@ -60,12 +62,12 @@ unfolding criteria_of instrument_criteria meter_criteria
 criteria_made at table criteria e0 =
     after_ok (instrument_criteria at table) _ criteria e0 (λ instrument i0 e1.
     after_ok (meter_criteria at table) _ criteria e1 (λ meter m0 e2.
-    after_ok (optional_field (pattern_at at) (codes "instrument_name") table) _ instrument i0 (λ pattern _ i1.
-    after_ok (optional_field (kind_at at) (codes "instrument_type") table) _ instrument i1 (λ kind _ i2.
-    after_ok (optional_field (text_at at) (codes "instrument_unit") table) _ instrument i2 (λ unit united i3.
-    after_ok (optional_field (text_at at) (codes "meter_name") table) _ meter m0 (λ name named m1.
-    after_ok (optional_field (text_at at) (codes "meter_version") table) _ meter m1 (λ version versioned m2.
-    after_ok (optional_field (text_at at) (codes "meter_schema_url") table) _ meter m2 (λ url located m3.
+    after_ok (optional_field (pattern_at (field_at at fields.InstrumentName)) (codes "instrument_name") table) _ instrument i0 (λ pattern _ i1.
+    after_ok (optional_field (kind_at (field_at at fields.InstrumentType)) (codes "instrument_type") table) _ instrument i1 (λ kind _ i2.
+    after_ok (optional_field (text_at (field_at at fields.InstrumentUnit)) (codes "instrument_unit") table) _ instrument i2 (λ unit united i3.
+    after_ok (optional_field (text_at (field_at at fields.MeterName)) (codes "meter_name") table) _ meter m0 (λ name named m1.
+    after_ok (optional_field (text_at (field_at at fields.MeterVersion)) (codes "meter_version") table) _ meter m1 (λ version versioned m2.
+    after_ok (optional_field (text_at (field_at at fields.MeterSchemaUrl)) (codes "meter_schema_url") table) _ meter m2 (λ url located m3.
     let of_instrument = ok_is (pattern, kind, unit) instrument (Ok (pattern, kind, unit)) refl i3 in
     let of_meter = ok_is (name, version, url) meter (Ok (name, version, url)) refl m3 in
     let made : Criteria = record {
@@ -77,10 +79,10 @@ criteria_made at table criteria e0 =
       meter_schema_url = url;
     } in
     let sound : AreSoundCriteria made = record {
-      instrument_unit = field_made IsFreeText (text_at at) (text_made at) (codes "instrument_unit") table unit united;
-      meter_name = field_made IsFreeText (text_at at) (text_made at) (codes "meter_name") table name named;
-      meter_version = field_made IsFreeText (text_at at) (text_made at) (codes "meter_version") table version versioned;
-      meter_schema_url = field_made IsFreeText (text_at at) (text_made at) (codes "meter_schema_url") table url located;
+      instrument_unit = field_made IsFreeText (text_at (field_at at fields.InstrumentUnit)) (text_made (field_at at fields.InstrumentUnit)) (codes "instrument_unit") table unit united;
+      meter_name = field_made IsFreeText (text_at (field_at at fields.MeterName)) (text_made (field_at at fields.MeterName)) (codes "meter_name") table name named;
+      meter_version = field_made IsFreeText (text_at (field_at at fields.MeterVersion)) (text_made (field_at at fields.MeterVersion)) (codes "meter_version") table version versioned;
+      meter_schema_url = field_made IsFreeText (text_at (field_at at fields.MeterSchemaUrl)) (text_made (field_at at fields.MeterSchemaUrl)) (codes "meter_schema_url") table url located;
     } in
     let same : made ≡ criteria = cc in
     subst AreSoundCriteria same sound))))))))
@@ -90,13 +92,13 @@ unfolding settings_of stream_settings list_settings
 settings_made at table settings e0 =
     after_ok (stream_settings at table) _ settings e0 (λ stream s0 e1.
     after_ok (list_settings at table) _ settings e1 (λ lists l0 e2.
-    after_ok (optional_field (limit_of at) (codes "limit") table) _ settings e2 (λ limit limited e3.
-    after_ok (optional_field (name_at at) (codes "stream_name") table) _ stream s0 (λ name _ s1.
-    after_ok (optional_field (text_at at) (codes "description") table) _ stream s1 (λ description described s2.
-    after_ok (optional_field (aggregation_of at) (codes "aggregation") table) _ stream s2 (λ aggregation _ s3.
-    after_ok (optional_field (boundaries_at at) (codes "boundaries") table) _ lists l0 (λ boundaries _ l1.
-    after_ok (optional_field (keys_at at) (codes "keep") table) _ lists l1 (λ keep kept l2.
-    after_ok (optional_field (keys_at at) (codes "exclude") table) _ lists l2 (λ exclude excluded l3.
+    after_ok (optional_field (limit_of (field_at at fields.Limit)) (codes "limit") table) _ settings e2 (λ limit limited e3.
+    after_ok (optional_field (name_at (field_at at fields.StreamName)) (codes "stream_name") table) _ stream s0 (λ name _ s1.
+    after_ok (optional_field (text_at (field_at at fields.Description)) (codes "description") table) _ stream s1 (λ description described s2.
+    after_ok (optional_field (aggregation_of (field_at at fields.Aggregation)) (codes "aggregation") table) _ stream s2 (λ aggregation _ s3.
+    after_ok (optional_field (boundaries_at (field_at at fields.Boundaries)) (codes "boundaries") table) _ lists l0 (λ boundaries _ l1.
+    after_ok (optional_field (keys_at (field_at at fields.Keep)) (codes "keep") table) _ lists l1 (λ keep kept l2.
+    after_ok (optional_field (keys_at (field_at at fields.Exclude)) (codes "exclude") table) _ lists l2 (λ exclude excluded l3.
     let of_stream = ok_is (name, description, aggregation) stream (Ok (name, description, aggregation)) refl s3 in
     let of_lists = ok_is (boundaries, keep, exclude) lists (Ok (boundaries, keep, exclude)) refl l3 in
     let made : Settings = record {
@@ -109,10 +111,10 @@ settings_made at table settings e0 =
       limit = limit;
     } in
     let sound : AreSoundSettings made = record {
-      description = field_made IsFreeText (text_at at) (text_made at) (codes "description") table description described;
-      keep = field_made (All IsFreeText) (keys_at at) (keys_made at) (codes "keep") table keep kept;
-      exclude = field_made (All IsFreeText) (keys_at at) (keys_made at) (codes "exclude") table exclude excluded;
-      limited = field_made IsLimit (limit_of at) (limit_made at) (codes "limit") table limit limited;
+      description = field_made IsFreeText (text_at (field_at at fields.Description)) (text_made (field_at at fields.Description)) (codes "description") table description described;
+      keep = field_made (All IsFreeText) (keys_at (field_at at fields.Keep)) (keys_made (field_at at fields.Keep)) (codes "keep") table keep kept;
+      exclude = field_made (All IsFreeText) (keys_at (field_at at fields.Exclude)) (keys_made (field_at at fields.Exclude)) (codes "exclude") table exclude excluded;
+      limited = field_made IsLimit (limit_of (field_at at fields.Limit)) (limit_made (field_at at fields.Limit)) (codes "limit") table limit limited;
     } in
     let same : made ≡ settings = cc in
     subst AreSoundSettings same sound)))))))))
@@ -121,7 +123,7 @@ view_made : (number : ℕ) (table : Members) (view : View) → view_of number ta
 unfolding view_of
 view_made number table view e0 =
     let at = places.View number in
-    after_ok (only (faults_at at) view_fields table) _ view e0 (λ _ _ e1.
+    after_ok (only (faults_at (field_at at fields.Unknown)) view_fields table) _ view e0 (λ _ _ e1.
     after_ok (criteria_of at table) _ view e1 (λ criteria selected e2.
     after_ok (settings_of at table) _ view e2 (λ settings set e3.
     let made : View = record { criteria = criteria; settings = settings } in

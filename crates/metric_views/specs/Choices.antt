@@ -9,19 +9,23 @@ use Rattle.metric_views.specs.declared.choices.Temporality.TheVariants.{Delta, C
 use Rattle.metric_views.specs.declared.choices.Aggregation.{Aggregation}
 use Rattle.metric_views.specs.declared.choices.Aggregation.TheVariants as aggregations
 
--- the choice for a kind
+-- # choice for a kind (SDK, MetricReader)
+-- A reader's choice for an instrument's kind.
 abbrev pub choice_for : {T : Type 0} → ByKind T → Kind → T
 choice_for choices kinds.Counter = choices.counter
 choice_for choices kinds.UpDownCounter = choices.up_down_counter
 choice_for choices kinds.Histogram = choices.histogram
 choice_for choices kinds.Gauge = choices.gauge
 
--- Only a sum does not fit, and only a gauge.
+-- # fits (profile)
+-- Every aggregation but a sum of a gauge.
 abbrev pub is_unfit : Kind → Aggregation → Bool
 is_unfit kinds.Gauge aggregations.Sum = true
 is_unfit _ _ = false
 
--- the temporality that a text names
+-- # temporality, aggregation of a name (SDK, MetricReader; SDK, aggregation) [temporality_named,
+-- aggregation_named]
+-- What `delta`, `cumulative` and the five names of aggregations stand for.
 abbrev pub temporality_named : List ℕ → Option Temporality
 temporality_named text =
     if bytes_eq text (codes "delta") then Some Delta

@@ -6,9 +6,10 @@ use Rattle.metric_base.specs.Steps.{◌>>=◌, require_some}
 use Rattle.metric_table.specs.Fields.{format_up_to, only, tables_field}
 use Rattle.metric_views.specs.declared.config.Setup.{Setup}
 use Rattle.metric_views.specs.declared.fault.ConfigPlace.TheVariants.{Top}
+use Rattle.metric_views.specs.declared.fault.ConfigField.TheVariants as fields
 use Rattle.metric_views.specs.declared.fault.ViewFault.{ViewFault}
 use Rattle.metric_views.specs.declared.fault.ViewFault.TheVariants.{NotToml}
-use Rattle.metric_views.specs.Faults.{faults_at}
+use Rattle.metric_views.specs.Faults.{faults_at, field_at}
 use Rattle.metric_views.specs.Readers.{readers_of}
 use Rattle.metric_views.specs.Views.{views_of}
 
@@ -19,15 +20,15 @@ top_fields = codes "format" ∷ codes "reader" ∷ codes "view" ∷ []
 -- the lists of the top table
 unfoldable pub lists_of_top : Members → Result (List Members × List Members) ViewFault
 lists_of_top table = do
-  readers ← tables_field (faults_at Top) 16 (codes "reader") table
-  views ← tables_field (faults_at Top) 256 (codes "view") table
+  readers ← tables_field (faults_at (field_at Top fields.Reader)) 16 (codes "reader") table
+  views ← tables_field (faults_at (field_at Top fields.View)) 256 (codes "view") table
   Ok (readers, views)
 
 -- the tables of the readers and of the views
 unfoldable pub tables_of_top : Members → Result (List Members × List Members) ViewFault
 tables_of_top table = do
-  _ ← only (faults_at Top) top_fields table
-  _ ← format_up_to (faults_at Top) 1 table
+  _ ← only (faults_at (field_at Top fields.Unknown)) top_fields table
+  _ ← format_up_to (faults_at (field_at Top fields.Format)) 1 table
   lists_of_top table
 
 -- what the tables of the readers and those of the views say
@@ -43,7 +44,8 @@ setup_of_table table = do
   tables ← tables_of_top table
   setup_of_tables tables.0 tables.1
 
--- the config that a text is
+-- # config of a text (profile)
+-- The readers and views of what `toml` reads, or the first fault.
 abbrev pub config_of : List ℕ → Result Setup ViewFault
 config_of text = do
   table ← require_some (parse_document text) NotToml

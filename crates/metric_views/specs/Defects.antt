@@ -13,7 +13,8 @@ use Rattle.metric_views.specs.declared.fault.ViewDefect.TheVariants.{
   TooMany,
 }
 
--- its number, and its name
+-- # printed defect (profile)
+-- Its number among the faults, and its name.
 abbrev pub defect_text : ViewDefect → List ℕ
 defect_text MissingField = codes "2 MissingField"
 defect_text WrongKind = codes "3 WrongKind"

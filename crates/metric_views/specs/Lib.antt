@@ -9,3 +9,4 @@ pub mod Sound
 pub mod Selection
 pub mod SelectionLaws
 pub mod Streams
+pub mod FieldWords

@@ -4,7 +4,8 @@ use Rattle.std.specs.Fmt.{decimal}
 use Rattle.metric_views.specs.declared.fault.ConfigPlace.{ConfigPlace}
 use Rattle.metric_views.specs.declared.fault.ConfigPlace.TheVariants.{Top, Reader, View}
 
--- a reader and a view with their number
+-- # printed place (profile)
+-- `top`, or `reader`, `view` with its number.
 abbrev pub place_text : ConfigPlace → List ℕ
 place_text Top = codes "top"
 place_text (Reader number) = codes "reader " ++ decimal number

@@ -9,7 +9,8 @@ use Rattle.metric_contents.specs.declared.contents.Kind.TheVariants.{Histogram, 
 use Rattle.metric_contents.specs.declared.contents.Meter.{Meter}
 use Rattle.metric_views.specs.declared.config.Criteria.{Criteria}
 
--- Every criterion that is given holds.
+-- # selects (SDK, instrument selection criteria)
+-- Every criterion that a view gives holds.
 pub record Selects (criteria : Criteria) (meter : Meter) (instrument : Instrument) : Type 0 where
   pub instrument_name : IfSome criteria.instrument_name (λ pattern. Matches pattern instrument.name)
   pub instrument_type : IfSome criteria.instrument_type (λ kind. kind ≡ instrument.kind)

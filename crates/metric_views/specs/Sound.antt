@@ -46,8 +46,9 @@ pub record IsSoundView (view : View) : Type 0 where
   pub criteria : AreSoundCriteria view.criteria
   pub settings : AreSoundSettings view.settings
 
--- what holds of every config, beside the lengths of its lists and that
--- boundaries rise, which their types keep
+-- # sound config (profile)
+-- Reader names are distinct labels, limits are in range, no reader sums gauges, texts are within
+-- their lengths.
 pub record IsSoundSetup (setup : Setup) : Type 0 where
   pub readers : EachAt IsSoundReader setup.readers
   pub views : All IsSoundView setup.views

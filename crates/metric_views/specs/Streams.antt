@@ -56,7 +56,10 @@ abbrev pub advised : Bool → Option (List ℤ) → List ℤ
 advised true advice = usual_boundaries
 advised false advice = unwrap_or advice usual_boundaries
 
--- the view's boundaries, else the advised, else the usual ones
+-- # boundaries of a stream (SDK, explicit bucket histogram aggregation; API, advisory parameters)
+-- [boundaries_for, usual_boundaries]
+-- The view's; else the instrument's advice, unless the view itself names the histogram; else the
+-- usual fifteen.
 abbrev pub boundaries_for : Instrument → Settings → List ℤ
 boundaries_for instrument settings =
     unwrap_or settings.boundaries (advised (names_histogram settings.aggregation) instrument.advice)
@@ -90,12 +93,13 @@ abbrev pub is_excluded : List ℕ → Option (List (List ℕ)) → Bool
 is_excluded name None = false
 is_excluded name (Some keys) = is_listed name keys
 
--- whether a key is kept
+-- # kept key (SDK, stream configuration)
+-- One that is in `keep`, where there is such a list, and not in `exclude`.
 abbrev pub is_kept : Option (List (List ℕ)) → Option (List (List ℕ)) → Key → Bool
 is_kept keep exclude key = is_wanted key.name keep && not (is_excluded key.name exclude)
 
--- what the streams of an instrument by the view of this number with these settings, or by the
--- default with none, have in common
+-- # what streams have in common (SDK, View, stream configuration)
+-- What a view, or the default, gives the streams of an instrument, whoever reads them.
 unfoldable pub template_of : ℕ → Instrument → Option ℕ → Settings → Template
 template_of number instrument view settings = record {
   instrument = number;
@@ -134,7 +138,9 @@ abbrev pub unless_unfit : Bool → Fill → Fill
 unless_unfit true fill = Unfit
 unless_unfit false fill = fill
 
--- what a view, or the default, makes of an instrument for the reader of a number
+-- # stream of a view (SDK, View, stream configuration) [fill_by, fill_at]
+-- What a view, or the default, makes of an instrument for a reader: unfit, dropped, or a stream
+-- with all its fields.
 unfoldable pub fill_by : ℕ → Reader → Template → Fill
 fill_by number reader template =
     unless_unfit

@@ -3,15 +3,15 @@ ghost use Rattle.std.specs.Prelude.{◌≡◌, codes, Result};
 ghost use Rattle.toml.specs.Data.{Data};
 ghost use Rattle.toml.specs.View.{table_view, view};
 ghost use Rattle.metric_contents.specs.declared.contents.Kind.{Kind};
-ghost use Rattle.metric_views.specs.declared.fault.ConfigPlace.{ConfigPlace};
+ghost use Rattle.metric_views.specs.declared.fault.ConfigSpot.{ConfigSpot};
 ghost use Rattle.metric_views.specs.declared.fault.ViewFault.{ViewFault};
 ghost use Rattle.metric_table.specs.Fields.{Reads, now_of, only, text_of};
-ghost use Rattle.metric_views.specs.Faults.{faults_at};
+ghost use Rattle.metric_views.specs.Faults.{faults_at, field_at, of_kind};
 ghost use Rattle.metric_views.specs.Choices.{aggregation_named, temporality_named};
 ghost use Rattle.metric_views.specs.Readers.{aggregation_for, aggregation_of, choice_at, choices_by_kind, choices_field, choices_of, for_all, is_limit, limit_of, temporality_of};
 
 use crate::choices::{Aggregation, ByKind, Temporality, is_unfit};
-use crate::fault::{ConfigPlace, ViewDefect, ViewFault, faults_at};
+use crate::fault::{ConfigField, ConfigPlace, ConfigSpot, ViewDefect, ViewFault, faults_at};
 use metric_contents::Kind;
 use metric_table::{integer_of, member, only, table_of, text_of};
 use toml::{Table, Value};
@@ -29,19 +29,19 @@ pub(crate) trait Choice {
     ghost usual: { Self.Chosen };
 
     // The choice that a value gives for a kind, or its first fault.
-    ghost chosen: { ConfigPlace → Kind → Data → Result Self.Chosen ViewFault };
+    ghost chosen: { ConfigSpot → Kind → Data → Result Self.Chosen ViewFault };
 
     // The choice where the config gives none.
     fn when_absent() -> Self::Chosen
         ensures { result ≡ usual };
 
     // The choice that a value gives for a kind.
-    fn read(value: &Value, kind: Kind, at: ConfigPlace) -> Result<Self::Chosen, ViewFault>
+    fn read(value: &Value, kind: Kind, at: ConfigSpot) -> Result<Self::Chosen, ViewFault>
         ensures { result ≡ chosen at kind (view value.now) };
 }
 
-// The text that a value at this place is.
-pub(crate) fn text_at(value: &Value, at: ConfigPlace) -> Result<&str, ViewFault>
+// The text that a value is.
+pub(crate) fn text_at(value: &Value, at: ConfigSpot) -> Result<&str, ViewFault>
     ensures { Reads now_of result (text_of (faults_at at) (view value.now)) }
 {
     text_of(value, &faults_at(at))
@@ -53,9 +53,12 @@ pub(crate) fn choices_field<C: Choice>(
     table: &Table,
     name: &str,
     at: ConfigPlace,
+    field: ConfigField,
 ) -> Result<ByKind<C::Chosen>, ViewFault>
-    ensures { result ≡ choices_field C.usual C.chosen at name.now (table_view table.now) }
+    ensures { result ≡ choices_field C.usual C.chosen (field_at at field) name.now
+        (table_view table.now) }
 {
+    let at = at.field(field);
     match member(table, name) {
         Some(value) => {
             let table = table_of(value, &faults_at(at))?;
@@ -77,7 +80,7 @@ fn for_all<T: Copy>(choice: T) -> ByKind<T>
 }
 
 #[tactic(auto, unfolding(crate::specs::Readers::choices_of), using(crate::proofs::FieldNames::field_names))]
-fn choices_of<C: Choice>(table: &Table, at: ConfigPlace) -> Result<ByKind<C::Chosen>, ViewFault>
+fn choices_of<C: Choice>(table: &Table, at: ConfigSpot) -> Result<ByKind<C::Chosen>, ViewFault>
     ensures { result ≡ choices_of C.usual C.chosen at (table_view table.now) }
 {
     only(table, &KIND_FIELDS, &faults_at(at))?;
@@ -86,10 +89,7 @@ fn choices_of<C: Choice>(table: &Table, at: ConfigPlace) -> Result<ByKind<C::Cho
 
 // The choices of a table, kind by kind.
 #[tactic(auto, unfolding(crate::specs::Readers::choices_by_kind))]
-fn choices_by_kind<C: Choice>(
-    table: &Table,
-    at: ConfigPlace,
-) -> Result<ByKind<C::Chosen>, ViewFault>
+fn choices_by_kind<C: Choice>(table: &Table, at: ConfigSpot) -> Result<ByKind<C::Chosen>, ViewFault>
     ensures { result ≡ choices_by_kind C.usual C.chosen at (table_view table.now) }
 {
     let counter = choice_at::<C>(table, "counter", Kind::Counter, at)?;
@@ -105,19 +105,20 @@ fn choices_by_kind<C: Choice>(
 }
 
 // The fields of a table of choices.
-const KIND_FIELDS: [&str; 4] = ["counter", "up_down_counter", "histogram", "gauge"];
+pub(crate) const KIND_FIELDS: [&str; 4] = ["counter", "up_down_counter", "histogram", "gauge"];
 
 #[tactic(auto, unfolding(crate::specs::Readers::choice_at))]
 fn choice_at<C: Choice>(
     table: &Table,
     name: &str,
     kind: Kind,
-    at: ConfigPlace,
+    at: ConfigSpot,
 ) -> Result<C::Chosen, ViewFault>
-    ensures { result ≡ choice_at C.usual (C.chosen at kind) name.now (table_view table.now) }
+    ensures { result ≡ choice_at C.usual (C.chosen (of_kind at kind) kind) name.now
+        (table_view table.now) }
 {
     match member(table, name) {
-        Some(value) => C::read(value, kind, at),
+        Some(value) => C::read(value, kind, at.of_kind(kind)),
         None => Ok(C::when_absent()),
     }
 }
@@ -139,13 +140,13 @@ impl Choice for TemporalityChoice {
         Temporality::Cumulative
     }
 
-    fn read(value: &Value, _kind: Kind, at: ConfigPlace) -> Result<Temporality, ViewFault> {
+    fn read(value: &Value, _kind: Kind, at: ConfigSpot) -> Result<Temporality, ViewFault> {
         temporality_of(value, at)
     }
 }
 
 #[tactic(auto, unfolding(crate::specs::Readers::temporality_of))]
-fn temporality_of(value: &Value, at: ConfigPlace) -> Result<Temporality, ViewFault>
+fn temporality_of(value: &Value, at: ConfigSpot) -> Result<Temporality, ViewFault>
     ensures { result ≡ temporality_of at (view value.now) }
 {
     let text = text_at(value, at)?;
@@ -180,7 +181,7 @@ impl Choice for AggregationChoice {
     }
 
     #[tactic(auto, unfolding(crate::specs::Readers::aggregation_for))]
-    fn read(value: &Value, kind: Kind, at: ConfigPlace) -> Result<Aggregation, ViewFault> {
+    fn read(value: &Value, kind: Kind, at: ConfigSpot) -> Result<Aggregation, ViewFault> {
         let aggregation = aggregation_of(value, at)?;
         if is_unfit(kind, aggregation) {
             Err(ViewFault::At(ViewDefect::WrongKind, at))
@@ -192,7 +193,7 @@ impl Choice for AggregationChoice {
 
 // The aggregation that a value names.
 #[tactic(auto, unfolding(crate::specs::Readers::aggregation_of))]
-pub(crate) fn aggregation_of(value: &Value, at: ConfigPlace) -> Result<Aggregation, ViewFault>
+pub(crate) fn aggregation_of(value: &Value, at: ConfigSpot) -> Result<Aggregation, ViewFault>
     ensures { result ≡ aggregation_of at (view value.now) }
 {
     let text = text_at(value, at)?;
@@ -228,14 +229,14 @@ impl Choice for LimitChoice {
         DEFAULT_LIMIT
     }
 
-    fn read(value: &Value, _kind: Kind, at: ConfigPlace) -> Result<u32, ViewFault> {
+    fn read(value: &Value, _kind: Kind, at: ConfigSpot) -> Result<u32, ViewFault> {
         limit_of(value, at)
     }
 }
 
 // The cardinality limit that a value is.
 #[tactic(auto, unfolding(crate::specs::Readers::limit_of))]
-pub(crate) fn limit_of(value: &Value, at: ConfigPlace) -> Result<u32, ViewFault>
+pub(crate) fn limit_of(value: &Value, at: ConfigSpot) -> Result<u32, ViewFault>
     ensures { result ≡ limit_of at (view value.now) }
 {
     let number = integer_of(value, &faults_at(at))?;

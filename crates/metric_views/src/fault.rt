@@ -1,7 +1,8 @@
 //! Why a text is no config.
 ghost use Rattle.std.specs.Prelude.{◌≡◌};
-ghost use Rattle.metric_views.specs.Faults.{faults_at};
+ghost use Rattle.metric_views.specs.Faults.{faults_at, field_at, of_kind};
 
+use metric_contents::Kind;
 use metric_table::FieldFaults;
 use std::alloc::AllocError;
 use std::fmt;
@@ -18,7 +19,98 @@ pub enum ConfigPlace {
     View(u32),
 }
 
-/// What is wrong with a table of a config.
+/// A field of a table of a config.
+#[derive(Clone, Copy, Debug, PartialEq, Eq, Drop)]
+pub enum ConfigField {
+    /// A field that the format does not name for the table: the first such one, by name.
+    Unknown,
+    /// `format` at the top.
+    Format,
+    /// `reader` at the top.
+    Reader,
+    /// `view` at the top.
+    View,
+    /// `name` of a reader.
+    Name,
+    /// `temporality` of a reader.
+    Temporality,
+    /// `aggregation` of a reader or a view.
+    Aggregation,
+    /// `limit` of a reader or a view.
+    Limit,
+    /// `instrument_name` of a view.
+    InstrumentName,
+    /// `instrument_type` of a view.
+    InstrumentType,
+    /// `instrument_unit` of a view.
+    InstrumentUnit,
+    /// `meter_name` of a view.
+    MeterName,
+    /// `meter_version` of a view.
+    MeterVersion,
+    /// `meter_schema_url` of a view.
+    MeterSchemaUrl,
+    /// `stream_name` of a view.
+    StreamName,
+    /// `description` of a view.
+    Description,
+    /// `boundaries` of a view.
+    Boundaries,
+    /// `keep` of a view.
+    Keep,
+    /// `exclude` of a view.
+    Exclude,
+}
+
+/// Where a fault is: the field of a table, and where that has a choice for each kind of instrument, the kind.
+#[derive(Clone, Copy, Debug, PartialEq, Eq, Drop)]
+pub struct ConfigSpot {
+    /// The table.
+    pub place: ConfigPlace,
+    /// The first of its fields that is wrong.
+    pub field: ConfigField,
+    /// The kind whose choice is wrong.
+    pub kind: Option<Kind>,
+}
+
+impl ConfigPlace {
+    // A field of the table.
+    pub(crate) fn field(self, field: ConfigField) -> ConfigSpot
+        ensures { result ≡ field_at self field }
+    {
+        ConfigSpot {
+            place: self,
+            field,
+            kind: None,
+        }
+    }
+}
+
+impl ConfigSpot {
+    // The choice of the field for a kind.
+    pub(crate) fn of_kind(self, kind: Kind) -> ConfigSpot
+        ensures { result ≡ of_kind self kind }
+    {
+        ConfigSpot {
+            place: self.place,
+            field: self.field,
+            kind: Some(kind),
+        }
+    }
+}
+
+impl fmt::Display for ConfigSpot {
+    ghost use Rattle.std.specs.Prelude.{Some};
+    ghost use Rattle.metric_views.specs.Places.{place_text};
+
+    ghost output = { λ spot. Some (place_text spot.place) };
+
+    fn fmt<W: fmt::Write>(&self, f: &mut fmt::Formatter<W>) -> fmt::Result {
+        self.place.fmt(f)
+    }
+}
+
+/// What is wrong with a field of a config.
 #[derive(Clone, Copy, Debug, PartialEq, Eq, Drop)]
 pub enum ViewDefect {
     /// A needed field is missing.
@@ -47,9 +139,9 @@ pub enum ViewFault {
     /// The text is no TOML.
     #[error("1 NotToml")]
     NotToml,
-    /// A table at this place has a defect.
+    /// The field of a table has a defect, and is the first that has one.
     #[error("{0} at {1}")]
-    At(ViewDefect, ConfigPlace),
+    At(ViewDefect, ConfigSpot),
     /// Memory was refused.
     #[error("11 Memory")]
     Memory,
@@ -102,8 +194,15 @@ impl fmt::Display for ViewDefect {
     }
 }
 
-// What each fault of a field is at a place.
-pub(crate) fn faults_at(at: ConfigPlace) -> FieldFaults<ViewFault>
+// What each fault of a field is that the format does not name for the table.
+pub(crate) fn unknown_at(at: ConfigPlace) -> FieldFaults<ViewFault>
+    ensures { result ≡ faults_at (field_at at ConfigField.Unknown) }
+{
+    faults_at(at.field(ConfigField::Unknown))
+}
+
+// What each fault of a field is.
+pub(crate) fn faults_at(at: ConfigSpot) -> FieldFaults<ViewFault>
     ensures { result ≡ faults_at at }
 {
     FieldFaults {

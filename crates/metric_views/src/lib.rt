@@ -6,6 +6,7 @@ mod choices;
 mod config;
 mod fault;
 mod filling;
+mod known;
 mod optional;
 mod readers;
 mod reading;
@@ -17,8 +18,9 @@ mod views;
 
 pub use choices::{Aggregation, ByKind, Temporality};
 pub use config::{Config, Criteria, Reader, Settings, Setup, View};
-pub use fault::{ConfigPlace, ViewDefect, ViewFault};
+pub use fault::{ConfigField, ConfigPlace, ConfigSpot, ViewDefect, ViewFault};
 pub use filling::fill;
+pub use known::{field_names, kind_names};
 pub use selection::{is_of_kind, is_text};
 pub use stream::{Fill, Stream, StreamAggregation};
 pub use template::Template;

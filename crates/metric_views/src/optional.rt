@@ -5,13 +5,13 @@ ghost use Rattle.toml.specs.View.{table_view, view};
 ghost use Rattle.metric_base.specs.Steps.{Gives, with_fault};
 ghost use Rattle.metric_names.specs.Names.{name_of};
 ghost use Rattle.metric_glob.specs.Patterns.{pattern_of};
-ghost use Rattle.metric_views.specs.declared.fault.ConfigPlace.{ConfigPlace};
+ghost use Rattle.metric_views.specs.declared.fault.ConfigSpot.{ConfigSpot};
 ghost use Rattle.metric_views.specs.declared.fault.ViewFault.{ViewFault};
 ghost use Rattle.metric_views.specs.Views.{optional_field};
 
 use crate::by_kind::{aggregation_of, limit_of, text_at};
 use crate::choices::Aggregation;
-use crate::fault::{ConfigPlace, ViewDefect, ViewFault, faults_at};
+use crate::fault::{ConfigSpot, ViewDefect, ViewFault, faults_at};
 use metric_base::{Boundaries, Few, Shared, Text, is_rising};
 use metric_contents::Kind;
 use metric_glob::{Pattern, PatternFault};
@@ -26,10 +26,10 @@ pub(crate) trait Field {
     type Read: Drop;
 
     // What a value is read as, or its first fault.
-    ghost read_as: { ConfigPlace → Data → Result Self.Read ViewFault };
+    ghost read_as: { ConfigSpot → Data → Result Self.Read ViewFault };
 
     // What a value is read as.
-    fn read(alloc: Global, value: &Value, at: ConfigPlace) -> Result<Self::Read, ViewFault>
+    fn read(alloc: Global, value: &Value, at: ConfigSpot) -> Result<Self::Read, ViewFault>
         ensures { Gives ViewFault.Memory result (read_as at (view value.now)) };
 }
 
@@ -39,7 +39,7 @@ pub(crate) fn optional_field<F: Field>(
     alloc: Global,
     table: &Table,
     name: &str,
-    at: ConfigPlace,
+    at: ConfigSpot,
 ) -> Result<Option<F::Read>, ViewFault>
     ensures { Gives ViewFault.Memory result
         (optional_field (F.read_as at) name.now (table_view table.now)) }
@@ -58,7 +58,7 @@ pub(crate) fn shared_field<F: Field>(
     alloc: Global,
     table: &Table,
     name: &str,
-    at: ConfigPlace,
+    at: ConfigSpot,
 ) -> Result<Option<Shared<F::Read>>, ViewFault>
     ensures { Gives ViewFault.Memory result
         (optional_field (F.read_as at) name.now (table_view table.now)) }
@@ -83,7 +83,7 @@ impl Field for TextField {
     ghost read_as = { text_at };
 
     #[tactic(auto, unfolding(crate::specs::Views::text_at, metric_table::specs::Fields::short_text_of))]
-    fn read(alloc: Global, value: &Value, at: ConfigPlace) -> Result<Text, ViewFault> {
+    fn read(alloc: Global, value: &Value, at: ConfigSpot) -> Result<Text, ViewFault> {
         let faults = faults_at(at);
         let text = text_of(value, &faults)?;
         let text = short_text(text, &faults)?;
@@ -103,13 +103,13 @@ impl Field for PatternField {
     ghost read_as = { pattern_at };
 
     #[tactic(auto, unfolding(crate::specs::Views::pattern_at))]
-    fn read(alloc: Global, value: &Value, at: ConfigPlace) -> Result<Pattern, ViewFault> {
+    fn read(alloc: Global, value: &Value, at: ConfigSpot) -> Result<Pattern, ViewFault> {
         let text = text_at(value, at)?;
         pattern(alloc, text, at)
     }
 }
 
-fn pattern(alloc: Global, text: &str, at: ConfigPlace) -> Result<Pattern, ViewFault>
+fn pattern(alloc: Global, text: &str, at: ConfigSpot) -> Result<Pattern, ViewFault>
     ensures { Gives ViewFault.Memory result
         (with_fault (λ _. ViewFault.At ViewDefect.BadPattern at) (pattern_of text.now)) }
 {
@@ -131,13 +131,13 @@ impl Field for NameField {
     ghost read_as = { name_at };
 
     #[tactic(auto, unfolding(crate::specs::Views::name_at))]
-    fn read(alloc: Global, value: &Value, at: ConfigPlace) -> Result<Name, ViewFault> {
+    fn read(alloc: Global, value: &Value, at: ConfigSpot) -> Result<Name, ViewFault> {
         let text = text_at(value, at)?;
         name(alloc, text, at)
     }
 }
 
-fn name(alloc: Global, text: &str, at: ConfigPlace) -> Result<Name, ViewFault>
+fn name(alloc: Global, text: &str, at: ConfigSpot) -> Result<Name, ViewFault>
     ensures { Gives ViewFault.Memory result
         (with_fault (λ _. ViewFault.At ViewDefect.BadName at) (name_of text.now)) }
 {
@@ -159,7 +159,7 @@ impl Field for KindField {
     ghost read_as = { kind_at };
 
     #[tactic(auto, unfolding(crate::specs::Views::kind_at))]
-    fn read(_alloc: Global, value: &Value, at: ConfigPlace) -> Result<Kind, ViewFault> {
+    fn read(_alloc: Global, value: &Value, at: ConfigSpot) -> Result<Kind, ViewFault> {
         let text = text_at(value, at)?;
         Kind::named(text).ok_or(ViewFault::At(ViewDefect::WrongKind, at))
     }
@@ -175,7 +175,7 @@ impl Field for AggregationField {
 
     ghost read_as = { aggregation_of };
 
-    fn read(_alloc: Global, value: &Value, at: ConfigPlace) -> Result<Aggregation, ViewFault> {
+    fn read(_alloc: Global, value: &Value, at: ConfigSpot) -> Result<Aggregation, ViewFault> {
         aggregation_of(value, at)
     }
 }
@@ -190,7 +190,7 @@ impl Field for LimitField {
 
     ghost read_as = { limit_of };
 
-    fn read(_alloc: Global, value: &Value, at: ConfigPlace) -> Result<u32, ViewFault> {
+    fn read(_alloc: Global, value: &Value, at: ConfigSpot) -> Result<u32, ViewFault> {
         limit_of(value, at)
     }
 }
@@ -206,7 +206,7 @@ impl Field for BoundariesField {
     ghost read_as = { boundaries_at };
 
     #[tactic(auto, unfolding(crate::specs::Views::boundaries_at))]
-    fn read(alloc: Global, value: &Value, at: ConfigPlace) -> Result<Boundaries, ViewFault> {
+    fn read(alloc: Global, value: &Value, at: ConfigSpot) -> Result<Boundaries, ViewFault> {
         let boundaries = integers_of(alloc, value, 128, &faults_at(at))?;
         if is_rising(boundaries.as_slice()) {
             Ok(Boundaries::from_few(Few::from_items(boundaries)))
@@ -227,7 +227,7 @@ impl Field for KeysField {
     ghost read_as = { keys_at };
 
     #[tactic(auto, unfolding(crate::specs::Views::keys_at))]
-    fn read(alloc: Global, value: &Value, at: ConfigPlace) -> Result<Few<Text, 64>, ViewFault> {
+    fn read(alloc: Global, value: &Value, at: ConfigSpot) -> Result<Few<Text, 64>, ViewFault> {
         let keys = texts_of(alloc, value, 64, &faults_at(at))?;
         Ok(Few::from_items(keys))
     }

@@ -10,7 +10,9 @@ ghost use Rattle.metric_views.specs.Readers.{has_reader, reader_choices, reader_
 use crate::by_kind::{AggregationChoice, LimitChoice, TemporalityChoice, choices_field};
 use crate::choices::{Aggregation, ByKind, Temporality};
 use crate::config::Reader;
-use crate::fault::{ConfigPlace, ViewDefect, ViewFault, faults_at};
+use crate::fault::{
+    ConfigField, ConfigPlace, ConfigSpot, ViewDefect, ViewFault, faults_at, unknown_at,
+};
 use metric_base::{Items, Text};
 use metric_table::{only, short_text, text_field};
 use std::alloc::Global;
@@ -39,8 +41,8 @@ fn reader_of(alloc: Global, before: &[Reader], table: &Table) -> Result<Reader, 
     ensures { Gives ViewFault.Memory result (reader_of before.now (table_view table.now)) }
 {
     let at = ConfigPlace::Reader(before.len() as u32);
-    only(table, &READER_FIELDS, &faults_at(at))?;
-    let name = reader_name(before, table, at)?;
+    only(table, &READER_FIELDS, &unknown_at(at))?;
+    let name = reader_name(before, table, at.field(ConfigField::Name))?;
     let (temporality, aggregation, limit) = reader_choices(table, at)?;
     let name = Text::new(alloc, name)?;
     Ok(Reader {
@@ -58,21 +60,31 @@ type Choices = (ByKind<Temporality>, ByKind<Aggregation>, ByKind<u32>);
 fn reader_choices(table: &Table, at: ConfigPlace) -> Result<Choices, ViewFault>
     ensures { result ≡ reader_choices at (table_view table.now) }
 {
-    let temporality = choices_field::<TemporalityChoice>(table, "temporality", at)?;
-    let aggregation = choices_field::<AggregationChoice>(table, "aggregation", at)?;
-    let limit = choices_field::<LimitChoice>(table, "limit", at)?;
+    let temporality = choices_field::<TemporalityChoice>(
+        table,
+        "temporality",
+        at,
+        ConfigField::Temporality,
+    )?;
+    let aggregation = choices_field::<AggregationChoice>(
+        table,
+        "aggregation",
+        at,
+        ConfigField::Aggregation,
+    )?;
+    let limit = choices_field::<LimitChoice>(table, "limit", at, ConfigField::Limit)?;
     Ok((temporality, aggregation, limit))
 }
 
 // The fields of a reader.
-const READER_FIELDS: [&str; 4] = ["name", "temporality", "aggregation", "limit"];
+pub(crate) const READER_FIELDS: [&str; 4] = ["name", "temporality", "aggregation", "limit"];
 
 // The name of one more reader.
 #[tactic(auto, unfolding(crate::specs::Readers::reader_name))]
 fn reader_name<'a>(
     before: &[Reader],
     table: &'a Table,
-    at: ConfigPlace,
+    at: ConfigSpot,
 ) -> Result<&'a str, ViewFault>
     ensures { MatchResult result (λ s. reader_name before.now at (table_view table.now) ≡ Ok s.now)
         (λ e. reader_name before.now at (table_view table.now) ≡ Err e) }

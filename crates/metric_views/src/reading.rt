@@ -8,7 +8,7 @@ ghost use Rattle.metric_views.specs.Configs.{config_of, lists_of_top, setup_of_t
 ghost use Rattle.metric_views.specs.Faults.{faults_at};
 
 use crate::config::Setup;
-use crate::fault::{ConfigPlace, ViewFault, faults_at};
+use crate::fault::{ConfigField, ConfigPlace, ViewFault, faults_at, unknown_at};
 use crate::readers::readers_of;
 use crate::views::views_of;
 use metric_base::{Few, Items};
@@ -61,8 +61,8 @@ fn tables_of_top(alloc: Global, table: &Table) -> Result<Tables<'_>, ViewFault>
     ensures readers { IfOk result (λ t. length t.0 ≤ 16) }
     ensures views { IfOk result (λ t. length t.1 ≤ 256) }
 {
-    let faults = faults_at(ConfigPlace::Top);
-    only(table, &TOP_FIELDS, &faults)?;
+    only(table, &TOP_FIELDS, &unknown_at(ConfigPlace::Top))?;
+    let faults = faults_at(ConfigPlace::Top.field(ConfigField::Format));
     format_up_to(table, 1, &faults)?;
     lists_of_top(alloc, table)
 }
@@ -76,11 +76,12 @@ fn lists_of_top(alloc: Global, table: &Table) -> Result<Tables<'_>, ViewFault>
     ensures readers { IfOk result (λ t. length t.0 ≤ 16) }
     ensures views { IfOk result (λ t. length t.1 ≤ 256) }
 {
-    let faults = faults_at(ConfigPlace::Top);
-    let readers = tables_field(alloc, table, "reader", 16, &faults)?;
-    let views = tables_field(alloc, table, "view", 256, &faults)?;
+    let of_readers = faults_at(ConfigPlace::Top.field(ConfigField::Reader));
+    let readers = tables_field(alloc, table, "reader", 16, &of_readers)?;
+    let of_views = faults_at(ConfigPlace::Top.field(ConfigField::View));
+    let views = tables_field(alloc, table, "view", 256, &of_views)?;
     Ok((readers, views))
 }
 
 // The fields of the top table.
-const TOP_FIELDS: [&str; 3] = ["format", "reader", "view"];
+pub(crate) const TOP_FIELDS: [&str; 3] = ["format", "reader", "view"];

@@ -2,12 +2,13 @@
 ghost use Rattle.std.specs.Prelude.{◌≡◌, ◌≤◌, ◌<◌, IfOk, length, map};
 ghost use Rattle.toml.specs.View.{table_view};
 ghost use Rattle.metric_base.specs.Steps.{Gives};
+ghost use Rattle.metric_views.specs.Faults.{field_at};
 ghost use Rattle.metric_views.specs.Readers.{aggregation_of};
 ghost use Rattle.metric_views.specs.Views.{criteria_of, instrument_criteria, kind_at, list_settings, meter_criteria, name_at, optional_field, pattern_at, settings_of, stream_settings, text_at, view_of, views_of};
 
 use crate::choices::Aggregation;
 use crate::config::{Criteria, Settings, View};
-use crate::fault::{ConfigPlace, ViewFault, faults_at};
+use crate::fault::{ConfigField, ConfigPlace, ViewFault, unknown_at};
 use crate::optional::{
     AggregationField, BoundariesField, KeysField, KindField, LimitField, NameField, PatternField,
     TextField, optional_field, shared_field,
@@ -41,14 +42,14 @@ fn view_of(alloc: Global, number: u32, table: &Table) -> Result<View, ViewFault>
     ensures { Gives ViewFault.Memory result (view_of number (table_view table.now)) }
 {
     let at = ConfigPlace::View(number);
-    only(table, &VIEW_FIELDS, &faults_at(at))?;
+    only(table, &VIEW_FIELDS, &unknown_at(at))?;
     let criteria = criteria_of(alloc, table, at)?;
     let settings = settings_of(alloc, table, at)?;
     Ok(View { criteria, settings })
 }
 
 // The fields of a view.
-const VIEW_FIELDS: [&str; 13] = [
+pub(crate) const VIEW_FIELDS: [&str; 13] = [
     "instrument_name",
     "instrument_type",
     "instrument_unit",
@@ -92,9 +93,27 @@ fn instrument_criteria(
 ) -> Result<InstrumentCriteria, ViewFault>
     ensures { Gives ViewFault.Memory result (instrument_criteria at (table_view table.now)) }
 {
-    let name = pattern_field(alloc, table, "instrument_name", at)?;
-    let kind = kind_field(alloc, table, "instrument_type", at)?;
-    let unit = free_text_field(alloc, table, "instrument_unit", at)?;
+    let name = pattern_field(
+        alloc,
+        table,
+        "instrument_name",
+        at,
+        ConfigField::InstrumentName,
+    )?;
+    let kind = kind_field(
+        alloc,
+        table,
+        "instrument_type",
+        at,
+        ConfigField::InstrumentType,
+    )?;
+    let unit = free_text_field(
+        alloc,
+        table,
+        "instrument_unit",
+        at,
+        ConfigField::InstrumentUnit,
+    )?;
     Ok((name, kind, unit))
 }
 
@@ -104,9 +123,15 @@ type MeterCriteria = (Option<Text>, Option<Text>, Option<Text>);
 fn meter_criteria(alloc: Global, table: &Table, at: ConfigPlace) -> Result<MeterCriteria, ViewFault>
     ensures { Gives ViewFault.Memory result (meter_criteria at (table_view table.now)) }
 {
-    let name = free_text_field(alloc, table, "meter_name", at)?;
-    let version = free_text_field(alloc, table, "meter_version", at)?;
-    let schema_url = free_text_field(alloc, table, "meter_schema_url", at)?;
+    let name = free_text_field(alloc, table, "meter_name", at, ConfigField::MeterName)?;
+    let version = free_text_field(alloc, table, "meter_version", at, ConfigField::MeterVersion)?;
+    let schema_url = free_text_field(
+        alloc,
+        table,
+        "meter_schema_url",
+        at,
+        ConfigField::MeterSchemaUrl,
+    )?;
     Ok((name, version, schema_url))
 }
 
@@ -116,7 +141,7 @@ fn settings_of(alloc: Global, table: &Table, at: ConfigPlace) -> Result<Settings
 {
     let (stream_name, description, aggregation) = stream_settings(alloc, table, at)?;
     let (boundaries, keep, exclude) = list_settings(alloc, table, at)?;
-    let limit = optional_field::<LimitField>(alloc, table, "limit", at)?;
+    let limit = optional_field::<LimitField>(alloc, table, "limit", at.field(ConfigField::Limit))?;
     Ok(Settings {
         stream_name,
         description,
@@ -142,9 +167,9 @@ fn stream_settings(
 ) -> Result<StreamSettings, ViewFault>
     ensures { Gives ViewFault.Memory result (stream_settings at (table_view table.now)) }
 {
-    let name = name_field(alloc, table, "stream_name", at)?;
-    let description = description_field(alloc, table, "description", at)?;
-    let aggregation = aggregation_field(alloc, table, "aggregation", at)?;
+    let name = name_field(alloc, table, "stream_name", at, ConfigField::StreamName)?;
+    let description = description_field(alloc, table, "description", at, ConfigField::Description)?;
+    let aggregation = aggregation_field(alloc, table, "aggregation", at, ConfigField::Aggregation)?;
     Ok((name, description, aggregation))
 }
 
@@ -158,9 +183,19 @@ type ListSettings = (
 fn list_settings(alloc: Global, table: &Table, at: ConfigPlace) -> Result<ListSettings, ViewFault>
     ensures { Gives ViewFault.Memory result (list_settings at (table_view table.now)) }
 {
-    let boundaries = shared_field::<BoundariesField>(alloc, table, "boundaries", at)?;
-    let keep = optional_field::<KeysField>(alloc, table, "keep", at)?;
-    let exclude = optional_field::<KeysField>(alloc, table, "exclude", at)?;
+    let boundaries = shared_field::<BoundariesField>(
+        alloc,
+        table,
+        "boundaries",
+        at.field(ConfigField::Boundaries),
+    )?;
+    let keep = optional_field::<KeysField>(alloc, table, "keep", at.field(ConfigField::Keep))?;
+    let exclude = optional_field::<KeysField>(
+        alloc,
+        table,
+        "exclude",
+        at.field(ConfigField::Exclude),
+    )?;
     Ok((boundaries, keep, exclude))
 }
 
@@ -170,11 +205,12 @@ fn pattern_field(
     table: &Table,
     name: &str,
     at: ConfigPlace,
+    field: ConfigField,
 ) -> Result<Option<Pattern>, ViewFault>
     ensures { Gives ViewFault.Memory result
-        (optional_field (pattern_at at) name.now (table_view table.now)) }
+        (optional_field (pattern_at (field_at at field)) name.now (table_view table.now)) }
 {
-    optional_field::<PatternField>(alloc, table, name, at)
+    optional_field::<PatternField>(alloc, table, name, at.field(field))
 }
 
 // A kind, where the table has it.
@@ -183,11 +219,12 @@ fn kind_field(
     table: &Table,
     name: &str,
     at: ConfigPlace,
+    field: ConfigField,
 ) -> Result<Option<Kind>, ViewFault>
     ensures { Gives ViewFault.Memory result
-        (optional_field (kind_at at) name.now (table_view table.now)) }
+        (optional_field (kind_at (field_at at field)) name.now (table_view table.now)) }
 {
-    optional_field::<KindField>(alloc, table, name, at)
+    optional_field::<KindField>(alloc, table, name, at.field(field))
 }
 
 // A free text, where the table has it.
@@ -196,11 +233,12 @@ fn free_text_field(
     table: &Table,
     name: &str,
     at: ConfigPlace,
+    field: ConfigField,
 ) -> Result<Option<Text>, ViewFault>
     ensures { Gives ViewFault.Memory result
-        (optional_field (text_at at) name.now (table_view table.now)) }
+        (optional_field (text_at (field_at at field)) name.now (table_view table.now)) }
 {
-    optional_field::<TextField>(alloc, table, name, at)
+    optional_field::<TextField>(alloc, table, name, at.field(field))
 }
 
 // A free text that streams share, where the table has it.
@@ -209,11 +247,12 @@ fn description_field(
     table: &Table,
     name: &str,
     at: ConfigPlace,
+    field: ConfigField,
 ) -> Result<Option<Shared<Text>>, ViewFault>
     ensures { Gives ViewFault.Memory result
-        (optional_field (text_at at) name.now (table_view table.now)) }
+        (optional_field (text_at (field_at at field)) name.now (table_view table.now)) }
 {
-    shared_field::<TextField>(alloc, table, name, at)
+    shared_field::<TextField>(alloc, table, name, at.field(field))
 }
 
 // A stream name, where the table has it.
@@ -222,11 +261,12 @@ fn name_field(
     table: &Table,
     name: &str,
     at: ConfigPlace,
+    field: ConfigField,
 ) -> Result<Option<Shared<Name>>, ViewFault>
     ensures { Gives ViewFault.Memory result
-        (optional_field (name_at at) name.now (table_view table.now)) }
+        (optional_field (name_at (field_at at field)) name.now (table_view table.now)) }
 {
-    shared_field::<NameField>(alloc, table, name, at)
+    shared_field::<NameField>(alloc, table, name, at.field(field))
 }
 
 // An aggregation, where the table has it.
@@ -235,9 +275,10 @@ fn aggregation_field(
     table: &Table,
     name: &str,
     at: ConfigPlace,
+    field: ConfigField,
 ) -> Result<Option<Aggregation>, ViewFault>
     ensures { Gives ViewFault.Memory result
-        (optional_field (aggregation_of at) name.now (table_view table.now)) }
+        (optional_field (aggregation_of (field_at at field)) name.now (table_view table.now)) }
 {
-    optional_field::<AggregationField>(alloc, table, name, at)
+    optional_field::<AggregationField>(alloc, table, name, at.field(field))
 }

@@ -27,7 +27,8 @@ block_in bytes =
     then option_map (λ found. (mark.0 / 8, found.0, found.1)) (counted_in mark.1)
     else None) (varint_in bytes)
 
--- a number of 64 bits is read as itself, whatever follows
+-- # what is read back (profile) [VarintsReadBack, BlocksReadBack]
+-- A varint and a block are read as what was written, whatever follows.
 abbrev pub VarintsReadBack : Type 0
 VarintsReadBack = (number : ℕ) (rest : List ℕ)
     → number < 2 ^ 64 → varint_in (varint number ++ rest) ≡ Some (number, rest)

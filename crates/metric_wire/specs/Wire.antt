@@ -14,7 +14,8 @@ base_128 (suc more) number =
     if nat_lt number 128 then number ∷ []
     else (128 + number % 128) ∷ base_128 more (number / 128)
 
--- a number of 64 bits, which has at most ten digits
+-- # varint (protobuf, encoding)
+-- A number in base 128, the least digit first, with 128 added to each digit but the last.
 unfoldable pub varint : ℕ → List ℕ
 varint number = base_128 9 number
 
@@ -22,7 +23,10 @@ varint number = base_128 9 number
 unfoldable pub mark : ℕ → ℕ → List ℕ
 mark field form = varint (field * 8 + form)
 
--- a field that is a varint
+-- # field (protobuf, encoding) [varint_field, word_field, signed_field, double_field, block,
+-- words_block, doubles_block]
+-- A mark, which has the field's number and how its value is written, and the value: a varint, eight
+-- bytes, or a block.
 unfoldable pub varint_field : ℕ → ℕ → List ℕ
 varint_field field number = mark field 0 ++ varint number
 
@@ -30,8 +34,8 @@ varint_field field number = mark field 0 ++ varint number
 unfoldable pub word : ℕ → List ℕ
 word number = to_le_bytes w64 number
 
--- the eight bytes of the double that is nearest to a whole number; of two that are as near, the one
--- whose last bit is 0
+-- # double of a whole number (IEEE 754)
+-- The eight bytes of the double nearest to it, ties to even.
 unfoldable pub double : ℤ → List ℕ
 double number = to_le_bytes w64 (to_bits binary64 (of_int binary64 number))
 

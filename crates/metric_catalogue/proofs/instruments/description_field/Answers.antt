@@ -3,4 +3,6 @@ use Rattle.std.proofs.Common.{Ok, sym, ap, ◌∙◌}
 use Rattle.metric_catalogue.proofs.instruments.description_field.Goals as goal
 
 pub returns : goal.returns
-returns c = c.in_ok-description.ensures ∙ ap Ok (sym c.in_ok-new.ensures)
+returns c =
+    let read = rw (c.field.ensures) at c.in_ok-description.ensures in
+    read ∙ ap Ok (sym c.in_ok-new.ensures)

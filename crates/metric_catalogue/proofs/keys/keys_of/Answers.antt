@@ -8,7 +8,7 @@ use Rattle.metric_catalogue.proofs.keys.keys_of.Goals as goal
 pub loop-table-preserved : goal.loop-table-preserved
 loop-table-preserved c = record {
   few = one_longer c.loop-table.keys c.push.new.self c.in_ok-key.key _ c.in_ok-push.ensures.ok c.loop-table.invariant.few;
-  exact = each_more (key_of c.args.at) (λ t. table_view t.now) c.loop-table.keys c.as_slice.result.now c.push.new.self
+  exact = each_more (key_of c.args.instrument) (λ t. table_view t.now) c.loop-table.keys c.as_slice.result.now c.push.new.self
       c.args.tables.now c.loop-table.table-index c.table-item.result c.in_ok-key.key
       (omega arith) c.table-item.is c.as_slice.ensures c.in_ok-key.ensures c.in_ok-push.ensures.ok
       ∙ c.loop-table.invariant.exact;

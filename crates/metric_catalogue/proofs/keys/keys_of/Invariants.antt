@@ -8,6 +8,6 @@ use Rattle.metric_catalogue.proofs.keys.keys_of.Given as goal
 abbrev pub invariant-loop-table : goal.invariant-loop-table
 invariant-loop-table l = record {
   few : length l.keys ≡ l.table-index;
-  exact : each (key_of l.at) l.keys (map (λ t. table_view t.now) (drop l.table-index l.tables))
-      ≡ each (key_of l.at) [] (map (λ t. table_view t.now) l.tables);
+  exact : each (key_of l.instrument) l.keys (map (λ t. table_view t.now) (drop l.table-index l.tables))
+      ≡ each (key_of l.instrument) [] (map (λ t. table_view t.now) l.tables);
 }

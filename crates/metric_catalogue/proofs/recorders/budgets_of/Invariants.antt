@@ -8,6 +8,6 @@ use Rattle.metric_catalogue.proofs.recorders.budgets_of.Given as goal
 abbrev pub invariant-loop-table : goal.invariant-loop-table
 invariant-loop-table l = record {
   few : length l.budgets ≡ l.table-index;
-  exact : each (budget_of l.at l.count) l.budgets (map (λ t. table_view t.now) (drop l.table-index l.tables))
-      ≡ each (budget_of l.at l.count) [] (map (λ t. table_view t.now) l.tables);
+  exact : each (budget_of l.recorder l.count) l.budgets (map (λ t. table_view t.now) (drop l.table-index l.tables))
+      ≡ each (budget_of l.recorder l.count) [] (map (λ t. table_view t.now) l.tables);
 }

@@ -1,0 +1,69 @@
+//! The names of the fields of each table.
+ghost use Rattle.std.specs.Prelude.{◌≡◌, map};
+ghost use Rattle.metric_table.specs.Fields.{now_of};
+ghost use Rattle.metric_catalogue.specs.FieldWords.{field_name, names_at};
+ghost use Rattle.metric_catalogue.specs.Instruments.{instrument_fields};
+
+use crate::catalogue::TOP_FIELDS;
+use crate::fault::{CatalogueField, CataloguePlace};
+use crate::instruments::INSTRUMENT_FIELDS;
+use crate::keys::KEY_FIELDS;
+use crate::meters::METER_FIELDS;
+use crate::recorders::{BUDGET_FIELDS, RECORDER_FIELDS};
+
+impl CatalogueField {
+    /// The name of the field in a file, empty for one that the format does not name.
+    pub fn name(self) -> &'static str
+        ensures { result.now ≡ field_name self }
+    {
+        match self {
+            CatalogueField::Unknown => "",
+            CatalogueField::Format => "format",
+            CatalogueField::Meter => "meter",
+            CatalogueField::Recorder => "recorder",
+            CatalogueField::Name => "name",
+            CatalogueField::Version => "version",
+            CatalogueField::SchemaUrl => "schema_url",
+            CatalogueField::Instrument => "instrument",
+            CatalogueField::Kind => "kind",
+            CatalogueField::Unit => "unit",
+            CatalogueField::Description => "description",
+            CatalogueField::Range => "range",
+            CatalogueField::Boundaries => "boundaries",
+            CatalogueField::Key => "key",
+            CatalogueField::Allowed => "allowed",
+            CatalogueField::Spare => "spare",
+            CatalogueField::Values => "values",
+            CatalogueField::Optional => "optional",
+            CatalogueField::Budget => "budget",
+            CatalogueField::Amount => "amount",
+        }
+    }
+}
+
+// The names of the fields of an instrument, of which format 1 has all but the last two.
+#[tactic(auto, using(crate::proofs::FieldNames::field_names))]
+pub(crate) fn instrument_names(format: u8) -> &'static [&'static str]
+    ensures { map now_of result.now ≡ instrument_fields format }
+{
+    if format == 1 {
+        &INSTRUMENT_FIELDS[..7]
+    } else {
+        &INSTRUMENT_FIELDS
+    }
+}
+
+/// The names of the fields that a table may have in a file of this format, in the order in which they are read.
+#[tactic(auto, using(crate::proofs::FieldNames::field_names))]
+pub fn field_names(place: CataloguePlace, format: u8) -> &'static [&'static str]
+    ensures { map now_of result.now ≡ names_at format place }
+{
+    match place {
+        CataloguePlace::Top => &TOP_FIELDS,
+        CataloguePlace::Meter(_) => &METER_FIELDS,
+        CataloguePlace::Instrument(_) => instrument_names(format),
+        CataloguePlace::Key(_, _) => &KEY_FIELDS,
+        CataloguePlace::Recorder(_) => &RECORDER_FIELDS,
+        CataloguePlace::Budget(_, _) => &BUDGET_FIELDS,
+    }
+}
