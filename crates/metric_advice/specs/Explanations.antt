@@ -95,7 +95,10 @@ key_mistake instrument attrs combined value =
     (find (λ given. not (is_declared instrument.keys given)) attrs))
     (value_mistake instrument attrs combined value)
 
--- the first mistake: the first key that stands again, and then which keys are declared
+-- # explained (profile) [mistake_of, explained, said_of]
+-- The first mistake of what a recording says: a key that stands again, a key or a value that is not
+-- declared, a key that is missing, a combination that is not allowed, a value outside the range; it
+-- is told of the first refusal.
 unfoldable pub mistake_of : Instrument → List Given → Bool → ℤ → Option Fault
 mistake_of instrument attrs combined value =
     option_or (option_map (λ given. DuplicateKey given.0) (first_repeated attrs))

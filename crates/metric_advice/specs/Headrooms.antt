@@ -11,8 +11,9 @@ use Rattle.metric_advice.specs.declared.limit.Limit.TheVariants.{Series}
 use Rattle.metric_advice.specs.Edges.{IsEdge}
 use Rattle.metric_advice.specs.Limits.{OwnFindsAt, TotalFinds}
 
--- It is the headroom of the instrument of this number: at `most` recordings nothing is found, it is
--- the greatest such number, and with one recording more the limit is found.
+-- # headroom (profile)
+-- The greatest number of recordings of an instrument at which nothing is found, and what is found
+-- at one more.
 pub record IsHeadroom (contents : Contents) (streams : List Stream) (instrument : ℕ)
     (headroom : Headroom) : Type 0 where
   pub total : headroom.total ≡ total_of contents instrument

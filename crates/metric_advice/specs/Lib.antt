@@ -3,5 +3,8 @@ pub mod Explanations
 pub mod Headrooms
 pub mod Limits
 pub mod Positions
+pub mod When
+pub mod Values
 pub mod Remarks
 pub mod UnsafeParts
+pub mod Kinds

@@ -14,8 +14,10 @@ use Rattle.metric_advice.specs.declared.limit.Limit.{Limit}
 use Rattle.metric_advice.specs.declared.limit.Limit.TheVariants.{Count, Amount, SumLow, SumHigh}
 use Rattle.metric_advice.specs.declared.limit.Limit.TheVariants.{Series}
 
--- what is found of the instrument's own numbers, of which a stream keeps a sum or none does; a
--- fault of it is told by a function
+-- # what is found at so many recordings (profile) [OwnFinds, TotalFinds]
+-- Of an instrument first whether its counts, the amount of its values, its least and its greatest
+-- sum fit, then of each of its streams whether its series are within the limit: the first that
+-- fails.
 abbrev pub OwnFinds : {F : Type 0} → (Limit → F) → ℕ → Type 0 → Instrument → Option F → Type 0
 OwnFinds told total summed instrument =
     Then (Asks (CountsFit total) (told Count))

@@ -22,7 +22,11 @@ catalogue_place catalogue.Top = Top
 catalogue_place (catalogue.Meter number) = Nth (codes "[[meter]]") (codes "meter=[") number
 catalogue_place (catalogue.Instrument number) =
     Nth (codes "[[meter.instrument]]") (codes "instrument=[") number
+catalogue_place (catalogue.Key number key) =
+    Nth (codes "[[meter.instrument]]") (codes "instrument=[") number
 catalogue_place (catalogue.Recorder number) = Nth (codes "[[recorder]]") (codes "recorder=[") number
+catalogue_place (catalogue.Budget number budget) =
+    Nth (codes "[[recorder]]") (codes "recorder=[") number
 
 abbrev pub config_place : ConfigPlace → Place
 config_place config.Top = Top
@@ -65,7 +69,8 @@ located_in header list number lines =
     if list_any (begins list) lines then None
     else position_of (slice_get (headed header lines) number)
 
--- where the table of a place stands
+-- # where a table stands (profile)
+-- The line of a number, of those that begin with the table's header but for blanks and quotes.
 abbrev pub located : List ℕ → Place → Option Position
 located text Top = Some (record { line = 1; column = 1 })
 located text (Nth header list number) = located_in header list number (lines_of text)

@@ -1,8 +1,8 @@
 -- What looks like a mistake in a catalogue and a config. The remarks stand in a fixed order.
-use Rattle.std.specs.Prelude.{◌≡◌, ◌==◌, ℕ, Bool, true, false, not, ◌&&◌, is_some, nat_lt}
+use Rattle.std.specs.Prelude.{◌≡◌, ◌==◌, ℕ, Bool, true, false, not, ◌&&◌, ◌||◌, is_some, nat_lt}
 use Rattle.std.specs.Prelude.{if◌then◌else◌, List, [], ◌∷◌, ◌++◌, length, map, Option, Some, None}
 use Rattle.std.specs.Prelude.{slice_get, slice_index_or}
-use Rattle.std.specs.List.{AllZip, enumerate_from, flat_map, list_any}
+use Rattle.std.specs.List.{AllZip, enumerate_from, flat_map, list_all, list_any}
 use Rattle.metric_contents.specs.declared.contents.Contents.{Contents}
 use Rattle.metric_contents.specs.declared.contents.Instrument.{Instrument}
 use Rattle.metric_contents.specs.declared.contents.Recorder.{Recorder}
@@ -25,10 +25,8 @@ use Rattle.metric_advice.specs.declared.remark.KeyList.TheVariants.{Keep, Exclud
 use Rattle.metric_advice.specs.declared.remark.Remark.{Remark}
 use Rattle.metric_advice.specs.declared.remark.Remark.TheVariants as remarks
 use Rattle.metric_advice.specs.Headrooms.{IsHeadroom}
-
--- a remark, where it holds
-abbrev pub when : Bool → Remark → List Remark
-when holds remark = if holds then remark ∷ [] else []
+use Rattle.metric_advice.specs.Values.{stream_remarks, value_remarks}
+use Rattle.metric_advice.specs.When.{when}
 
 -- what the config is warned of
 abbrev pub remark_of : Warning → Remark
@@ -98,16 +96,17 @@ is_histogram_of view stream = is_view view stream.view && is_histogram stream.ag
 abbrev pub makes_histogram : List Stream → ℕ → Bool
 makes_histogram streams view = list_any (is_histogram_of view) streams
 
--- the view gives boundaries, and makes no histogram
-abbrev pub boundaries_remarks : Settings → Bool → ℕ → List Remark
-boundaries_remarks settings histogram view =
-    when (is_some settings.boundaries && not histogram) (remarks.UnusedBoundaries view)
+-- the view gives boundaries, and makes no histogram for the readers that there are
+abbrev pub boundaries_remarks : Config → Settings → Bool → ℕ → List Remark
+boundaries_remarks config settings histogram view =
+    when (is_some settings.boundaries && not (histogram || length config.readers == 0))
+    (remarks.UnusedBoundaries view)
 
 abbrev pub view_remarks_with : Contents → Config → Bool → Option View → ℕ → List Remark
 view_remarks_with contents config histogram None view = []
 view_remarks_with contents config histogram (Some own) view =
     settings_remarks contents (selection_of contents config view) own.settings view
-    ++ boundaries_remarks own.settings histogram view
+    ++ boundaries_remarks config own.settings histogram view
 
 -- the view of a number, where it is known of each view whether it makes a histogram
 unfoldable pub view_remarks : Contents → Config → List Bool → ℕ → List Remark
@@ -115,33 +114,59 @@ view_remarks contents config histograms view =
     view_remarks_with contents config (slice_index_or histograms view false)
     (slice_get config.views view) view
 
--- the recorder with its number has no budget for the instrument
-abbrev pub recorder_remark : ℕ → ℕ × Recorder → List Remark
-recorder_remark instrument recorder =
-    when (amount_of recorder.1 instrument == 0) (remarks.NoBudget instrument recorder.0)
+-- there are recorders, and none may record on an instrument that has so much to spare
+abbrev pub is_unrecorded : List Recorder → ℕ → ℕ → Bool
+is_unrecorded recorders spare instrument =
+    spare == 0 && (not (length recorders == 0)
+    && list_all (λ recorder. amount_of recorder instrument == 0) recorders)
 
-abbrev pub recorder_remarks : ℕ → List Recorder → List Remark
-recorder_remarks instrument recorders =
-    flat_map (recorder_remark instrument) (enumerate_from 0 recorders)
+-- nobody can record on the instrument of a number; and its values
+abbrev pub own_remarks : List Recorder → Option Instrument → ℕ → List Remark
+own_remarks recorders None instrument = []
+own_remarks recorders (Some own) instrument =
+    when (is_unrecorded recorders own.spare instrument) (remarks.Unrecorded instrument)
+    ++ value_remarks own instrument
 
 -- the budgets and the spare are above the headroom
-abbrev pub is_over : Option Headroom → Bool
-is_over None = false
-is_over (Some room) = nat_lt room.most room.total
+abbrev pub room_remarks : Option Headroom → ℕ → List Remark
+room_remarks None instrument = []
+room_remarks (Some room) instrument =
+    when (nat_lt room.most room.total) (remarks.OverBudget instrument room.limit)
 
 -- the instrument of a number
 unfoldable pub instrument_remarks : Contents → List Headroom → ℕ → List Remark
 instrument_remarks contents rooms instrument =
-    recorder_remarks instrument contents.recorders
-    ++ when (is_over (slice_get rooms instrument)) (remarks.OverBudget instrument)
+    own_remarks contents.recorders (slice_get contents.instruments instrument) instrument
+    ++ room_remarks (slice_get rooms instrument) instrument
 
--- all remarks, where these are the headrooms of the instruments
+-- a recorder has no budget
+abbrev pub is_idle : Recorder → Bool
+is_idle recorder = list_all (λ budget. budget.amount == 0) recorder.budgets
+
+abbrev pub recorder_remark : ℕ × Recorder → List Remark
+recorder_remark recorder = when (is_idle recorder.1) (remarks.NoBudget recorder.0)
+
+abbrev pub recorder_remarks : List Recorder → List Remark
+recorder_remarks recorders = flat_map recorder_remark (enumerate_from 0 recorders)
+
+-- each recorder without a budget, and that there is no recorder
+abbrev pub all_recorder_remarks : List Recorder → List Remark
+all_recorder_remarks recorders =
+    recorder_remarks recorders ++ when (length recorders == 0) remarks.NoRecorder
+
+-- # remark (profile) [remarks_of, AreRemarks]
+-- A view that does not fit or selects nothing, two streams of one identity, a listed key that no
+-- selected instrument declares, boundaries without a histogram or of which one bucket takes each
+-- value, an instrument that nobody can record on, that lists no combination or has one value that
+-- tells nothing, a recorder without any budget, no recorder, budgets above the headroom, no reader.
 abbrev pub remarks_of : Contents → Config → List Headroom → List Remark
 remarks_of contents config rooms =
     map remark_of (warnings_of contents config)
     ++ flat_map (view_remarks contents config
     (map (makes_histogram (streams_of contents config)) (all_views config))) (all_views config)
     ++ flat_map (instrument_remarks contents rooms) (all_instruments contents)
+    ++ stream_remarks contents (streams_of contents config)
+    ++ all_recorder_remarks contents.recorders
     ++ when (length config.readers == 0) remarks.NoReader
 
 -- They are exactly the remarks that hold, in order.

@@ -42,7 +42,9 @@ abbrev pub StreamFindsAt : Contents → ℕ × Stream → Option UnsafePart → 
 StreamFindsAt contents stream =
     Asks (SetsFit contents stream.1) (TooOften stream.1.instrument (Series stream.0))
 
--- what is found in all: first a collision, then at the instruments, then at the streams
+-- # first part of safety that fails (profile)
+-- A collision of which there is a warning; else the first instrument whose numbers do not fit its
+-- budgets; else the first stream that may have more series than its limit.
 abbrev pub UnsafeFinds : Contents → Config → Option UnsafePart → Type 0
 UnsafeFinds contents config =
     Then (λ found. found ≡ first_collision (warnings_of contents config))

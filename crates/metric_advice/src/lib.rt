@@ -14,11 +14,12 @@ mod position;
 mod remark;
 mod selected;
 mod unsafe_part;
+mod values;
 
 pub use explanation::{Explanation, Mistake, explain_refusal};
 pub use headroom::{Headroom, headrooms, sets_of};
 pub use limit::Limit;
 pub use linting::{lint, remark_of};
 pub use position::{Position, locate_in_catalogue, locate_in_config};
-pub use remark::{KeyList, Remark};
+pub use remark::{KeyList, Remark, is_kind};
 pub use unsafe_part::{UnsafePart, explain_unsafe};

@@ -1,24 +1,30 @@
 //! Remarks on a catalogue and a config.
-ghost use Rattle.std.specs.Prelude.{◌≡◌, ◌<◌, ◌≤◌, ◌++◌, ◌&&◌, IfOk, OnOk, is_some, length, map, nat_lt, not};
-ghost use Rattle.std.specs.List.{flat_map, list_any};
+ghost use Rattle.std.specs.Prelude.{◌≡◌, ◌==◌, ◌<◌, ◌≤◌, ◌++◌, ◌&&◌, ◌||◌, IfOk, OnOk, Some, is_some, length, map, not};
+ghost use Rattle.std.specs.List.{flat_map, list_all, list_any};
+ghost use Rattle.metric_contents.specs.Budgets.{amount_of};
 ghost use Rattle.metric_resolve.specs.Applying.{all_instruments, all_views};
-ghost use Rattle.metric_advice.specs.Remarks.{AreRemarks, instrument_remarks, key_remarks, list_remarks, recorder_remarks, remark_of, selection_remarks, settings_remarks, view_remarks, when};
+ghost use Rattle.metric_advice.specs.Remarks.{AreRemarks, all_recorder_remarks, instrument_remarks, is_idle, is_unrecorded, key_remarks, list_remarks, recorder_remarks, remark_of, room_remarks};
+ghost use Rattle.metric_advice.specs.Remarks.{selection_remarks, own_remarks, settings_remarks, view_remarks};
+ghost use Rattle.metric_advice.specs.Values.{stream_remarks};
+ghost use Rattle.metric_advice.specs.When.{when};
 
 use crate::headroom::{Headroom, headrooms_of};
 use crate::histograms::histogram_views;
 use crate::remark::{KeyList, Remark};
 use crate::selected::{is_declared_by, selected_by};
+use crate::values::{add_streams, add_values};
 use metric_base::{Few, Items, Text};
 use metric_catalogue::Catalogue;
-use metric_contents::Recorder;
+use metric_contents::{Instrument, Recorder};
 use metric_resolve::{Warning, resolve};
 use metric_views::{Config, Settings};
 use std::alloc::{AllocError, Global};
 
 /// Everything that looks like a mistake in a catalogue and a config, in this order: unfit views and collisions, as `resolve` tells
 /// them; then of each view whether it selects nothing, each key of `keep` and of `exclude` that no selected instrument declares,
-/// and boundaries without effect; then of each instrument each recorder without a budget for it, and budgets and spare together
-/// above its headroom; then that there is no reader. Fails only where memory is refused.
+/// and boundaries without effect; then of each instrument whether nobody can record on it, whether it allows nothing or one value
+/// alone, and budgets and spare together above its headroom; then each stream of which one bucket takes all; then of each recorder whether it has no budget; then that there is no recorder, and that there is no reader. Fails only
+/// where memory is refused.
 pub fn lint(
     alloc: Global,
     catalogue: &Catalogue,
@@ -38,6 +44,8 @@ pub fn lint(
         histograms.as_slice(),
     )?;
     add_instruments(&mut remarks, catalogue, rooms.as_slice())?;
+    add_streams(&mut remarks, catalogue, streams.list())?;
+    add_recorders(&mut remarks, catalogue.recorders())?;
     let is_unread = config.readers().is_empty();
     add_when(&mut remarks, is_unread, Remark::NoReader)?;
     Ok(remarks)
@@ -99,15 +107,16 @@ fn add_view(
     let selected = selected_by(alloc, catalogue, config, view)?;
     let settings = &config.views()[view as usize].settings;
     add_settings(remarks, catalogue, selected.as_slice(), settings, view)?;
-    let is_unused = has_unused_boundaries(settings, histograms[view as usize]);
+    let is_unused = has_unused_boundaries(config, settings, histograms[view as usize]);
     add_when(remarks, is_unused, Remark::UnusedBoundaries { view })
 }
 
-// Whether a view gives boundaries that no histogram has.
-fn has_unused_boundaries(settings: &Settings, makes_histogram: bool) -> bool
-    ensures { result ≡ (is_some settings.now.boundaries && not makes_histogram) }
+// Whether a view gives boundaries that no histogram has for the readers that there are.
+fn has_unused_boundaries(config: &Config, settings: &Settings, makes_histogram: bool) -> bool
+    ensures { result ≡ (is_some settings.now.boundaries
+        && not (makes_histogram || length config.now.readers == 0)) }
 {
-    settings.boundaries.is_some() && !makes_histogram
+    settings.boundaries.is_some() && !(makes_histogram || config.readers().is_empty())
 }
 
 // Puts the remarks on what a view selects, keeps and excludes last.
@@ -140,8 +149,12 @@ fn add_settings(
     )
 }
 
-// Puts a remark last, where it holds.
-fn add_when(remarks: &mut Items<Remark>, holds: bool, remark: Remark) -> Result<(), AllocError>
+/// Puts a remark last, where it holds.
+pub(crate) fn add_when(
+    remarks: &mut Items<Remark>,
+    holds: bool,
+    remark: Remark,
+) -> Result<(), AllocError>
     ensures { OnOk result (remarks.new ≡ remarks.old ++ when holds remark) }
 {
     if holds {
@@ -226,38 +239,85 @@ fn add_instruments(
     ensures { OnOk result (remarks.new ≡ remarks.old
         ++ flat_map (instrument_remarks catalogue.now rooms.now) (all_instruments catalogue.now)) }
 {
-    for instrument in 0..catalogue.instruments().len() as u32 {
-        let is_over = is_over(&rooms[instrument as usize]);
-        add_recorders(remarks, catalogue.recorders(), instrument)?;
-        add_when(remarks, is_over, Remark::OverBudget { instrument })?;
+    let (recorders, instruments) = (catalogue.recorders(), catalogue.instruments());
+    for number in 0..instruments.len() as u32 {
+        add_own(remarks, recorders, &instruments[number as usize], number)?;
+        add_room(remarks, &rooms[number as usize], number)?;
     }
     Ok(())
 }
 
-// Whether the budgets and the spare are above the headroom.
-fn is_over(room: &Headroom) -> bool
-    ensures { result ≡ nat_lt room.now.most room.now.total }
-{
-    u128::from(room.most) < room.total
-}
-
-// Puts a remark last for each recorder without a budget for an instrument.
-fn add_recorders(
+// Puts the remarks on an instrument alone last: that nobody can record on it, and those on its values.
+fn add_own(
     remarks: &mut Items<Remark>,
     recorders: &[Recorder],
-    instrument: u32,
+    instrument: &Instrument,
+    number: u32,
 ) -> Result<(), AllocError>
-    requires { length recorders.now ≤ 64 }
     ensures { OnOk result (remarks.new ≡ remarks.old
-        ++ recorder_remarks instrument recorders.now) }
+        ++ own_remarks recorders.now (Some instrument.now) number) }
 {
-    for (recorder, declared) in recorders.iter().enumerate() {
+    let is_unrecorded = is_unrecorded(recorders, instrument.spare, number);
+    let remark = Remark::Unrecorded { instrument: number };
+    add_when(remarks, is_unrecorded, remark)?;
+    add_values(remarks, instrument, number)
+}
+
+// Whether there are recorders, and none may record on an instrument that has so much to spare.
+fn is_unrecorded(recorders: &[Recorder], spare: u64, instrument: u32) -> bool
+    ensures { result ≡ is_unrecorded recorders.now spare instrument }
+{
+    spare == 0 && !recorders.is_empty() && has_no_budget(recorders, instrument)
+}
+
+// Whether no recorder has a budget for an instrument.
+fn has_no_budget(recorders: &[Recorder], instrument: u32) -> bool
+    ensures { result ≡ list_all (λ recorder. amount_of recorder instrument == 0) recorders.now }
+{
+    recorders
+        .iter()
+        .all(|recorder| recorder.budget(instrument) == 0)
+}
+
+// Puts it last that the budgets and the spare of an instrument are above its headroom, where they are.
+fn add_room(remarks: &mut Items<Remark>, room: &Headroom, instrument: u32) -> Result<(), AllocError>
+    ensures { OnOk result (remarks.new ≡ remarks.old ++ room_remarks (Some room.now) instrument) }
+{
+    let limit = room.limit;
+    let is_over = u128::from(room.most) < room.total;
+    add_when(remarks, is_over, Remark::OverBudget { instrument, limit })
+}
+
+// Puts the remarks on recorders last: each that has no budget, and that there is none.
+fn add_recorders(remarks: &mut Items<Remark>, recorders: &[Recorder]) -> Result<(), AllocError>
+    requires { length recorders.now ≤ 64 }
+    ensures { OnOk result (remarks.new ≡ remarks.old ++ all_recorder_remarks recorders.now) }
+{
+    add_idle(remarks, recorders)?;
+    add_when(remarks, recorders.is_empty(), Remark::NoRecorder)
+}
+
+// Puts a remark last for each recorder that has no budget.
+fn add_idle(remarks: &mut Items<Remark>, recorders: &[Recorder]) -> Result<(), AllocError>
+    requires { length recorders.now ≤ 64 }
+    ensures { OnOk result (remarks.new ≡ remarks.old ++ recorder_remarks recorders.now) }
+{
+    for (number, recorder) in recorders.iter().enumerate() {
         let remark = Remark::NoBudget {
-            instrument,
-            recorder: recorder as u32,
+            recorder: number as u32,
         };
-        let budget = declared.budget(instrument);
-        add_when(remarks, budget == 0, remark)?;
+        add_when(remarks, is_idle(recorder), remark)?;
     }
     Ok(())
+}
+
+// Whether a recorder has no budget.
+fn is_idle(recorder: &Recorder) -> bool
+    ensures { result ≡ is_idle recorder.now }
+{
+    recorder
+        .budgets
+        .as_slice()
+        .iter()
+        .all(|budget| budget.amount == 0)
 }

@@ -14,12 +14,13 @@ use std::alloc::{AllocError, Global};
 pub struct Position {
     /// The number of the line.
     pub line: usize,
-    /// The number of the byte in the line.
+    /// The number of the character in the line.
     pub column: usize,
 }
 
 /// Where the table that a place names begins in the text of a catalogue: the line with its header, `[[meter]]`,
-/// `[[meter.instrument]]` or `[[recorder]]`, of those of its kind in order. The top table begins with the text.
+/// `[[meter.instrument]]` or `[[recorder]]`, of those of its kind in order. The top table begins with the text, and a key or a budget
+/// stands where its instrument or recorder does.
 ///
 /// Nothing where the text has no such header, or has a list of such tables in one line, as `recorder = [{ name = "main" }]`. A
 /// line of a text in several lines that looks like a header is taken for one. Fails only where memory is refused.
@@ -33,10 +34,10 @@ pub fn locate_in_catalogue(
     match place {
         CataloguePlace::Top => Ok(Some(start())),
         CataloguePlace::Meter(number) => located(alloc, text, "[[meter]]", "meter=[", number),
-        CataloguePlace::Instrument(number) => {
+        CataloguePlace::Instrument(number) | CataloguePlace::Key(number, _) => {
             located(alloc, text, "[[meter.instrument]]", "instrument=[", number)
         }
-        CataloguePlace::Recorder(number) => {
+        CataloguePlace::Recorder(number) | CataloguePlace::Budget(number, _) => {
             located(alloc, text, "[[recorder]]", "recorder=[", number)
         }
     }

@@ -1,4 +1,8 @@
 //! What looks like a mistake in a catalogue and a config.
+ghost use Rattle.std.specs.Prelude.{◌≡◌};
+ghost use Rattle.metric_advice.specs.Kinds.{is_kind, kind_of};
+
+use crate::limit::Limit;
 use std::fmt;
 
 /// What looks like a mistake in a catalogue and a config that are read. Views, instruments, streams, readers and recorders have
@@ -33,23 +37,45 @@ pub enum Remark {
         /// The place in the list, counted from 0.
         place: u32,
     },
-    /// The view gives boundaries, and no stream of it is a histogram.
+    /// The view gives boundaries, there are readers, and no stream of it is a histogram.
     UnusedBoundaries {
         /// The number of the view.
         view: u32,
     },
-    /// The recorder may make no recording on the instrument without a grant.
-    NoBudget {
+    /// No recorder has a budget for the instrument, and it has no spare, so nobody can record on it.
+    Unrecorded {
         /// The number of the instrument.
         instrument: u32,
-        /// The number of the recorder.
-        recorder: u32,
+    },
+    /// The instrument lists the combinations that it allows, and none.
+    NothingAllowed {
+        /// The number of the instrument.
+        instrument: u32,
+    },
+    /// The instrument allows one value alone, which tells nothing: of what is added up only 0, since another one counts.
+    OneValue {
+        /// The number of the instrument.
+        instrument: u32,
+    },
+    /// Each boundary of the stream is outside the range of its instrument, so that one bucket takes each value.
+    OneBucket {
+        /// The number of the stream.
+        stream: u32,
     },
     /// The budgets of the instrument and its spare are together more than is safe.
     OverBudget {
         /// The number of the instrument.
         instrument: u32,
+        /// What is not safe with one recording more than are safe.
+        limit: Limit,
     },
+    /// The recorder has no budget, so it can record nothing without a grant.
+    NoBudget {
+        /// The number of the recorder.
+        recorder: u32,
+    },
+    /// The catalogue has no recorder, so nothing can be recorded.
+    NoRecorder,
     /// The config has no reader, so nothing is collected.
     NoReader,
 }
@@ -73,6 +99,51 @@ impl KeyList {
     }
 }
 
+impl Remark {
+    /// The name of its kind, by which it is allowed or denied.
+    pub fn kind(&self) -> &'static str
+        ensures { result.now ≡ kind_of self.now }
+    {
+        match self {
+            Remark::Unfit { .. } => "unfit",
+            Remark::Collision { .. } => "collision",
+            Remark::SelectsNothing { .. } => "selects-nothing",
+            Remark::UnknownKey { .. } => "unknown-key",
+            Remark::UnusedBoundaries { .. } => "unused-boundaries",
+            Remark::Unrecorded { .. } => "unrecorded",
+            Remark::NothingAllowed { .. } => "nothing-allowed",
+            Remark::OneValue { .. } => "one-value",
+            Remark::OneBucket { .. } => "one-bucket",
+            Remark::OverBudget { .. } => "over-budget",
+            Remark::NoBudget { .. } => "no-budget",
+            Remark::NoRecorder => "no-recorder",
+            Remark::NoReader => "no-reader",
+        }
+    }
+}
+
+/// Whether a kind of remark has this name.
+pub fn is_kind(name: &str) -> bool
+    ensures { result ≡ is_kind name.now }
+{
+    matches!(
+        name,
+        "unfit"
+            | "collision"
+            | "selects-nothing"
+            | "unknown-key"
+            | "unused-boundaries"
+            | "unrecorded"
+            | "nothing-allowed"
+            | "one-value"
+            | "one-bucket"
+            | "over-budget"
+            | "no-budget"
+            | "no-recorder"
+            | "no-reader"
+    )
+}
+
 impl fmt::Display for Remark {
     fn fmt<W: fmt::Write>(&self, f: &mut fmt::Formatter<W>) -> fmt::Result {
         match *self {
@@ -88,16 +159,23 @@ impl fmt::Display for Remark {
                     "view {view} gives boundaries, but no stream of it is a histogram"
                 )
             }
-            Remark::NoBudget {
-                instrument,
-                recorder,
-            } => write!(
-                f,
-                "recorder {recorder} has no budget for instrument {instrument}"
-            ),
-            Remark::OverBudget { instrument } => {
+            Remark::Unrecorded { instrument } => {
+                write!(f, "instrument {instrument} has no budget and no spare")
+            }
+            Remark::NothingAllowed { instrument } => {
+                write!(f, "instrument {instrument} allows no combination")
+            }
+            Remark::OneValue { instrument } => {
+                write!(f, "instrument {instrument} has one value alone")
+            }
+            Remark::OneBucket { stream } => {
+                write!(f, "one bucket of stream {stream} takes each value")
+            }
+            Remark::OverBudget { instrument, .. } => {
                 write!(f, "instrument {instrument} has larger budgets than is safe")
             }
+            Remark::NoBudget { recorder } => write!(f, "recorder {recorder} has no budget"),
+            Remark::NoRecorder => f.write_str("there is no recorder"),
             Remark::NoReader => f.write_str("there is no reader"),
         }
     }

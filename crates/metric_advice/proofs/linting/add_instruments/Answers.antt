@@ -1,33 +1,37 @@
 -- one instrument more
-use Rattle.std.proofs.Common.{◌≡◌, ◌<◌, ℕ, Bool, ◌++◌, List, Option, length, slice_get, sym, ap, ◌∙◌, arith}
+use Rattle.std.proofs.Common.{◌≡◌, ◌<◌, ℕ, ◌++◌, List, Option, Some, length, slice_get, sym, ap, ◌∙◌, arith}
 use Rattle.std.proofs.lemmas.Option.{slice_get-get_or}
 use Rattle.std.specs.List.{flat_map, range_with_len}
+use Rattle.metric_contents.specs.declared.contents.Instrument.{Instrument}
 use Rattle.metric_contents.specs.declared.contents.Recorder.{Recorder}
 use Rattle.metric_advice.specs.declared.headroom.Headroom.{Headroom}
-use Rattle.metric_advice.specs.declared.remark.Remark.TheVariants.{OverBudget}
-use Rattle.metric_advice.specs.Remarks.{instrument_remarks, is_over, recorder_remarks, when}
-use Rattle.metric_advice.proofs.Lists.{flat_map_turn}
+use Rattle.metric_advice.specs.Remarks.{instrument_remarks, room_remarks, own_remarks}
+use Rattle.metric_advice.proofs.Lists.{element_at, flat_map_turn}
 use Rattle.metric_advice.proofs.Told.{two}
 use Rattle.metric_advice.proofs.linting.add_instruments.Goals as goal
 
-pub loop-instrument-preserved : goal.loop-instrument-preserved
+pub loop-number-preserved : goal.loop-number-preserved
 unfolding instrument_remarks
-loop-instrument-preserved c =
+loop-number-preserved c =
     let contents = c.args.catalogue.now in
     let rooms = c.args.rooms.now in
-    let n = c.loop-instrument.instrument in
-    let before = c.loop-instrument.remarks in
-    let same = ap length c.instruments.ensures.instruments in
+    let n = c.loop-number.number in
+    let before = c.loop-number.remarks in
+    let own = c.index-instruments-number.result in
+    let same = ap length c.instruments-instruments.ensures.instruments in
     let within : n < length rooms = omega arith in
-    flat_map_turn (instrument_remarks contents rooms) n c.args.remarks.now before c.add_when.new.remarks c.loop-instrument.invariant
-    (two before (recorder_remarks n contents.recorders) (when (is_over (slice_get rooms n)) (OverBudget n)) c.add_recorders.new.remarks c.add_when.new.remarks
-    (c.in_ok-add_recorders.ensures ∙ ap (λ (rs : List Recorder). before ++ recorder_remarks n rs) c.recorders.ensures.recorders)
-    (c.in_ok-add_when.ensures
-    ∙ ap (λ (b : Bool). c.add_recorders.new.remarks ++ when b (OverBudget n)) (c.is_over-is_over.ensures ∙ ap (λ (o : Option Headroom). is_over o) (sym (slice_get-get_or rooms n _ within)))))
+    let own_at : slice_get contents.instruments n ≡ Some own = element_at contents.instruments c.instruments-instruments.result.now n own c.instruments-instruments.ensures.instruments (omega arith) c.index-instruments-number.is in
+    flat_map_turn (instrument_remarks contents rooms) n c.args.remarks.now before c.add_room.new.remarks c.loop-number.invariant
+    (two before (own_remarks contents.recorders (slice_get contents.instruments n) n) (room_remarks (slice_get rooms n) n) c.add_own.new.remarks c.add_room.new.remarks
+    (c.in_ok-add_own.ensures
+    ∙ ap (λ (rs : List Recorder). before ++ own_remarks rs (Some own) n) c.recorders-recorders.ensures.recorders
+    ∙ ap (λ (o : Option Instrument). before ++ own_remarks contents.recorders o n) (sym own_at))
+    (c.in_ok-add_room.ensures
+    ∙ ap (λ (o : Option Headroom). c.add_own.new.remarks ++ room_remarks o n) (sym (slice_get-get_or rooms n _ within))))
 
 pub returns : goal.returns
 returns c =
     let contents = c.args.catalogue.now in
-    let all : c.loop-instrument.instrument ≡ length contents.instruments = omega (arith, ap length c.instruments.ensures.instruments) in
-    c.loop-instrument.invariant
+    let all : c.loop-number.number ≡ length contents.instruments = omega (arith, ap length c.instruments-instruments.ensures.instruments) in
+    c.loop-number.invariant
     ∙ ap (λ (n : ℕ). c.args.remarks.now ++ flat_map (instrument_remarks contents c.args.rooms.now) (range_with_len 0 n)) all

@@ -2,7 +2,8 @@
 use Rattle.std.proofs.Common.{ℕ, Bool, ◌++◌, List, not, take_all, ap, ◌∙◌, arith}
 use Rattle.std.specs.List.{enumerate_from, flat_map}
 use Rattle.metric_advice.specs.declared.remark.Remark.TheVariants.{UnknownKey}
-use Rattle.metric_advice.specs.Remarks.{is_declared_by, key_remark, when}
+use Rattle.metric_advice.specs.Remarks.{is_declared_by, key_remark}
+use Rattle.metric_advice.specs.When.{when}
 use Rattle.metric_advice.proofs.Lists.{numbered_turn}
 use Rattle.metric_advice.proofs.linting.add_keys.Goals as goal
 

@@ -1,7 +1,7 @@
 -- where nothing is selected
 use Rattle.std.proofs.Common.{Bool, ◌++◌, not, ap, ◌∙◌}
 use Rattle.metric_advice.specs.declared.remark.Remark.TheVariants.{SelectsNothing}
-use Rattle.metric_advice.specs.Remarks.{when}
+use Rattle.metric_advice.specs.When.{when}
 use Rattle.metric_advice.proofs.Told.{on_ok}
 use Rattle.metric_advice.proofs.linting.add_selection.Goals as goal
 

@@ -1,0 +1,65 @@
+-- What looks like a mistake in the values of instruments and the buckets of streams.
+use Rattle.std.specs.Prelude.{◌==◌, ◌||◌, ◌&&◌, ℕ, ℤ, pos, Bool, true, false, not, List, [], ◌++◌}
+use Rattle.std.specs.Prelude.{Option, Some, None, int_le, int_lt, length, slice_get}
+use Rattle.std.specs.List.{enumerate_from, flat_map, list_all}
+use Rattle.std.specs.Ordering.{int_eq}
+use Rattle.metric_contents.specs.declared.contents.Contents.{Contents}
+use Rattle.metric_contents.specs.declared.contents.Instrument.{Instrument}
+use Rattle.metric_contents.specs.declared.contents.Kind.{Kind}
+use Rattle.metric_contents.specs.declared.contents.Kind.TheVariants.{Counter, UpDownCounter, Histogram}
+use Rattle.metric_contents.specs.declared.contents.Kind.TheVariants.{Gauge}
+use Rattle.metric_views.specs.declared.stream.Stream.{Stream}
+use Rattle.metric_views.specs.declared.stream.StreamAggregation.{StreamAggregation}
+use Rattle.metric_views.specs.declared.stream.StreamAggregation.TheVariants as aggregations
+use Rattle.metric_advice.specs.declared.remark.Remark.{Remark}
+use Rattle.metric_advice.specs.declared.remark.Remark.TheVariants as remarks
+use Rattle.metric_advice.specs.When.{when}
+
+-- combinations are listed, and none
+abbrev pub allows_nothing : Option (List (List ℕ)) → Bool
+allows_nothing None = false
+allows_nothing (Some rows) = length rows == 0
+
+-- the values of the kind are added up
+abbrev pub is_sum : Kind → Bool
+is_sum Counter = true
+is_sum UpDownCounter = true
+is_sum Histogram = false
+is_sum Gauge = false
+
+-- there is one value, which tells nothing: of a sum only 0, since another one counts
+abbrev pub has_one_value : Instrument → Bool
+has_one_value instrument =
+    int_eq instrument.lo instrument.hi
+    && (int_eq instrument.lo (pos 0) || not (is_sum instrument.kind))
+
+-- the values of an instrument
+abbrev pub value_remarks : Instrument → ℕ → List Remark
+value_remarks instrument number =
+    when (allows_nothing instrument.allowed) (remarks.NothingAllowed number)
+    ++ when (has_one_value instrument) (remarks.OneValue number)
+
+-- there are values and boundaries, and each boundary is below each value, or above or at each
+abbrev pub is_one_bucket : ℤ → ℤ → List ℤ → Bool
+is_one_bucket lo hi boundaries =
+    int_lt lo hi && (not (length boundaries == 0)
+    && list_all (λ boundary. int_lt boundary lo || int_le hi boundary) boundaries)
+
+abbrev pub is_one_bucket_of : Option Instrument → StreamAggregation → Bool
+is_one_bucket_of None aggregation = false
+is_one_bucket_of (Some instrument) aggregations.Sum = false
+is_one_bucket_of (Some instrument) aggregations.LastValue = false
+is_one_bucket_of (Some instrument) (aggregations.Histogram boundaries) =
+    is_one_bucket instrument.lo instrument.hi boundaries
+
+-- one bucket of the stream takes each of several values
+abbrev pub tells_nothing : Contents → Stream → Bool
+tells_nothing contents stream =
+    is_one_bucket_of (slice_get contents.instruments stream.instrument) stream.aggregation
+
+abbrev pub stream_remark : Contents → ℕ × Stream → List Remark
+stream_remark contents stream =
+    when (tells_nothing contents stream.1) (remarks.OneBucket stream.0)
+
+abbrev pub stream_remarks : Contents → List Stream → List Remark
+stream_remarks contents streams = flat_map (stream_remark contents) (enumerate_from 0 streams)
