@@ -9,7 +9,8 @@ pub record AuditedValue : Type 0 where
   pub tables : MarkedValue
   pub entries : List Entry
 
--- the list is the journal, and the tables stand for it
+-- # audited book stands for (profile)
+-- Its list is the journal, and its tables stand for it.
 pub record StandsAudited (b : AuditedValue) (facts : Facts) (journal : List Entry) (marks : List ℕ)
     : Type 0 where
   pub tables : StandsMarked b.tables facts journal marks

@@ -14,8 +14,9 @@ use Rattle.metric_history.specs.declared.entry.Entry.{Entry}
 abbrev pub AgreesWithSlips : List Entry → List (List Slip) → Type 0
 AgreesWithSlips entries slips = (recorder : ℕ) → AreEntriesOf entries slips recorder
 
+-- # audit (profile) [Audits, AuditsInstrument]
 -- Done where slips and batches are those of the journal; else the least recorder whose slips are
--- not; else the first batch that is not.
+-- not, else the first wrong batch.
 abbrev pub Audits : Facts → ℕ → ℕ → List Entry → List (List Slip) → List batches.Batch
     → Result (Unit {0}) AuditFault → Type 0
 Audits facts instrument start entries slips told (Ok done) =

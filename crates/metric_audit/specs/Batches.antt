@@ -28,8 +28,9 @@ fits_reader facts reader mark before entry =
     list_all (λ (s : NumberedStream). fits_stream s.stream
     (window (is_delta facts reader) mark before) entry) (filter (is_of_reader reader) facts.streams)
 
--- whether a recording may follow those before it: of an allowed set, with a value in range, and it
--- keeps the reader's series in range
+-- # may follow (SDK, collect) [may_follow, each_may_follow]
+-- A recording of an allowed set with a value in range that keeps each of a reader's series in
+-- range, after those before it and the reader's mark.
 abbrev pub may_follow : Facts → ℕ → ℕ → List Entry → Entry → Bool
 may_follow facts reader mark before entry =
     is_allowed_set facts entry.set
@@ -42,8 +43,10 @@ each_may_follow facts reader mark before (entry ∷ entries) =
     may_follow facts reader mark before entry
     && each_may_follow facts reader mark (before ++ entry ∷ []) entries
 
--- whether a batch of this many recordings or fewer says where it begins and when, after
--- one with this mark and this time
+-- # right batch (SDK, collect) [is_headed, FollowsRightly, IsRight]
+-- Of a reader of the instrument; it says where it begins, since when, and a time that does not go
+-- back, as its reader's batch before it asks; what it adds may follow; its points are those of its
+-- window in the journal cut at its mark.
 abbrev pub is_headed : Facts → ℕ → ℕ → ℕ → ℕ → ℕ → Batch → Bool
 is_headed facts instrument start count mark time b =
     (b.instrument == instrument)
@@ -69,7 +72,8 @@ pub record IsRight (facts : Facts) (instrument start : ℕ) (entries : List Entr
   pub follows : FollowsRightly facts instrument start entries (mark_after b.reader before)
       (time_after start b.reader before) b
 
--- the batch at a place is right after those before it
+-- # first wrong batch (profile) [IsRightAt, IsFirstWrong, AreAllRight]
+-- The least place whose batch is not right after those before it.
 abbrev pub IsRightAt : Facts → ℕ → ℕ → List Entry → List Batch → ℕ → Type 0
 IsRightAt facts instrument start entries batches at =
     (b : Batch) → slice_get batches at ≡ Some b

@@ -9,7 +9,9 @@ use Rattle.metric_history.specs.declared.entry.Entry.{Entry}
 abbrev pub handed_in : List (List Slip) → ℕ → List Slip
 handed_in slips recorder = slice_index_or slips recorder []
 
--- a recorder's entries in the journal are its slips, each once, in order
+-- # entries are slips (profile) [AreEntriesOf, IsFirstUnlike]
+-- A recorder's slips in the journal are those that were handed in for it; none for a recorder
+-- without a list.
 abbrev pub AreEntriesOf : List Entry → List (List Slip) → ℕ → Type 0
 AreEntriesOf entries slips recorder = slips_of recorder entries ≡ handed_in slips recorder
 

@@ -53,6 +53,7 @@ pub(crate) fn facts_of_reader(
     Facts::new(
         alloc,
         FactsFields {
+            plan: facts.plan,
             certified: facts.certified,
             instrument: facts.instrument,
             keys: Items::from_vec(Vec::from_slice(alloc, facts.keys.as_slice())?),

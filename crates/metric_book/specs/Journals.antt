@@ -12,8 +12,8 @@ use Rattle.metric_facts.specs.Facts.{RunFacts, in_bounds, is_delta, is_full_set}
 use Rattle.metric_history.specs.Points.{reported}
 use Rattle.metric_history.specs.Windows.{fits_all, window}
 
--- for which facts of an instrument, accepted recordings (oldest first) and
--- marks of its readers a book stands
+-- # stands for a journal (profile)
+-- For which facts, accepted recordings and marks a book answers.
 abbrev pub Standing : Type 1
 Standing = Facts → List Entry → List ℕ → Type 0
 
@@ -41,7 +41,8 @@ MayTake stands entry =
     (facts : Facts) × (journal : List Entry) × (marks : List ℕ)
     × (stands facts journal marks × MayFollow facts journal entry)
 
--- want of memory is answered only on an instrument whose recordings take some
+-- # asks for memory (profile)
+-- Want of memory is answered only on an instrument whose recordings take some.
 abbrev pub AsksForMemory : Standing → (Facts → Type 0) → Result (Unit {0}) Refusal → Type 0
 AsksForMemory stands spares_memory result =
     (facts : Facts) (journal : List Entry) (marks : List ℕ) → stands facts journal marks
@@ -60,8 +61,8 @@ MayAnswer true (Err refusal) = refusal ≡ Memory
 MayAnswer false (Ok done) = ⊥
 MayAnswer false (Err refusal) = refusal ≡ SumRange
 
--- the answer is `SumRange` exactly where a series would leave its range,
--- and else only memory is refused
+-- # judged recording (profile)
+-- SumRange exactly where a series would leave its range, else accepted or Memory.
 abbrev pub JudgesRecording : Standing → Entry → Result (Unit {0}) Refusal → Type 0
 JudgesRecording stands entry result =
     (facts : Facts) (journal : List Entry) (marks : List ℕ) → stands facts journal marks
@@ -79,7 +80,8 @@ TakesRecording old new entry =
     (facts : Facts) (journal : List Entry) (marks : List ℕ) → old facts journal marks
     → new facts (journal ++ entry ∷ []) marks
 
--- what a reader is told of a journal in which each reader has its mark
+-- # window told (SDK, collect) [window_of, ReportsWindow]
+-- Where it begins, the number of recordings, the points of the reader's streams.
 abbrev pub window_of : Facts → List Entry → List ℕ → ℕ → Window
 window_of facts journal marks reader = record {
   from = if is_delta facts reader then slice_index marks reader else 0;
@@ -99,7 +101,8 @@ MovesMark old new reader =
     (facts : Facts) (journal : List Entry) (marks : List ℕ) → old facts journal marks
     → new facts journal (slice_set marks reader (length journal))
 
--- what is kept of a journal: all of it, or nothing
+-- # kept entries (profile) [kept_of, KeepsAllOrNothing]
+-- The journal where the book's type says that it keeps one (`KEEPS_ENTRIES`), else nothing.
 abbrev pub kept_of : Bool → List Entry → List Entry
 kept_of keeps journal = if keeps then journal else []
 

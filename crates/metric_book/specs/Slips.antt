@@ -3,6 +3,8 @@ use Rattle.std.specs.Prelude.{ℕ, Bool, List, filter, map, ◌==◌}
 use Rattle.metric_book.specs.declared.slip.Slip.{Slip}
 use Rattle.metric_history.specs.declared.entry.Entry.{Entry}
 
+-- # slips of a recorder (profile) [slip_of, slips_of]
+-- For each of its recordings in a journal the set key and the value, in order.
 abbrev pub slip_of : Entry → Slip
 slip_of entry = record { set = entry.set; value = entry.value }
 

@@ -93,7 +93,8 @@ pub record IsOverSpare {B : Type 0} (c : CellValue B) (amount : ℕ) : Type 0 wh
   pub is_open : c.is_closed ≡ false
   pub is_less : c.spare < amount
 
--- what a grant is answered: `Closed`, `NoSpare`, whichever applies first, else done
+-- # granted cell (profile) [AnswersGrant, with_grant]
+-- The recorder was granted so much more, and so much less is left.
 abbrev pub AnswersGrant : {B : Type 0} → CellValue B → ℕ → Result (Unit {0}) Refusal → Type 0
 AnswersGrant c amount (Ok done) = IsSpared c amount
 AnswersGrant c amount (Err Closed) = c.is_closed ≡ true
@@ -107,7 +108,9 @@ with_grant c recorder amount = record c {
   spare = c.spare - amount;
 }
 
--- the entries are what is kept of each journal for which the cell stands: all of it, or nothing
+-- # entries told (profile)
+-- What is kept of each journal for which a cell stands; of the accepted recordings of each history
+-- for which a core does.
 abbrev pub TellsEntries : {B : Type 0} → (B → Standing) → Bool → CellValue B → List Entry → Type 0
 TellsEntries stands keeps c entries =
     (journal : List Entry) → CellStands stands c journal → entries ≡ kept_of keeps journal

@@ -1,6 +1,7 @@
 -- The state of one instrument, and for which recordings it stands.
 use Rattle.std.specs.Prelude.{◌≡◌, ◌<◌, ◌≤◌, ◌+◌, ◌*◌, ◌^◌, ℕ, ℤ, pos, neg_ℤ, ◌≤ℤ◌, Bool, true}
-use Rattle.std.specs.Prelude.{false, List, length, replicate, slice_index, slice_index_or, sum}
+use Rattle.std.specs.Prelude.{false, List, fold, length, max, replicate, slice_index}
+use Rattle.std.specs.Prelude.{slice_index_or, sum}
 use Rattle.metric_aggregate.specs.Value.{sum_of}
 use Rattle.metric_book.specs.Journals.{Standing, no_marks}
 use Rattle.metric_history.specs.declared.entry.Entry.{Entry}
@@ -42,8 +43,9 @@ new_cell facts start book = record {
   is_closed = false;
 }
 
--- The cell stands for these accepted recordings, oldest first: its book does, and it has counted
--- them.
+-- # cell stands for (profile)
+-- Its book stands for the accepted recordings with the cell's marks, and count, sum and spent
+-- budgets are theirs.
 pub record CellStands {B : Type 0} (stands : B → Standing) (c : CellValue B) (journal : List Entry)
     : Type 0 where
   pub book : stands c.book c.facts journal c.marks
@@ -52,9 +54,10 @@ pub record CellStands {B : Type 0} (stands : B → Standing) (c : CellValue B) (
   pub charged : (recorder : ℕ) → recorder < length c.facts.budgets
       → slice_index c.spent recorder ≡ spent journal recorder
 
--- What each cell keeps: it stands for some recordings that the instrument admits, no recorder has
--- made more of them than its budget and what it was granted, all grants and what is left of the
--- spare are the instrument's spare, and the budgets with the spare are a u64.
+-- # what a cell keeps (profile)
+-- It stands for some recordings of allowed sets with values in range, no recorder has made more
+-- than its budget and what it was granted, and all grants with what is left are the instrument's
+-- spare.
 pub record CellKept {B : Type 0} (stands : B → Standing) (c : CellValue B) : Type 0 where
   pub journal : List Entry
   pub known : CellStands stands c journal
@@ -71,6 +74,11 @@ pub record CellKept {B : Type 0} (stands : B → Standing) (c : CellValue B) : T
   pub budgeted : total c.facts < 2 ^ 64
   pub low : neg_ℤ (pos (2 ^ 63 * c.count)) ≤ℤ c.total
   pub high : c.total ≤ℤ pos (2 ^ 63 * c.count)
+
+-- # latest time (profile)
+-- The greatest time of a last batch of the cell's readers; its start before one.
+abbrev pub latest : {B : Type 0} → CellValue B → ℕ
+latest c = fold max c.start c.times
 
 -- what a cell that stands for these recordings tells of the instrument
 abbrev pub told_by : {B : Type 0} → CellValue B → List Entry → Past

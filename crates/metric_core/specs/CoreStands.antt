@@ -42,7 +42,8 @@ pub record CoreValue (B : Type 0) : Type 0 where
   pub start : ℕ
   pub cells : List (CellValue B)
 
--- a core has what the history says of each instrument
+-- # stands for (profile)
+-- Each instrument's cell has what the history says of the instrument.
 abbrev pub CoreStands : {B : Type 0} → (B → Standing) → CoreValue B → History → Type 0
 CoreStands stands core h = CellsStand stands core.plan.facts core.start core.cells h
 

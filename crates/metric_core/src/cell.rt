@@ -1,6 +1,6 @@
 //! The state of one instrument.
 ghost use Rattle.std.specs.Prelude.{◌≡◌, ◌≢◌, ◌≤◌, ◌<◌, ◌+◌, ◌-◌, ◌^◌, pos, neg_ℤ, ◌+ℤ◌, ◌≤ℤ◌, Some, [], true, length, slice_get, slice_index, sum, IfOk, IfErr, OnOk, OnErr};
-ghost use Rattle.metric_core.specs.Cells.{CellKept, CellStands, new_cell};
+ghost use Rattle.metric_core.specs.Cells.{CellKept, CellStands, latest, new_cell};
 ghost use Rattle.metric_core.specs.CellAnswers.{AnswersClose, AnswersGrant, AnswersRecording, GainsEntry, KeepsJournal, ReportsBatch, TellsEntries, budget_of, entry_of, with_batch, with_entry, with_grant};
 ghost use Rattle.metric_facts.specs.Facts.{in_bounds, is_allowed_set};
 ghost use Rattle.metric_safety.specs.SafeFacts.{total};
@@ -188,6 +188,7 @@ impl<B: Book> Cell<B> {
         self.marks[at] = self.count;
         self.times[at] = time;
         Ok(Batch {
+            plan: self.facts.plan,
             reader,
             instrument: self.facts.instrument,
             from: window.from,
@@ -296,6 +297,14 @@ impl<B: Book> Cell<B> {
         ensures past { result ≤ self.now.count }
     {
         self.marks.get(reader as usize).copied().unwrap_or(0)
+    }
+
+    /// The greatest time in nanoseconds of a last batch of its readers; its start before one.
+    pub fn latest(&self) -> u64
+        ensures { result ≡ latest self.now }
+    {
+        let later = |latest: u64, time: u64| latest.max(time);
+        self.times.iter().copied().fold(self.start, later)
     }
 
     /// How many recordings were accepted.

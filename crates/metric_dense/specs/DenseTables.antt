@@ -106,3 +106,10 @@ DenseTableValue = ByAggregation (DenseValue SumAgg) (DenseValue LastAgg) (DenseV
 abbrev pub dense_tables : table.Ghosts DenseTableValue
 dense_tables =
     by_aggregation (ranked of_sum.ghosts) (ranked of_last.ghosts) (ranked of_buckets.ghosts)
+
+-- # stands, densely (SDK, cardinality limits) [StandsDense, dense_table]
+-- The recordings are of full sets, the stream has room for each series that there can be, and the
+-- aggregate of each rank is that of its series.
+
+-- # ready, densely (SDK, cardinality limits) [IsReadyDense]
+-- The value's place is the rank of its set, and it fits there; nothing is put in.

@@ -12,7 +12,9 @@ entry_of key digit = if key.optional then digit else digit + 1
 abbrev pub entry_if : Bool → KeyFacts → ℕ → ℕ
 entry_if kept key digit = if kept then entry_of key digit else 0
 
--- the restricted set of a rank, with so many zeros after the declared keys
+-- # rank (profile) [rank, unrank]
+-- The place of a full set in the mixed radix that the choices of each kept key make, the first key
+-- the most significant.
 abbrev pub unrank : ℕ → List Bool → List KeyFacts → ℕ → List ℕ
 unrank pad [] keys r = replicate pad 0
 unrank pad (flag ∷ kept) [] r = replicate pad 0

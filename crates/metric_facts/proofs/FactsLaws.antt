@@ -29,18 +29,18 @@ numbered_more flags instrument first (s ∷ streams) (suc i) d below =
     ∙ ap (λ (n : ℕ). numbered_from flags instrument (first + 1) (take i streams) ++ numbered instrument n (is_by_product flags n) (get_or streams i d)) (omega arith))
     ∙ sym (append_assoc here (numbered_from flags instrument (first + 1) (take i streams)) (numbered instrument (first + suc i) (is_by_product flags (first + suc i)) (get_or streams i d)))
 
-pub facts_more : (certified : Bool) (flags : List Bool) (recorders : List Recorder) (readers : List Reader) (streams : List Stream) (i : ℕ) (d : Stream) (first : ℕ) (instruments : List Instrument)
+pub facts_more : (plan : ℕ) (certified : Bool) (flags : List Bool) (recorders : List Recorder) (readers : List Reader) (streams : List Stream) (i : ℕ) (d : Stream) (first : ℕ) (instruments : List Instrument)
     → i < length streams
-    → facts_from certified flags recorders readers (take (i + 1) streams) first instruments
-    ≡ with_stream first i (is_by_product flags i) (get_or streams i d) (facts_from certified flags recorders readers (take i streams) first instruments)
-facts_more certified flags recorders readers streams i d first [] below = refl
-facts_more certified flags recorders readers streams i d first (instrument ∷ instruments) below =
+    → facts_from plan certified flags recorders readers (take (i + 1) streams) first instruments
+    ≡ with_stream first i (is_by_product flags i) (get_or streams i d) (facts_from plan certified flags recorders readers (take i streams) first instruments)
+facts_more plan certified flags recorders readers streams i d first [] below = refl
+facts_more plan certified flags recorders readers streams i d first (instrument ∷ instruments) below =
     let before = numbered_from flags first 0 (take i streams) in
-    let grown : List NumberedStream → Facts = λ own. record (facts_of certified flags recorders readers [] first instrument) { streams = own } in
-    ap (λ (own : List NumberedStream). grown own ∷ facts_from certified flags recorders readers (take (i + 1) streams) (first + 1) instruments)
+    let grown : List NumberedStream → Facts = λ own. record (facts_of plan certified flags recorders readers [] first instrument) { streams = own } in
+    ap (λ (own : List NumberedStream). grown own ∷ facts_from plan certified flags recorders readers (take (i + 1) streams) (first + 1) instruments)
     (numbered_more flags first 0 streams i d below ∙ ap (λ (n : ℕ). before ++ numbered first n (is_by_product flags n) (get_or streams i d)) (omega arith))
     ∙ ap (λ (rest : List Facts). grown (before ++ numbered first i (is_by_product flags i) (get_or streams i d)) ∷ rest)
-    (facts_more certified flags recorders readers streams i d (first + 1) instruments below)
+    (facts_more plan certified flags recorders readers streams i d (first + 1) instruments below)
 
 -- a stream of another instrument changes nothing
 other : (own : Facts) (first number : ℕ) (by_product : Bool) (s : Stream) → s.instrument ≢ first
@@ -77,13 +77,13 @@ with_stream-none first number by_product s (f ∷ all) past =
     ∙ ap (λ (g : Facts). g ∷ with_stream (first + 1) number by_product s all) (sym (other f first number by_product s (λ e. omega (arith, e))))
 
 -- the facts of one instrument more
-pub instruments_more : (certified : Bool) (flags : List Bool) (recorders : List Recorder) (readers : List Reader) (streams : List Stream) (number : ℕ) (instruments : List Instrument) (done all : List Facts) (instrument : Instrument) (facts : Facts)
-    → number < length instruments → instrument ≡ get_or instruments number instrument → facts ≡ facts_of certified flags recorders readers streams number instrument
-    → done ++ facts_from certified flags recorders readers streams number (drop number instruments) ≡ all
-    → (done ++ facts ∷ []) ++ facts_from certified flags recorders readers streams (number + 1) (drop (number + 1) instruments) ≡ all
-instruments_more certified flags recorders readers streams number instruments done all instrument facts below is_at is_facts before =
-    append_assoc done (facts ∷ []) (facts_from certified flags recorders readers streams (number + 1) (drop (number + 1) instruments))
-    ∙ ap (λ (f : Facts). done ++ f ∷ facts_from certified flags recorders readers streams (number + 1) (drop (number + 1) instruments))
-    (is_facts ∙ ap (facts_of certified flags recorders readers streams number) is_at)
-    ∙ ap (λ (rest : List Facts). done ++ rest) (sym (at_drop_more (facts_from certified flags recorders readers streams number) instruments number instrument below))
+pub instruments_more : (plan : ℕ) (certified : Bool) (flags : List Bool) (recorders : List Recorder) (readers : List Reader) (streams : List Stream) (number : ℕ) (instruments : List Instrument) (done all : List Facts) (instrument : Instrument) (facts : Facts)
+    → number < length instruments → instrument ≡ get_or instruments number instrument → facts ≡ facts_of plan certified flags recorders readers streams number instrument
+    → done ++ facts_from plan certified flags recorders readers streams number (drop number instruments) ≡ all
+    → (done ++ facts ∷ []) ++ facts_from plan certified flags recorders readers streams (number + 1) (drop (number + 1) instruments) ≡ all
+instruments_more plan certified flags recorders readers streams number instruments done all instrument facts below is_at is_facts before =
+    append_assoc done (facts ∷ []) (facts_from plan certified flags recorders readers streams (number + 1) (drop (number + 1) instruments))
+    ∙ ap (λ (f : Facts). done ++ f ∷ facts_from plan certified flags recorders readers streams (number + 1) (drop (number + 1) instruments))
+    (is_facts ∙ ap (facts_of plan certified flags recorders readers streams number) is_at)
+    ∙ ap (λ (rest : List Facts). done ++ rest) (sym (at_drop_more (facts_from plan certified flags recorders readers streams number) instruments number instrument below))
     ∙ before

@@ -428,7 +428,7 @@ allowed keys (Some x) (Some y) r s e =
 
 -- the fields of facts but the combinations, as pairs
 abbrev Fields : Type 0
-Fields = (((((((Bool × ℕ) × List KeyFacts) × ℤ) × ℤ) × List ℕ) × ℕ) × List Bool) × List NumberedStream
+Fields = ((((((((ℕ × Bool) × ℕ) × List KeyFacts) × ℤ) × ℤ) × List ℕ) × ℕ) × List Bool) × List NumberedStream
 
 flat_counted_streams : List NumberedStream → List ℕ
 flat_counted_streams numbered = flat_number (length numbered) ++ flat_streams [] numbered
@@ -439,13 +439,13 @@ counted_streams = after_length (flat_streams []) (streams [])
 
 fields_flat : Fields → List ℕ
 fields_flat =
-    pair (pair (pair (pair (pair (pair (pair (pair flat_flag flat_number) (flat_list flat_key)) flat_signed) flat_signed) (flat_list flat_number)) flat_number) (flat_list flat_flag))
+    pair (pair (pair (pair (pair (pair (pair (pair (pair flat_number flat_flag) flat_number) (flat_list flat_key)) flat_signed) flat_signed) (flat_list flat_number)) flat_number) (flat_list flat_flag))
     flat_counted_streams
 
 fields_read : Reads fields_flat
 unfolding fields_flat
 fields_read =
-    both _ _ (both _ _ (both _ _ (both _ _ (both _ _ (both _ _ (both _ _ (both _ _ flag number) (listed flat_key key)) signed) signed) (listed flat_number number)) number) kept) counted_streams
+    both _ _ (both _ _ (both _ _ (both _ _ (both _ _ (both _ _ (both _ _ (both _ _ (both _ _ number flag) number) (listed flat_key key)) signed) signed) (listed flat_number number)) number) kept) counted_streams
 
 -- the combinations of an instrument's keys, after its other fields
 allowed_after : Fields → Option (List (List ℕ)) → List ℕ
@@ -467,13 +467,14 @@ unfolding whole_flat
 whole_read = after fields_flat allowed_after fields_read allowed_read
 
 whole_of : FactsFields → Whole
-whole_of f = (((((((((f.certified, f.instrument), f.keys), f.lo), f.hi), f.budgets), f.spare), f.delta), f.streams), f.allowed)
+whole_of f = ((((((((((f.plan, f.certified), f.instrument), f.keys), f.lo), f.hi), f.budgets), f.spare), f.delta), f.streams), f.allowed)
 
 of_whole : Whole → FactsFields
 of_whole w =
     let p = w.0 in
     record {
-      certified = p.0.0.0.0.0.0.0.0;
+      plan = p.0.0.0.0.0.0.0.0.0;
+      certified = p.0.0.0.0.0.0.0.0.1;
       instrument = p.0.0.0.0.0.0.0.1;
       keys = p.0.0.0.0.0.0.1;
       allowed = w.1;

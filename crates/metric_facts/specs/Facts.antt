@@ -39,14 +39,15 @@ is_of_reader reader s = s.stream.reader == reader
 abbrev pub is_entry : KeyFacts → ℕ → Bool
 is_entry key entry = if entry == 0 then key.optional else nat_le entry key.values
 
--- whether a set key is a full set: for each declared key an entry, and 0 after them
+-- # full set (Common, attribute)
+-- For each declared key a declared value, or none where the key is optional.
 abbrev pub is_full_set : List KeyFacts → List ℕ → Bool
 is_full_set [] set = list_all (λ entry. entry == 0) set
 is_full_set (key ∷ keys) [] = false
 is_full_set (key ∷ keys) (entry ∷ set) = is_entry key entry && is_full_set keys set
 
--- whether a set key is a full set of the keys, and one of the allowed
--- combinations where these are listed
+-- # allowed set (profile)
+-- A full set, and one of the combinations where the instrument lists them.
 abbrev pub is_allowed_set : Facts → List ℕ → Bool
 is_allowed_set facts set = is_full_set facts.keys set && permits facts.allowed set
 
@@ -79,10 +80,12 @@ numbered_from flags instrument number (s ∷ streams) =
     numbered instrument number (is_by_product flags number) s
     ++ numbered_from flags instrument (number + 1) streams
 
--- the facts of the instrument of a number. A stream's number is its place among all.
-abbrev pub facts_of : Bool → List Bool → List Recorder → List Reader → List Stream → ℕ
+-- the facts of the instrument of a number, in a plan of this fingerprint. A stream's number is its
+-- place among all.
+abbrev pub facts_of : ℕ → Bool → List Bool → List Recorder → List Reader → List Stream → ℕ
     → Instrument → Facts
-facts_of certified flags recorders readers streams number instrument = record {
+facts_of plan certified flags recorders readers streams number instrument = record {
+  plan = plan;
   certified = certified;
   instrument = number;
   keys = map key_facts instrument.keys;
@@ -96,12 +99,12 @@ facts_of certified flags recorders readers streams number instrument = record {
 }
 
 -- those of each instrument, the first of which has this number
-abbrev pub facts_from : Bool → List Bool → List Recorder → List Reader → List Stream → ℕ
+abbrev pub facts_from : ℕ → Bool → List Bool → List Recorder → List Reader → List Stream → ℕ
     → List Instrument → List Facts
-facts_from certified flags recorders readers streams number [] = []
-facts_from certified flags recorders readers streams number (instrument ∷ instruments) =
-    facts_of certified flags recorders readers streams number instrument
-    ∷ facts_from certified flags recorders readers streams (number + 1) instruments
+facts_from plan certified flags recorders readers streams number [] = []
+facts_from plan certified flags recorders readers streams number (instrument ∷ instruments) =
+    facts_of plan certified flags recorders readers streams number instrument
+    ∷ facts_from plan certified flags recorders readers streams (number + 1) instruments
 
 -- facts, the first of which are of the instrument of a number, with one stream more
 abbrev pub with_stream : ℕ → ℕ → Bool → Stream → List Facts → List Facts
@@ -117,3 +120,8 @@ EncodesAllowedSets =
     (instrument : Instrument) (attrs : List Given) (set : List ℕ)
     → allowed_set instrument attrs ≡ Ok set
     → (is_full_set (map key_facts instrument.keys) set && permits instrument.allowed set) ≡ true
+
+-- # facts of an instrument (profile) [Facts]
+-- What its run depends on: the fingerprint of the plan, the number of values of each key and
+-- whether it is optional, the allowed combinations where they are listed, range, budgets, spare,
+-- delta flags, numbered streams.

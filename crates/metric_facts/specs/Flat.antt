@@ -160,8 +160,8 @@ flat_streams earlier (numbered ∷ streams) =
 -- what an instrument has beside its streams and its combinations
 abbrev pub flat_instrument : FactsFields → List ℕ
 flat_instrument facts =
-    flat_flag facts.certified ++ flat_number facts.instrument ++ flat_list flat_key facts.keys
-    ++ flat_signed facts.lo ++ flat_signed facts.hi
+    flat_number facts.plan ++ flat_flag facts.certified ++ flat_number facts.instrument
+    ++ flat_list flat_key facts.keys ++ flat_signed facts.lo ++ flat_signed facts.hi
     ++ flat_list flat_number facts.budgets ++ flat_number facts.spare
     ++ flat_list flat_flag facts.delta
 
@@ -184,11 +184,17 @@ abbrev pub flat_allowed : ℕ → Option (List (List ℕ)) → List ℕ
 flat_allowed keys None = 0 ∷ []
 flat_allowed keys (Some rows) = 1 ∷ flat_rows keys rows
 
+-- # bytes of facts (profile)
+-- Each field one after the other, so that it can be read from the front: numbers in groups of seven
+-- bits, lists after their length. A stream's texts and boundaries are spelled only where they are
+-- not those of the last earlier stream of its view. Of a listed combination stand the entries of
+-- the declared keys, where in each of them nothing follows these.
 abbrev pub flat_facts : FactsFields → List ℕ
 flat_facts facts =
     flat_instrument facts ++ (flat_number (length facts.streams) ++ flat_streams [] facts.streams)
     ++ flat_allowed (length facts.keys) facts.allowed
 
--- whether two facts are the same, as their bytes tell
+-- # same facts (profile)
+-- The same fields, as the bytes tell.
 abbrev pub facts_eq : FactsFields → FactsFields → Bool
 facts_eq a b = bytes_eq (flat_facts a) (flat_facts b)

@@ -14,8 +14,9 @@ key_choices key = key.values + (if key.optional then 1 else 0)
 abbrev pub radix : Bool → KeyFacts → ℕ
 radix kept key = if kept then key_choices key else 1
 
--- how many distinct series recordings may have: the product over the
--- keys, of which each is kept or not
+-- # by product (profile) [product_of, IsDense, AreAllByProduct]
+-- A flag for each stream: the certificate bounds its series by the product over the keys that it
+-- keeps. Such a stream of a plan has at most 8 keys, some series, and no more than its limit.
 abbrev pub product_of : List Bool → List KeyFacts → ℕ
 product_of [] keys = 1
 product_of (flag ∷ kept) [] = 1

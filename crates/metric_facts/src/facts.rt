@@ -34,6 +34,8 @@ pub struct NumberedStream {
 
 /// What facts say: of the catalogue, the config and the streams that they give.
 pub struct FactsFields {
+    /// The fingerprint of the plan.
+    pub plan: u64,
     /// Whether a certificate vouches for the instrument's limits and numbers.
     pub certified: bool,
     /// The number of the instrument.
@@ -60,6 +62,7 @@ impl Drop for FactsFields {
     // A call of its own, so that what owns facts does not carry the steps of dropping each part.
     fn drop(self) {
         let FactsFields {
+            plan: _,
             certified: _,
             instrument: _,
             keys: _keys,

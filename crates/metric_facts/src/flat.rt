@@ -416,6 +416,7 @@ fn write_allowed(
 fn write_instrument(bytes: &mut Vec<u8>, facts: &FactsFields) -> Result<(), AllocError>
     ensures { OnOk result (bytes.new.items ≡ bytes.old.items ++ flat_instrument facts.now) }
 {
+    write_number(bytes, facts.plan)?;
     write_flag(bytes, facts.certified)?;
     write_number(bytes, u64::from(facts.instrument))?;
     write_list(bytes, facts.keys.as_slice())?;

@@ -57,6 +57,7 @@ fn delta_flags(alloc: Global, readers: &[Reader], kind: Kind) -> Result<Items<bo
 // The facts of the instrument of this number, before its streams.
 fn instrument_facts(
     alloc: Global,
+    plan: u64,
     certified: bool,
     recorders: &[Recorder],
     readers: &[Reader],
@@ -64,13 +65,14 @@ fn instrument_facts(
     instrument: &Instrument,
 ) -> Result<FactsFields, AllocError>
     ensures { IfOk result (λ facts.
-        facts ≡ facts_of certified [] recorders.now readers.now [] number instrument.now) }
+        facts ≡ facts_of plan certified [] recorders.now readers.now [] number instrument.now) }
 {
     let keys = key_facts_of(alloc, instrument.keys.as_slice())?;
     let allowed = instrument.allowed.copy(alloc)?;
     let budgets = budgets_of(alloc, recorders, number)?;
     let delta = delta_flags(alloc, readers, instrument.kind)?;
     Ok(FactsFields {
+        plan,
         certified,
         instrument: number,
         keys,
@@ -87,6 +89,7 @@ fn instrument_facts(
 // Those of each instrument.
 fn without_streams(
     alloc: Global,
+    plan: u64,
     certified: bool,
     recorders: &[Recorder],
     readers: &[Reader],
@@ -94,12 +97,13 @@ fn without_streams(
 ) -> Result<Vec<FactsFields>, AllocError>
     requires { length instruments.now ≤ 512 }
     ensures { IfOk result (λ all.
-        all.items ≡ facts_from certified [] recorders.now readers.now [] 0 instruments.now) }
+        all.items ≡ facts_from plan certified [] recorders.now readers.now [] 0 instruments.now) }
 {
     let mut all = Vec::new(alloc);
     for (number, instrument) in instruments.iter().enumerate() {
         let facts = instrument_facts(
             alloc,
+            plan,
             certified,
             recorders,
             readers,
@@ -146,11 +150,12 @@ fn sealed(alloc: Global, all: Vec<FactsFields>) -> Result<Items<Facts>, AllocErr
     Ok(sealed)
 }
 
-/// The facts of each instrument of a catalogue, for the readers of a config and all their streams, of which
+/// The facts of each instrument of a catalogue, in a plan of this fingerprint, for the readers of a config and all their streams, of which
 /// each has its place among them as its number. The flags say which streams are by product, in the same order; those
 /// without a flag are not. Fails only where memory is refused.
 pub fn all_facts(
     alloc: Global,
+    plan: u64,
     certified: bool,
     by_product: &[bool],
     catalogue: &Catalogue,
@@ -161,10 +166,12 @@ pub fn all_facts(
     ensures { IfOk result (λ all. let declared = catalogue.now in
         let recorders = declared.recorders in
         let flags = by_product.now in
-        all ≡ facts_from certified flags recorders readers.now streams.now 0 declared.instruments) }
+        let instruments = declared.instruments in
+        all ≡ facts_from plan certified flags recorders readers.now streams.now 0 instruments) }
 {
     let mut all = without_streams(
         alloc,
+        plan,
         certified,
         catalogue.recorders(),
         readers,

@@ -19,7 +19,9 @@ use Rattle.metric_facts.specs.Facts.{is_delta, in_bounds}
 use Rattle.metric_history.specs.Points.{reported}
 use Rattle.metric_history.specs.Windows.{window, fits_all}
 
--- what a history comes to for an instrument
+-- # what a history says of an instrument (profile)
+-- Its accepted recordings, each reader's mark and previous time, whether it is closed, and what
+-- each recorder, and all of them together, were granted.
 pub record Past : Type 0 where
   -- the accepted recordings, oldest first
   pub accepted : List Entry
@@ -37,7 +39,9 @@ pub record Past : Type 0 where
 abbrev pub spent : List Entry → ℕ → ℕ
 spent accepted recorder = count_by (λ (entry : Entry). entry.recorder == recorder) accepted
 
--- a recording's entry, or the first refusal
+-- # answer to a recording (profile)
+-- Its entry, or the first refusal in the fixed order; a recorder may make as many as its budget and
+-- what it was granted.
 abbrev pub recorded : Facts → Past → Result (List ℕ) Refusal → ℕ → ℤ → Result Entry Refusal
 recorded facts told encoded recorder value =
     require (nat_lt recorder (length facts.budgets)) UnknownRecorder >>= λ _.
@@ -54,9 +58,11 @@ recorded facts told encoded recorder value =
 abbrev pub covered : Facts → Past → ℕ → List Entry
 covered facts told reader = window (is_delta facts reader) (told.mark reader) told.accepted
 
--- a reader's batch, for a start of the run and a time
+-- # batch (SDK, collect) [batch, collected]
+-- What a collection reports.
 abbrev pub batch : Facts → ℕ → Past → ℕ → ℕ → Batch
 batch facts start told reader now = record {
+  plan = facts.plan;
   reader = reader;
   instrument = facts.instrument;
   from = if is_delta facts reader then told.mark reader else 0;
@@ -76,8 +82,9 @@ collected facts start told reader now =
 abbrev pub closing : Past → Result (Unit {0}) Refusal
 closing told = require (not told.closed) Closed
 
--- whether a grant of so many recordings to a recorder is made: no more than
--- what is left of the spare budget
+-- # answer to a grant (profile)
+-- Made where the recorder is known, the instrument open, and no more is asked for than the spare
+-- less what was granted; or the first refusal.
 abbrev pub granting : Facts → Past → ℕ → ℕ → Result (Unit {0}) Refusal
 granting facts told recorder amount =
     require (nat_lt recorder (length facts.budgets)) UnknownRecorder >>= λ _.

@@ -20,7 +20,8 @@ pub record Answered : Type 0 where
 abbrev pub answered : Event → Reply → Answered
 answered event reply = record { event = event; reply = reply }
 
--- newest first
+-- # history (profile)
+-- Events with their replies, newest first.
 abbrev pub History : Type 0
 History = List Answered
 
@@ -36,7 +37,8 @@ added_by facts i (Record recorder instrument attrs value) Accepted =
 added_by facts i (Record recorder instrument attrs value) _ = []
 added_by facts i _ _ = []
 
--- the accepted recordings of an instrument, oldest first
+-- # accepted recordings (profile)
+-- The entries of an instrument's recordings that were answered Accepted, oldest first.
 abbrev pub accepted : RunFacts → History → ℕ → List Entry
 accepted facts [] i = []
 accepted facts (a ∷ older) i = accepted facts older i ++ added_by facts i a.event a.reply
@@ -46,8 +48,8 @@ abbrev pub collects : ℕ → ℕ → Event → Reply → Bool
 collects i reader (Collect by instrument now) (Collected b) = (instrument == i) && (by == reader)
 collects i reader _ _ = false
 
--- how many recordings of the instrument were accepted before the reader's
--- last collection of it, 0 before one
+-- # mark (profile)
+-- How many recordings were accepted before the reader's last answered collection of the instrument.
 abbrev pub mark_of : RunFacts → History → ℕ → ℕ → ℕ
 mark_of facts [] i reader = 0
 mark_of facts (a ∷ older) i reader =
@@ -58,7 +60,8 @@ abbrev pub batch_time : Reply → ℕ
 batch_time (Collected b) = b.time
 batch_time _ = 0
 
--- the greatest of the start and the times of the reader's batches of the instrument
+-- # previous time (profile)
+-- The greatest of the start and the times of the reader's batches of the instrument.
 abbrev pub previous_of : ℕ → History → ℕ → ℕ → ℕ
 previous_of start [] i reader = start
 previous_of start (a ∷ older) i reader =
@@ -80,7 +83,9 @@ grants_to i recorder (Grant to instrument amount) Granted =
     if (instrument == i) && (to == recorder) then amount else 0
 grants_to i recorder _ _ = 0
 
--- how many were granted the recorder
+-- # granted (profile) [granted_of, handed_of]
+-- The amounts of a recorder's grants on an instrument that were answered Granted, together; those
+-- of all recorders.
 abbrev pub granted_of : History → ℕ → ℕ → ℕ
 granted_of [] i recorder = 0
 granted_of (a ∷ older) i recorder =

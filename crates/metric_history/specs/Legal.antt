@@ -65,7 +65,9 @@ LegalGrant (Ok done) Granted = Unit {0}
 LegalGrant (Err refusal) (Refused given) = given ≡ refusal
 LegalGrant _ _ = ⊥
 
--- a reply that the event may get after the history
+-- # legal reply (profile) [Legal, AllLegal]
+-- The refusal, where there is one; else Accepted, the batch, Done or Granted; want of memory only
+-- for recordings and collections that nothing else refuses.
 abbrev pub Legal : RunFacts → ℕ → History → Event → Reply → Type 0
 Legal facts start h (Record recorder instrument attrs value) reply =
     LegalRecord (recording facts start h recorder instrument attrs value) reply
@@ -91,7 +93,8 @@ grown h (event ∷ events) [] = h
 grown h (event ∷ events) (reply ∷ replies) =
     grown (record { event = event; reply = reply } ∷ h) events replies
 
--- a history of which each reply is legal after those before it
+-- # legal history (profile)
+-- Each reply is legal after those before it.
 abbrev pub IsLegal : RunFacts → ℕ → History → Type 0
 IsLegal facts start [] = Unit {0}
 IsLegal facts start (a ∷ older) =

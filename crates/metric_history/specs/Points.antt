@@ -27,7 +27,8 @@ comes_before a b = is_lt (slice_cmp nat_cmp a b)
 abbrev pub with_key : List (List ℕ) → List ℕ → List (List ℕ)
 with_key keys key = insert keys (position_or_len (comes_before key) keys) key
 
--- set keys in ascending order
+-- # ascending order (profile)
+-- The same set keys, where none comes before the one that it follows.
 abbrev pub ascending : List (List ℕ) → List (List ℕ)
 ascending keys = fold with_key [] keys
 
@@ -40,7 +41,9 @@ point s window place =
 abbrev pub overflow : Stream → List Entry → List Point
 overflow s window = if list_any (belongs s window None) window then point s window None ∷ [] else []
 
--- the points of the held series in ascending order, then the overflow point
+-- # points (SDK, collect) [points, stream_points]
+-- Held series in ascending order of set keys with the value of their rows, then the overflow point
+-- where some row is not held.
 abbrev pub points : Stream → List Entry → List Point
 points s window =
     map (λ key. point s window (Some key)) (ascending (held s window)) ++ overflow s window
@@ -64,8 +67,8 @@ abbrev pub with_points : ℕ → List Entry → List StreamPoints → NumberedSt
 with_points reader window all s =
     if is_of_reader reader s then all ++ stream_points window s ∷ [] else all
 
--- each recording of a window belongs to exactly one point, of a held
--- series or of the overflow series
+-- # counted once (profile)
+-- Each recording of a window belongs to exactly one point, held or overflow.
 abbrev pub CountsOnce : Stream → List Entry → Type 0
 CountsOnce s window =
     (i : ℕ) (entry : Entry) → slice_get window i ≡ Some entry

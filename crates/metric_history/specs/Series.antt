@@ -7,7 +7,8 @@ use Rattle.metric_combinations.specs.Restrictions.{restricted}
 use Rattle.metric_history.specs.declared.entry.Entry.{Entry}
 use Rattle.metric_views.specs.declared.stream.Stream.{Stream}
 
--- the series of a recording
+-- # series (SDK, attribute filtering)
+-- The set key of a recording, restricted to the keys that the stream keeps.
 abbrev pub series : List Bool → Entry → List ℕ
 series kept entry = restricted kept entry.set
 
@@ -27,7 +28,8 @@ abbrev pub found_within : ℕ → List (List ℕ) → List ℕ → List (List �
 found_within limit found key =
     if nat_le limit (length found) || has found key then found else found ++ key ∷ []
 
--- the distinct series in the order in which they come first
+-- # held series (SDK, cardinality limits) [distinct, held]
+-- The first distinct series of a window, as many as the cardinality limit.
 abbrev pub distinct : List (List ℕ) → List (List ℕ)
 distinct keys = fold found_with [] keys
 
@@ -39,8 +41,8 @@ others key keys = filter (λ (other : List ℕ). not (bytes_eq other key)) keys
 abbrev pub held : Stream → List Entry → List (List ℕ)
 held s window = take s.limit (distinct (all_series s.kept window))
 
--- whether a recording of the window belongs to a series, or to the
--- overflow series, which is no set key
+-- # rows (SDK, cardinality limits, overflow) [belongs, rows]
+-- The recordings of a window of one held series; without a set key, those whose series is not held.
 abbrev pub belongs : Stream → List Entry → Option (List ℕ) → Entry → Bool
 belongs s window (Some key) entry = bytes_eq (series s.kept entry) key
 belongs s window None entry = not (has (held s window) (series s.kept entry))

@@ -11,11 +11,13 @@ use Rattle.metric_history.specs.Aggregations.{stream_aggregation}
 use Rattle.metric_history.specs.Series.{rows, place_of}
 use Rattle.metric_history.specs.Points.{values}
 
--- of the accepted recordings, those after the mark (delta), or all (cumulative)
+-- # window (data model, temporality)
+-- Delta: the accepted recordings after the reader's mark; cumulative: all.
 abbrev pub window : Bool → ℕ → List Entry → List Entry
 window delta mark accepted = if delta then drop mark accepted else accepted
 
--- whether the series into which a recording falls stays in range
+-- # recording that fits (profile) [fits_stream, fits_all]
+-- The series into which it falls, of each stream of the instrument, stays in range with it.
 abbrev pub fits_stream : Stream → List Entry → Entry → Bool
 fits_stream s before entry =
     let longer = before ++ entry ∷ [] in

@@ -6,6 +6,8 @@ use metric_contents::SetKey;
 /// What one collection of an instrument reports to a reader (Metrics SDK, collect).
 #[derive(Drop)]
 pub struct Batch {
+    /// The fingerprint of the plan, by which a batch of another plan is refused.
+    pub plan: u64,
     /// The number of the reader.
     pub reader: u32,
     /// The number of the instrument.

@@ -17,11 +17,11 @@ use Rattle.metric_facts.specs.Facts.{facts_from}
 use Rattle.metric_plan.specs.Counting.{counts_fit, is_counted}
 use Rattle.metric_plan.specs.Plans.{RangesFit}
 
-pub length-facts_from : (certified : Bool) (flags : List Bool) (recorders : List Recorder) (readers : List Reader) (streams : List Stream) (number : ℕ) (instruments : List Instrument)
-    → length (facts_from certified flags recorders readers streams number instruments) ≡ length instruments
-length-facts_from certified flags recorders readers streams number [] = refl
-length-facts_from certified flags recorders readers streams number (instrument ∷ instruments) =
-    ap (λ (n : ℕ). suc n) (length-facts_from certified flags recorders readers streams (number + 1) instruments)
+pub length-facts_from : (plan : ℕ) (certified : Bool) (flags : List Bool) (recorders : List Recorder) (readers : List Reader) (streams : List Stream) (number : ℕ) (instruments : List Instrument)
+    → length (facts_from plan certified flags recorders readers streams number instruments) ≡ length instruments
+length-facts_from plan certified flags recorders readers streams number [] = refl
+length-facts_from plan certified flags recorders readers streams number (instrument ∷ instruments) =
+    ap (λ (n : ℕ). suc n) (length-facts_from plan certified flags recorders readers streams (number + 1) instruments)
 
 counted_from : (contents : Contents) (number : ℕ) (instruments : List Instrument)
     → ((k : ℕ) (instrument : Instrument) → slice_get instruments k ≡ Some instrument → total_of contents (number + k) < 2 ^ 64)

@@ -11,5 +11,7 @@ counts_fit contents number [] = true
 counts_fit contents number (instrument ∷ instruments) =
     nat_lt (total_of contents number) (2 ^ 64) && counts_fit contents (number + 1) instruments
 
+-- # counted catalogue (profile)
+-- The total of each instrument is below 2^64.
 abbrev pub is_counted : Contents → Bool
 is_counted contents = counts_fit contents 0 contents.instruments

@@ -4,3 +4,6 @@ pub mod Plans
 pub mod PlanFacts
 pub mod SetLaws
 pub mod DenseFacts
+pub mod Mixing
+pub mod ConfigFingerprints
+pub mod Fingerprints

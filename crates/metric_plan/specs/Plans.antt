@@ -11,6 +11,7 @@ use Rattle.metric_resolve.specs.Resolved.{streams_of}
 use Rattle.metric_facts.specs.declared.facts.Facts.{Facts}
 use Rattle.metric_facts.specs.Facts.{RunFacts, facts_from, is_by_product}
 use Rattle.metric_plan.specs.Counting.{is_counted}
+use Rattle.metric_plan.specs.Fingerprints.{fingerprint_of}
 
 -- whether it is certified, a flag for each stream that says whether it is by product, the config,
 -- the streams, and the facts of the instruments with their catalogue
@@ -26,11 +27,16 @@ abbrev pub run_facts : Bool → List Bool → Contents → Config → List Strea
 run_facts is_certified by_product contents config streams = record {
   contents = contents;
   instruments =
-      facts_from is_certified by_product contents.recorders config.readers streams 0
-      contents.instruments;
+      facts_from (fingerprint_of contents config) is_certified by_product contents.recorders
+      config.readers streams 0 contents.instruments;
 }
 
--- the plan of a catalogue with a config
+-- What plans are told apart by: plans of the same contents have the same fingerprint.
+abbrev pub print_of : PlanValue → ℕ
+print_of plan = fingerprint_of plan.facts.contents plan.config
+
+-- # plan (profile)
+-- A catalogue with a config, the streams that they give, and the facts of each instrument.
 abbrev pub plan_of : Bool → List Bool → Contents → Config → PlanValue
 plan_of is_certified by_product contents config = record {
   is_certified = is_certified;
@@ -58,11 +64,9 @@ abbrev pub AreVouched : Bool → List Bool → Type 0
 AreVouched is_certified by_product =
     (number : ℕ) → IsTrue (is_by_product by_product number) → IsTrue is_certified
 
--- What each plan keeps: the streams are those that the config gives for the catalogue, and the
--- facts are theirs, one of each instrument. The budgets and the spare budget of each
--- instrument are together a u64, and its range is one of 64-bit numbers. A certified plan can
--- overflow neither a limit nor a number, and its streams by product can have no more series
--- than their limits, whatever is recorded.
+-- # what each plan keeps (profile)
+-- The streams are the definition's, the facts theirs, each total is a u64; a certified plan is
+-- safe, and its streams by product are within their limits whatever is recorded.
 pub record IsPlan (plan : PlanValue) : Type 0 where
   pub one_each : length plan.facts.instruments ≡ length plan.facts.contents.instruments
   pub streams : plan.streams ≡ streams_of plan.facts.contents plan.config
@@ -73,3 +77,8 @@ pub record IsPlan (plan : PlanValue) : Type 0 where
   pub safe : IsTrue plan.is_certified → AreSafe plan.facts.contents plan.streams
   pub products : ProductsFit plan.facts.contents plan.by_product plan.streams
   pub vouched : AreVouched plan.is_certified plan.by_product
+
+-- A plan and its fingerprint, as it is kept beside the plan.
+pub record IsPrinted (plan : PlanValue) (print : ℕ) : Type 0 where
+  pub is_plan : IsPlan plan
+  pub is_print : print ≡ print_of plan

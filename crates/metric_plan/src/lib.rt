@@ -2,8 +2,11 @@
 //! depends.
 #![tactic(auto)]
 
+mod config_fingerprint;
 mod counting;
 mod fault;
+mod fingerprint;
+mod mixing;
 mod plan;
 
 pub use fault::CheckFault;

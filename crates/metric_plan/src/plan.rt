@@ -7,10 +7,12 @@ ghost use Rattle.metric_facts.specs.Facts.{is_by_product};
 ghost use Rattle.metric_facts.specs.Products.{AreProductsWithin};
 ghost use Rattle.metric_resolve.specs.Resolved.{streams_of};
 ghost use Rattle.metric_plan.specs.Counting.{is_counted};
-ghost use Rattle.metric_plan.specs.Plans.{AreVouched, IsPlan, ProductsFit, RangesFit, plan_of, run_facts};
+ghost use Rattle.metric_plan.specs.Plans.{AreVouched, IsPlan, ProductsFit, RangesFit, plan_of, print_of, run_facts};
+ghost use Rattle.metric_plan.specs.Fingerprints.{fingerprint_of};
 
 use crate::counting::is_counted;
 use crate::fault::CheckFault;
+use crate::fingerprint::fingerprint_of;
 use metric_base::Items;
 use metric_catalogue::Catalogue;
 use metric_facts::{Facts, all_facts, is_by_product};
@@ -32,6 +34,7 @@ pub struct Plan {
     by_product: Items<bool>,
     facts: Items<Facts>,
     is_certified: bool,
+    fingerprint: u64,
 }
 
 impl Drop for Plan {
@@ -44,12 +47,13 @@ impl Drop for Plan {
             by_product: _by_product,
             facts: _facts,
             is_certified: _,
+            fingerprint: _,
         } = self;
     }
 }
 
 impl Model for Plan {
-    ghost use Rattle.metric_plan.specs.Plans.{PlanValue, IsPlan};
+    ghost use Rattle.metric_plan.specs.Plans.{IsPrinted, PlanValue};
 
     ghost Value = { PlanValue };
 
@@ -61,13 +65,13 @@ impl Model for Plan {
       facts = record { contents = p.catalogue; instruments = p.facts };
     } };
 
-    ghost invariant = { λ p. IsPlan (record {
+    ghost invariant = { λ p. IsPrinted (record {
       is_certified = p.is_certified;
       by_product = p.by_product;
       config = p.config;
       streams = p.streams;
       facts = record { contents = p.catalogue; instruments = p.facts };
-    }) };
+    }) p.fingerprint };
 }
 
 impl Plan {
@@ -138,8 +142,10 @@ impl Plan {
         ensures memory { IfErr result (λ refused. refused.2 ≡ CheckFault.Memory) }
         ensures back { IfErr result (λ refused. (refused.0 ≡ catalogue) × (refused.1 ≡ config)) }
     {
+        let fingerprint = fingerprint_of(&catalogue, &config);
         match facts_of(
             alloc,
+            fingerprint,
             is_certified,
             &by_product,
             &catalogue,
@@ -155,6 +161,7 @@ impl Plan {
                     by_product,
                     facts,
                     is_certified,
+                    fingerprint,
                 })
             }
             Err(_) => Err((catalogue, config, CheckFault::Memory)),
@@ -168,6 +175,17 @@ impl Plan {
         ensures kept { IsPlan self.now }
     {
         self.is_certified
+    }
+
+    /// What plans are told apart by, as handles and batches do: FNV-1a of 64 bits over all that the catalogue and the config say.
+    /// It is kept through a roll-over, and plans of the same contents have the same one on purpose, as they name the same things by
+    /// the same numbers. It guards against a mix-up, not against an attacker: two others have the same one by chance, 1 in 2^64 for
+    /// each pair, or since somebody chose their texts so.
+    #[inline(always)]
+    pub fn fingerprint(&self) -> u64
+        ensures { result ≡ print_of self.now }
+    {
+        self.fingerprint
     }
 
     /// The catalogue.
@@ -232,17 +250,20 @@ impl Plan {
 // The facts of each instrument.
 fn facts_of(
     alloc: Global,
+    fingerprint: u64,
     is_certified: bool,
     by_product: &Items<bool>,
     catalogue: &Catalogue,
     config: &Config,
     streams: &StreamList,
 ) -> Result<Items<Facts>, AllocError>
+    requires { fingerprint ≡ fingerprint_of catalogue.now config.now }
     ensures { IfOk result (λ facts. facts
         ≡ (run_facts is_certified by_product.now catalogue.now config.now streams.now).instruments) }
 {
     all_facts(
         alloc,
+        fingerprint,
         is_certified,
         by_product.as_slice(),
         catalogue,

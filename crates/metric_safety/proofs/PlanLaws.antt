@@ -31,6 +31,7 @@ use Rattle.metric_facts.specs.Facts.{RunFacts, facts_from, facts_of, key_facts}
 use Rattle.metric_facts.specs.NumberedLaws.{all_numbered}
 use Rattle.metric_facts.specs.Products.{product_of}
 use Rattle.metric_plan.specs.PlanFacts.{FactsAt, facts_at}
+use Rattle.metric_plan.specs.Fingerprints.{fingerprint_of}
 use Rattle.metric_plan.specs.Plans.{PlanValue, RangesFit, plan_of, run_facts}
 use Rattle.metric_plan.specs.SetLaws.{products_are}
 use Rattle.metric_safety.specs.SafeFacts.{IsSafeStream, IsSafeFacts}
@@ -58,10 +59,10 @@ series_are contents s instrument at =
 
 -- ---- safety
 
-stream_safe : (certified : Bool) (flags : List Bool) (contents : Contents) (readers : List Reader) (streams : List Stream) (number : ℕ) (instrument : Instrument) (s : Stream)
+stream_safe : (plan : ℕ) (certified : Bool) (flags : List Bool) (contents : Contents) (readers : List Reader) (streams : List Stream) (number : ℕ) (instrument : Instrument) (s : Stream)
     → AreSafe contents streams → Contains streams s → FlagsKeys contents s → slice_get contents.instruments number ≡ Some instrument → s.instrument ≡ number
-    → IsSafeStream (facts_of certified flags contents.recorders readers streams number instrument) s
-stream_safe certified flags contents readers streams number instrument s safe there has at of =
+    → IsSafeStream (facts_of plan certified flags contents.recorders readers streams number instrument) s
+stream_safe plan certified flags contents readers streams number instrument s safe there has at of =
     let own_at : slice_get contents.instruments s.instrument ≡ Some instrument = ap (slice_get contents.instruments) of ∙ at in
     let ranges = safe.instruments number instrument at in
     let fits : min (sets_of contents s) (total_of contents s.instrument) ≤ s.limit = All-contains (SetsFit contents) streams s safe.sets there in
@@ -81,20 +82,20 @@ stream_safe certified flags contents readers streams number instrument s safe th
         list_any_at (sums_instrument number) streams there.0 s there.1
         (ap (sums_instrument number) there.2 ∙ and_from (s.instrument == number) (keeps_sum s) (eq-eqb s.instrument number of) kept)
 
-facts_safe : (certified : Bool) (flags : List Bool) (contents : Contents) (readers : List Reader) (streams : List Stream) (number : ℕ) (instrument : Instrument)
+facts_safe : (plan : ℕ) (certified : Bool) (flags : List Bool) (contents : Contents) (readers : List Reader) (streams : List Stream) (number : ℕ) (instrument : Instrument)
     → AreSafe contents streams → ((s : Stream) → Contains streams s → FlagsKeys contents s) → slice_get contents.instruments number ≡ Some instrument
-    → instrument.lo ≤ℤ instrument.hi → IsSafeFacts (facts_of certified flags contents.recorders readers streams number instrument)
-facts_safe certified flags contents readers streams number instrument safe has at ordered =
+    → instrument.lo ≤ℤ instrument.hi → IsSafeFacts (facts_of plan certified flags contents.recorders readers streams number instrument)
+facts_safe plan certified flags contents readers streams number instrument safe has at ordered =
     let ranges = safe.instruments number instrument at in
     let same : total_of contents number ≡ sum (map (λ (recorder : Recorder). amount_of recorder number) contents.recorders) + instrument.spare = sym (total_same contents number instrument at) in
     record {
       ordered = ordered;
       counts = subst (λ (n : ℕ). n < 2 ^ 64) same ranges.counts;
       amounts = subst (λ (n : ℕ). amount_with n instrument.lo instrument.hi <ℤ pos (2 ^ 64)) same ranges.amounts;
-      streams = all_numbered (λ (n : NumberedStream). IsSafeStream (facts_of certified flags contents.recorders readers streams number instrument) n.stream) flags number 0 streams
+      streams = all_numbered (λ (n : NumberedStream). IsSafeStream (facts_of plan certified flags contents.recorders readers streams number instrument) n.stream) flags number 0 streams
           (λ k s found of.
           let there : Contains streams s = subst (Contains streams) (get_or_from_slice_get streams k s s found) (Contains-get_or streams k s (slice_get_within streams k s found)) in
-          stream_safe certified flags contents readers streams number instrument s safe there (has s there) at of);
+          stream_safe plan certified flags contents readers streams number instrument s safe there (has s there) at of);
     }
 
 in_order : (contents : Contents) (number : ℕ) (instrument : Instrument) → IsSound contents → slice_get contents.instruments number ≡ Some instrument → instrument.lo ≤ℤ instrument.hi
@@ -117,7 +118,7 @@ safe_run : ((contents : Contents) (config : Config) (s : Stream) → Contains (s
 safe_run exact contents config certified by_product sound safe ranges = record {
   safe = λ number own e.
       let here = at number own e in
-      subst IsSafeFacts (sym here.is) (facts_safe certified by_product contents config.readers (streams_of contents config) number here.instrument safe flags here.at (in_order contents number here.instrument sound here.at));
+      subst IsSafeFacts (sym here.is) (facts_safe (fingerprint_of contents config) certified by_product contents config.readers (streams_of contents config) number here.instrument safe flags here.at (in_order contents number here.instrument sound here.at));
   keys = λ number own instrument e f.
       let here = at number own e in
       ap (λ (x : Facts). x.keys) here.is ∙ ap (λ (x : Instrument). map key_facts x.keys) (one_instrument here.instrument instrument (slice_get contents.instruments number) here.at f);
@@ -143,9 +144,9 @@ safe_run exact contents config certified by_product sound safe ranges = record {
     flags : (s : Stream) → Contains (streams_of contents config) s → FlagsKeys contents s
     flags s there = own_flags contents config s ((exact contents config s).0 there)
 
-    at : (number : ℕ) (own : Facts) → slice_get (facts_from certified by_product contents.recorders config.readers (streams_of contents config) 0 contents.instruments) number ≡ Some own
-        → FactsAt certified by_product contents.recorders config.readers (streams_of contents config) number contents.instruments number own
-    at number own e = facts_at certified by_product contents.recorders config.readers (streams_of contents config) 0 number contents.instruments number own (none_before number) e
+    at : (number : ℕ) (own : Facts) → slice_get (facts_from (fingerprint_of contents config) certified by_product contents.recorders config.readers (streams_of contents config) 0 contents.instruments) number ≡ Some own
+        → FactsAt (fingerprint_of contents config) certified by_product contents.recorders config.readers (streams_of contents config) number contents.instruments number own
+    at number own e = facts_at (fingerprint_of contents config) certified by_product contents.recorders config.readers (streams_of contents config) 0 number contents.instruments number own (none_before number) e
 
 -- the facts of a safe plan
 pub plan_runs : ((contents : Contents) (config : Config) (s : Stream) → Contains (streams_of contents config) s ↔ IsOwn contents config s)

@@ -21,8 +21,9 @@ use Rattle.metric_facts.specs.Products.{product_of}
 abbrev pub total : Facts → ℕ
 total facts = sum facts.budgets + facts.spare
 
--- how many series a stream of an instrument can have: as many as the distinct restrictions of its
--- combinations, where these are listed, or else the product over the keys that the stream keeps
+-- # series that a stream can have (profile)
+-- The distinct restrictions of the combinations to its kept keys, where the instrument lists them;
+-- else the product over these keys.
 abbrev pub series_of : Facts → Stream → ℕ
 series_of facts s =
     count_or (product_of s.kept facts.keys) (option_map (restrictions s.kept) facts.allowed)
@@ -39,11 +40,9 @@ pub record IsSafeStream (facts : Facts) (s : Stream) : Type 0 where
   -- no sum of recordings is above the greatest i64
   pub high : IsTrue (keeps_sum s) → FitsSigned w64 (high_with (total facts) facts.hi)
 
--- The facts of an instrument of which a certificate can vouch: its range is not empty, the
--- recordings that its budgets and its spare allow are a u64, any two sums of their values are less
--- than 2^64 apart, and each stream is safe. What a certified plan keeps of each instrument, and
--- each slot behind a lock of its own. Nothing of a journal is said here: the laws of windows hold
--- of every journal of these facts.
+-- # safe facts (profile) [IsSafeFacts, IsSafeStream]
+-- The range is not empty, counts and amounts are u64, and for each stream the series that it can
+-- have, or the total of budgets and spare, are within its limit, and kept sums are i64.
 pub record IsSafeFacts (facts : Facts) : Type 0 where
   pub ordered : facts.lo ≤ℤ facts.hi
   -- counts are a u64
@@ -52,8 +51,8 @@ pub record IsSafeFacts (facts : Facts) : Type 0 where
   pub amounts : amount_with (total facts) facts.lo facts.hi <ℤ pos (2 ^ 64)
   pub streams : All (λ (s : NumberedStream). IsSafeStream facts s.stream) facts.streams
 
--- whether an instrument admits a recording: an allowed set of as many entries as each
--- set key has, and a value in range
+-- # recordings within the budgets (profile) [is_admitted, IsJournal]
+-- Recordings of allowed sets with values in range, no more than the budgets and the spare allow.
 abbrev pub is_admitted : Facts → Entry → Bool
 is_admitted facts entry =
     length entry.set == 8 && (is_allowed_set facts entry.set && in_bounds facts entry.value)

@@ -141,8 +141,8 @@ OfSafeRuns P =
     (streams : List Stream) (facts : RunFacts) (start : ℕ) (h : History) → IsSafeRun streams facts
     → IsLegal facts start h → P streams facts start h
 
--- A plan has the streams of the definition and the facts that they give, of a sound catalogue, and
--- is safe; its ranges are of 64-bit numbers.
+-- # safe plan, safe run (profile) [IsSafePlan, IsSafeRun]
+-- A sound catalogue with the definition's streams and facts that are safe; the facts of its run.
 pub record IsSafePlan (plan : PlanValue) : Type 0 where
   pub sound : IsSound plan.facts.contents
   pub streams : plan.streams ≡ streams_of plan.facts.contents plan.config
@@ -159,8 +159,9 @@ GivesSafePlan is_certified by_product contents config =
     → RangesFit (plan_of is_certified by_product contents config).facts.instruments
     → IsSafePlan (plan_of is_certified by_product contents config)
 
--- What every legal history of a safe plan is: its exported streams differ in identity, its windows
--- are bounded, no series and no sum overflows, and its numbers are 64-bit numbers.
+-- # safe history (profile)
+-- Exported streams differ in identity, windows are bounded, no series and no sum overflows, numbers
+-- are in range.
 pub record IsSafeHistory (plan : PlanValue) (start : ℕ) (h : History) : Type 0 where
   pub identified : AreIdentified plan.facts.contents plan.streams h
   pub bounded : AreWindowsBounded plan.facts start h

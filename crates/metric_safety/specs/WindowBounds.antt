@@ -61,9 +61,9 @@ sum_in (Sum sum) = sum
 sum_in (Last value) = pos 0
 sum_in (Buckets count counts kept least greatest) = unwrap_or kept (pos 0)
 
--- What a stream reports of a window of an instrument's recordings: no more series than it can have
--- and than there are recordings, none of them the overflow series, each number by the instrument's
--- range and the number of recordings, and each recording once.
+-- # bounded window (SDK, cardinality limits) [IsBounded, IsValueWithin]
+-- At most as many series as the stream can have and as there are recordings, none the overflow
+-- series; numbers by range and number of recordings; each recording once.
 pub record IsBounded (facts : Facts) (s : Stream) (window : List Entry) : Type 0 where
   pub series : length (distinct (all_series s.kept window)) ≤ min (series_of facts s)
       (length window)
@@ -76,9 +76,8 @@ pub record IsBounded (facts : Facts) (s : Stream) (window : List Entry) : Type 0
   pub summed : IsTrue (keeps_sum s)
       → sum_of (map (λ (p : Point). sum_in p.value) (points s window)) ≡ sum_of (values window)
 
--- What a reader may be told of an instrument's recordings from one of them to another: the
--- recordings are within the budgets, no stream has an overflow point or more points than there are
--- recordings, and each number is by the range and the number of recordings.
+-- # report within bounds (SDK, collect)
+-- No overflow point, and each number within the bounds for the recordings from one mark to another.
 pub record IsReportWithin (facts : Facts) (from mark : ℕ) (all : List StreamPoints) : Type 0 where
   pub budgeted : mark ≤ total facts
   pub no_overflow : All (λ (s : StreamPoints). All (λ (p : Point). IsSome p.set) s.points) all

@@ -51,7 +51,10 @@ JudgesSeries stands key value verdict =
     → value ≡ entry.value
     → fits_stream s window entry ≡ verdict
 
--- the new table stands for one recording more
+-- # takes, judges, reports (SDK, cardinality limits, collect) [TakesRecording, JudgesRange,
+-- ReportsPoints]
+-- What an `add` and a collection of any table answer, for every list of recordings for which it
+-- stands.
 abbrev pub TakesRecording : Standing → Standing → List ℕ → ℤ → Type 0
 TakesRecording old new set value =
     (s : Stream) (window : List Entry) (recorder : ℕ) → old s window
@@ -61,8 +64,8 @@ TakesRecording old new set value =
 abbrev pub ForgetsAll : Standing → Standing → Type 0
 ForgetsAll old new = (s : Stream) (window : List Entry) → old s window → new s []
 
--- a table has places for the sets that another one has places for, and room for all
--- values where the other one has it
+-- # places kept (profile)
+-- A table has places for the sets that it had places for, and room for all values where it had it.
 pub record KeepsPlaces {T : Type 0} (takes : T → List ℕ → Type 0) (has_room : T → Type 0)
     (old new : T) : Type 0 where
   pub sets : (set : List ℕ) → takes old set → takes new set

@@ -69,3 +69,12 @@ SeriesValue =
 abbrev pub series_tables : table.Ghosts SeriesValue
 series_tables =
     by_aggregation (hashed of_sum.ghosts) (hashed of_last.ghosts) (hashed of_buckets.ghosts)
+
+-- # stands for recordings (SDK, cardinality limits) [Stands]
+-- A table's series with their aggregates in first-seen order, and its overflow aggregate, are those
+-- of these recordings.
+
+-- # ready (SDK, cardinality limits) [IsPlace]
+-- The value's place was found: a held series, the next one or the overflow series; the value fits
+-- there, and an empty aggregate stands there where the place is new or the overflow series had
+-- none.

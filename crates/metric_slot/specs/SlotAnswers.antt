@@ -16,8 +16,9 @@ use Rattle.metric_safety.specs.WindowBounds.{IsReportWithin}
 use Rattle.metric_slot.specs.declared.told.Told.{Told}
 use Rattle.metric_slot.specs.Slots.{IsOwnReader, IsOwnRecorder}
 
--- what a recording is answered: `Stranger` exactly where the recorder's numbers are not the cell's,
--- else what the cell answers, which is never `SumRange`
+-- # answer to a seat (profile) [AnswersRecorder, RefusesReader]
+-- `Stranger` exactly where the numbers are not its own, else the cell's answer, which is never
+-- `SumRange`.
 abbrev pub AnswersRecorder : {B : Type 0} → (B → Standing) → CellValue B → Facts → Told → Entry
     → Result (Unit {0}) Refusal → Type 0
 AnswersRecorder stands c facts told entry (Err Stranger) =
@@ -26,15 +27,18 @@ AnswersRecorder stands c facts told entry (Err SumRange) = ⊥
 AnswersRecorder stands c facts told entry result =
     IsOwnRecorder c facts told entry.recorder × AnswersRecording stands c entry result
 
--- what a grant is answered: `Stranger` exactly where the cell's facts are not
--- these, else what the cell answers
+-- # answer to a grant under a lock (profile)
+-- `Stranger` exactly where the facts are not the cell's, else the cell's answer.
 abbrev pub AnswersGranter : {B : Type 0} → CellValue B → Facts → ℕ
     → Result (Unit {0}) Refusal → Type 0
 AnswersGranter c facts amount (Err Stranger) = c.facts ≡ facts → ⊥
 AnswersGranter c facts amount result = (c.facts ≡ facts) × AnswersGrant c amount result
 
--- A batch goes on where the reader's last one ended.
+-- # goes on (SDK, collect)
+-- A batch begins where the reader's last one ended (delta) or at the start (cumulative), and counts
+-- no fewer recordings than were seen.
 pub record Continues (facts : Facts) (of seen : ℕ) (told : Batch) : Type 0 where
+  pub plan : told.plan ≡ facts.plan
   pub reader : told.reader ≡ of
   pub instrument : told.instrument ≡ facts.instrument
   pub from : told.from ≡ (if is_delta facts of then seen else 0)

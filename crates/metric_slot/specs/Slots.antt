@@ -7,9 +7,9 @@ use Rattle.metric_plan.specs.Plans.{IsPlan, PlanValue}
 use Rattle.metric_safety.specs.SafeFacts.{IsSafeFacts}
 use Rattle.metric_slot.specs.declared.told.Told.{Told}
 
--- The facts are those of a certified plan for one instrument, the one of their number, so no limit
--- and no number overflows. What each slot keeps of its cell; that the cell's recordings are within
--- the budgets, and what they come to, is what each cell keeps.
+-- # certified facts (profile) [IsCertified, AreCertified]
+-- They are those of a certified plan for one instrument, and safe: what each slot keeps of its
+-- cell.
 pub record IsCertified (own : Facts) : Type 0 where
   pub plan : PlanValue
   pub kept : IsPlan plan
@@ -21,16 +21,18 @@ pub record IsCertified (own : Facts) : Type 0 where
 abbrev pub AreCertified : List Facts → Type 0
 AreCertified all = (number : ℕ) (own : Facts) → slice_get all number ≡ Some own → IsCertified own
 
--- The cell is of the instrument that a recorder takes it for, and has as many of its recordings as
--- it was told of; their values are not further above the least than so many can be.
+-- # own recorder (profile)
+-- The cell has the facts that the call brings, as many of the recorder's recordings as it was told
+-- of, and so many values can be as far above the least as was told.
 pub record IsOwnRecorder {B : Type 0} (c : CellValue B) (own : Facts) (told : Told) (recorder : ℕ)
     : Type 0 where
   pub facts : c.facts ≡ own
   pub spent : slice_index c.spent recorder ≡ told.count
   pub amount : pos told.amount ≤ℤ amount_with told.count own.lo own.hi
 
--- The cell is of the instrument that a reader takes it for, and the reader's last batch counted as
--- many recordings as it has seen.
+-- # own reader (profile)
+-- The cell has the facts that the call brings, and the reader's last batch counted as many
+-- recordings as it has seen.
 pub record IsOwnReader {B : Type 0} (c : CellValue B) (own : Facts) (seen reader : ℕ) : Type 0 where
   pub facts : c.facts ≡ own
   pub mark : slice_index c.marks reader ≡ seen

@@ -2,7 +2,8 @@
 use Rattle.std.specs.Prelude.{ℤ, ◌+◌, ◌-ℤ◌, ◌^◌, ◌<◌, unsigned_abs}
 use Rattle.metric_slot.specs.declared.told.Told.{Told}
 
--- one recording more: its value is so far above the least
+-- # told of one more (profile) [told_more, HasRoom]
+-- One recording more, and its value so far above the least.
 abbrev pub told_more : Told → ℤ → ℤ → Told
 told_more told lo value =
     record { count = told.count + 1; amount = told.amount + unsigned_abs (value -ℤ lo) }

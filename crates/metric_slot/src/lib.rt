@@ -7,8 +7,10 @@
 
 mod safety;
 mod slot;
+mod sums;
 mod told;
 
-pub use safety::journal_reports_are_within;
+pub use safety::{certified_facts_are_safe, journal_reports_are_within};
 pub use slot::Slot;
+pub use sums::{is_above, least_sum};
 pub use told::Told;

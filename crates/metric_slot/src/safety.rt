@@ -6,7 +6,7 @@ ghost use Rattle.metric_slot.specs.Slots.{AreCertified};
 use metric_plan::Plan;
 use metric_safety::laws::{journals_are_bounded, safe_plans_run_safely};
 
-// The facts of each instrument of a certified plan are those of a certified plan, and safe.
+/// The facts of each instrument of a certified plan are those of a certified plan, and safe.
 pub fn certified_facts_are_safe(plan: &Plan)
     requires { IsTrue plan.now.is_certified }
     ensures { AreCertified plan.now.facts.instruments }

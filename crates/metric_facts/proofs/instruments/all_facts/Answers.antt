@@ -14,10 +14,10 @@ loop-number-preserved c =
     let flags = c.args.by_product.now in
     let number = c.loop-number.number in
     let s = c.index-streams-number.result in
-    let before : List Facts = facts_from c.args.certified flags declared.recorders c.args.readers.now (take number streams) 0 declared.instruments in
+    let before : List Facts = facts_from c.args.plan c.args.certified flags declared.recorders c.args.readers.now (take number streams) 0 declared.instruments in
     with_items_is c.loop-number.all c.add_stream.new.all (c.add_stream.auto.all ∙ c.as_mut_slice.ensures.len)
     ∙ c.in_ok-add_stream.ensures
     ∙ ap (λ (own : Bool). with_stream 0 number own s c.as_mut_slice.result.now) c.is_by_product-own.ensures
     ∙ ap (with_stream 0 number (is_by_product flags number) s) (c.as_mut_slice.ensures.value ∙ c.loop-number.invariant)
     ∙ ap (λ (t : Stream). with_stream 0 number (is_by_product flags number) t before) c.index-streams-number.is
-    ∙ sym (facts_more c.args.certified flags declared.recorders c.args.readers.now streams number s 0 declared.instruments c.loop-number-test.true)
+    ∙ sym (facts_more c.args.plan c.args.certified flags declared.recorders c.args.readers.now streams number s 0 declared.instruments c.loop-number-test.true)

@@ -16,4 +16,4 @@ returns-clause-products c =
     let at : slice_get all number ≡ Some own =
     slice_get-get_or all number own within
     ∙ ap (λ (f : Facts). Some f) (ap (λ (fs : List Facts). get_or fs number own) (sym c.as_slice.ensures) ∙ sym c.index-as_slice-instrument.is) in
-    plan_products _ number own c.self.invariant at
+    plan_products _ number own c.self.invariant.is_plan at
