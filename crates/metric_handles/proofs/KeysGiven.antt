@@ -1,9 +1,9 @@
 -- Attributes of keys that were compared at the start are refused for their values alone.
 use Rattle.std.proofs.Common.{◌≡◌, ℕ, ℤ, ◌+◌, Bool, true, false, cond, ◌||◌, ◌&&◌, List, [], ◌∷◌, map, get_or, zero, suc, Option, Some, None, Result, Ok, Err, refl, sym, ap, subst, ◌∙◌}
-use Rattle.std.proofs.lemmas.Bool.{and_from, or_from}
+use Rattle.std.proofs.lemmas.Bool.{and_from, eq-eqb, or_from}
 use Rattle.std.proofs.lemmas.List.{length-map, map-set}
 use Rattle.std.proofs.lemmas.List.Sorted.{IsPermutation-sym}
-use Rattle.std.specs.Prelude.{not, IfErr, IfSome, slice_get}
+use Rattle.std.specs.Prelude.{not, IfErr, IfSome, slice_get, ◌==◌}
 use Rattle.std.specs.List.{list_all, list_any, position_from, swap}
 use Rattle.std.specs.List.Sorted.{IsPermutation, SwapsInRange, apply_swaps}
 use Rattle.metric_base.specs.Steps.{◌>>=◌, require, require_none, require_some}
@@ -19,14 +19,14 @@ use Rattle.metric_contents.specs.Encoding.{Given, IgnoresOrder, allowed_set, enc
 use Rattle.metric_contents.specs.KeyNames.{is_key}
 use Rattle.metric_facts.specs.declared.facts.Facts.{Facts}
 use Rattle.metric_facts.specs.Facts.{in_bounds}
-use Rattle.metric_plan.specs.Plans.{PlanValue}
+use Rattle.metric_plan.specs.Plans.{PlanValue, print_of}
 use Rattle.metric_provider.specs.Recordings.{AnswersSeat, RefusesRecording, SeatSpares, told_at}
 use Rattle.metric_provider.specs.Seats.{RecorderValue, is_recorder_of}
 use Rattle.metric_views.specs.Selection.{is_kind}
-use Rattle.metric_handles.specs.Bounds.{BoundValue}
+use Rattle.metric_handles.specs.Bounds.{BoundValue, HandleValue, bound_of}
 use Rattle.metric_handles.specs.declared.fault.HandleFault.TheVariants as faults
 use Rattle.metric_handles.specs.KeysGiven.{BindsKeys, IsNotOfKeys, IsOfValues, RecordsKeys, keys_of}
-use Rattle.metric_handles.specs.Named.{checked, handle_of, is_missing, is_text, is_undeclared, keys_checked, number_named, repeated_from}
+use Rattle.metric_handles.specs.Named.{checked, handle_in, handle_of, is_missing, is_text, is_undeclared, keys_checked, number_named, repeated_from}
 use Rattle.metric_handles.proofs.Mapped.{list_any-map}
 
 -- ---- what the comparison says of attributes with just these keys
@@ -145,16 +145,28 @@ encodes_keys ignores contents kind meter name keys number attrs e p =
 
 -- ---- what calls answer
 
-abbrev bound_to : ℕ → List ℕ → Result BoundValue Refusal
-bound_to number made = Ok (record { instrument = number; set = made })
+abbrev bound_to : HandleValue → List ℕ → Result BoundValue Refusal
+bound_to handle made = Ok (record { plan = handle.plan; instrument = handle.number; set = made })
 
 pub binds_keys : IgnoresOrder → BindsKeys
-binds_keys ignores contents kind meter name keys number attrs e p =
-    by (encode_of contents.instruments number attrs) (encodes_keys ignores contents kind meter name keys number attrs e p)
+binds_keys ignores plan kind meter name keys handle attrs e p =
+    after_ok (handle_of plan.facts.contents kind meter name keys) _ handle e (λ number found made.
+    let found_handle : HandleValue = record { plan = print_of plan; number = number } in
+    let own : found_handle ≡ handle = cc in
+    subst (λ (h : HandleValue). IfErr (bound_of plan h attrs) IsOfValues) own
+    (of_plan number (λ n. encode_of plan.facts.contents.instruments n attrs >>= bound_to (record { plan = print_of plan; number = n }))
+    (print_of plan == print_of plan) (eq-eqb (print_of plan) (print_of plan) refl)
+    (by found_handle (encode_of plan.facts.contents.instruments number attrs)
+    (encodes_keys ignores plan.facts.contents kind meter name keys number attrs found p))))
   where
-    by : (r : Result (List ℕ) Refusal) → IfErr r IsOfValues → IfErr (r >>= bound_to number) IsOfValues
-    by (Ok made) v = tt
-    by (Err refusal) v = v
+    by : (handle : HandleValue) (r : Result (List ℕ) Refusal) → IfErr r IsOfValues → IfErr (r >>= bound_to handle) IsOfValues
+    by handle (Ok made) v = tt
+    by handle (Err refusal) v = v
+
+    of_plan : (number : ℕ) (f : ℕ → Result BoundValue Refusal) (b : Bool) → b ≡ true → IfErr (f number) IsOfValues
+        → IfErr ((require b refusals.Stranger >>= λ _. Ok number) >>= f) IsOfValues
+    of_plan number f true own v = v
+    of_plan number f false own v = absurd cc
 
 -- what none of these can be is not of keys
 not_of_keys : (P : Refusal → Type 0) → (P refusals.DuplicateKey → ⊥) → (P refusals.UnknownKey → ⊥) → (P refusals.MissingKey → ⊥)

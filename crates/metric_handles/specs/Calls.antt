@@ -2,6 +2,7 @@
 use Rattle.std.specs.Prelude.{◌≡◌, ℕ, ◌-◌, ℤ, Bool, List, [], Result, Ok, Err, IfErr, OnErr, OnOk}
 use Rattle.std.specs.Prelude.{drop, length, take}
 use Rattle.metric_contents.specs.declared.refusal.Refusal.{Refusal}
+use Rattle.metric_contents.specs.declared.refusal.Refusal.TheVariants.{Stranger}
 use Rattle.metric_facts.specs.declared.facts.Facts.{Facts}
 use Rattle.metric_provider.specs.declared.fault.SetsFault.{SetsFault}
 use Rattle.metric_provider.specs.declared.keys.Measurement.{Measurement}
@@ -9,8 +10,8 @@ use Rattle.metric_provider.specs.KeyRecordings.{AreAccepted, IsRefusedAfter, not
 use Rattle.metric_provider.specs.Recordings.{AnswersSeat, IsToldOf, SeatSpares}
 use Rattle.metric_provider.specs.Seats.{ProviderValue, RecorderValue}
 
--- A recording with this admission is answered, and the seat is told of
--- it exactly where it is accepted.
+-- # makes a recording, recordings (API, Add, Record) [MakesRecording, MakesRecordings]
+-- What the seat's call is answered and told, as one fact.
 pub record MakesRecording (keeps : Bool) (spares_memory : Facts → Type 0) (p : ProviderValue)
     (old new : RecorderValue) (instrument : ℕ) (value : ℤ) (admission : Result (List ℕ) Refusal)
     (result : Result (Unit {0}) Refusal) : Type 0 where
@@ -43,3 +44,16 @@ untried_of all (Err fault) = length all - fault.place - 1
 abbrev pub answer_of : Result (Unit {0}) SetsFault → Result (Unit {0}) Refusal
 answer_of (Ok done) = Ok done
 answer_of (Err fault) = Err fault.refusal
+
+-- what is of another plan is a stranger
+abbrev pub IsStrange : Result (Unit {0}) Refusal → Type 0
+IsStrange result = result ≡ Err Stranger
+
+-- the same of a list, whose first recording is refused
+abbrev pub IsStrangeList : Result (Unit {0}) SetsFault → Type 0
+IsStrangeList result = result ≡ Err (record { place = 0; refusal = Stranger })
+
+-- # seat, what it notes (profile) [answer_of]
+-- The recorder's seat that is told of recordings, and what an answer changes beside it: nothing, or
+-- the count of its refusal; of a list the answer is its first refusal, with how many stand behind
+-- it.

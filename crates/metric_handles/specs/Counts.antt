@@ -56,8 +56,9 @@ refused_before counts refusal untried = record {
   untried = more counts.untried untried;
 }
 
--- the counts after an answer, behind which so many recordings were not tried: an accepted
--- recording changes none, and a refused one those of its instrument alone
+-- # counts after an answer (profile) [counts_after, counts_of]
+-- Of a refusal one more on the instrument and no other, and so many more untried as stand behind it
+-- in its list; of an accepted recording the same.
 abbrev pub counts_after : List CountsValue → ℕ → ℕ → Result (Unit {0}) Refusal → List CountsValue
 counts_after counts instrument untried (Ok done) = counts
 counts_after counts instrument untried (Err refusal) =

@@ -1,6 +1,6 @@
 -- The value of the point that a name and attributes are of, in a list of batches.
 use Rattle.std.specs.Prelude.{ℕ, Bool, true, false, not, ◌&&◌, ◌==◌, List, [], ◌∷◌, Option, None}
-use Rattle.std.specs.Prelude.{find, slice_get, option_and_then}
+use Rattle.std.specs.Prelude.{find, slice_get, option_and_then, if◌then◌else◌}
 use Rattle.std.specs.List.{list_all}
 use Rattle.std.specs.Option.{option_map, option_map_or, option_or}
 use Rattle.std.specs.Str.{bytes_eq}
@@ -12,7 +12,7 @@ use Rattle.metric_contents.specs.Encoding.{Given, entry_at, has_repeated_key, is
 use Rattle.metric_history.specs.declared.batch.Batch.{Batch}
 use Rattle.metric_history.specs.declared.batch.Point.{Point}
 use Rattle.metric_history.specs.declared.batch.StreamPoints.{StreamPoints}
-use Rattle.metric_plan.specs.Plans.{PlanValue}
+use Rattle.metric_plan.specs.Plans.{PlanValue, print_of}
 use Rattle.metric_views.specs.declared.stream.Stream.{Stream}
 
 -- the entry of a key is this one
@@ -57,17 +57,19 @@ value_in_streams plan name keys attrs streams =
     option_and_then (λ (s : StreamPoints). value_at keys attrs s.points)
     (find (is_stream_named plan name) streams)
 
--- the same in a batch, by the keys of its instrument
+-- the same in a batch of the plan, by the keys of its instrument
 abbrev pub value_in : PlanValue → List ℕ → List Given → Batch → Option PointValue
 value_in plan name attrs batch =
-    option_and_then (λ (i : Instrument). value_in_streams plan name i.keys attrs batch.streams)
-    (slice_get plan.facts.contents.instruments batch.instrument)
+    if batch.plan == print_of plan
+    then option_and_then (λ (i : Instrument). value_in_streams plan name i.keys attrs batch.streams)
+    (slice_get plan.facts.contents.instruments batch.instrument) else None
 
 -- the last that there is of some things
 abbrev pub last_of : {X Y : Type 0} → (X → Option Y) → List X → Option Y
 last_of f [] = None
 last_of f (x ∷ xs) = option_or (last_of f xs) (f x)
 
--- the same in the last batch that has it
+-- # value of a point (profile) [value_of, is_exactly]
+-- Of the last batch whose first stream of the name has a point with exactly these attributes.
 abbrev pub value_of : PlanValue → List ℕ → List Given → List Batch → Option PointValue
 value_of plan name attrs batches = last_of (value_in plan name attrs) batches

@@ -1,7 +1,6 @@
 -- Attributes of keys that were compared with the catalogue once.
 use Rattle.std.specs.Prelude.{◌≡◌, ◌≢◌, ℕ, ℤ, Bool, List, Result, Ok, IfErr, map}
 use Rattle.std.specs.List.Sorted.{IsPermutation}
-use Rattle.metric_contents.specs.declared.contents.Contents.{Contents}
 use Rattle.metric_contents.specs.declared.contents.Kind.{Kind}
 use Rattle.metric_contents.specs.declared.refusal.Refusal.{Refusal}
 use Rattle.metric_contents.specs.declared.refusal.Refusal.TheVariants.{
@@ -13,13 +12,16 @@ use Rattle.metric_contents.specs.declared.refusal.Refusal.TheVariants.{
 }
 use Rattle.metric_contents.specs.Encoding.{Given}
 use Rattle.metric_facts.specs.declared.facts.Facts.{Facts}
-use Rattle.metric_handles.specs.Bounds.{bound_of}
+use Rattle.metric_handles.specs.Bounds.{HandleValue, bound_of}
 use Rattle.metric_handles.specs.Calls.{MakesRecording}
-use Rattle.metric_handles.specs.Named.{handle_of}
+use Rattle.metric_handles.specs.Named.{handle_in, handle_of}
+use Rattle.metric_plan.specs.Plans.{PlanValue}
 use Rattle.metric_provider.specs.Recordings.{admitted}
 use Rattle.metric_provider.specs.Seats.{ProviderValue, RecorderValue}
 
--- the refusal is of values: one is not declared, or they are not allowed together
+-- # refused for values, not for keys (profile) [IsOfValues, IsNotOfKeys]
+-- A value is not declared, or the combination is not allowed; no key stands twice, is undeclared or
+-- missing.
 abbrev pub IsOfValues : Refusal → Type 0
 IsOfValues UnknownValue = Unit {0}
 IsOfValues Combination = Unit {0}
@@ -37,11 +39,11 @@ keys_of attrs = map (λ (given : Given). given.0) attrs
 -- instrument or refused for their values.
 abbrev pub BindsKeys : Type 0
 BindsKeys =
-    (contents : Contents) (kind : Kind) (meter name : List ℕ) (keys : List (List ℕ))
-    (number : ℕ) (attrs : List Given)
-    → handle_of contents kind meter name keys ≡ Ok number
+    (plan : PlanValue) (kind : Kind) (meter name : List ℕ) (keys : List (List ℕ))
+    (handle : HandleValue) (attrs : List Given)
+    → handle_in plan kind meter name keys ≡ Ok handle
     → IsPermutation keys (keys_of attrs)
-    → IfErr (bound_of contents number attrs) IsOfValues
+    → IfErr (bound_of plan handle attrs) IsOfValues
 
 -- A recording with such attributes, on a provider whose plan has these contents, is not refused
 -- for its keys, whatever seat makes it.

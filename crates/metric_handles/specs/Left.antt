@@ -6,8 +6,8 @@ use Rattle.metric_plan.specs.Plans.{PlanValue}
 use Rattle.metric_provider.specs.Seats.{RecorderValue}
 use Rattle.metric_slot.specs.declared.told.Told.{Told}
 
--- how many recordings of its declared budget a seat was not told of, where it has the instrument:
--- 0 also where it was told of more
+-- # left of a budget (profile)
+-- The declared budget less what the seat was told of.
 abbrev pub left_of : PlanValue → RecorderValue → ℕ → Option ℕ
 left_of plan seat instrument =
     option_map

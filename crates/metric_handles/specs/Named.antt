@@ -12,7 +12,9 @@ use Rattle.metric_contents.specs.declared.contents.Key.{Key}
 use Rattle.metric_contents.specs.declared.contents.Kind.{Kind}
 use Rattle.metric_contents.specs.declared.contents.Meter.{Meter}
 use Rattle.metric_contents.specs.KeyNames.{is_key}
+use Rattle.metric_plan.specs.Plans.{PlanValue, print_of}
 use Rattle.metric_views.specs.Selection.{is_kind}
+use Rattle.metric_handles.specs.Bounds.{HandleValue}
 use Rattle.metric_handles.specs.declared.fault.HandleFault.{HandleFault}
 use Rattle.metric_handles.specs.declared.fault.HandleFault.TheVariants.{
   UnknownMeter,
@@ -32,7 +34,9 @@ is_meter_named name meter = bytes_eq meter.name name
 abbrev pub is_of_meter : List Meter → List ℕ → ℕ → Bool
 is_of_meter meters name number = option_map_or (is_meter_named name) (slice_get meters number) false
 
--- the instrument has this name without ASCII case, and its meter has that name
+-- # named instrument (API, instrument name syntax) [is_named, number_named]
+-- The only one of the name, without ASCII case, in the meters of that name; else what is unknown,
+-- or the first of several.
 abbrev pub is_named : List Meter → List ℕ → List ℕ → Instrument → Bool
 is_named meters meter name instrument =
     bytes_eq (folded instrument.name) (folded name) && is_of_meter meters meter instrument.meter
@@ -69,7 +73,9 @@ is_undeclared declared key = not (list_any (is_key key) declared)
 abbrev pub is_missing : List (List ℕ) → Key → Bool
 is_missing keys key = not key.optional && not (list_any (is_text key.name) keys)
 
--- the keys are declared and none stands twice, and each that may not be left out is among them
+-- # keys in order (profile)
+-- None stands twice, each is declared, and each that may not be left out is given; or the first
+-- fault with its place.
 unfoldable pub keys_checked : List Key → List (List ℕ) → Result (Unit {0}) HandleFault
 keys_checked declared keys = do
   _ ← require_none (repeated_from 0 keys) RepeatedKey
@@ -89,3 +95,12 @@ handle_of contents kind meter name keys = do
   instrument ← require_some (slice_get contents.instruments number) UnknownInstrument
   _ ← checked instrument kind keys
   Ok number
+
+-- # handle (API, create an instrument) [handle_in, handle_of]
+-- The number of the named instrument, where it is of the kind and the keys are in order, with the
+-- plan's fingerprint; or the first fault.
+abbrev pub handle_in : PlanValue → Kind → List ℕ → List ℕ → List (List ℕ)
+    → Result HandleValue HandleFault
+handle_in plan kind meter name keys =
+    handle_of plan.facts.contents kind meter name keys >>= λ number.
+    Ok (record { plan = print_of plan; number = number })

@@ -13,6 +13,8 @@ use Rattle.metric_contents.specs.declared.refusal.Refusal.{Refusal}
 use Rattle.metric_contents.specs.declared.refusal.Refusal.TheVariants.{UnknownInstrument, UnknownKey}
 use Rattle.metric_contents.specs.KeyNames.{is_key}
 use Rattle.metric_contents.specs.Places.{place}
+use Rattle.metric_plan.specs.Plans.{PlanValue}
+use Rattle.metric_handles.specs.Bounds.{HandleValue, number_in}
 
 -- one more, up to the greatest number of 64 bits
 abbrev pub one_more : ℕ → ℕ
@@ -27,7 +29,9 @@ abbrev pub key_at : List Instrument → ℕ → List ℕ → Result Key Refusal
 key_at instruments number name =
     instrument_at instruments number >>= λ i. require_some (find (is_key name) i.keys) UnknownKey
 
--- the key declares the value
+-- # known value, nearest number (profile) [is_known, known_or, nearest_at, counted_after]
+-- The instrument declares the value for the key; the number of its range that is next to a value;
+-- or the instrument or the key that is not declared.
 abbrev pub is_known : Key → AttrValue → Bool
 is_known key value = is_some (place key.values value)
 
@@ -67,3 +71,23 @@ known_or instruments number attr other =
 abbrev pub nearest_at : List Instrument → ℕ → ℤ → Result ℤ Refusal
 nearest_at instruments number value =
     instrument_at instruments number >>= λ i. Ok (nearest i value)
+
+-- ---- the same by a handle, which is a stranger to another plan
+
+abbrev pub keeps_value_in : PlanValue → HandleValue → List ℕ → AttrValue → Result Bool Refusal
+keeps_value_in plan handle name value =
+    number_in plan handle >>= λ number.
+    keeps_value plan.facts.contents.instruments number name value
+
+abbrev pub keeps_amount_in : PlanValue → HandleValue → ℤ → Result Bool Refusal
+keeps_amount_in plan handle value =
+    number_in plan handle >>= λ number. keeps_amount plan.facts.contents.instruments number value
+
+abbrev pub known_or_in : PlanValue → HandleValue → Attr → ValueRef → Result Attr Refusal
+known_or_in plan handle attr other =
+    number_in plan handle >>= λ number.
+    known_or plan.facts.contents.instruments number attr other
+
+abbrev pub nearest_in : PlanValue → HandleValue → ℤ → Result ℤ Refusal
+nearest_in plan handle value =
+    number_in plan handle >>= λ number. nearest_at plan.facts.contents.instruments number value

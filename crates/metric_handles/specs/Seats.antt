@@ -20,7 +20,9 @@ is_reader_named plan name number =
     option_map_or (λ (r : Reader). bytes_eq r.name name)
     (slice_get plan.config.readers number) false
 
--- the place of the first seat of the recorder of this name
+-- # seat of a name (profile) [recorder_place, reader_place, taken_of, others_of]
+-- The first seat in a list whose recorder (reader) has the name; what is taken, and what is left in
+-- order.
 abbrev pub recorder_place : PlanValue → List ℕ → List RecorderValue → Option ℕ
 recorder_place plan name seats =
     position_from (λ seat. is_recorder_named plan name seat.number) 0 seats

@@ -1,7 +1,8 @@
 //! Attributes that are bound to an instrument.
-ghost use Rattle.std.specs.Prelude.{◌≡◌};
+ghost use Rattle.std.specs.Prelude.{◌≡◌, ◌≢◌};
+ghost use Rattle.metric_plan.specs.Plans.{print_of};
 ghost use Rattle.metric_provider.specs.KeyRecordings.{admitted_key, measurement_of};
-ghost use Rattle.metric_handles.specs.Calls.{MakesRecording};
+ghost use Rattle.metric_handles.specs.Calls.{IsStrange, MakesRecording};
 
 use crate::kinds::{Adds, IsCounter, IsGauge, IsHistogram, IsUpDownCounter, Records};
 use crate::seat::Seat;
@@ -11,10 +12,11 @@ use metric_provider::{Gate, Measurement, Provider};
 use std::marker::{Model, PhantomData};
 use std::sync::Wait;
 
-/// Attributes that are bound to an instrument of one kind: its number, and the set key of the attributes. It is 20 bytes
-/// that own nothing, so it is copied and kept wherever recordings are made.
+/// Attributes that are bound to an instrument of one kind: its number, the set key of the attributes, and the fingerprint of the
+/// plan. It is 32 bytes that own nothing, so it is copied and kept wherever recordings are made.
 #[derive(Clone, Copy)]
 pub struct Bound<K> {
+    plan: u64,
     instrument: u32,
     set: SetKey,
     kind: PhantomData<K>,
@@ -25,9 +27,14 @@ impl<K> Model for Bound<K> {
 
     ghost Value = { BoundValue };
 
-    ghost view = { λ b. record { instrument = b.instrument; set = b.set } };
+    ghost view = { λ b. record { plan = b.plan; instrument = b.instrument; set = b.set } };
 
-    ghost inverse = { λ b. record { instrument = b.instrument; set = b.set; kind = record {} } };
+    ghost inverse = { λ b. record {
+      plan = b.plan;
+      instrument = b.instrument;
+      set = b.set;
+      kind = record {};
+    } };
 }
 
 /// Attributes that are bound to a counter.
@@ -43,11 +50,12 @@ pub type BoundHistogram = Bound<IsHistogram>;
 pub type BoundGauge = Bound<IsGauge>;
 
 impl<K> Bound<K> {
-    // What this set key is bound to.
-    pub(crate) fn of(instrument: u32, set: SetKey) -> Bound<K>
-        ensures { result ≡ record { instrument = instrument; set = set } }
+    // What this set key is bound to, in a plan of this fingerprint.
+    pub(crate) fn of(plan: u64, instrument: u32, set: SetKey) -> Bound<K>
+        ensures { result ≡ record { plan = plan; instrument = instrument; set = set } }
     {
         Bound {
+            plan,
             instrument,
             set,
             kind: PhantomData,
@@ -68,6 +76,13 @@ impl<K> Bound<K> {
         self.set
     }
 
+    // The fingerprint of the plan.
+    pub(crate) fn plan(&self) -> u64
+        ensures { result ≡ self.now.plan }
+    {
+        self.plan
+    }
+
     // A recording of this value.
     pub(crate) fn of_value(&self, value: i64) -> Measurement
         ensures { result ≡ measurement_of self.now.set value }
@@ -81,7 +96,8 @@ impl<K> Bound<K> {
 
 impl<K: Adds> Bound<K> {
     /// Adds a value to the series of the attributes (Metrics API, Add): [`Seat::record_set`] at the instrument's number
-    /// with the set key, with its refusals.
+    /// with the set key, with its refusals. A provider of another plan than the attributes' answers `Stranger` before the lock is
+    /// taken; the seat is then as it was, and counts nothing.
     #[inline(always)]
     pub fn add<R: Wait, S: Seat, B: Book, G: Gate>(
         &self,
@@ -90,19 +106,27 @@ impl<K: Adds> Bound<K> {
         seat: &mut S,
         value: i64,
     ) -> Result<(), Refusal>
+        ensures strange { self.now.plan ≢ print_of provider.now.plan
+            → IsStrange result × (seat.new ≡ seat.old) }
         ensures made { let at = self.now.instrument in let old = S.seat seat.old in
             let admission = admitted_key provider.now old at self.now.set value in
-            MakesRecording B.KEEPS_ENTRIES B.spares_memory provider.now
+            self.now.plan ≡ print_of provider.now.plan
+            → MakesRecording B.KEEPS_ENTRIES B.spares_memory provider.now
             old (S.seat seat.new) at value admission result }
-        ensures noted { S.notes seat.old seat.new self.now.instrument 0 result }
+        ensures noted { self.now.plan ≡ print_of provider.now.plan
+            → S.notes seat.old seat.new self.now.instrument 0 result }
     {
+        if self.plan != provider.plan().fingerprint() {
+            return Err(Refusal::Stranger);
+        }
         seat.record_set(rt, provider, self.instrument, self.set, value)
     }
 }
 
 impl<K: Records> Bound<K> {
     /// Records a value with the attributes (Metrics API, Record): [`Seat::record_set`] at the instrument's number with the
-    /// set key, with its refusals.
+    /// set key, with its refusals. A provider of another plan than the attributes' answers `Stranger` before the lock is taken;
+    /// the seat is then as it was, and counts nothing.
     #[inline(always)]
     pub fn record<R: Wait, S: Seat, B: Book, G: Gate>(
         &self,
@@ -111,12 +135,19 @@ impl<K: Records> Bound<K> {
         seat: &mut S,
         value: i64,
     ) -> Result<(), Refusal>
+        ensures strange { self.now.plan ≢ print_of provider.now.plan
+            → IsStrange result × (seat.new ≡ seat.old) }
         ensures made { let at = self.now.instrument in let old = S.seat seat.old in
             let admission = admitted_key provider.now old at self.now.set value in
-            MakesRecording B.KEEPS_ENTRIES B.spares_memory provider.now
+            self.now.plan ≡ print_of provider.now.plan
+            → MakesRecording B.KEEPS_ENTRIES B.spares_memory provider.now
             old (S.seat seat.new) at value admission result }
-        ensures noted { S.notes seat.old seat.new self.now.instrument 0 result }
+        ensures noted { self.now.plan ≡ print_of provider.now.plan
+            → S.notes seat.old seat.new self.now.instrument 0 result }
     {
+        if self.plan != provider.plan().fingerprint() {
+            return Err(Refusal::Stranger);
+        }
         seat.record_set(rt, provider, self.instrument, self.set, value)
     }
 }

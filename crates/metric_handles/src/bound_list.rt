@@ -1,12 +1,14 @@
 //! Lists of bound recordings.
-ghost use Rattle.std.specs.Prelude.{◌≡◌, ◌≢◌, ◌↔◌, ◌≤◌, [], ◌∷◌, ◌++◌, drop, length, IfErr, IsErrOf, OnErr, OnOk};
+ghost use Rattle.std.specs.Prelude.{◌≡◌, ◌≢◌, ◌↔◌, ◌⊎◌, ◌≤◌, [], ◌∷◌, ◌++◌, drop, length, IfErr, IsErrOf, OnErr, OnOk};
+ghost use Rattle.metric_plan.specs.Plans.{print_of};
 ghost use Rattle.metric_provider.specs.KeyRecordings.{measurement_of};
-ghost use Rattle.metric_handles.specs.Calls.{MakesRecordings, answer_of, left_of, untried_of};
+ghost use Rattle.metric_handles.specs.Calls.{IsStrangeList, MakesRecordings, answer_of, left_of, untried_of};
 
 use crate::bound::Bound;
 use crate::kinds::{Adds, Records};
 use crate::seat::Seat;
 use metric_book::Book;
+use metric_contents::Refusal;
 use metric_provider::{Gate, Measurement, Provider, SetsFault};
 use std::alloc::Global;
 use std::marker::{Model, PhantomData};
@@ -17,6 +19,7 @@ use thiserror::Error;
 /// for its lock and for little else, so lists are what makes them faster (`docs/PERFORMANCE.md`, "by set keys").
 #[derive(Drop)]
 pub struct BoundList<K> {
+    plan: u64,
     instrument: u32,
     all: Vec<Measurement>,
     kind: PhantomData<K>,
@@ -27,13 +30,17 @@ impl<K> Model for BoundList<K> {
 
     ghost Value = { BoundListValue };
 
-    ghost view = { λ l. record { instrument = l.instrument; all = l.all.items } };
+    ghost view = { λ l. record {
+      plan = l.plan;
+      instrument = l.instrument;
+      all = l.all.items;
+    } };
 }
 
 /// Why a list does not take a recording.
 #[derive(Clone, Copy, Debug, PartialEq, Eq, Drop, Error)]
 pub enum ListFault {
-    /// The attributes are bound to another instrument than the list's.
+    /// The attributes are bound to another instrument than the list's, as that of another plan is.
     #[error("the attributes are bound to another instrument")]
     OtherInstrument,
     /// Memory was refused.
@@ -42,11 +49,12 @@ pub enum ListFault {
 }
 
 impl<K> BoundList<K> {
-    // An empty list for the instrument of this number.
-    pub(crate) fn new(alloc: Global, instrument: u32) -> BoundList<K>
-        ensures { result ≡ record { instrument = instrument; all = [] } }
+    // An empty list for the instrument of this number, in a plan of this fingerprint.
+    pub(crate) fn new(alloc: Global, plan: u64, instrument: u32) -> BoundList<K>
+        ensures { result ≡ record { plan = plan; instrument = instrument; all = [] } }
     {
         BoundList {
+            plan,
             instrument,
             all: Vec::new(alloc),
             kind: PhantomData,
@@ -64,17 +72,18 @@ impl<K> BoundList<K> {
     ///
     /// # Errors
     ///
-    /// `OtherInstrument` exactly where the attributes are bound to another instrument than the list's, else nothing but
-    /// `Memory`. The list is then as it was.
+    /// `OtherInstrument` exactly where the attributes are bound to another instrument than the list's, or in another plan, else
+    /// nothing but `Memory`. The list is then as it was.
     pub fn push(&mut self, bound: &Bound<K>, value: i64) -> Result<(), ListFault>
         ensures put { let last = measurement_of bound.now.set value in
             let all = self.old.all ++ last ∷ [] in
             OnOk result (self.new ≡ record self.old { all = all }) }
         ensures other { IsErrOf result ListFault.OtherInstrument
-            ↔ (bound.now.instrument ≢ self.old.instrument) }
+            ↔ ((bound.now.plan ≢ self.old.plan)
+            ⊎ (bound.now.instrument ≢ self.old.instrument)) }
         ensures err { OnErr result (self.new ≡ self.old) }
     {
-        if bound.number() != self.instrument {
+        if bound.plan() != self.plan || bound.number() != self.instrument {
             return Err(ListFault::OtherInstrument);
         }
         match self.all.push(bound.of_value(value)) {
@@ -88,6 +97,33 @@ impl<K> BoundList<K> {
         ensures { self.new ≡ record self.old { all = [] } }
     {
         self.all.clear();
+    }
+
+    // Makes all recordings, in order and under one lock, with a provider of the list's plan.
+    #[inline(always)]
+    fn record_all<R: Wait, S: Seat, B: Book, G: Gate>(
+        &self,
+        rt: &R,
+        provider: &Provider<B, G>,
+        seat: &mut S,
+    ) -> Result<(), SetsFault>
+        ensures strange { self.now.plan ≢ print_of provider.now.plan
+            → IsStrangeList result × (seat.new ≡ seat.old) }
+        ensures made { self.now.plan ≡ print_of provider.now.plan
+            → MakesRecordings B.KEEPS_ENTRIES B.spares_memory provider.now
+            (S.seat seat.old) (S.seat seat.new) self.now.instrument self.now.all result }
+        ensures noted { let untried = untried_of self.now.all result in
+            self.now.plan ≡ print_of provider.now.plan
+            → S.notes seat.old seat.new self.now.instrument untried (answer_of result) }
+        ensures within { IfErr result (λ fault. fault.place ≤ length self.now.all) }
+    {
+        if self.plan != provider.plan().fingerprint() {
+            return Err(SetsFault {
+                place: 0,
+                refusal: Refusal::Stranger,
+            });
+        }
+        seat.record_sets(rt, provider, self.instrument, self.all.as_slice())
     }
 
     // Takes out what was made by this answer.
@@ -115,20 +151,25 @@ impl<K> BoundList<K> {
 impl<K: Adds> BoundList<K> {
     /// Adds the values in order and under one lock, up to the first that is refused (Metrics API, Add):
     /// [`Seat::record_sets`] at the instrument's number, with its fault. What was made is taken out of the list: it is empty then,
-    /// or begins with the refused recording, which can be tried again with those behind it.
+    /// or begins with the refused recording, which can be tried again with those behind it. A provider of another plan than the
+    /// list's answers `Stranger` at 0 before the lock is taken; list and seat are then as they were, and nothing is counted.
     pub fn add<R: Wait, S: Seat, B: Book, G: Gate>(
         &mut self,
         rt: &R,
         provider: &Provider<B, G>,
         seat: &mut S,
     ) -> Result<(), SetsFault>
-        ensures made { MakesRecordings B.KEEPS_ENTRIES B.spares_memory provider.now
+        ensures strange { self.old.plan ≢ print_of provider.now.plan
+            → IsStrangeList result × (seat.new ≡ seat.old) }
+        ensures made { self.old.plan ≡ print_of provider.now.plan
+            → MakesRecordings B.KEEPS_ENTRIES B.spares_memory provider.now
             (S.seat seat.old) (S.seat seat.new) self.old.instrument self.old.all result }
         ensures noted { let untried = untried_of self.old.all result in
-            S.notes seat.old seat.new self.old.instrument untried (answer_of result) }
+            self.old.plan ≡ print_of provider.now.plan
+            → S.notes seat.old seat.new self.old.instrument untried (answer_of result) }
         ensures left { self.new ≡ record self.old { all = left_of self.old.all result } }
     {
-        let answer = seat.record_sets(rt, provider, self.instrument, self.all.as_slice());
+        let answer = self.record_all(rt, provider, seat);
         self.take_made(&answer);
         answer
     }
@@ -140,32 +181,41 @@ impl<K: Adds> BoundList<K> {
         provider: &Provider<B, G>,
         seat: &mut S,
     ) -> Result<(), SetsFault>
-        ensures made { MakesRecordings B.KEEPS_ENTRIES B.spares_memory provider.now
+        ensures strange { self.now.plan ≢ print_of provider.now.plan
+            → IsStrangeList result × (seat.new ≡ seat.old) }
+        ensures made { self.now.plan ≡ print_of provider.now.plan
+            → MakesRecordings B.KEEPS_ENTRIES B.spares_memory provider.now
             (S.seat seat.old) (S.seat seat.new) self.now.instrument self.now.all result }
         ensures noted { let untried = untried_of self.now.all result in
-            S.notes seat.old seat.new self.now.instrument untried (answer_of result) }
+            self.now.plan ≡ print_of provider.now.plan
+            → S.notes seat.old seat.new self.now.instrument untried (answer_of result) }
     {
-        seat.record_sets(rt, provider, self.instrument, self.all.as_slice())
+        self.record_all(rt, provider, seat)
     }
 }
 
 impl<K: Records> BoundList<K> {
     /// Records the values in order and under one lock, up to the first that is refused (Metrics API, Record):
     /// [`Seat::record_sets`] at the instrument's number, with its fault. What was made is taken out of the list: it is empty then,
-    /// or begins with the refused recording, which can be tried again with those behind it.
+    /// or begins with the refused recording, which can be tried again with those behind it. A provider of another plan than the
+    /// list's answers `Stranger` at 0 before the lock is taken; list and seat are then as they were, and nothing is counted.
     pub fn record<R: Wait, S: Seat, B: Book, G: Gate>(
         &mut self,
         rt: &R,
         provider: &Provider<B, G>,
         seat: &mut S,
     ) -> Result<(), SetsFault>
-        ensures made { MakesRecordings B.KEEPS_ENTRIES B.spares_memory provider.now
+        ensures strange { self.old.plan ≢ print_of provider.now.plan
+            → IsStrangeList result × (seat.new ≡ seat.old) }
+        ensures made { self.old.plan ≡ print_of provider.now.plan
+            → MakesRecordings B.KEEPS_ENTRIES B.spares_memory provider.now
             (S.seat seat.old) (S.seat seat.new) self.old.instrument self.old.all result }
         ensures noted { let untried = untried_of self.old.all result in
-            S.notes seat.old seat.new self.old.instrument untried (answer_of result) }
+            self.old.plan ≡ print_of provider.now.plan
+            → S.notes seat.old seat.new self.old.instrument untried (answer_of result) }
         ensures left { self.new ≡ record self.old { all = left_of self.old.all result } }
     {
-        let answer = seat.record_sets(rt, provider, self.instrument, self.all.as_slice());
+        let answer = self.record_all(rt, provider, seat);
         self.take_made(&answer);
         answer
     }
@@ -177,11 +227,15 @@ impl<K: Records> BoundList<K> {
         provider: &Provider<B, G>,
         seat: &mut S,
     ) -> Result<(), SetsFault>
-        ensures made { MakesRecordings B.KEEPS_ENTRIES B.spares_memory provider.now
+        ensures strange { self.now.plan ≢ print_of provider.now.plan
+            → IsStrangeList result × (seat.new ≡ seat.old) }
+        ensures made { self.now.plan ≡ print_of provider.now.plan
+            → MakesRecordings B.KEEPS_ENTRIES B.spares_memory provider.now
             (S.seat seat.old) (S.seat seat.new) self.now.instrument self.now.all result }
         ensures noted { let untried = untried_of self.now.all result in
-            S.notes seat.old seat.new self.now.instrument untried (answer_of result) }
+            self.now.plan ≡ print_of provider.now.plan
+            → S.notes seat.old seat.new self.now.instrument untried (answer_of result) }
     {
-        seat.record_sets(rt, provider, self.instrument, self.all.as_slice())
+        self.record_all(rt, provider, seat)
     }
 }

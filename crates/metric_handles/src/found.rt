@@ -20,7 +20,7 @@ use metric_views::Stream;
 /// The value of the point of the stream of this name with exactly these attributes, in any order, in the last of these batches that
 /// has it; nothing where none has. Names are compared without ASCII case, and the attributes are those that the stream keeps. In one
 /// batch the first stream of the name is looked at; two readers that export one name are told apart by their batches alone.
-/// Overflow points are not found. It goes over all batches: it is for tests of a service.
+/// Overflow points are not found, nor is anything in a batch of another plan. It goes over all batches: it is for tests of a service.
 pub fn value_of<'a>(
     plan: &Plan,
     batches: &'a [Batch],
@@ -42,7 +42,7 @@ pub fn value_of<'a>(
     found
 }
 
-// The same in one batch.
+// The same in one batch of the plan.
 fn value_in<'a>(
     plan: &Plan,
     batch: &'a Batch,
@@ -52,6 +52,9 @@ fn value_in<'a>(
     ensures { option_copied result
         ≡ value_in plan.now name.now (map given_by attrs.now) batch.now }
 {
+    if batch.plan != plan.fingerprint() {
+        return None;
+    }
     let instrument = plan
         .catalogue()
         .instruments()

@@ -1,9 +1,10 @@
 //! Handles of instruments.
-ghost use Rattle.std.specs.Prelude.{◌≡◌, [], map};
+ghost use Rattle.std.specs.Prelude.{◌≡◌, ◌≢◌, [], map};
 ghost use Rattle.metric_contents.specs.Attributes.{given_by};
+ghost use Rattle.metric_plan.specs.Plans.{print_of};
 ghost use Rattle.metric_provider.specs.Recordings.{admitted};
-ghost use Rattle.metric_handles.specs.Bounds.{bound_of};
-ghost use Rattle.metric_handles.specs.Calls.{MakesRecording};
+ghost use Rattle.metric_handles.specs.Bounds.{bound_of, number_in};
+ghost use Rattle.metric_handles.specs.Calls.{IsStrange, MakesRecording};
 
 use crate::bound::Bound;
 use crate::bound_list::BoundList;
@@ -17,22 +18,24 @@ use std::alloc::Global;
 use std::marker::{Model, PhantomData};
 use std::sync::Wait;
 
-/// The handle of an instrument of one kind, found by its name in the catalogue of a plan. It is the instrument's number in that
-/// catalogue, and no more: with the provider of another plan it means the instrument of this number there.
+/// The handle of an instrument of one kind, found by its name in the catalogue of a plan: the instrument's number in that
+/// catalogue and the plan's fingerprint ([`Plan::fingerprint`]). To another plan and its provider it is a stranger: each call
+/// that brings one compares the two fingerprints first.
 #[derive(Clone, Copy)]
 pub struct Handle<K> {
+    plan: u64,
     number: u32,
     kind: PhantomData<K>,
 }
 
 impl<K> Model for Handle<K> {
-    ghost use Rattle.std.specs.Prelude.{ℕ};
+    ghost use Rattle.metric_handles.specs.Bounds.{HandleValue};
 
-    ghost Value = { ℕ };
+    ghost Value = { HandleValue };
 
-    ghost view = { λ h. h.number };
+    ghost view = { λ h. record { plan = h.plan; number = h.number } };
 
-    ghost inverse = { λ number. record { number = number; kind = record {} } };
+    ghost inverse = { λ h. record { plan = h.plan; number = h.number; kind = record {} } };
 }
 
 /// The handle of a counter (Metrics API, Counter).
@@ -48,11 +51,12 @@ pub type Histogram = Handle<IsHistogram>;
 pub type Gauge = Handle<IsGauge>;
 
 impl<K> Handle<K> {
-    // The handle of the instrument of this number.
-    pub(crate) fn of(number: u32) -> Handle<K>
-        ensures { result ≡ number }
+    // The handle of the instrument of this number of a plan.
+    pub(crate) fn of(plan: &Plan, number: u32) -> Handle<K>
+        ensures { result ≡ record { plan = print_of plan.now; number = number } }
     {
         Handle {
+            plan: plan.fingerprint(),
             number,
             kind: PhantomData,
         }
@@ -60,9 +64,20 @@ impl<K> Handle<K> {
 
     /// The number of the instrument in the catalogue.
     pub fn number(&self) -> u32
-        ensures { result ≡ self.now }
+        ensures { result ≡ self.now.number }
     {
         self.number
+    }
+
+    // The number of the instrument in a plan, to another of which the handle is a stranger.
+    #[inline(always)]
+    pub(crate) fn number_in(&self, plan: &Plan) -> Result<u32, Refusal>
+        ensures { result ≡ number_in plan.now self.now }
+    {
+        if self.plan != plan.fingerprint() {
+            return Err(Refusal::Stranger);
+        }
+        Ok(self.number)
     }
 
     /// The attributes, bound to the instrument: they are looked up once, and recordings with them then bring the set key. A
@@ -71,26 +86,33 @@ impl<K> Handle<K> {
     ///
     /// # Errors
     ///
-    /// Those of `Catalogue::encode`: `UnknownInstrument` where the plan has no instrument of the handle's number, then the first
-    /// of `DuplicateKey`, `UnknownKey`, `UnknownValue`, `MissingKey` and `Combination`.
+    /// `Stranger` exactly where the handle is of another plan. Then those of `Catalogue::encode`: `UnknownInstrument` where the
+    /// plan has no instrument of the handle's number, then the first of `DuplicateKey`, `UnknownKey`, `UnknownValue`,
+    /// `MissingKey` and `Combination`.
     pub fn bind(&self, plan: &Plan, attrs: &[Attr<'_>]) -> Result<Bound<K>, Refusal>
-        ensures { result ≡ bound_of plan.now.facts.contents self.now (map given_by attrs.now) }
+        ensures { result ≡ bound_of plan.now self.now (map given_by attrs.now) }
     {
-        let set = plan.catalogue().encode(self.number, attrs)?;
-        Ok(Bound::of(self.number, set))
+        let number = self.number_in(plan)?;
+        let set = plan.catalogue().encode(number, attrs)?;
+        Ok(Bound::of(self.plan, number, set))
     }
 
     /// An empty list of bound recordings of the instrument.
     pub fn list(&self, alloc: Global) -> BoundList<K>
-        ensures { result ≡ record { instrument = self.now; all = [] } }
+        ensures { result ≡ record {
+          plan = self.now.plan;
+          instrument = self.now.number;
+          all = [];
+        } }
     {
-        BoundList::new(alloc, self.number)
+        BoundList::new(alloc, self.plan, self.number)
     }
 }
 
 impl<K: Adds> Handle<K> {
     /// Adds a value to the series of these attributes (Metrics API, Add): [`Seat::record`] at the handle's number, with its
-    /// refusals.
+    /// refusals. A provider of another plan than the handle's answers `Stranger` before the lock is taken; the seat is then as it
+    /// was, and counts nothing.
     #[inline(always)]
     pub fn add<R: Wait, S: Seat, B: Book, G: Gate>(
         &self,
@@ -100,19 +122,27 @@ impl<K: Adds> Handle<K> {
         attrs: &[Attr<'_>],
         value: i64,
     ) -> Result<(), Refusal>
-        ensures made { let given = map given_by attrs.now in
-            let admission = admitted provider.now (S.seat seat.old) self.now given value in
-            MakesRecording B.KEEPS_ENTRIES B.spares_memory provider.now
-            (S.seat seat.old) (S.seat seat.new) self.now value admission result }
-        ensures noted { S.notes seat.old seat.new self.now 0 result }
+        ensures strange { self.now.plan ≢ print_of provider.now.plan
+            → IsStrange result × (seat.new ≡ seat.old) }
+        ensures made { let given = map given_by attrs.now in let number = self.now.number in
+            let admission = admitted provider.now (S.seat seat.old) number given value in
+            self.now.plan ≡ print_of provider.now.plan
+            → MakesRecording B.KEEPS_ENTRIES B.spares_memory provider.now
+            (S.seat seat.old) (S.seat seat.new) number value admission result }
+        ensures noted { self.now.plan ≡ print_of provider.now.plan
+            → S.notes seat.old seat.new self.now.number 0 result }
     {
+        if self.plan != provider.plan().fingerprint() {
+            return Err(Refusal::Stranger);
+        }
         seat.record(rt, provider, self.number, attrs, value)
     }
 }
 
 impl<K: Records> Handle<K> {
     /// Records a value with these attributes (Metrics API, Record): [`Seat::record`] at the handle's number, with its
-    /// refusals.
+    /// refusals. A provider of another plan than the handle's answers `Stranger` before the lock is taken; the seat is then as it
+    /// was, and counts nothing.
     #[inline(always)]
     pub fn record<R: Wait, S: Seat, B: Book, G: Gate>(
         &self,
@@ -122,12 +152,19 @@ impl<K: Records> Handle<K> {
         attrs: &[Attr<'_>],
         value: i64,
     ) -> Result<(), Refusal>
-        ensures made { let given = map given_by attrs.now in
-            let admission = admitted provider.now (S.seat seat.old) self.now given value in
-            MakesRecording B.KEEPS_ENTRIES B.spares_memory provider.now
-            (S.seat seat.old) (S.seat seat.new) self.now value admission result }
-        ensures noted { S.notes seat.old seat.new self.now 0 result }
+        ensures strange { self.now.plan ≢ print_of provider.now.plan
+            → IsStrange result × (seat.new ≡ seat.old) }
+        ensures made { let given = map given_by attrs.now in let number = self.now.number in
+            let admission = admitted provider.now (S.seat seat.old) number given value in
+            self.now.plan ≡ print_of provider.now.plan
+            → MakesRecording B.KEEPS_ENTRIES B.spares_memory provider.now
+            (S.seat seat.old) (S.seat seat.new) number value admission result }
+        ensures noted { self.now.plan ≡ print_of provider.now.plan
+            → S.notes seat.old seat.new self.now.number 0 result }
     {
+        if self.plan != provider.plan().fingerprint() {
+            return Err(Refusal::Stranger);
+        }
         seat.record(rt, provider, self.number, attrs, value)
     }
 }

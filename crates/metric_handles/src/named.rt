@@ -4,7 +4,7 @@ ghost use Rattle.std.specs.List.{list_any, position_from};
 ghost use Rattle.metric_contents.specs.declared.contents.Kind.TheVariants as kinds;
 ghost use Rattle.metric_contents.specs.KeyNames.{is_key};
 ghost use Rattle.metric_views.specs.Selection.{is_kind};
-ghost use Rattle.metric_handles.specs.Named.{checked, handle_of, is_meter_named, is_missing, is_named, is_of_meter, is_text, is_undeclared, keys_checked, number_named, repeated_from, unknown_of};
+ghost use Rattle.metric_handles.specs.Named.{checked, handle_in, handle_of, is_meter_named, is_missing, is_named, is_of_meter, is_text, is_undeclared, keys_checked, number_named, repeated_from, unknown_of};
 
 use crate::fault::HandleFault;
 use crate::handle::{Counter, Gauge, Handle, Histogram, UpDownCounter};
@@ -28,10 +28,10 @@ use metric_plan::Plan;
 /// key that may not be left out is refused before anything is recorded, and one in another order makes no difference.
 pub fn counter(plan: &Plan, meter: &str, name: &str, keys: &[&str]) -> Result<Counter, HandleFault>
     ensures { let keys = map (λ key. key.now) keys.now in
-        result ≡ handle_of plan.now.facts.contents kinds.Counter meter.now name.now keys }
+        result ≡ handle_in plan.now kinds.Counter meter.now name.now keys }
 {
     let number = handle_of(plan.catalogue(), Kind::Counter, meter, name, keys)?;
-    Ok(Handle::of(number))
+    Ok(Handle::of(plan, number))
 }
 
 /// The same of an up-down counter (Metrics API, UpDownCounter creation).
@@ -46,10 +46,10 @@ pub fn up_down_counter(
     keys: &[&str],
 ) -> Result<UpDownCounter, HandleFault>
     ensures { let keys = map (λ key. key.now) keys.now in
-        result ≡ handle_of plan.now.facts.contents kinds.UpDownCounter meter.now name.now keys }
+        result ≡ handle_in plan.now kinds.UpDownCounter meter.now name.now keys }
 {
     let number = handle_of(plan.catalogue(), Kind::UpDownCounter, meter, name, keys)?;
-    Ok(Handle::of(number))
+    Ok(Handle::of(plan, number))
 }
 
 /// The same of a histogram (Metrics API, Histogram creation).
@@ -64,10 +64,10 @@ pub fn histogram(
     keys: &[&str],
 ) -> Result<Histogram, HandleFault>
     ensures { let keys = map (λ key. key.now) keys.now in
-        result ≡ handle_of plan.now.facts.contents kinds.Histogram meter.now name.now keys }
+        result ≡ handle_in plan.now kinds.Histogram meter.now name.now keys }
 {
     let number = handle_of(plan.catalogue(), Kind::Histogram, meter, name, keys)?;
-    Ok(Handle::of(number))
+    Ok(Handle::of(plan, number))
 }
 
 /// The same of a gauge (Metrics API, Gauge creation).
@@ -77,10 +77,10 @@ pub fn histogram(
 /// Those of [`counter`].
 pub fn gauge(plan: &Plan, meter: &str, name: &str, keys: &[&str]) -> Result<Gauge, HandleFault>
     ensures { let keys = map (λ key. key.now) keys.now in
-        result ≡ handle_of plan.now.facts.contents kinds.Gauge meter.now name.now keys }
+        result ≡ handle_in plan.now kinds.Gauge meter.now name.now keys }
 {
     let number = handle_of(plan.catalogue(), Kind::Gauge, meter, name, keys)?;
-    Ok(Handle::of(number))
+    Ok(Handle::of(plan, number))
 }
 
 // The number of the instrument that all this is of, or the first fault.

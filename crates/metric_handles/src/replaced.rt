@@ -5,7 +5,7 @@ ghost use Rattle.std.specs.Ordering.{int_eq};
 ghost use Rattle.std.specs.Result.{result_map_both};
 ghost use Rattle.metric_names.specs.Values.{value_of};
 ghost use Rattle.metric_contents.specs.KeyNames.{is_key};
-ghost use Rattle.metric_handles.specs.Replaced.{counted_after, counted_unless, instrument_at, is_known, keeps_amount, keeps_value, key_at, known_or, nearest, nearest_at};
+ghost use Rattle.metric_handles.specs.Replaced.{counted_after, counted_unless, instrument_at, is_known, keeps_amount_in, keeps_value_in, key_at, known_or_in, nearest, nearest_in};
 
 use crate::handle::Handle;
 use metric_contents::{Attr, Instrument, Key, Refusal};
@@ -68,8 +68,8 @@ impl<K> Handle<K> {
     ///
     /// # Errors
     ///
-    /// `UnknownInstrument` where the plan has no instrument of the handle's number, `UnknownKey` where this declares no such key.
-    /// Nothing is counted then.
+    /// `Stranger` where the handle is of another plan, else `UnknownInstrument` where the plan has no instrument of the handle's
+    /// number, `UnknownKey` where this declares no such key. Nothing is counted then.
     pub fn known_or<'a>(
         &self,
         plan: &Plan,
@@ -77,14 +77,13 @@ impl<K> Handle<K> {
         attr: Attr<'a>,
         other: ValueRef<'a>,
     ) -> Result<Attr<'a>, Refusal>
-        ensures value { let instruments = plan.now.facts.contents.instruments in
-            result ≡ known_or instruments self.now attr.entry other.entry }
-        ensures counted { let instruments = plan.now.facts.contents.instruments in
-            let value = value_of attr.entry.value in
-            let kept = keeps_value instruments self.now attr.entry.key.now value in
+        ensures value { result ≡ known_or_in plan.now self.now attr.entry other.entry }
+        ensures counted { let value = value_of attr.entry.value in
+            let kept = keeps_value_in plan.now self.now attr.entry.key.now value in
             replaced.new ≡ record replaced.old { values = counted_after kept replaced.old.values } }
     {
-        let key = key_at(plan.catalogue().instruments(), self.number(), attr.key)?;
+        let number = self.number_in(plan)?;
+        let key = key_at(plan.catalogue().instruments(), number, attr.key)?;
         let value = replaced.known_or(key, attr.value, other);
         Ok(Attr {
             key: attr.key,
@@ -97,14 +96,15 @@ impl<K> Handle<K> {
     ///
     /// # Errors
     ///
-    /// `UnknownInstrument` where the plan has no instrument of the handle's number. Nothing is counted then.
+    /// `Stranger` where the handle is of another plan, else `UnknownInstrument` where the plan has no instrument of the handle's
+    /// number. Nothing is counted then.
     pub fn clamped(&self, plan: &Plan, replaced: &mut Replaced, value: i64) -> Result<i64, Refusal>
-        ensures value { result ≡ nearest_at plan.now.facts.contents.instruments self.now value }
-        ensures counted { let instruments = plan.now.facts.contents.instruments in
-            let kept = keeps_amount instruments self.now value in
+        ensures value { result ≡ nearest_in plan.now self.now value }
+        ensures counted { let kept = keeps_amount_in plan.now self.now value in
             replaced.new ≡ record replaced.old { amounts = counted_after kept replaced.old.amounts } }
     {
-        let instrument = instrument_at(plan.catalogue().instruments(), self.number())?;
+        let number = self.number_in(plan)?;
+        let instrument = instrument_at(plan.catalogue().instruments(), number)?;
         Ok(replaced.clamped(instrument, value))
     }
 }

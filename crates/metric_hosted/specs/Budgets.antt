@@ -10,8 +10,9 @@ use Rattle.metric_hosted.specs.Settlements.{IsSeatOf}
 use Rattle.metric_hosted.specs.declared.budget.Budget.{Budget}
 use Rattle.metric_hosted.specs.declared.budget.Spare.{Spare}
 
--- the recordings that the recorder of a number may make, and those that it has made; what is
--- left is of a u64, since all budgets and the spare of an instrument are together
+-- # what a recorder has left (profile) [budget_at, spare_of, TellsBudget, AnswersAsking]
+-- How many recordings it may make on an instrument by its budget and its grants, how many it has
+-- made, and how many are left; what an instrument has to spare.
 abbrev pub budget_at : HostedValue → ℕ → Budget
 budget_at h recorder =
     let declared = slice_index h.cell.facts.budgets recorder in

@@ -16,9 +16,8 @@ use Rattle.std.specs.Prelude.{slice_index}
 abbrev pub allowance_of : PlanValue → HostedValue → CollectorValue → Result Facts Refusal
 allowance_of plan h seat = collectable (run_of plan h) seat (number_of h)
 
--- What a collection with this allowance at a time is answered: what it is refused for, else the
--- batch that goes on where the seat's last one ended, or what the instrument refuses, which is
--- `Stranger` exactly where its numbers are not the seat's, else `Memory`.
+-- # answer to a hosted reader (SDK, collect)
+-- What refuses it, else the next batch, or what the slot refuses, exactly.
 abbrev pub AnswersReading : Result Facts Refusal → HostedValue → CollectorValue → ℕ
     → Result Batch Refusal → Type 0
 AnswersReading (Err first) h seat now (Err refusal) = refusal ≡ first

@@ -5,8 +5,8 @@ use Rattle.metric_contents.specs.declared.refusal.Refusal.TheVariants.{UnknownRe
 use Rattle.metric_core.specs.CellAnswers.{AnswersGrant, with_grant}
 use Rattle.metric_hosted.specs.Hosts.{HostedValue}
 
--- `UnknownRecorder` exactly where the instrument has no budget of the recorder,
--- else what the instrument answers
+-- # answer to a grant on a hosted instrument (profile) [AnswersGranting, with_granted]
+-- The unknown recorder, else what the instrument answers; made, that instrument with the grant.
 abbrev pub AnswersGranting : HostedValue → ℕ → ℕ → Result (Unit {0}) Refusal → Type 0
 AnswersGranting h recorder amount (Err UnknownRecorder) = length h.cell.facts.budgets ≤ recorder
 AnswersGranting h recorder amount result =

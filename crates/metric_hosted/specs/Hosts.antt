@@ -5,7 +5,8 @@ use Rattle.metric_marked.specs.Marks.{MarkedValue}
 use Rattle.metric_plan.specs.Plans.{PlanValue}
 use Rattle.metric_provider.specs.Seats.{ProviderValue, provider_of}
 
--- the number of the run, and the instrument's state
+-- # hosted instrument (profile) [HostedValue, run_of]
+-- The state of an instrument and the number of its run; what a seat with a plan takes that run for.
 pub record HostedValue : Type 0 where
   pub run : ℕ
   pub cell : CellValue MarkedValue

@@ -15,7 +15,8 @@ pub record IsMade (plan : PlanValue) (old new : HostedValue) (before after : Rec
   pub made : RecordsHosted
       (admission_of_key plan old before one.set one.value) plan old new before after one.value
 
--- all of them are made in order, from one state of the instrument and the seat to another
+-- # several recordings (profile) [AreMade, StopsAt, AnswersList]
+-- All are made in order; or the first so many, and the next one is refused for this.
 abbrev pub AreMade : PlanValue → HostedValue → HostedValue → RecorderValue → RecorderValue
     → List Prepared → Type 0
 AreMade plan old new before after [] = (new ≡ old) × (after ≡ before)

@@ -14,8 +14,9 @@ use Rattle.metric_provider.specs.Seats.{RecorderValue}
 use Rattle.metric_slot.specs.SlotAnswers.{AnswersRecorder}
 use Rattle.metric_hosted.specs.Hosts.{HostedValue, number_of, run_of}
 
--- the set key of a recording that a seat with a plan may make on the
--- instrument, or the first refusal
+-- # admission (profile) [admission_of, admission_of_key]
+-- The admitted recording of a provider, for the instrument's run and number: with attributes, or
+-- with a set key.
 abbrev pub admission_of : PlanValue → HostedValue → RecorderValue → List Given → ℤ
     → Result (List ℕ) Refusal
 admission_of plan h seat attrs value = admitted (run_of plan h) seat (number_of h) attrs value
@@ -33,8 +34,9 @@ pub record AnswersKnown (h : HostedValue) (seat : RecorderValue) (set : List ℕ
       (entry_of seat.number set value) result
   pub memory : AreAllByProduct own → result ≢ Err Memory
 
--- What a recording with this admission is answered: what it is refused for,
--- else what the instrument answers.
+-- # answer to a hosted seat (Metrics API, synchronous instruments) [AnswersHosted, AnswersKnown]
+-- What refuses its admission, else what the slot answers, never `Memory` where all streams are by
+-- product.
 abbrev pub AnswersHosted : Result (List ℕ) Refusal → PlanValue → HostedValue → RecorderValue → ℤ
     → Result (Unit {0}) Refusal → Type 0
 AnswersHosted (Err first) plan h seat value (Err refusal) = refusal ≡ first
@@ -47,8 +49,8 @@ abbrev pub with_recorded : HostedValue → ℕ → List ℕ → ℤ → MarkedVa
 with_recorded h recorder set value book =
     record h { cell = with_entry h.cell (entry_of recorder set value) book }
 
--- The instrument and the seat after a recording of a set key: one recording more, for which the
--- instrument stands, and of which the seat was told.
+-- # recorded (profile) [IsRecorded, RecordsHosted]
+-- One recording more, for which the instrument stands, and of which the seat was told.
 pub record IsRecorded (plan : PlanValue) (old new : HostedValue) (before after : RecorderValue)
     (set : List ℕ) (value : ℤ) : Type 0 where
   pub is : new ≡ with_recorded old before.number set value new.cell.book

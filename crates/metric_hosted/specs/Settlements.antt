@@ -21,7 +21,8 @@ pub record IsSeatOf (plan : PlanValue) (h : HostedValue) (seat : RecorderValue) 
   pub own : is_recorder_of (run_of plan h) seat ≡ true
   pub facts : slice_get plan.facts.instruments (number_of h) ≡ Some h.cell.facts
 
--- what a seat was told of an instrument; a stranger to it is refused
+-- # what a seat tells (profile)
+-- Of an instrument of its run whose facts its plan has: its number and what it was told.
 abbrev pub TellsOf : PlanValue → HostedValue → RecorderValue → Result SeatTold FinishFault → Type 0
 TellsOf plan h seat (Ok told) =
     IsSeatOf plan h seat
@@ -79,8 +80,9 @@ pub record IsAsTold (c : CellValue MarkedValue) (seats : List SeatTold) : Type 0
   pub count : c.count ≡ told_count seats
   pub sum : c.total ≡ told_sum c.facts seats
 
--- What settling with these seats is answered: their own fault, `AuditMismatch` exactly where the
--- numbers are not what they were told, else the total of what they were told.
+-- # settled (profile) [Settles, IsAsTold, seated]
+-- The seats' own fault; `AuditMismatch` exactly where spent budgets, count or sum are others; else
+-- the total of what they were told.
 abbrev pub Settles : CellValue MarkedValue → List SeatTold → Result (Unit {0}) FinishFault
     → Result Total FinishFault → Type 0
 Settles c seats (Err first) (Ok total) = ⊥

@@ -1,11 +1,11 @@
 //! One instrument compared with what its recorders were told.
-ghost use Rattle.std.specs.Prelude.{◌≡◌, ◌↔◌, ◌+ℤ◌, ◌*ℤ◌, pos, IsTrue, IfNone, IfSome, OnSome};
+ghost use Rattle.std.specs.Prelude.{◌≡◌, IfNone, IfSome, OnSome};
 ghost use Rattle.metric_hosted.specs.Settlements.{IsAsTold, are_distinct, are_known, are_spent, has_each, has_seat, seated, told_amount, told_count, told_total};
 
 use metric_core::Cell;
 use metric_marked::Marked;
 use metric_provider::{FinishFault, Total};
-use metric_slot::Told;
+use metric_slot::{Told, is_above, least_sum};
 
 /// What the seat of a recorder was told of one instrument.
 #[derive(Clone, Copy, Debug, PartialEq, Eq, Drop)]
@@ -116,18 +116,4 @@ fn amount_of(seats: &[SeatTold]) -> u128
         amount += u128::from(seat.told.amount);
     }
     amount
-}
-
-// The sum of so many of the least values.
-fn least_sum(count: u64, lo: i64) -> i128
-    ensures { result ≡ pos count *ℤ lo }
-{
-    i128::from(count) * i128::from(lo)
-}
-
-// Whether a sum is so far above another one.
-fn is_above(sum: i128, least: i128, amount: u128) -> bool
-    ensures { IsTrue result ↔ (sum ≡ pos amount +ℤ least) }
-{
-    least <= sum && sum.abs_diff(least) == amount
 }

@@ -6,3 +6,6 @@ pub mod NotingLaws
 pub mod EntryLaws
 pub mod JournalLaws
 pub mod GainLaws
+pub mod RollLaws
+pub mod PartlyLaws
+pub mod BatchLaws

@@ -17,10 +17,10 @@ collectable p seat instrument =
     require (is_collector_of p seat) Stranger >>= λ _.
     require_some (slice_get p.plan.facts.instruments instrument) UnknownInstrument
 
--- A batch goes on where the reader's last one ended, is of no earlier time than it was asked for,
--- and reports recordings that the instrument may have accepted. So it is within the bounds of the
--- instrument: no overflow point, and each number by its range and the number of recordings that the
--- batch covers, which are at most the budgets together.
+-- # next batch (SDK, collect) [IsNextBatch, AnswersEach]
+-- It begins where the reader's last one ended (delta) or at the start (cumulative), at no earlier
+-- time than was asked for, and reports recordings that the instrument may have accepted, as many as
+-- it counts; so it is within the bounds of what it covers.
 pub record IsNextBatch (own : Facts) (reader seen now : ℕ) (batch : Batch) : Type 0 where
   pub continues : Continues own reader seen batch
   pub time : now ≤ batch.time

@@ -7,7 +7,8 @@ use Rattle.metric_provider.specs.declared.fault.FinishFault.{FinishFault}
 use Rattle.metric_provider.specs.declared.fault.FinishFault.TheVariants.{RecorderMissing, Stranger}
 use Rattle.metric_provider.specs.declared.fault.FinishFault.TheVariants.{AuditMismatch, Memory}
 use Rattle.metric_provider.specs.declared.fault.RollFault.{RollFault}
-use Rattle.metric_provider.specs.declared.fault.RollFault.TheVariants.{SameRun, Finish}
+use Rattle.metric_provider.specs.declared.fault.RollFault.TheVariants.{SameRun, Early}
+use Rattle.metric_provider.specs.declared.fault.RollFault.TheVariants.{Finish}
 
 abbrev pub number_of : FinishFault → ℕ
 number_of RecorderMissing = 1
@@ -31,4 +32,6 @@ refused_text what number refusal = what ++ decimal number ++ codes ": " ++ refus
 
 abbrev pub roll_fault_text : RollFault → List ℕ
 roll_fault_text SameRun = codes "the next run has the number of this one"
+roll_fault_text (Early time) =
+    codes "the next run starts before " ++ decimal time ++ codes ", the last time of this one"
 roll_fault_text (Finish fault) = finish_fault_text fault

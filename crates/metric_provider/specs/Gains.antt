@@ -16,7 +16,8 @@ abbrev pub made_of : List Measurement → Result (Unit {0}) SetsFault → List M
 made_of all (Ok done) = all
 made_of all (Err fault) = take fault.place all
 
--- the new cell stands for these recordings of a recorder more, in their order
+-- # gains (profile) [GainsAll, made_of]
+-- The cell stands for these recordings of a recorder more, in their order.
 abbrev pub GainsAll : {B : Type 0} → (B → Standing) → CellValue B → CellValue B → ℕ
     → List Measurement → Type 0
 GainsAll {B} stands old new recorder made =

@@ -18,9 +18,10 @@ pub record IsNotSpared (own : Facts) (recorder amount : ℕ) : Type 0 where
   pub known : recorder < length own.budgets
   pub some : 0 < amount
 
--- what a provider answers: `UnknownInstrument` exactly where there are no facts of the instrument,
--- else `UnknownRecorder` exactly where these have no budget of the recorder, else nothing but
--- `Closed` and `NoSpare`, which never comes where nothing is asked for
+-- # answer to a grant by a provider (profile) [AnswersGrant, AnswersAsking]
+-- The unknown instrument, else the unknown recorder, exactly; else made, of no more than the spare,
+-- or `Closed`, or `NoSpare` where something was asked for. A seat asks for its own recorder, unless
+-- it is a stranger.
 abbrev pub AnswersGrant : Option Facts → ℕ → ℕ → Result (Unit {0}) Refusal → Type 0
 AnswersGrant None recorder amount (Ok done) = ⊥
 AnswersGrant None recorder amount (Err refusal) = refusal ≡ UnknownInstrument

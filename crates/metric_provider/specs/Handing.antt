@@ -23,8 +23,10 @@ Records H = H → H → Facts → Told → ℕ → List Measurement → Result (
 abbrev pub Collects : Type 0 → Type 1
 Collects H = H → H → Facts → ℕ → ℕ → ℕ → Result Batch Refusal → Type 0
 
--- These recordings were handed on for the seat's recorder, with the facts that the plan has of the
--- instrument and with what the seat was told, and were answered this.
+-- # handed on (profile) [HandsOn, Hands, HandsOne, HandsReading, HandsGrant, HandsClosing]
+-- What holds the instrument was called with these recordings, for the seat's recorder, with the
+-- plan's facts and what the seat was told; of a refused slip nothing was. The same of a collection,
+-- a grant and an end.
 abbrev pub HandsOn : {H : Type 0} → Records H → PlanValue → RecorderValue → ℕ → H → H
     → List Measurement → Result (Unit {0}) SetsFault → Type 0
 HandsOn {H} records plan seat instrument old new all result =

@@ -36,7 +36,10 @@ declared_key plan instrument set value =
     require_some (slice_get plan.facts.instruments instrument) UnknownInstrument >>= λ own.
     key_of own set value
 
--- the set key of a recording that a seat may make of a provider, or the first refusal
+-- # admitted key, declared key (profile) [admitted_key, declared_key, key_of]
+-- The set key, where it is a full set of the instrument, one of its combinations where these are
+-- listed, and the value is in range, or the first of: stranger, unknown instrument, unknown value,
+-- combination, value range.
 abbrev pub admitted_key : ProviderValue → RecorderValue → ℕ → List ℕ → ℤ → Result (List ℕ) Refusal
 admitted_key p seat instrument set value =
     require (is_recorder_of p seat) Stranger >>= λ _.
@@ -76,7 +79,9 @@ AnswersKey spares_memory p seat instrument one result =
     AnswersSeat spares_memory
     (admitted_key p seat instrument one.set one.value) p.plan seat instrument result
 
--- each of these is accepted of the seat that was told of those before it
+-- # what a list of recordings is answered (profile) [AreAccepted, IsRefusedAfter, told_of_all]
+-- Each is accepted of the seat that was told of those before it; or those before a place are, and
+-- the one at the place is refused.
 abbrev pub AreAccepted : (Facts → Type 0) → ProviderValue → RecorderValue → ℕ
     → List Measurement → Type 0
 AreAccepted spares_memory p seat instrument all =

@@ -11,5 +11,8 @@ pub mod Gains
 pub mod Closing
 pub mod Granting
 pub mod Totals
+pub mod Locked
+pub mod Partly
+pub mod BatchBounds
 pub mod Rolling
 pub mod Faults

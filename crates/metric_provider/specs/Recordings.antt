@@ -24,7 +24,9 @@ declared_set plan instrument attrs value =
     require (in_bounds own value) ValueRange >>= λ _.
     Ok set
 
--- the set key of a recording that a seat may make of a provider, or the first refusal
+-- # admitted recording (profile) [admitted, declared_set]
+-- The set key of its attributes, or the first of: stranger, unknown instrument, the refusals of
+-- attributes, with combination as the last, value range.
 abbrev pub admitted : ProviderValue → RecorderValue → ℕ → List Given → ℤ → Result (List ℕ) Refusal
 admitted p seat instrument attrs value =
     require (is_recorder_of p seat) Stranger >>= λ _.
@@ -44,8 +46,11 @@ RefusesRecording spares_memory own recorder told Budget =
 RefusesRecording spares_memory own recorder told Memory = ¬ spares_memory own
 RefusesRecording spares_memory own recorder told other = ⊥
 
--- What a recording with this admission is answered: what it is refused for before the lock is
--- taken, else what the lock's call answers.
+-- # what a seat is answered (Metrics API, synchronous instruments) [AnswersSeat, RefusesRecording,
+-- SeatSpares]
+-- What refuses its admission, else what the lock's call answers: `Budget` only where the recorder
+-- was told of as many as its budget, `Memory` only where the book keeps its entries or does not
+-- spare it, and nothing for a sum.
 abbrev pub AnswersSeat : (Facts → Type 0) → Result (List ℕ) Refusal → PlanValue → RecorderValue → ℕ
     → Result (Unit {0}) Refusal → Type 0
 AnswersSeat spares_memory (Err first) plan seat instrument (Err refusal) = refusal ≡ first
@@ -81,8 +86,9 @@ with_slip keeps seat instrument own set value =
     with_slips keeps (with_recording seat instrument own value) instrument
     (record { set = set; value = value } ∷ [])
 
--- a seat after an accepted recording with this admission: it was told of it, and its
--- slip has the set key and the value
+-- # slip of a recording (profile) [IsToldOf, with_slip]
+-- Where the book keeps its entries, the seat puts the set key and the value last among its slips of
+-- the instrument.
 abbrev pub IsToldOf : Bool → Result (List ℕ) Refusal → PlanValue → RecorderValue → RecorderValue
     → ℕ → ℤ → Type 0
 IsToldOf keeps (Err first) plan old new instrument value = ⊥

@@ -55,8 +55,9 @@ abbrev pub new_collector : ℕ → ℕ → ℕ → CollectorValue
 new_collector run instruments number =
     record { run = run; number = number; seen = replicate instruments 0 }
 
--- whether it is of this run, of a recorder of the plan, and made for as many
--- instruments; else it is a stranger
+-- # seat of a provider (profile) [is_recorder_of, is_collector_of]
+-- It is of the same run, of a recorder (a reader) of the plan, and made for as many instruments;
+-- else it is a stranger.
 abbrev pub is_recorder_of : ProviderValue → RecorderValue → Bool
 is_recorder_of p seat =
     (seat.run == p.run) && (nat_lt seat.number (length p.plan.facts.contents.recorders)

@@ -41,7 +41,8 @@ abbrev pub told_total : Facts → List RecorderValue → ℕ → Total
 told_total own seats instrument =
     record { count = told_count seats instrument; sum = told_sum own seats instrument }
 
--- that of each instrument, the first of which has this number
+-- # told totals (profile)
+-- For each instrument how many recordings its recorders were told of, and the sum of their values.
 abbrev pub told_totals : List RecorderValue → ℕ → List Facts → List Total
 told_totals seats number [] = []
 told_totals seats number (own ∷ all) =
@@ -64,7 +65,8 @@ are_distinct (seat ∷ seats) = not (has_seat seats seat.number) && are_distinct
 abbrev pub has_each : List RecorderValue → ℕ → Bool
 has_each seats recorders = list_all (has_seat seats) (range_with_len 0 recorders)
 
--- whether the seats are those of all recorders, or the first fault
+-- # seated (profile)
+-- The seats are of this provider, no number stands twice, and none is missing; or the first fault.
 abbrev pub seated : ProviderValue → List RecorderValue → Result (Unit {0}) FinishFault
 seated p seats =
     require (list_all (is_recorder_of p) seats) Stranger >>= λ _.
@@ -88,8 +90,9 @@ abbrev pub AreNoted : List RecorderValue → ℕ → List Entry → Type 0
 AreNoted seats instrument entries =
     All (λ (seat : RecorderValue). slips_at seat instrument ≡ slips_of seat.number entries) seats
 
--- A cell has the facts of the plan's instrument, its numbers are what the recorders were told, and
--- the entries that its book keeps are those of which they have slips.
+-- # as told (profile) [IsAsTold, AreNoted]
+-- A cell has the plan's facts, each spent budget is what that recorder was told, and so is the sum;
+-- each recorder's slips are its entries among those that the book keeps.
 pub record IsAsTold {B : Type 0} (kept : B → List Entry) (own : Facts) (c : CellValue B)
     (seats : List RecorderValue) (instrument : ℕ) : Type 0 where
   pub facts : c.facts ≡ own
@@ -133,7 +136,9 @@ abbrev pub slips_on : List RecorderValue → ℕ → ℕ → List (List Slip)
 slips_on seats recorders instrument =
     map (λ number. slips_by seats number instrument) (range_with_len 0 recorders)
 
--- those of each of so many instruments
+-- # slips handed out (profile) [slips_of_seats, entries_by]
+-- For each instrument those of each recorder, both in order; each recorder's entries in each
+-- journal.
 abbrev pub slips_of_seats : List RecorderValue → ℕ → ℕ → List (List (List Slip))
 slips_of_seats seats recorders instruments =
     map (slips_on seats recorders) (range_with_len 0 instruments)
@@ -142,8 +147,9 @@ slips_of_seats seats recorders instruments =
 abbrev pub entries_by : ℕ → List Entry → List (List Slip)
 entries_by recorders journal = map (λ number. slips_of number journal) (range_with_len 0 recorders)
 
--- The accepted recordings of an instrument are all kept, or none. They are as many as the recorders
--- were told of, with the same sum, and the instrument admits each.
+-- # told journal (profile) [IsToldJournal, AreToldJournals]
+-- The accepted recordings of an instrument are as many as its recorders were told of, with the same
+-- sum, and the instrument admits each; the journal has all of them, or none.
 pub record IsToldJournal (keeps : Bool) (own : Facts) (seats : List RecorderValue) (instrument : ℕ)
     (journal : List Entry) : Type 0 where
   pub accepted : List Entry

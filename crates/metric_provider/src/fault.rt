@@ -127,11 +127,14 @@ impl fmt::Display for FinishFault {
 
 impl std::error::Error for FinishFault {}
 
-/// Why a provider does not go over into the next run of its plan. `SameRun` is tried first.
+/// Why a provider does not go over into the next run of its plan, in the order in which the faults are tried.
 #[derive(Clone, Copy, Debug, PartialEq, Eq, Drop)]
 pub enum RollFault {
     /// The next run was to have the number of this one, by which their seats are told apart.
     SameRun,
+    /// The next run was to start before this time in nanoseconds, the greatest of a reader's last batch, or the start of
+    /// this run before one: its windows would lie in those of this run.
+    Early(u64),
     /// The provider is not finished, or there was no memory for the next one.
     Finish(FinishFault),
 }
@@ -145,6 +148,12 @@ impl fmt::Display for RollFault {
     fn fmt<W: fmt::Write>(&self, f: &mut fmt::Formatter<W>) -> fmt::Result {
         match self {
             RollFault::SameRun => f.write_str("the next run has the number of this one"),
+            RollFault::Early(time) => {
+                write!(
+                    f,
+                    "the next run starts before {time}, the last time of this one"
+                )
+            }
             RollFault::Finish(fault) => write!(f, "{fault}"),
         }
     }

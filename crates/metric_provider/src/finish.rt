@@ -1,6 +1,7 @@
 //! The end of a provider: its instruments leave their locks and are compared with what the recorders were told.
 ghost use Rattle.std.specs.Prelude.{◌≡◌, ◌≤◌, ◌+◌, IsTrue, Ok, true, length, map, vec_capacity, vec_len, IfOk, IfErr, OnErr, OnOk};
 ghost use Rattle.std.specs.List.{list_all};
+ghost use Rattle.metric_provider.specs.Locked.{AreLockedJournals};
 ghost use Rattle.metric_provider.specs.Providers.{IsProvider};
 ghost use Rattle.metric_provider.specs.Seats.{is_recorder_of, provider_of};
 ghost use Rattle.metric_provider.specs.Totals.{AreAllSeats, AreToldJournals, Finishes, RefusesFinish, are_distinct, entries_by, has_each, has_seat, seated, slips_of_seats, told_totals};
@@ -21,9 +22,9 @@ use std::sync::{Mutex, Wait};
 
 impl<B: Book, G: Gate> Provider<B, G> {
     /// Ends the provider, by the seats of all its recorders in any order. What its instruments come to is exactly what the
-    /// recorders were told. Where its books keep their entries, the journals and the slips are copied, and the slips of each
-    /// recorder are exactly its entries in each journal, each once and in order. Where it is not ended, provider and seats
-    /// are handed back.
+    /// recorders were told. Where its books keep their entries, the journals and the slips are copied: the journals are those
+    /// behind the locks, oldest first, and the slips of each recorder are exactly its entries in each journal, each once and
+    /// in order. Where it is not ended, provider and seats are handed back.
     ///
     /// # Errors
     ///
@@ -49,6 +50,8 @@ impl<B: Book, G: Gate> Provider<B, G> {
         ensures entries { IfOk result (λ totals.
             let numbers = length self.plan.facts.contents.recorders in
             totals.slips.items ≡ map (entries_by numbers) totals.journals.items) }
+        ensures behind { IfOk result (λ totals. let instruments = self.plan.facts.instruments in
+            AreLockedJournals B.stands B.kept instruments recorders.items totals.journals.items) }
         ensures seated { OnOk result (seated self recorders.items ≡ Ok tt) }
         ensures refused { IfErr result (λ refused.
             RefusesFinish (seated self recorders.items) refused.2) }
@@ -82,6 +85,9 @@ impl<B: Book, G: Gate> Provider<B, G> {
         ensures totals { IfOk result (λ finished. let end = finished.totals in
             Finishes B.KEEPS_ENTRIES self.plan recorders.items
             end.instruments.items end.journals.items end.slips.items) }
+        ensures behind { IfOk result (λ finished. let instruments = self.plan.facts.instruments in
+            let journals = finished.totals.journals.items in
+            AreLockedJournals B.stands B.kept instruments recorders.items journals) }
         ensures plan { IfOk result (λ finished. finished.plan ≡ self.plan) }
         ensures certified { IfOk result (λ finished. IsTrue finished.plan.is_certified) }
         ensures seated { OnOk result (seated self recorders.items ≡ Ok tt) }
@@ -113,6 +119,8 @@ fn settle_seated<B: Book>(
     ensures totals { IfOk result (λ totals. let sums = totals.instruments.items in
         Finishes B.KEEPS_ENTRIES
         plan.now recorders.now sums totals.journals.items totals.slips.items) }
+    ensures behind { IfOk result (λ totals. let instruments = plan.now.facts.instruments in
+        AreLockedJournals B.stands B.kept instruments recorders.now totals.journals.items) }
     ensures seated { OnOk result (seated (provider_of plan.now run) recorders.now ≡ Ok tt) }
     ensures refused { IfErr result (λ fault.
         RefusesFinish (seated (provider_of plan.now run) recorders.now) fault) }
@@ -136,6 +144,8 @@ pub(crate) fn settle_locked<B: Book>(
     ensures totals { IfOk result (λ totals. let sums = totals.instruments.items in
         Finishes B.KEEPS_ENTRIES
         plan.now recorders.now sums totals.journals.items totals.slips.items) }
+    ensures behind { IfOk result (λ totals. let instruments = plan.now.facts.instruments in
+        AreLockedJournals B.stands B.kept instruments recorders.now totals.journals.items) }
     ensures refused { IfErr result (λ fault. RefusesFinish (Ok tt) fault) }
     ensures back { OnErr result (vec_len locked.new ≡ vec_len locked.old) }
 {
@@ -164,6 +174,8 @@ fn totals_of<B: Book>(
     ensures totals { IfOk result (λ totals. let sums = totals.instruments.items in
         Finishes B.KEEPS_ENTRIES
         plan.now recorders.now sums totals.journals.items totals.slips.items) }
+    ensures behind { IfOk result (λ totals. let instruments = plan.now.facts.instruments in
+        AreLockedJournals B.stands B.kept instruments recorders.now totals.journals.items) }
     ensures refused { IfErr result (λ fault. RefusesFinish (Ok tt) fault) }
 {
     match settle(alloc, plan, slots, recorders) {
@@ -182,8 +194,8 @@ fn totals_of<B: Book>(
     }
 }
 
-// Takes the slots out of their locks, the last one first.
-fn take_out<B: Book>(locked: &mut Vec<Locked<B>>, slots: &mut Vec<Slot<B>>)
+/// Takes the slots out of their locks, the last one first.
+pub(crate) fn take_out<B: Book>(locked: &mut Vec<Locked<B>>, slots: &mut Vec<Slot<B>>)
     requires room { vec_len slots.old + vec_len locked.old ≤ vec_capacity slots.old }
     ensures slots { vec_len slots.new ≡ vec_len slots.old + vec_len locked.old }
     ensures room { vec_capacity locked.new ≡ vec_capacity locked.old }
@@ -218,22 +230,22 @@ pub(crate) fn seated(plan: &Plan, run: u64, recorders: &[Recorder]) -> Result<()
     Ok(())
 }
 
-// Whether each seat is of this run of the plan.
-fn are_of(plan: &Plan, run: u64, recorders: &[Recorder]) -> bool
+/// Whether each seat is of this run of the plan.
+pub(crate) fn are_of(plan: &Plan, run: u64, recorders: &[Recorder]) -> bool
     ensures { result ≡ list_all (is_recorder_of (provider_of plan.now run)) recorders.now }
 {
     recorders.iter().all(|seat| seat.is_of(plan, run))
 }
 
-// Whether there is a seat for each recorder of the plan.
-fn has_all(plan: &Plan, recorders: &[Recorder]) -> bool
+/// Whether there is a seat for each recorder of the plan.
+pub(crate) fn has_all(plan: &Plan, recorders: &[Recorder]) -> bool
     ensures { result ≡ has_each recorders.now (length plan.now.facts.contents.recorders) }
 {
     has_each(recorders, plan.catalogue().recorders().len())
 }
 
-// Whether no two seats are of one recorder.
-fn are_distinct(recorders: &[Recorder]) -> bool
+/// Whether no two seats are of one recorder.
+pub(crate) fn are_distinct(recorders: &[Recorder]) -> bool
     ensures { result ≡ are_distinct recorders.now }
 {
     match recorders.split_first() {
@@ -250,8 +262,8 @@ fn has_each(recorders: &[Recorder], count: usize) -> bool
     (0..count as u32).all(|number| has_seat(recorders, number))
 }
 
-// Whether some seat is of the recorder of this number.
-fn has_seat(recorders: &[Recorder], number: u32) -> bool
+/// Whether some seat is of the recorder of this number.
+pub(crate) fn has_seat(recorders: &[Recorder], number: u32) -> bool
     ensures { result ≡ has_seat recorders.now number }
 {
     recorders.iter().any(|seat| seat.number() == number)

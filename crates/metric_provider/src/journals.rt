@@ -1,5 +1,6 @@
 //! The journals and slips that are handed out at the end.
-ghost use Rattle.std.specs.Prelude.{◌≡◌, map, IfOk};
+ghost use Rattle.std.specs.Prelude.{◌≡◌, All, map, IfOk, OnOk};
+ghost use Rattle.metric_core.specs.Cells.{CellKept};
 ghost use Rattle.metric_provider.specs.Totals.{slips_by, slips_of_seats, slips_on};
 
 use crate::recorder::Recorder;
@@ -14,7 +15,9 @@ pub(crate) fn journals_of<B: Book>(
     alloc: Global,
     slots: &[Slot<B>],
 ) -> Result<Vec<Items<Entry>>, AllocError>
-    ensures { IfOk result (λ journals. journals.items ≡ map (λ c. B.kept c.book) slots.now) }
+    ensures journals { IfOk result (λ journals.
+        journals.items ≡ map (λ c. B.kept c.book) slots.now) }
+    ensures kept { OnOk result (All (CellKept B.stands) slots.now) }
 {
     let mut journals = Vec::new(alloc);
     for slot in slots {
@@ -25,7 +28,8 @@ pub(crate) fn journals_of<B: Book>(
 
 // What the book of a slot keeps.
 fn journal_of<B: Book>(alloc: Global, slot: &Slot<B>) -> Result<Items<Entry>, AllocError>
-    ensures { IfOk result (λ journal. journal ≡ B.kept slot.now.book) }
+    ensures journal { IfOk result (λ journal. journal ≡ B.kept slot.now.book) }
+    ensures kept { OnOk result (CellKept B.stands slot.now) }
 {
     let entries = Vec::from_slice(alloc, slot.cell().entries())?;
     Ok(Items::from_vec(entries))

@@ -6,6 +6,7 @@
 #![tactic(auto)]
 
 mod admission;
+mod bounds;
 mod collector;
 mod fault;
 mod finish;
@@ -14,14 +15,17 @@ mod held;
 mod journals;
 mod keys;
 mod notes;
+mod partly;
 mod provider;
 mod recorder;
 mod rolling;
 mod settling;
 mod starting;
+mod timed;
 mod totals;
 
 pub use admission::{declared_key, declared_set};
+pub use bounds::batches_are_bounded;
 pub use collector::Collector;
 pub use fault::{AllFault, FinishFault, RollFault, SetsFault};
 pub use gate::{Gate, NoGate};
@@ -32,4 +36,4 @@ pub use provider::Provider;
 pub use recorder::Recorder;
 pub use settling::settle;
 pub use starting::start;
-pub use totals::{Finished, Rolled, Total, Totals};
+pub use totals::{Finished, Partly, Rolled, Total, Totals};

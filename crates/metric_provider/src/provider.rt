@@ -5,6 +5,7 @@ ghost use Rattle.metric_provider.specs.Granting.{AnswersGrant};
 ghost use Rattle.metric_provider.specs.Handing.{HandsClosing, HandsGrant};
 ghost use Rattle.metric_provider.specs.Providers.{IsProvider};
 ghost use Rattle.metric_provider.specs.Seats.{provider_of};
+ghost use Rattle.metric_slot.specs.Slots.{AreCertified};
 
 use crate::gate::Gate;
 use crate::held::{Held, Inside};
@@ -12,7 +13,7 @@ use crossbeam_utils::CachePadded;
 use metric_book::Book;
 use metric_contents::Refusal;
 use metric_plan::Plan;
-use metric_slot::Slot;
+use metric_slot::{Slot, certified_facts_are_safe};
 use std::marker::Model;
 use std::sync::{Mutex, Wait};
 
@@ -89,6 +90,20 @@ impl<B: Book, G: Gate> Provider<B, G> {
         ensures { result.now ≡ self.now.plan }
     {
         &self.plan
+    }
+
+    // For proofs alone: the facts of each instrument are those of a certified plan. The function does nothing.
+    pub(crate) fn is_vouched_for(&self)
+        ensures { AreCertified self.now.plan.facts.instruments }
+    {
+        certified_facts_are_safe(&self.plan);
+    }
+
+    // The instruments behind their locks, in order.
+    pub(crate) fn slots(&self) -> &[Locked<B>]
+        ensures { length result.now ≡ length self.now.plan.facts.instruments }
+    {
+        self.slots.as_slice()
     }
 
     // The number of the run.

@@ -1,7 +1,8 @@
 //! A provider that goes over into the next run of its plan.
 ghost use Rattle.std.specs.Prelude.{◌≡◌, ◌==◌, IsTrue, false, IfErr, IfOk, OnErr, OnOk, Ok, length, map, vec_len};
 ghost use Rattle.std.specs.List.{range_with_len};
-ghost use Rattle.metric_provider.specs.Rolling.{RefusesRoll, new_collectors, new_recorders};
+ghost use Rattle.metric_provider.specs.Locked.{AreLockedJournals};
+ghost use Rattle.metric_provider.specs.Rolling.{IsInTime, IsLatest, RefusesNext, RefusesRoll, new_collectors, new_recorders};
 ghost use Rattle.metric_provider.specs.Seats.{provider_of};
 ghost use Rattle.metric_provider.specs.Totals.{AreAllSeats, Finishes, RefusesFinish, seated};
 
@@ -12,6 +13,7 @@ use crate::gate::Gate;
 use crate::provider::{Locked, Provider};
 use crate::recorder::Recorder;
 use crate::starting::new_parts;
+use crate::timed::latest_of;
 use crate::totals::{Rolled, Totals};
 use metric_book::Book;
 use metric_plan::Plan;
@@ -30,10 +32,12 @@ impl<B: Book, G: Gate> Provider<B, G> {
     /// # Errors
     ///
     /// - [`RollFault::SameRun`] where the next run has the number of this one.
+    /// - [`RollFault::Early`] where it starts before the last batch of a reader of this one, with the greatest time of these,
+    ///   or that at which this one started.
     /// - [`RollFault::Finish`] with a fault of [`Provider::finish`]; its `Memory` also where there is none for the next run.
     pub fn roll_over<R: Wait>(
         self,
-        _rt: &R,
+        rt: &R,
         alloc: Global,
         recorders: Vec<Recorder>,
         start: u64,
@@ -42,6 +46,9 @@ impl<B: Book, G: Gate> Provider<B, G> {
         ensures totals { IfOk result (λ rolled. let end = rolled.totals in
             Finishes B.KEEPS_ENTRIES self.plan recorders.items
             end.instruments.items end.journals.items end.slips.items) }
+        ensures behind { IfOk result (λ rolled. let instruments = self.plan.facts.instruments in
+            let journals = rolled.totals.journals.items in
+            AreLockedJournals B.stands B.kept instruments recorders.items journals) }
         ensures next { IfOk result (λ rolled. rolled.provider ≡ provider_of self.plan run) }
         ensures next_recorders { IfOk result (λ rolled.
             rolled.recorders.items ≡ new_recorders B.KEEPS_ENTRIES run self.plan) }
@@ -49,14 +56,78 @@ impl<B: Book, G: Gate> Provider<B, G> {
             rolled.collectors.items ≡ new_collectors run self.plan) }
         ensures seated { OnOk result (seated self recorders.items ≡ Ok tt) }
         ensures other_run { OnOk result ((run == self.run) ≡ false) }
+        ensures in_time { OnOk result (
+            IsInTime B.stands (length self.plan.facts.instruments) start) }
+        ensures refused { IfErr result (λ refused. let locks = length self.plan.facts.instruments in
+            let ended = seated self recorders.items in
+            RefusesRoll B.stands locks (run == self.run) start ended refused.2) }
+        ensures provider { IfErr result (λ refused. refused.0 ≡ self) }
+        ensures recorders { IfErr result (λ refused. refused.1.items ≡ recorders.items) }
+    {
+        let next = NextRun { start, run };
+        match self.may_begin(rt, next) {
+            Ok(()) => match self.rolled(alloc, recorders, next) {
+                Ok(rolled) => Ok(rolled),
+                Err((provider, recorders, fault)) => {
+                    Err((provider, recorders, RollFault::Finish(fault)))
+                }
+            },
+            Err(fault) => Err((self, recorders, fault)),
+        }
+    }
+
+    // Whether the next run has another number than this one, and starts no earlier than its last batches.
+    fn may_begin<R: Wait>(&self, rt: &R, next: NextRun) -> Result<(), RollFault>
+        ensures other_run { OnOk result ((next.run == self.now.run) ≡ false) }
+        ensures in_time { OnOk result (
+            IsInTime B.stands (length self.now.plan.facts.instruments) next.start) }
+        ensures refused { let locks = length self.now.plan.facts.instruments in
+            IfErr result (λ fault.
+            RefusesNext B.stands locks (next.run == self.now.run) next.start fault) }
+    {
+        if is_same_run(next, self.run()) {
+            return Err(RollFault::SameRun);
+        }
+        let time = self.latest(rt);
+        if next.start < time {
+            return Err(RollFault::Early(time));
+        }
+        Ok(())
+    }
+
+    // The greatest time of a last batch of its readers; its start before one.
+    fn latest<R: Wait>(&self, rt: &R) -> u64
+        ensures { IsLatest B.stands (length self.now.plan.facts.instruments) result }
+    {
+        latest_of(rt, self.slots())
+    }
+
+    // The next provider, and what this one comes to, where the seats are those of all its recorders.
+    fn rolled(
+        self,
+        alloc: Global,
+        recorders: Vec<Recorder>,
+        next: NextRun,
+    ) -> Result<Rolled<B, G>, (Provider<B, G>, Vec<Recorder>, FinishFault)>
+        ensures totals { IfOk result (λ rolled. let end = rolled.totals in
+            Finishes B.KEEPS_ENTRIES self.plan recorders.items
+            end.instruments.items end.journals.items end.slips.items) }
+        ensures behind { IfOk result (λ rolled. let instruments = self.plan.facts.instruments in
+            let journals = rolled.totals.journals.items in
+            AreLockedJournals B.stands B.kept instruments recorders.items journals) }
+        ensures next { IfOk result (λ rolled. rolled.provider ≡ provider_of self.plan next.run) }
+        ensures next_recorders { IfOk result (λ rolled.
+            rolled.recorders.items ≡ new_recorders B.KEEPS_ENTRIES next.run self.plan) }
+        ensures next_collectors { IfOk result (λ rolled.
+            rolled.collectors.items ≡ new_collectors next.run self.plan) }
+        ensures seated { OnOk result (seated self recorders.items ≡ Ok tt) }
         ensures refused { IfErr result (λ refused.
-            RefusesRoll (run == self.run) (seated self recorders.items) refused.2) }
+            RefusesFinish (seated self recorders.items) refused.2) }
         ensures provider { IfErr result (λ refused. refused.0 ≡ self) }
         ensures recorders { IfErr result (λ refused. refused.1.items ≡ recorders.items) }
     {
         let (plan, ended, gate, mut slots) = self.into_slots();
-        let next = NextRun { start, run };
-        match rolled(alloc, &plan, ended, &mut slots, recorders.as_slice(), next) {
+        match seated_parts(alloc, &plan, ended, &mut slots, recorders.as_slice(), next) {
             Ok(parts) => {
                 let RolledParts {
                     totals,
@@ -64,7 +135,7 @@ impl<B: Book, G: Gate> Provider<B, G> {
                     recorders,
                     collectors,
                 } = parts;
-                let provider = Provider::from_slots(plan, run, gate, slots);
+                let provider = Provider::from_slots(plan, next.run, gate, slots);
                 Ok(Rolled {
                     provider,
                     recorders,
@@ -95,42 +166,6 @@ struct RolledParts<B: Book> {
     collectors: Vec<Collector>,
 }
 
-// What the provider comes to and the parts of the next one, where that is of another run and the seats are those of all
-// recorders of this run of the plan.
-fn rolled<B: Book>(
-    alloc: Global,
-    plan: &Plan,
-    run: u64,
-    locked: &mut Vec<Locked<B>>,
-    recorders: &[Recorder],
-    next: NextRun,
-) -> Result<RolledParts<B>, RollFault>
-    requires slots { vec_len locked.old ≡ length plan.now.facts.instruments }
-    requires certified { IsTrue plan.now.is_certified }
-    ensures totals { IfOk result (λ parts. let end = parts.totals in
-        Finishes B.KEEPS_ENTRIES plan.now recorders.now
-        end.instruments.items end.journals.items end.slips.items) }
-    ensures slots { IfOk result (λ parts.
-        vec_len parts.slots ≡ length plan.now.facts.instruments) }
-    ensures next_recorders { IfOk result (λ parts.
-        parts.recorders.items ≡ new_recorders B.KEEPS_ENTRIES next.run plan.now) }
-    ensures next_collectors { IfOk result (λ parts.
-        parts.collectors.items ≡ new_collectors next.run plan.now) }
-    ensures seated { OnOk result (seated (provider_of plan.now run) recorders.now ≡ Ok tt) }
-    ensures other_run { OnOk result ((next.run == run) ≡ false) }
-    ensures refused { IfErr result (λ fault.
-        RefusesRoll (next.run == run) (seated (provider_of plan.now run) recorders.now) fault) }
-    ensures back { OnErr result (vec_len locked.new ≡ vec_len locked.old) }
-{
-    if is_same_run(next, run) {
-        return Err(RollFault::SameRun);
-    }
-    match seated_parts(alloc, plan, run, locked, recorders, next) {
-        Ok(parts) => Ok(parts),
-        Err(fault) => Err(RollFault::Finish(fault)),
-    }
-}
-
 // Whether the next run has the number of this one.
 fn is_same_run(next: NextRun, run: u64) -> bool
     ensures { result ≡ (next.run == run) }
@@ -138,7 +173,7 @@ fn is_same_run(next: NextRun, run: u64) -> bool
     next.run == run
 }
 
-// The same, where the seats are those of all recorders of this run of the plan.
+// What the provider comes to and the parts of the next one, where the seats are those of all recorders of this run of the plan.
 fn seated_parts<B: Book>(
     alloc: Global,
     plan: &Plan,
@@ -152,6 +187,9 @@ fn seated_parts<B: Book>(
     ensures totals { IfOk result (λ parts. let end = parts.totals in
         Finishes B.KEEPS_ENTRIES plan.now recorders.now
         end.instruments.items end.journals.items end.slips.items) }
+    ensures behind { IfOk result (λ parts. let instruments = plan.now.facts.instruments in
+        let journals = parts.totals.journals.items in
+        AreLockedJournals B.stands B.kept instruments recorders.now journals) }
     ensures slots { IfOk result (λ parts.
         vec_len parts.slots ≡ length plan.now.facts.instruments) }
     ensures next_recorders { IfOk result (λ parts.
@@ -184,6 +222,9 @@ fn parts_of<B: Book>(
     ensures totals { IfOk result (λ parts. let end = parts.totals in
         Finishes B.KEEPS_ENTRIES plan.now recorders.now
         end.instruments.items end.journals.items end.slips.items) }
+    ensures behind { IfOk result (λ parts. let instruments = plan.now.facts.instruments in
+        let journals = parts.totals.journals.items in
+        AreLockedJournals B.stands B.kept instruments recorders.now journals) }
     ensures slots { IfOk result (λ parts.
         vec_len parts.slots ≡ length plan.now.facts.instruments) }
     ensures next_recorders { IfOk result (λ parts.

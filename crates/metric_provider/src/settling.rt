@@ -13,7 +13,7 @@ use metric_core::Cell;
 use metric_facts::{Facts, same_facts};
 use metric_history::Entry;
 use metric_plan::Plan;
-use metric_slot::Slot;
+use metric_slot::{Slot, is_above, least_sum};
 use std::alloc::Global;
 
 /// The totals of the instruments, where each of them has the facts of the plan for its place, each of its numbers is what
@@ -93,16 +93,27 @@ fn total_of<B: Book>(cell: &Cell<B>) -> Total
     }
 }
 
-// Whether the instrument has as many recordings of each recorder as that one was told of.
-fn are_spent<B: Book>(cell: &Cell<B>, recorders: &[Recorder], instrument: u32) -> bool
+/// Whether the instrument has as many recordings of each recorder as that one was told of.
+pub(crate) fn are_spent<B: Book>(cell: &Cell<B>, recorders: &[Recorder], instrument: u32) -> bool
     ensures { result ≡ list_all (λ seat.
         slice_index cell.now.spent seat.number == (told_at seat instrument).count) recorders.now }
 {
     recorders.iter().all(|seat| cell.spent(seat.number()) == seat.told_at(instrument).count)
 }
 
-// How far the values that the recorders were told of are together above the least.
-fn amount_of(recorders: &[Recorder], instrument: u32) -> u128
+/// How many recordings the recorders were told of.
+pub(crate) fn count_of(recorders: &[Recorder], instrument: u32) -> u128
+    ensures { result ≡ told_count recorders.now instrument }
+{
+    let mut count = 0;
+    for seat in recorders {
+        count += u128::from(seat.told_at(instrument).count);
+    }
+    count
+}
+
+/// How far the values that the recorders were told of are together above the least.
+pub(crate) fn amount_of(recorders: &[Recorder], instrument: u32) -> u128
     ensures { result ≡ told_amount recorders.now instrument }
 {
     let mut amount = 0;
@@ -120,22 +131,8 @@ fn is_sum(total: &Total, facts: &Facts, amount: u128) -> bool
     is_above(total.sum, least_sum(total.count, facts.lo), amount)
 }
 
-// The sum of so many of the least values.
-fn least_sum(count: u64, lo: i64) -> i128
-    ensures { result ≡ pos count *ℤ lo }
-{
-    i128::from(count) * i128::from(lo)
-}
-
-// Whether a sum is so far above another one.
-fn is_above(sum: i128, least: i128, amount: u128) -> bool
-    ensures { IsTrue result ↔ (sum ≡ pos amount +ℤ least) }
-{
-    least <= sum && sum.abs_diff(least) == amount
-}
-
-// Whether the slips of each seat are the entries of its recorder.
-fn are_noted(entries: &[Entry], recorders: &[Recorder], instrument: u32) -> bool
+/// Whether the slips of each seat are the entries of its recorder.
+pub(crate) fn are_noted(entries: &[Entry], recorders: &[Recorder], instrument: u32) -> bool
     ensures { IsTrue result ↔ AreNoted recorders.now instrument entries.now }
 {
     recorders.iter().all(|seat| are_slips(seat.slips(instrument), entries, seat.number()))

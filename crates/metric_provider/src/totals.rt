@@ -40,6 +40,15 @@ pub struct Finished<G> {
     pub gate: G,
 }
 
+/// What a provider comes to that is finished without the seats of some of its recorders.
+#[derive(Drop)]
+pub struct Partly {
+    /// What the recorders that have seats were told, with the journals of all.
+    pub totals: Totals,
+    /// The numbers of the recorders without a seat, in ascending order.
+    pub missing: Vec<u32>,
+}
+
 /// A provider of the next run of a plan with its seats, and what the run before came to.
 #[derive(Drop)]
 pub struct Rolled<B: Book, G: Gate> {

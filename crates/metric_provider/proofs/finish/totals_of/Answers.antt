@@ -14,7 +14,7 @@ returns-in_ok-slips-in-Ok-clause-totals g c =
     ap length c.instruments.ensures.instruments ∙ sym c.catalogue-in-Ok.ensures.one_each in
     finishes g.B.Book.kept g.B.Book.KEEPS_ENTRIES c.args.plan.now c.args.slots.now c.args.recorders.now c.in-Ok.instruments.items c.in_ok-journals-in-Ok.journals.items
     c.in_ok-slips-in-Ok.slips.items (length c.recorders.result.now) (length c.instruments.result.now) c.requires.slots c.requires.recorders counted numbered
-    c.in-Ok.ensures.totals c.in-Ok.ensures.told c.in-Ok.ensures.journals c.in_ok-journals-in-Ok.ensures c.in_ok-slips-in-Ok.ensures
+    c.in-Ok.ensures.totals c.in-Ok.ensures.told c.in-Ok.ensures.journals c.in_ok-journals-in-Ok.ensures.journals c.in_ok-slips-in-Ok.ensures
 
 pub settle-requires-clause-slots : goal.settle-requires-clause-slots
 settle-requires-clause-slots g c = c.requires.slots
@@ -41,3 +41,11 @@ returns-in_err-slips-in-Ok-clause-refused g c =
 pub returns-in-Err-clause-refused : goal.returns-in-Err-clause-refused
 returns-in-Err-clause-refused g c =
     finish_refused g.B.Book.kept c.args.plan.now.facts.instruments c.args.slots.now c.args.recorders.now c.in-Err.fault c.in-Err.ensures.refused
+
+pub returns-in_ok-slips-in-Ok-clause-behind : goal.returns-in_ok-slips-in-Ok-clause-behind
+returns-in_ok-slips-in-Ok-clause-behind g c = record {
+  cells = c.args.slots.now;
+  locked = record { one_each = c.requires.slots; kept = c.in_ok-journals-in-Ok.ensures.kept };
+  as_told = c.in-Ok.ensures.told;
+  are = c.in_ok-journals-in-Ok.ensures.journals;
+}

@@ -1,62 +1,11 @@
--- the parts are those of this provider's plan and run
-use Rattle.std.proofs.Common.{◌≡◌, List, false, refl, sym, ap, subst, ◌∙◌}
+-- what refuses to begin the next run
+use Rattle.std.proofs.Common.{length}
 use Rattle.std.specs.Prelude.{◌==◌}
-use Rattle.metric_plan.specs.Plans.{PlanValue}
-use Rattle.metric_provider.specs.Rolling.{RefusesRoll, new_collectors, new_recorders}
-use Rattle.metric_provider.specs.Seats.{ProviderValue, RecorderValue, provider_of}
-use Rattle.metric_provider.specs.Totals.{Finishes, seated}
+use Rattle.metric_provider.specs.Totals.{seated}
+use Rattle.metric_provider.proofs.RollLaws.{roll_refused}
 use Rattle.metric_provider.proofs.provider.Provider.roll_over.Goals as goal
-
-pub rolled-requires-clause-slots : goal.rolled-requires-clause-slots
-rolled-requires-clause-slots g c = c.into_slots-plan.ensures.kept.one_each
-
-pub rolled-requires-clause-certified : goal.rolled-requires-clause-certified
-rolled-requires-clause-certified g c = c.into_slots-plan.ensures.kept.certified
-
-pub from_slots-provider-requires : goal.from_slots-provider-requires
-from_slots-provider-requires g c = record { certified = c.into_slots-plan.ensures.kept.certified; one_each = c.in-Ok.ensures.slots }
-
-pub from_slots-provider-requires-in-Err : goal.from_slots-provider-requires-in-Err
-from_slots-provider-requires-in-Err g c = record {
-  certified = c.into_slots-plan.ensures.kept.certified;
-  one_each = c.in-Err.ensures.back ∙ c.into_slots-plan.ensures.kept.one_each;
-}
-
-pub returns-in-Ok-clause-totals : goal.returns-in-Ok-clause-totals
-returns-in-Ok-clause-totals g c =
-    let end = c.in-Ok.parts.totals in
-    let plan_is : c.into_slots-plan.result.0 ≡ c.args.self.plan = ap (λ (p : ProviderValue). p.plan) c.into_slots-plan.ensures.value in
-    subst (λ (plan : PlanValue). Finishes g.B.Book.KEEPS_ENTRIES plan c.args.recorders.items end.instruments.items end.journals.items end.slips.items) plan_is
-    (subst (λ (seats : List RecorderValue). Finishes g.B.Book.KEEPS_ENTRIES c.into_slots-plan.result.0 seats end.instruments.items end.journals.items end.slips.items) c.as_slice.ensures.value
-    c.in-Ok.ensures.totals)
-
-pub returns-in-Ok-clause-next : goal.returns-in-Ok-clause-next
-returns-in-Ok-clause-next g c = c.from_slots-provider.ensures ∙ ap (λ (p : ProviderValue). provider_of p.plan c.args.run) c.into_slots-plan.ensures.value
-
-pub returns-in-Ok-clause-next_recorders : goal.returns-in-Ok-clause-next_recorders
-returns-in-Ok-clause-next_recorders g c =
-    c.in-Ok.ensures.next_recorders ∙ ap (λ (p : ProviderValue). new_recorders g.B.Book.KEEPS_ENTRIES c.args.run p.plan) c.into_slots-plan.ensures.value
-
-pub returns-in-Ok-clause-next_collectors : goal.returns-in-Ok-clause-next_collectors
-returns-in-Ok-clause-next_collectors g c = c.in-Ok.ensures.next_collectors ∙ ap (λ (p : ProviderValue). new_collectors c.args.run p.plan) c.into_slots-plan.ensures.value
-
-pub returns-in-Ok-clause-seated : goal.returns-in-Ok-clause-seated
-returns-in-Ok-clause-seated g c =
-    ap (λ (p : ProviderValue). seated p c.args.recorders.items) (sym c.into_slots-plan.ensures.value)
-    ∙ ap (λ (seats : List RecorderValue). seated (provider_of c.into_slots-plan.result.0 c.into_slots-plan.result.1) seats) (sym c.as_slice.ensures.value)
-    ∙ c.in-Ok.ensures.seated
-
-pub returns-in-Ok-clause-other_run : goal.returns-in-Ok-clause-other_run
-returns-in-Ok-clause-other_run g c = subst (λ (p : ProviderValue). (c.args.run == p.run) ≡ false) c.into_slots-plan.ensures.value c.in-Ok.ensures.other_run
 
 pub returns-in-Err-clause-refused : goal.returns-in-Err-clause-refused
 returns-in-Err-clause-refused g c =
-    subst (λ (p : ProviderValue). RefusesRoll (c.args.run == p.run) (seated p c.args.recorders.items) c.in-Err.fault) c.into_slots-plan.ensures.value
-    (subst (λ (seats : List RecorderValue). RefusesRoll (c.args.run == c.into_slots-plan.result.1) (seated (provider_of c.into_slots-plan.result.0 c.into_slots-plan.result.1) seats) c.in-Err.fault)
-    c.as_slice.ensures.value c.in-Err.ensures.refused)
-
-pub returns-in-Err-clause-provider : goal.returns-in-Err-clause-provider
-returns-in-Err-clause-provider g c = c.from_slots-provider-in-Err.ensures ∙ c.into_slots-plan.ensures.value
-
-pub returns-in-Err-clause-recorders : goal.returns-in-Err-clause-recorders
-returns-in-Err-clause-recorders g c = refl
+    roll_refused g.B.Book.stands (length c.args.self.plan.facts.instruments) (c.args.run == c.args.self.run) c.args.start (seated c.args.self c.args.recorders.items) c.in-Err.fault
+    c.in-Err.ensures.refused

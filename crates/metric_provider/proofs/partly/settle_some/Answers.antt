@@ -1,0 +1,10 @@
+-- as many slots as there are instruments, which have room behind the locks again
+use Rattle.std.proofs.Common.{arith}
+use Rattle.metric_provider.proofs.partly.settle_some.Goals as goal
+
+pub some_totals_of-requires : goal.some_totals_of-requires
+some_totals_of-requires g c = omega (arith, c.as_slice.ensures.len, c.take_out.ensures.slots, c.in_ok-slots.ensures.len, c.requires)
+
+pub put_back-requires : goal.put_back-requires
+put_back-requires g c =
+    record { room = omega (arith, c.take_out.ensures.slots, c.take_out.ensures.room, c.take_out.ensures.none, c.in_ok-slots.ensures.len) }

@@ -1,0 +1,77 @@
+-- one instrument more, each of which is that of the plan and has a slot
+use Rattle.std.proofs.Common.{◌≡◌, ◌<◌, ◌≤◌, ◌++◌, ℕ, List, Some, length, sym, ap, subst, ◌∙◌, arith}
+use Rattle.std.specs.Prelude.{slice_get}
+use Rattle.std.proofs.lemmas.Option.{slice_get-get_or, slice_get_within}
+use Rattle.metric_core.specs.Cells.{CellValue}
+use Rattle.metric_facts.specs.declared.facts.Facts.{Facts}
+use Rattle.metric_provider.specs.declared.totals.Total.{Total}
+use Rattle.metric_provider.specs.Partly.{IsPartlyTold}
+use Rattle.metric_provider.specs.Totals.{told_totals}
+use Rattle.metric_provider.proofs.SettleLaws.{told_more_cells, totals_end, totals_more}
+use Rattle.metric_provider.proofs.partly.told_totals.Goals as goal
+
+pub loop-instrument-init : goal.loop-instrument-init
+loop-instrument-init g c = record {
+  count = c.in_ok-totals.ensures.len;
+  room = c.in_ok-totals.ensures.capacity;
+  totals = ap (λ (totals : List Total). totals ++ told_totals c.args.recorders.now 0 c.args.plan.now.facts.instruments) c.in_ok-totals.ensures.items;
+  told = λ i own cell below found there. absurd (omega (arith, below));
+}
+
+pub facts-facts-requires : goal.facts-facts-requires
+facts-facts-requires g c = omega (arith, c.loop-instrument-test.true, c.catalogue.ensures.one_each, ap length c.instruments.ensures.instruments)
+
+pub overflow_cast-instrument : goal.overflow_cast-instrument
+overflow_cast-instrument g c = record { fits = omega (arith, c.loop-instrument-test.true, c.instruments.ensures.few) }
+
+pub offset_bounds-slots-instrument : goal.offset_bounds-slots-instrument
+offset_bounds-slots-instrument g c =
+    omega (arith, c.requires, c.loop-instrument-test.true, c.catalogue.ensures.one_each, ap length c.instruments.ensures.instruments)
+
+pub bounds-slots-instrument : goal.bounds-slots-instrument
+bounds-slots-instrument g c =
+    omega (arith, c.requires, c.loop-instrument-test.true, c.catalogue.ensures.one_each, ap length c.instruments.ensures.instruments)
+
+pub push_reserved-requires : goal.push_reserved-requires
+push_reserved-requires g c =
+    let below : c.loop-instrument.instrument < length c.args.slots.now =
+    omega (arith, c.requires, c.loop-instrument-test.true, c.catalogue.ensures.one_each, ap length c.instruments.ensures.instruments) in
+    omega (arith, below, c.loop-instrument.invariant.count, c.loop-instrument.invariant.room)
+
+pub returns-in-None-clause-refused : goal.returns-in-None-clause-refused
+returns-in-None-clause-refused g c = λ all.
+    let number = c.loop-instrument.instrument in
+    let below : number < length c.args.slots.now =
+    omega (arith, c.requires, c.loop-instrument-test.true, c.catalogue.ensures.one_each, ap length c.instruments.ensures.instruments) in
+    let there : slice_get c.args.slots.now number ≡ Some c.cell-cell.result.now =
+    slice_get-get_or c.args.slots.now number c.index-slots-instrument.result below ∙ ap (λ (v : CellValue g.row.B.Denot). Some v) (sym c.index-slots-instrument.is ∙ sym c.cell-cell.ensures.cell) in
+    c.in-None.ensures.other (all number c.facts-facts.result.now c.cell-cell.result.now c.facts-facts.ensures.facts there)
+
+pub loop-instrument-preserved : goal.loop-instrument-preserved
+loop-instrument-preserved g c =
+    let number = c.loop-instrument.instrument in
+    let below : number < length c.args.slots.now =
+    omega (arith, c.requires, c.loop-instrument-test.true, c.catalogue.ensures.one_each, ap length c.instruments.ensures.instruments) in
+    let there : slice_get c.args.slots.now number ≡ Some c.cell-cell.result.now =
+    slice_get-get_or c.args.slots.now number c.index-slots-instrument.result below ∙ ap (λ (v : CellValue g.row.B.Denot). Some v) (sym c.index-slots-instrument.is ∙ sym c.cell-cell.ensures.cell) in
+    record {
+      count = omega (arith, c.push_reserved.ensures.len, c.loop-instrument.invariant.count);
+      room = omega (arith, c.push_reserved.ensures.capacity, c.loop-instrument.invariant.room);
+      totals = totals_more c.args.recorders.now number c.args.plan.now.facts.instruments c.loop-instrument.totals.items c.push_reserved.new.self.items _ c.facts-facts.result.now c.in-Some.total
+          c.facts-facts.ensures.facts c.in-Some.ensures.total c.push_reserved.ensures.items c.loop-instrument.invariant.totals;
+      told = told_more_cells (λ (own : Facts) (cell : CellValue g.row.B.Denot) (i : ℕ). IsPartlyTold g.B.Book.kept own cell c.args.recorders.now i)
+          c.args.plan.now.facts.instruments c.args.slots.now number c.facts-facts.result.now c.cell-cell.result.now
+          c.facts-facts.ensures.facts there c.in-Some.ensures.told c.loop-instrument.invariant.told;
+    }
+
+pub returns-clause-totals : goal.returns-clause-totals
+returns-clause-totals g c =
+    totals_end c.args.recorders.now c.loop-instrument.instrument c.args.plan.now.facts.instruments c.loop-instrument.totals.items _
+    (omega (arith, c.loop-instrument-test.false, c.catalogue.ensures.one_each, ap length c.instruments.ensures.instruments))
+    c.loop-instrument.invariant.totals
+
+pub returns-clause-told : goal.returns-clause-told
+returns-clause-told g c = λ i own cell found there.
+    let all : length c.args.plan.now.facts.instruments ≤ c.loop-instrument.instrument =
+    omega (arith, c.loop-instrument-test.false, c.catalogue.ensures.one_each, ap length c.instruments.ensures.instruments) in
+    c.loop-instrument.invariant.told i own cell (omega (arith, all, slice_get_within c.args.plan.now.facts.instruments i own found)) found there
