@@ -8,8 +8,8 @@ use Rattle.metric_views.specs.declared.stream.Stream.{Stream}
 use Rattle.metric_plan.specs.Plans.{PlanValue}
 use Rattle.metric_lines.specs.Keys.{Attribute, attributes_of}
 
--- the attributes of a series, of the declared keys in order those that are kept and present, or
--- the mark of the overflow series
+-- # attributes of a point (SDK, overflow attribute) [series_attributes, declared_keys]
+-- As `attributes of a series` above, as keys with values; of a stream of a plan.
 abbrev pub series_attributes : List Key → List Bool → Option (List ℕ) → List Attribute
 series_attributes keys kept (Some set) = attributes_of keys kept set
 series_attributes keys kept None = (codes "otel.metric.overflow", Flag true) ∷ []

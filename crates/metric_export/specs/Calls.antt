@@ -39,7 +39,9 @@ IsCall call =
     Answers call.before (FailedIn call) call.answer
     × Leaves call.is_shutdown call.before call.after call.answer
 
--- calls one after the other, from a state
+-- # runs of calls (SDK, push metric exporter) [IsRun, StaysShutDown, IsFaultOfDevice]
+-- An exporter that was shut down stays so; a write fault is of the device, in that call or an
+-- earlier one.
 abbrev pub IsRun : ExporterState → List Call → Type 0
 IsRun state [] = Unit {0}
 IsRun state (call ∷ calls) = (call.before ≡ state) × (IsCall call × IsRun call.after calls)

@@ -1,12 +1,12 @@
 -- What one call of an exporter does.
-use Rattle.std.specs.Prelude.{◌≡◌, ◌≢◌, ℕ, List, Option, OnOk, Result, Ok, Err, IsErrOf}
+use Rattle.std.specs.Prelude.{◌≡◌, ◌≢◌, ℕ, false, List, Option, OnOk, Result, Ok, Err, IsErrOf}
 use Rattle.std.specs.Io.KnownBytes.{Keeps}
 use Rattle.metric_io.specs.Counts.{HasFailed}
 use Rattle.metric_io.specs.declared.devices.Broken.{Broken}
 use Rattle.metric_history.specs.declared.batch.Batch.{Batch}
 use Rattle.metric_plan.specs.Plans.{PlanValue}
-use Rattle.metric_export.specs.Exports.{Exports, Retries}
-use Rattle.metric_export.specs.States.{Answers, GoesOn, TextExporterValue, state_after}
+use Rattle.metric_export.specs.Exports.{Exports, Retries, is_own}
+use Rattle.metric_export.specs.States.{Answers, GoesOn, TextExporterValue, refused_in, state_after}
 use Rattle.metric_export.specs.declared.fault.ExportFault.{ExportFault}
 use Rattle.metric_export.specs.declared.fault.ExportFault.TheVariants as fault
 use Rattle.metric_export.specs.declared.state.ExporterState.{ExporterState}
@@ -29,8 +29,11 @@ pub record IsExport {E : Type 0}
   pub same_text : text new ≡ text old
   pub answers : Answers (state old) (HasFailed (failures old) (failures new)) answer
   pub goes_on : GoesOn (state old) (state new) answer
+  pub other_plan : is_own plan batch ≡ false → answer ≡ Err (refused_in (state old))
 
--- One call of `force_flush`, which hands on nothing.
+-- # flush of an exporter (SDK, push metric exporter, force flush) [IsFlush, FlushesOnce,
+-- FlushesText, ShutsTextDown]
+-- An open exporter flushes its sink once, and its answer is that of the sink.
 pub record IsFlush {E : Type 0}
     (gives : E → E → Result (Unit {0}) ExportFault → Type 0)
     (text : E → PlanValue → Batch → List ℕ)
@@ -89,6 +92,7 @@ pub record ExportsText {W E : Type 0}
   pub counted : OnOk answer (failures new.sink ≡ failures old.sink)
   pub unwritten : old.state ≢ Open → new ≡ old
   pub memory : IsErrOf answer fault.Memory → new ≡ old
+  pub other_plan : is_own plan batch ≡ false → new ≡ old
 
 -- what is said of a flush of a sink: the sink before and after it, and the answer
 abbrev pub Flushing : Type 0 → Type 1

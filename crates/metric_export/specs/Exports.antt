@@ -1,12 +1,18 @@
 -- What a call that hands on a batch appends.
-use Rattle.std.specs.Prelude.{◌≡◌, ◌⊎◌, ℕ, Bool, true, false, List, Option, Result, Ok, Err}
+use Rattle.std.specs.Prelude.{◌≡◌, ◌⊎◌, ◌==◌, ℕ, Bool, true, false, List, Option, Result, Ok, Err}
 use Rattle.std.specs.Io.KnownBytes.{Appends, Keeps}
 use Rattle.metric_io.specs.Prefix.{AppendsPrefix}
 use Rattle.metric_history.specs.declared.batch.Batch.{Batch}
-use Rattle.metric_plan.specs.Plans.{PlanValue}
+use Rattle.metric_plan.specs.Plans.{PlanValue, print_of}
 use Rattle.metric_lines.specs.Batches.{batch_text}
 use Rattle.metric_export.specs.declared.fault.ExportFault.{ExportFault}
 use Rattle.metric_export.specs.declared.fault.ExportFault.TheVariants.{Write, ShutDown, Memory, Kept}
+use Rattle.metric_export.specs.declared.fault.ExportFault.TheVariants.{OtherPlan}
+
+-- # what an export appends (SDK, push metric exporter) [is_own, plan_text, Exports]
+-- The text of a batch of a plan in an encoding, a prefix of it, or nothing, by the call's answer.
+abbrev pub is_own : PlanValue → Batch → Bool
+is_own plan batch = batch.plan == print_of plan
 
 -- the text of a batch of a plan
 abbrev pub plan_text : PlanValue → Batch → List ℕ
@@ -21,6 +27,7 @@ Exports old new text (Err Write) = AppendsPrefix old new text
 Exports old new text (Err ShutDown) = Keeps old new
 Exports old new text (Err Memory) = Keeps old new
 Exports old new text (Err Kept) = AppendsPrefix old new text
+Exports old new text (Err OtherPlan) = Keeps old new
 
 -- whether a batch was taken, by the answer: it went out, or the exporter keeps it to try it again
 abbrev pub is_taken : Result (Unit {0}) ExportFault → Bool
@@ -29,6 +36,7 @@ is_taken (Err Write) = false
 is_taken (Err ShutDown) = false
 is_taken (Err Memory) = false
 is_taken (Err Kept) = true
+is_taken (Err OtherPlan) = false
 
 -- what a new try of what an exporter keeps did: nothing, or what the exporter says of it
 abbrev pub Retries : {E : Type 0} → (E → E → PlanValue → Result (Unit {0}) ExportFault → Type 0)

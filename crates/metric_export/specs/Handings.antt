@@ -53,8 +53,8 @@ pub record RefusesOne {E : Type 0} (exports : Exporting E) (old new : E) (batche
   pub next : slice_get batches taken ≡ Some batch
   pub refused : RefusesIt exports mid new batch fault
 
--- Batches were handed on in order, each once, up to the first that was refused: so many were taken,
--- and the next one was refused by this fault.
+-- # batches handed on (profile) [HandsOnInOrder, TakesEach, RefusesOne, has_points]
+-- In order, each once, up to the first that the exporter neither takes nor keeps.
 abbrev pub HandsOnInOrder : {E : Type 0} → Exporting E → E → E → List Batch → ℕ
     → Option ExportFault → Type 0
 HandsOnInOrder exports old new batches taken None =

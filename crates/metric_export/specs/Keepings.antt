@@ -10,7 +10,8 @@ pub record KeepingValue : Type 0 where
   pub batches : List Batch
   pub state : ExporterState
 
--- a batch was put last, or nothing was done
+-- # what a keeping exporter has (SDK, in-memory exporter)
+-- Each batch that it took, put last.
 abbrev pub KeepsBatch : KeepingValue → KeepingValue → Batch → Result (Unit {0}) ExportFault → Type 0
 KeepsBatch old new batch (Ok done) = new ≡ record old { batches = old.batches ++ batch ∷ [] }
 KeepsBatch old new batch (Err fault) = new ≡ old

@@ -1,10 +1,11 @@
 -- An exporter that keeps the batches which another one refused.
-use Rattle.std.specs.Prelude.{◌≡◌, ◌≢◌, ◌+◌, ◌-◌, ◌*◌, ◌||◌, ◌==◌, ℕ, min, Bool, true, false, List, [], ◌∷◌, ◌++◌, length}
+use Rattle.std.specs.Prelude.{◌≡◌, ◌≢◌, ◌+◌, ◌-◌, ◌*◌, ◌||◌, ◌&&◌, ◌==◌, ℕ, min, Bool, true, false, List, [], ◌∷◌, ◌++◌, length}
 use Rattle.std.specs.Prelude.{if◌then◌else◌, take, drop, flat_map, is_none, Option, Some, None, Result, Ok, Err}
+use Rattle.std.specs.List.{list_all}
 use Rattle.metric_io.specs.Counts.{higher_count, next_count}
 use Rattle.metric_history.specs.declared.batch.Batch.{Batch}
 use Rattle.metric_plan.specs.Plans.{PlanValue}
-use Rattle.metric_export.specs.Exports.{is_taken}
+use Rattle.metric_export.specs.Exports.{is_own, is_taken}
 use Rattle.metric_export.specs.Handings.{Exporting, HandsOnInOrder}
 use Rattle.metric_export.specs.States.{Admits}
 use Rattle.metric_export.specs.declared.fault.ExportFault.{ExportFault}
@@ -120,6 +121,7 @@ failures_after failures (Err fault.Write) = next_count failures
 failures_after failures (Err fault.ShutDown) = failures
 failures_after failures (Err fault.Memory) = failures
 failures_after failures (Err fault.Kept) = failures
+failures_after failures (Err fault.OtherPlan) = failures
 
 -- what a queue answers: what the exporter below answered where the batch went on to that, else
 -- whether it is kept
@@ -156,13 +158,26 @@ pub record HandsInOpen {E : Type 0}
   pub most : new.most ≡ old.most
   pub state : new.state ≡ old.state
 
--- One call of `export`: where the queue was shut down, nothing is done.
+-- whether a batch is of a plan, and each that is kept
+abbrev pub are_own : PlanValue → List Batch → Batch → Bool
+are_own plan kept batch = is_own plan batch && list_all (is_own plan) kept
+
+-- # what a queue does (profile) [HandsIn, TriesAll, is_due, longer, RetriesKept, PassesFlush,
+-- PassesShutdown]
+-- Batches are exported in order, each once, up to the first that is refused, unless it lets an
+-- export pass; what is left is kept, but for the oldest that are more than may be kept, and for a
+-- batch that finds no memory. A new try exports all that is kept at once. Neither does anything
+-- where one of these is of another plan.
 pub record HandsIn {E : Type 0}
-    (exports : Exporting E)
+    (exports : PlanValue → Exporting E)
     (old new : QueuedValue E)
+    (plan : PlanValue)
     (batch : Batch)
     (answer : Result (Unit {0}) ExportFault) : Type 0 where
-  pub when_open : old.state ≡ Open → HandsInOpen exports old new batch answer
+  pub when_open : old.state ≡ Open → are_own plan old.kept batch ≡ true
+      → HandsInOpen (exports plan) old new batch answer
+  pub when_other : old.state ≡ Open → are_own plan old.kept batch ≡ false
+      → (answer ≡ Err fault.OtherPlan) × (new ≡ old)
   pub when_shut : old.state ≢ Open → new ≡ old
 
 -- ---- one new try of all that is kept
@@ -181,6 +196,7 @@ passed_on (Err fault.Write) = Err fault.Write
 passed_on (Err fault.ShutDown) = Err fault.Write
 passed_on (Err fault.Memory) = Err fault.Memory
 passed_on (Err fault.Kept) = Err fault.Kept
+passed_on (Err fault.OtherPlan) = Err fault.OtherPlan
 
 -- The kept batches were handed on at once, in order, up to the first that was refused, and then the
 -- exporter below tried again what it keeps. What is left is kept.
@@ -206,14 +222,18 @@ pub record RetriesOpen {E : Type 0}
   pub most : new.most ≡ old.most
   pub state : new.state ≡ old.state
 
--- One call of `retry`: where the queue was shut down, nothing is done.
+-- One call of `retry`: where the queue was shut down, nothing is done; nor is anything where a batch
+-- that is kept is of another plan.
 pub record RetriesKept {E : Type 0}
     (exports : PlanValue → Exporting E)
     (retries : PlanValue → E → E → Result (Unit {0}) ExportFault → Type 0)
     (old new : QueuedValue E)
     (plan : PlanValue)
     (answer : Result (Unit {0}) ExportFault) : Type 0 where
-  pub when_open : old.state ≡ Open → RetriesOpen (exports plan) (retries plan) old new answer
+  pub when_open : old.state ≡ Open → list_all (is_own plan) old.kept ≡ true
+      → RetriesOpen (exports plan) (retries plan) old new answer
+  pub when_other : old.state ≡ Open → list_all (is_own plan) old.kept ≡ false
+      → (answer ≡ Err fault.OtherPlan) × (new ≡ old)
   pub when_shut : old.state ≢ Open → (new ≡ old) × Admits old.state answer
 
 -- ---- calls that are passed on
@@ -275,7 +295,9 @@ queue_of call = call.before ++ entered_by call
 abbrev pub gone_by : HandedIn → List Batch
 gone_by call = take call.sent (queue_of call) ++ take call.lost (drop call.sent (queue_of call))
 
--- calls one after the other, where these are kept at first
+-- # runs of a queue (profile) [HandsInEach, IsAccounted]
+-- What a queue was begun with and what entered it is, in order, what went out or was dropped by one
+-- call after the other, and then what is kept.
 abbrev pub HandsInEach : List Batch → List HandedIn → Type 0
 HandsInEach kept [] = Unit {0}
 HandsInEach kept (call ∷ calls) =

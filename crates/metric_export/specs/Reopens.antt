@@ -1,10 +1,10 @@
 -- An exporter of texts that opens a new sink after a failure.
-use Rattle.std.specs.Prelude.{◌≡◌, ◌≢◌, ℕ, List, Option, Some, None, Result, Ok, Err}
+use Rattle.std.specs.Prelude.{◌≡◌, ◌≢◌, ℕ, true, false, List, Option, Some, None, Result, Ok, Err}
 use Rattle.metric_io.specs.declared.devices.Broken.{Broken}
 use Rattle.metric_history.specs.declared.batch.Batch.{Batch}
 use Rattle.metric_plan.specs.Plans.{PlanValue}
 use Rattle.metric_export.specs.ExporterCalls.{Flushing, FlushesOnce}
-use Rattle.metric_export.specs.Exports.{Exports}
+use Rattle.metric_export.specs.Exports.{Exports, is_own}
 use Rattle.metric_export.specs.Queues.{failures_after}
 use Rattle.metric_export.specs.declared.fault.ExportFault.{ExportFault}
 use Rattle.metric_export.specs.declared.fault.ExportFault.TheVariants as fault
@@ -36,6 +36,7 @@ left_open sink (Err fault.Write) = None
 left_open sink (Err fault.ShutDown) = Some sink
 left_open sink (Err fault.Memory) = Some sink
 left_open sink (Err fault.Kept) = Some sink
+left_open sink (Err fault.OtherPlan) = Some sink
 
 -- A text was written to a sink, or a prefix of it where the sink failed, which then is let go.
 pub record WritesText {W : Type 0}
@@ -68,7 +69,10 @@ pub record WritesAnew {O W E : Type 0}
   pub state : new.state ≡ old.state
   pub encoding : new.encoding ≡ old.encoding
 
--- One call of `export`: where the exporter was shut down, nothing is done.
+-- # what goes to sinks opened anew (profile) [ExportsAnew, WritesAnew, FindsSink, WritesText,
+-- FlushesOpen, FlushesReopening, ShutsReopeningDown]
+-- A text goes to the sink that is open, or else to a new one; one that failed is let go, also where
+-- a flush failed.
 pub record ExportsAnew {O W E : Type 0}
     (text : E → PlanValue → Batch → List ℕ)
     (opens : Opening O W)
@@ -77,7 +81,9 @@ pub record ExportsAnew {O W E : Type 0}
     (plan : PlanValue)
     (batch : Batch)
     (answer : Result (Unit {0}) ExportFault) : Type 0 where
-  pub writes : old.state ≡ Open → WritesAnew opens contents (text old.encoding plan batch) old new answer
+  pub writes : old.state ≡ Open → is_own plan batch ≡ true
+      → WritesAnew opens contents (text old.encoding plan batch) old new answer
+  pub other_plan : is_own plan batch ≡ false → new ≡ old
   pub unwritten : old.state ≢ Open → new ≡ old
 
 -- the open sink was flushed once, and stays open unless that failed; where none is open, nothing is done

@@ -11,13 +11,16 @@ pub record TextExporterValue (W E : Type 0) : Type 0 where
   pub sink : W
   pub state : ExporterState
 
--- whether a call is taken in a state, and what it answers where it is not
+-- # state of an exporter (SDK, push metric exporter, shutdown) [Admits, Answers, GoesOn,
+-- state_after, refused_in]
+-- Open, broken or shut down: what each call then answers, and how the state goes on.
 abbrev pub Admits : {T : Type 0} → ExporterState → Result T ExportFault → Type 0
 Admits state (Ok done) = state ≡ Open
 Admits state (Err fault.Write) = state ≡ Broken
 Admits state (Err fault.ShutDown) = state ≡ ShutDown
 Admits state (Err fault.Memory) = ⊥
 Admits state (Err fault.Kept) = ⊥
+Admits state (Err fault.OtherPlan) = ⊥
 
 -- what a call may answer, by the state that it finds: an open exporter fails only
 -- where its device failed in this call
@@ -27,6 +30,7 @@ Answers state failed (Err fault.Write) = (state ≡ Broken) ⊎ ((state ≡ Open
 Answers state failed (Err fault.ShutDown) = state ≡ ShutDown
 Answers state failed (Err fault.Memory) = state ≡ Open
 Answers state failed (Err fault.Kept) = state ≡ Open
+Answers state failed (Err fault.OtherPlan) = state ≡ Open
 
 -- the state after an export or a flush: it stays as it was, but a fault of
 -- the device may break the exporter
@@ -36,6 +40,7 @@ GoesOn old new (Err fault.Write) = (new ≡ old) ⊎ (new ≡ Broken)
 GoesOn old new (Err fault.ShutDown) = new ≡ old
 GoesOn old new (Err fault.Memory) = new ≡ old
 GoesOn old new (Err fault.Kept) = new ≡ old
+GoesOn old new (Err fault.OtherPlan) = new ≡ old
 
 -- the state after a call with an answer, where each fault of the device breaks the exporter
 abbrev pub state_after : {T : Type 0} → ExporterState → Result T ExportFault → ExporterState
@@ -44,3 +49,10 @@ state_after state (Err fault.Write) = Broken
 state_after state (Err fault.ShutDown) = state
 state_after state (Err fault.Memory) = state
 state_after state (Err fault.Kept) = state
+state_after state (Err fault.OtherPlan) = state
+
+-- by what an exporter in this state refuses a batch of another plan
+abbrev pub refused_in : ExporterState → ExportFault
+refused_in Open = fault.OtherPlan
+refused_in Broken = fault.Write
+refused_in ShutDown = fault.ShutDown

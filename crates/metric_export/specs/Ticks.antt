@@ -1,7 +1,9 @@
 -- The ticks that a list gives.
-use Rattle.std.specs.Prelude.{◌≡◌, ◌≢◌, ℕ, ◌+◌, ◌≤◌, ◌==◌, max, Bool, ◌||◌, if◌then◌else◌, List, []}
-use Rattle.std.specs.Prelude.{◌∷◌, Option, Some, None}
+use Rattle.std.specs.Prelude.{◌≡◌, ◌≢◌, ℕ, ◌+◌, ◌≤◌, ◌==◌, max, Bool, true, false, if◌then◌else◌, List, []}
+use Rattle.std.specs.Prelude.{◌∷◌, Option, Some, None, is_none}
 use Rattle.metric_io.specs.Counts.{next_count}
+use Rattle.metric_export.specs.declared.tick.StopCause.{StopCause}
+use Rattle.metric_export.specs.declared.tick.StopCause.TheVariants.{Clock, Flag, Ticks}
 use Rattle.metric_export.specs.declared.tick.Tick.{Tick}
 use Rattle.metric_export.specs.declared.tick.Tick.TheVariants.{At, Stop}
 
@@ -15,11 +17,11 @@ pub record TicksLeft : Type 0 where
 -- the moment of a tick
 abbrev pub moment_of : Tick → ℕ
 moment_of (At moment) = moment
-moment_of (Stop moment) = moment
+moment_of (Stop moment cause) = moment
 
 -- the first of some ticks, and where there is none the stop at the last moment
 abbrev pub first_tick : List Tick → ℕ → Tick
-first_tick [] last = Stop last
+first_tick [] last = Stop last Ticks
 first_tick (tick ∷ ticks) last = tick
 
 -- the ticks after the first
@@ -27,7 +29,11 @@ abbrev pub later_ticks : List Tick → List Tick
 later_ticks [] = []
 later_ticks (tick ∷ ticks) = ticks
 
--- the tick that comes next
+-- # ticks (SDK, periodic exporting metric reader) [next_tick, after_tick, clock_tick, stop_cause,
+-- ClockTicks]
+-- Those of a list in order, then the stop at the last moment; those of a clock, at most so many and
+-- never of an earlier moment. A stop has its cause: that no tick is left, else that the flag is set,
+-- else that the clock cannot be read. Each time that a ticker is asked is counted.
 abbrev pub next_tick : TicksLeft → Tick
 next_tick left = first_tick left.ticks left.last
 
@@ -51,22 +57,43 @@ pub record ClockTicksLeft : Type 0 where
   pub last : ℕ
   pub asked : ℕ
 
--- The tick after a wait: none is before the last one. The ticker stops where no tick is left or the
--- flag is set, and where the clock has no moment.
+-- why the ticker stops after a wait, where it does: no tick is left, else the flag is set, else the
+-- clock has no moment
+abbrev pub stop_cause : ℕ → Bool → Option ℕ → Option StopCause
+stop_cause left is_set moment =
+    if left == 0 then Some Ticks else (if is_set then Some Flag else (if is_none moment then Some Clock else None))
+
+-- the moment that it tells: none is before the last one
+abbrev pub moment_told : ℕ → Option ℕ → ℕ
+moment_told last None = last
+moment_told last (Some moment) = max last moment
+
+-- the tick of a moment, by why the ticker stops
+abbrev pub tick_by : Option StopCause → ℕ → Tick
+tick_by None moment = At moment
+tick_by (Some cause) moment = Stop moment cause
+
+-- the tick after a wait
 abbrev pub clock_tick : ClockTicksLeft → Bool → Option ℕ → Tick
-clock_tick old is_set None = Stop old.last
-clock_tick old is_set (Some moment) =
-    if is_set || (old.left == 0) then Stop (max old.last moment) else At (max old.last moment)
+clock_tick old is_set moment =
+    tick_by (stop_cause old.left is_set moment) (moment_told old.last moment)
+
+-- whether a cause is that all ticks were given
+abbrev pub is_end : StopCause → Bool
+is_end Flag = false
+is_end Clock = false
+is_end Ticks = true
 
 -- one tick of a clock's ticker: it gives at most so many ticks, none of an earlier moment than
--- the last, and then stops for good
+-- the last, and then stops for good, which is the cause where no tick was left
 abbrev pub ClockTicks : ClockTicksLeft → ClockTicksLeft → Tick → Type 0
 ClockTicks old new (At moment) =
     (old.last ≤ moment)
     × (new ≡ record old { left = new.left; last = moment; asked = next_count old.asked })
     × (old.left ≡ new.left + 1)
-ClockTicks old new (Stop moment) =
+ClockTicks old new (Stop moment cause) =
     (old.last ≤ moment)
+    × (is_end cause ≡ (old.left == 0))
     × (new ≡ record old { left = 0; last = moment; asked = next_count old.asked })
 
 -- One tick by what a wait for so many nanoseconds tells of the flag, and by what the clock then

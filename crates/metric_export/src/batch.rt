@@ -1,8 +1,9 @@
 //! The bytes of one batch, written to a sink.
-ghost use Rattle.std.specs.Prelude.{◌≡◌, ◌++◌, [], IfOk, IsErrOf, OnOk};
+ghost use Rattle.std.specs.Prelude.{◌≡◌, ◌↔◌, ◌++◌, [], false, IfOk, IsErrOf, OnOk};
 ghost use Rattle.metric_io.specs.Counts.{HasFailed};
-ghost use Rattle.metric_export.specs.Exports.{Exports, plan_text};
+ghost use Rattle.metric_export.specs.Exports.{Exports, is_own, plan_text};
 
+use crate::belonging::own_plan;
 use crate::encoding::{Encoding, Plain};
 use crate::fault::ExportFault;
 use metric_history::Batch;
@@ -15,6 +16,7 @@ use std::alloc::{AllocError, Global};
 ///
 /// # Errors
 ///
+/// - [`ExportFault::OtherPlan`] exactly where the batch is of another plan, before anything else.
 /// - [`ExportFault::Write`] where the sink fails or takes nothing. It then holds a prefix of the text.
 /// - [`ExportFault::Memory`], before anything is written.
 pub fn write_batch<W: Sink>(
@@ -29,6 +31,8 @@ pub fn write_batch<W: Sink>(
     ensures failed { IsErrOf result ExportFault.Write →
         HasFailed (W.failures sink.old) (W.failures sink.new) }
     ensures memory { IsErrOf result ExportFault.Memory → sink.new ≡ sink.old }
+    ensures other { IsErrOf result ExportFault.OtherPlan ↔ (is_own plan.now batch.now ≡ false) }
+    ensures unwritten { IsErrOf result ExportFault.OtherPlan → sink.new ≡ sink.old }
     ensures not_shut_down { IsErrOf result ExportFault.ShutDown → ⊥ }
     ensures not_kept { IsErrOf result ExportFault.Kept → ⊥ }
 {
@@ -53,9 +57,12 @@ pub fn write_encoded<W: Sink, E: Encoding>(
     ensures failed { IsErrOf result ExportFault.Write →
         HasFailed (W.failures sink.old) (W.failures sink.new) }
     ensures memory { IsErrOf result ExportFault.Memory → sink.new ≡ sink.old }
+    ensures other { IsErrOf result ExportFault.OtherPlan ↔ (is_own plan.now batch.now ≡ false) }
+    ensures unwritten { IsErrOf result ExportFault.OtherPlan → sink.new ≡ sink.old }
     ensures not_shut_down { IsErrOf result ExportFault.ShutDown → ⊥ }
     ensures not_kept { IsErrOf result ExportFault.Kept → ⊥ }
 {
+    own_plan(plan, batch)?;
     let text = text_of(alloc, encoding, plan, batch)?;
     write_all(sink, &text)?;
     Ok(())

@@ -1,10 +1,10 @@
 //! The ticks of a clock.
-ghost use Rattle.std.specs.Prelude.{◌≡◌, ◌*◌, max};
+ghost use Rattle.std.specs.Prelude.{◌≡◌, ◌*◌};
 ghost use Rattle.metric_io.specs.Counts.{next_count};
-ghost use Rattle.metric_export.specs.Ticks.{ClockTicks, WatchTicks, clock_tick};
+ghost use Rattle.metric_export.specs.Ticks.{ClockTicks, WatchTicks, clock_tick, moment_told, stop_cause};
 
 use crate::stop_flag::StopFlag;
-use crate::tick::{Tick, Ticker};
+use crate::tick::{StopCause, Tick, Ticker};
 use crate::watch::{FlagAndClock, Watch};
 use std::marker::Model;
 use std::sync::Wait;
@@ -12,7 +12,7 @@ use std::time::{Clock, Duration};
 
 /// A ticker that waits for a time before each tick, and gives the moment that the system's clock then
 /// has, in nanoseconds since 1970. It stops after a number of ticks, when its [`StopFlag`] is set,
-/// or where the clock cannot be read. By [`StopFlag::wake`] a tick comes at once.
+/// or where the clock cannot be read, and says why, by the first of these causes. By [`StopFlag::wake`] a tick comes at once.
 ///
 /// No moment is before the one that was given last: where the clock went back, that one is given
 /// again. Nothing is promised of how long a wait takes. Contracts see the nanoseconds of a wait, the
@@ -63,17 +63,29 @@ impl<'a> ClockTicker<'a> {
         }
     }
 
-    // Stops, at this moment or where the clock went back at the last one.
-    fn stop(&mut self, moment: u64) -> Tick
-        ensures tick { result ≡ Tick.Stop (max self.old.last moment) }
-        ensures after { self.new ≡ record self.old {
-          left = 0;
-          last = max self.old.last moment;
-        } }
+    // Why it stops after a wait, where it does.
+    fn stop_cause(&self, is_set: bool, moment: Option<u64>) -> Option<StopCause>
+        ensures { result ≡ stop_cause self.now.left is_set moment }
     {
-        self.left = 0;
-        self.last = self.last.max(moment);
-        Tick::Stop(self.last)
+        if self.left == 0 {
+            Some(StopCause::Ticks)
+        } else if is_set {
+            Some(StopCause::Flag)
+        } else if moment.is_none() {
+            Some(StopCause::Clock)
+        } else {
+            None
+        }
+    }
+
+    // The moment of the tick that comes next.
+    fn moment_told(&self, moment: Option<u64>) -> u64
+        ensures { result ≡ moment_told self.now.last moment }
+    {
+        match moment {
+            None => self.last,
+            Some(moment) => self.last.max(moment),
+        }
     }
 
     // Waits for the period, unless no tick is left, and then reads the clock.
@@ -93,15 +105,18 @@ impl<'a> ClockTicker<'a> {
         ensures asked { self.new.asked ≡ next_count self.old.asked }
     {
         self.asked = self.asked.saturating_add(1);
-        let Some(moment) = moment else {
-            return self.stop(self.last);
-        };
-        if is_set || self.left == 0 {
-            return self.stop(moment);
+        let cause = self.stop_cause(is_set, moment);
+        self.last = self.moment_told(moment);
+        match cause {
+            None => {
+                self.left -= 1;
+                Tick::At(self.last)
+            }
+            Some(cause) => {
+                self.left = 0;
+                Tick::Stop(self.last, cause)
+            }
         }
-        self.left -= 1;
-        self.last = self.last.max(moment);
-        Tick::At(self.last)
     }
 }
 

@@ -11,6 +11,7 @@ pub fn copy_batch(alloc: Global, batch: &Batch) -> Result<Batch, AllocError>
     ensures { IfOk result (λ copied. copied ≡ batch.now) }
 {
     Ok(Batch {
+        plan: batch.plan,
         reader: batch.reader,
         instrument: batch.instrument,
         from: batch.from,

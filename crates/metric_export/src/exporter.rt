@@ -1,11 +1,11 @@
 //! What every exporter promises.
-ghost use Rattle.std.specs.Prelude.{◌≡◌, ℕ, List, Option, Result};
+ghost use Rattle.std.specs.Prelude.{◌≡◌, ℕ, false, Err, List, Option, Result};
 ghost use Rattle.std.specs.Io.KnownBytes.{Keeps};
 ghost use Rattle.metric_io.specs.Counts.{HasFailed};
 ghost use Rattle.metric_history.specs.declared.batch.Batch.{Batch};
 ghost use Rattle.metric_plan.specs.Plans.{PlanValue};
-ghost use Rattle.metric_export.specs.Exports.{Exports, Retries};
-ghost use Rattle.metric_export.specs.States.{Answers, GoesOn};
+ghost use Rattle.metric_export.specs.Exports.{Exports, Retries, is_own};
+ghost use Rattle.metric_export.specs.States.{Answers, GoesOn, refused_in};
 ghost use Rattle.metric_export.specs.declared.fault.ExportFault.{ExportFault};
 ghost use Rattle.metric_export.specs.declared.state.ExporterState.{ExporterState};
 
@@ -56,6 +56,8 @@ pub trait MetricExporter {
     /// - [`ExportFault::ShutDown`] exactly where the exporter was shut down.
     /// - [`ExportFault::Memory`], and nothing was handed on.
     /// - [`ExportFault::Kept`], and the exporter keeps the batch, to try it again by itself.
+    /// - [`ExportFault::OtherPlan`] where the batch is of another plan, unless the exporter was shut down or is broken: then it
+    ///   answers that. One that keeps batches answers it also where one of these is of another plan.
     fn export(&mut self, alloc: Global, plan: &Plan, batch: &Batch) -> Result<(), ExportFault>
         ensures text { Exports (contents self.old) (contents self.new)
             (text self.old plan.now batch.now) result }
@@ -63,6 +65,8 @@ pub trait MetricExporter {
         ensures answer { Answers (state self.old)
             (HasFailed (failures self.old) (failures self.new)) result }
         ensures state { GoesOn (state self.old) (state self.new) result }
+        ensures other_plan { is_own plan.now batch.now ≡ false
+            → result ≡ Err (refused_in (state self.old)) }
         ensures gives { export_gives self.old self.new plan.now batch.now result };
 
     /// Passes on what the exporter may still hold back. No text is added. The errors are those of
@@ -81,7 +85,8 @@ pub trait MetricExporter {
     ///
     /// # Errors
     ///
-    /// [`ExportFault::Kept`] where something is kept still, and what an exporter of batches says else.
+    /// [`ExportFault::Kept`] where something is kept still, [`ExportFault::OtherPlan`] where something of another plan is, and what
+    /// an exporter of batches says else.
     fn retry(&mut self, alloc: Global, plan: &Plan) -> Result<(), ExportFault>
         ensures text { Keeps (contents self.old) (contents self.new) }
         ensures same_text { text self.new ≡ text self.old }

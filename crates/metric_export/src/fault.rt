@@ -18,6 +18,8 @@ pub enum ExportFault {
     Memory,
     /// The batch did not go out. The exporter keeps it, and tries it again later: who hands it in again exports it twice.
     Kept,
+    /// The batch, or one that the exporter keeps, is of another plan than the call's. Nothing was changed.
+    OtherPlan,
 }
 
 impl ExportFault {
@@ -27,7 +29,10 @@ impl ExportFault {
     {
         match self {
             ExportFault::Kept => true,
-            ExportFault::Write | ExportFault::ShutDown | ExportFault::Memory => false,
+            ExportFault::Write
+            | ExportFault::ShutDown
+            | ExportFault::Memory
+            | ExportFault::OtherPlan => false,
         }
     }
 
@@ -40,6 +45,7 @@ impl ExportFault {
             ExportFault::ShutDown => 2,
             ExportFault::Memory => 3,
             ExportFault::Kept => 4,
+            ExportFault::OtherPlan => 5,
         }
     }
 
@@ -52,6 +58,7 @@ impl ExportFault {
             ExportFault::ShutDown => "ShutDown",
             ExportFault::Memory => "Memory",
             ExportFault::Kept => "Kept",
+            ExportFault::OtherPlan => "OtherPlan",
         }
     }
 }

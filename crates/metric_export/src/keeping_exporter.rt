@@ -4,6 +4,7 @@ ghost use Rattle.std.specs.Io.KnownBytes.{Keeps};
 ghost use Rattle.metric_export.specs.Keepings.{KeepsBatch, OnlyShutDown};
 ghost use Rattle.metric_export.specs.States.{Answers, GoesOn};
 
+use crate::belonging::own_plan;
 use crate::copies::push_copy;
 use crate::exporter::MetricExporter;
 use crate::fault::ExportFault;
@@ -14,7 +15,7 @@ use std::alloc::Global;
 use std::marker::Model;
 
 /// An exporter that keeps a copy of each batch in memory, for tests of a service (Metrics SDK, in-memory exporter). It writes
-/// nothing, and only want of memory and a shutdown refuse a batch. Contracts see the batches, in order, and its state.
+/// nothing, and only want of memory, a shutdown and another plan refuse a batch. Contracts see the batches, in order, and its state.
 ///
 /// A [`ListTicker`](crate::ListTicker) is the ticker by hand that goes with it.
 #[derive(Drop)]
@@ -73,8 +74,9 @@ impl MetricExporter for KeepingExporter {
 
     ghost shutdown_gives = { λ old new _. OnlyShutDown old new };
 
-    fn export(&mut self, alloc: Global, _plan: &Plan, batch: &Batch) -> Result<(), ExportFault> {
+    fn export(&mut self, alloc: Global, plan: &Plan, batch: &Batch) -> Result<(), ExportFault> {
         self.state.admit()?;
+        own_plan(plan, batch)?;
         if push_copy(alloc, &mut self.batches, batch) {
             Ok(())
         } else {

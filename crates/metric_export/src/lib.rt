@@ -10,6 +10,7 @@
 #![tactic(auto)]
 
 mod batch;
+mod belonging;
 mod clock_ticker;
 mod copies;
 mod encoding;
@@ -31,6 +32,7 @@ mod told_queue;
 mod watch;
 
 pub use batch::{write_batch, write_encoded};
+pub use belonging::own_plan;
 pub use clock_ticker::ClockTicker;
 pub use copies::copy_batch;
 pub use encoding::{Encoding, Plain};
@@ -46,5 +48,5 @@ pub use reopening_exporter::{OpenSink, ReopeningExporter};
 pub use state::ExporterState;
 pub use stop_flag::StopFlag;
 pub use text_exporter::TextExporter;
-pub use tick::{Tick, Ticker};
+pub use tick::{StopCause, Tick, Ticker};
 pub use told_queue::{QueueCounts, ToldQueue};

@@ -3,7 +3,7 @@ ghost use Rattle.std.specs.Prelude.{◌≡◌};
 ghost use Rattle.metric_io.specs.Counts.{next_count};
 ghost use Rattle.metric_export.specs.Ticks.{ListTicks, after_tick, next_tick};
 
-use crate::tick::{Tick, Ticker};
+use crate::tick::{StopCause, Tick, Ticker};
 use std::marker::Model;
 
 /// A ticker that gives the ticks of a list in order and waits for nothing. After them it stops at the
@@ -52,7 +52,7 @@ impl<R> Ticker<R> for ListTicker<'_> {
     {
         self.asked = self.asked.saturating_add(1);
         let Some((tick, later)) = self.ticks.split_first() else {
-            return Tick::Stop(self.last);
+            return Tick::Stop(self.last, StopCause::Ticks);
         };
         self.ticks = later;
         self.last = tick.moment();

@@ -8,6 +8,7 @@ ghost use Rattle.metric_export.specs.Queues.{TriesAll, TriesWhenDue, answered, e
 ghost use Rattle.metric_export.specs.Queues.{longer, new_queue, passed_on, pause_after, paused, retried, wait_after};
 ghost use Rattle.metric_export.specs.States.{GoesOn};
 
+use crate::belonging::{all_own, own_batches};
 use crate::copies::push_copy;
 use crate::exporter::MetricExporter;
 use crate::fault::ExportFault;
@@ -28,7 +29,8 @@ const LONGEST_PAUSE: u32 = 63;
 /// the oldest ones that had to go since more may not be kept, [`unkept`](Queued::unkept) those that were not kept, for want of
 /// memory or since none may be. An export answers [`ExportFault::Kept`] where the batch did not go out and is kept, and
 /// [`ExportFault::Memory`] where it is not: then nobody has it. Where the exporter below wrote a part of a batch, it is still
-/// tried again as a whole. Batches that were kept are written as the plan of the later call says.
+/// tried again as a whole. A batch of another plan than a kept one is refused by [`ExportFault::OtherPlan`], so a queue serves
+/// providers of one plan.
 ///
 /// After a try that failed the next export only keeps its batch; after another one the next 3, then 7 and so on up to 63, as
 /// long as something is kept. So a device that is out is not asked for each batch. [`retry`](MetricExporter::retry) tries at once, as a reader and a service do
@@ -163,8 +165,8 @@ impl<E: MetricExporter> MetricExporter for Queued<E> {
     ghost state = { λ q. q.state };
 
     ghost export_gives = { λ old new plan batch answer.
-        HandsIn (IsExport E.export_gives E.text E.contents E.failures E.state plan)
-        old new batch answer };
+        HandsIn (IsExport E.export_gives E.text E.contents E.failures E.state)
+        old new plan batch answer };
 
     ghost flush_gives = { PassesFlush
         (IsFlush E.flush_gives E.text E.contents E.failures E.state) };
@@ -178,6 +180,7 @@ impl<E: MetricExporter> MetricExporter for Queued<E> {
 
     fn export(&mut self, alloc: Global, plan: &Plan, batch: &Batch) -> Result<(), ExportFault> {
         self.state.admit()?;
+        all_own(plan, &self.kept, batch)?;
         let due = is_due(self.wait, &self.kept);
         let (sent, told) = try_when_due(due, &mut self.inner, alloc, plan, &self.kept, batch);
         let (is_in, lost) = keep(alloc, &mut self.kept, batch, sent, &told, self.most);
@@ -207,6 +210,7 @@ impl<E: MetricExporter> MetricExporter for Queued<E> {
             self.old self.new plan.now result }
     {
         self.state.admit()?;
+        own_batches(plan, &self.kept)?;
         let handed = export_each(&mut self.inner, alloc, plan, &self.kept);
         let below = passed_on(self.inner.retry(alloc, plan));
         discard(&mut self.kept, handed.taken);

@@ -5,6 +5,7 @@ ghost use Rattle.metric_export.specs.Reopens.{ExportsAnew, FindsSink, FlushesOpe
 ghost use Rattle.metric_export.specs.Reopens.{WritesText, WritesToFound};
 
 use crate::batch::write_encoded;
+use crate::belonging::own_plan;
 use crate::encoding::{Encoding, Plain};
 use crate::exporter::MetricExporter;
 use crate::fault::ExportFault;
@@ -129,6 +130,7 @@ impl<O: OpenSink<W>, W: Sink + Drop, E: Encoding + Drop> MetricExporter
 
     fn export(&mut self, alloc: Global, plan: &Plan, batch: &Batch) -> Result<(), ExportFault> {
         self.state.admit()?;
+        own_plan(plan, batch)?;
         let found = take_sink(&mut self.opener, &mut self.sink);
         let (left, answer) = write_to_found(alloc, &self.encoding, plan, batch, found);
         self.sink = left;
@@ -198,6 +200,7 @@ fn write_to<W: Sink + Drop, E: Encoding>(
         Err(ExportFault::ShutDown) => (Some(sink), Err(ExportFault::ShutDown)),
         Err(ExportFault::Memory) => (Some(sink), Err(ExportFault::Memory)),
         Err(ExportFault::Kept) => (Some(sink), Err(ExportFault::Kept)),
+        Err(ExportFault::OtherPlan) => (Some(sink), Err(ExportFault::OtherPlan)),
     }
 }
 

@@ -1,12 +1,13 @@
 //! An exporter that writes batches to a sink.
-ghost use Rattle.std.specs.Prelude.{◌≡◌, ◌≢◌, IsErrOf, IsOkUnless, OnOk};
+ghost use Rattle.std.specs.Prelude.{◌≡◌, ◌≢◌, false, Err, IsErrOf, IsOkUnless, OnOk};
 ghost use Rattle.std.specs.Io.KnownBytes.{Keeps};
 ghost use Rattle.metric_io.specs.Counts.{HasFailed, CountsFlush};
 ghost use Rattle.metric_export.specs.ExporterCalls.{ExportsText, FlushesOnce, FlushesText, ShutsTextDown};
-ghost use Rattle.metric_export.specs.Exports.{Exports};
-ghost use Rattle.metric_export.specs.States.{Answers, state_after};
+ghost use Rattle.metric_export.specs.Exports.{Exports, is_own};
+ghost use Rattle.metric_export.specs.States.{Answers, refused_in, state_after};
 
 use crate::batch::write_encoded;
+use crate::belonging::own_plan;
 use crate::encoding::{Encoding, Plain};
 use crate::exporter::MetricExporter;
 use crate::fault::ExportFault;
@@ -121,8 +122,12 @@ impl<W: Sink, E: Encoding + Drop> MetricExporter for TextExporter<W, E> {
             (W.failures self.new.sink ≡ W.failures self.old.sink) }
         ensures unwritten { self.old.state ≢ ExporterState.Open → self.new ≡ self.old }
         ensures memory { IsErrOf result ExportFault.Memory → self.new ≡ self.old }
+        ensures other_plan { is_own plan.now batch.now ≡ false
+            → result ≡ Err (refused_in self.old.state) }
+        ensures other_unwritten { is_own plan.now batch.now ≡ false → self.new ≡ self.old }
     {
         self.state.admit()?;
+        own_plan(plan, batch)?;
         let answer = write_encoded(alloc, &mut self.sink, &self.encoding, plan, batch);
         self.state = self.state.after(&answer);
         answer

@@ -4,13 +4,24 @@ ghost use Rattle.metric_io.specs.Counts.{next_count};
 ghost use Rattle.metric_export.specs.Ticks.{moment_of};
 ghost use Rattle.metric_export.specs.declared.tick.Tick.{Tick};
 
+/// Why a ticker stops.
+#[derive(Clone, Copy, Debug, PartialEq, Eq, Drop)]
+pub enum StopCause {
+    /// It was asked to, as by a [`StopFlag`](crate::StopFlag).
+    Flag,
+    /// Its clock cannot be read.
+    Clock,
+    /// It has given all its ticks.
+    Ticks,
+}
+
 /// The next moment of a periodic reader.
 #[derive(Clone, Copy, Debug, PartialEq, Eq, Drop)]
 pub enum Tick {
     /// A collection is due at this moment.
     At(u64),
-    /// The last collection is due, at this moment.
-    Stop(u64),
+    /// The last collection is due, at this moment, for this cause.
+    Stop(u64, StopCause),
 }
 
 impl Tick {
@@ -19,7 +30,7 @@ impl Tick {
         ensures { result ≡ moment_of self }
     {
         match self {
-            Tick::At(moment) | Tick::Stop(moment) => moment,
+            Tick::At(moment) | Tick::Stop(moment, _) => moment,
         }
     }
 }

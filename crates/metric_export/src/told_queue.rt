@@ -114,8 +114,8 @@ impl<E: MetricExporter> MetricExporter for ToldQueue<'_, E> {
     ghost state = { λ t. t.state };
 
     ghost export_gives = { λ old new plan batch answer.
-        HandsIn (IsExport E.export_gives E.text E.contents E.failures E.state plan)
-        old new batch answer };
+        HandsIn (IsExport E.export_gives E.text E.contents E.failures E.state)
+        old new plan batch answer };
 
     ghost flush_gives = { PassesFlush
         (IsFlush E.flush_gives E.text E.contents E.failures E.state) };

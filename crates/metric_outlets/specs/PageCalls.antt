@@ -24,7 +24,8 @@ pub record PageExporterValue (P : Type 0) : Type 0 where
   pub failures : ℕ
   pub state : ExporterState
 
--- the page of the lines that are kept
+-- # page of an exporter (profile)
+-- What it begins with, the last lines of each instrument in order, and the end.
 abbrev pub page_of : {P : Type 0} → PageExporterValue P → List ℕ
 page_of e = e.target ++ flat_map (λ lines. lines) e.lines ++ end_text e.dialect
 
@@ -62,7 +63,9 @@ pub record KeepsPage {P : Type 0} (old new : PageExporterValue P) : Type 0 where
   pub target : new.target ≡ old.target
   pub lines : new.lines ≡ old.lines
 
--- One flush: an open exporter hands on its page once, unless memory for it is refused.
+-- # flush of it (SDK, push metric exporter) [FlushesPage, ShutsPageDown]
+-- The page was handed on once, and the answer passed on; else memory was refused and nothing
+-- changed.
 pub record FlushesPage {P : Type 0} (replaces : Replacing P) (old new : PageExporterValue P)
     (answer : Result (Unit {0}) ExportFault) : Type 0 where
   pub kept : KeepsPage old new

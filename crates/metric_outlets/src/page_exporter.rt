@@ -8,7 +8,7 @@ ghost use Rattle.metric_outlets.specs.PageCalls.{FlushesPage, HandsOnPage, Keeps
 
 use metric_base::Items;
 use metric_contents::Instrument;
-use metric_export::{ExportFault, ExporterState, MetricExporter};
+use metric_export::{ExportFault, ExporterState, MetricExporter, own_plan};
 use metric_exposition::{Dialect, push_end, push_exposition, push_target};
 use metric_history::Batch;
 use metric_io::Broken;
@@ -186,6 +186,7 @@ impl<P: Pages + Drop> MetricExporter for PageExporter<P> {
 
     fn export(&mut self, alloc: Global, plan: &Plan, batch: &Batch) -> Result<(), ExportFault> {
         self.state.admit()?;
+        own_plan(plan, batch)?;
         let mut lines = Vec::new(alloc);
         push_exposition(
             alloc,

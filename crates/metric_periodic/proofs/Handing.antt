@@ -1,9 +1,10 @@
 -- What a run hands on, by the calls of the exporter that it makes.
-use Rattle.std.proofs.Common.{◌≡◌, ◌⊎◌, ℕ, ◌<◌, zero, suc, List, [], ◌∷◌, ◌++◌, Bool, Option, Some, None, IsSome, map, Result, Ok, Err, inl, inr, ap, sym, ◌∙◌, subst, refl, arith, rules}
+use Rattle.std.proofs.Common.{◌≡◌, ◌⊎◌, ℕ, ◌<◌, zero, suc, List, [], ◌∷◌, ◌++◌, Option, Some, None, IsSome, map, Result, Ok, Err, inl, inr, ap, sym, ◌∙◌, subst, refl, arith, rules}
 use Rattle.metric_io.specs.Counts.{next_count}
 use Rattle.std.specs.Io.KnownBytes.{Keeps}
 use Rattle.metric_export.specs.Exports.{Exports}
 use Rattle.metric_export.specs.declared.fault.ExportFault.{ExportFault}
+use Rattle.metric_export.specs.declared.tick.StopCause.{StopCause}
 use Rattle.metric_history.specs.declared.batch.Batch.{Batch}
 use Rattle.metric_provider.specs.Seats.{CollectorValue, ProviderValue}
 use Rattle.metric_periodic.specs.Collections.{Collected, Collecting, CollectingLast, CollectsLast}
@@ -135,7 +136,7 @@ pub run_hands_on : {T C E : Type 0} (gives : Giving T) (collects : Collecting C)
     (exports : Exporting E) (flushes retries shuts_down : Answering E) (text : E → Batch → List ℕ)
     (contents : E → Option (List ℕ)) → Appending exports text contents → Keeping flushes contents → SameText flushes text
     → Keeping retries contents → Keeping shuts_down contents
-    → (most : ℕ) (start : Progress T C E) (ticker : T) (stopped : Bool) (kept : Option C) (counts : Tally E)
+    → (most : ℕ) (start : Progress T C E) (ticker : T) (stopped : Option StopCause) (kept : Option C) (counts : Tally E)
     → IsRun gives collects last exports flushes retries shuts_down most start ticker stopped kept counts
     → HandsOnToEnd (text start.counts.exporter) (shown contents start.counts) (shown contents counts)
 run_hands_on gives collects last exports flushes retries shuts_down text contents appending keeping same trying ending most start ticker stopped kept counts run =
@@ -175,7 +176,7 @@ refused_kept exports p now seat kept a b (Err fault) collects exported some =
 
 pub run_keeps_refused : {T E : Type 0} (gives : Giving T) (collects : Collecting CollectorValue) (exports : Exporting E)
     (flushes retries shuts_down : Answering E) (p : ProviderValue) (most : ℕ) (start : Progress T CollectorValue E) (ticker : T)
-    (stopped : Bool) (kept : Option CollectorValue) (counts : Tally E)
+    (stopped : Option StopCause) (kept : Option CollectorValue) (counts : Tally E)
     → IsRun gives collects (CollectsLast p) exports flushes retries shuts_down most start ticker stopped kept counts
     → IsSome kept → 0 < counts.refused
 run_keeps_refused gives collects exports flushes retries shuts_down p most start ticker stopped kept counts run some =

@@ -31,6 +31,7 @@ refused_after failed (Err fault.Write) = next_count failed
 refused_after failed (Err fault.ShutDown) = next_count failed
 refused_after failed (Err fault.Memory) = next_count failed
 refused_after failed (Err fault.Kept) = failed
+refused_after failed (Err fault.OtherPlan) = next_count failed
 
 -- those that it keeps to try them again
 abbrev pub delayed_after : ℕ → Result (Unit {0}) ExportFault → ℕ
@@ -39,6 +40,7 @@ delayed_after delayed (Err fault.Write) = delayed
 delayed_after delayed (Err fault.ShutDown) = delayed
 delayed_after delayed (Err fault.Memory) = delayed
 delayed_after delayed (Err fault.Kept) = next_count delayed
+delayed_after delayed (Err fault.OtherPlan) = delayed
 
 -- a batch was handed on, once, and counted by the exporter's answer
 pub record HandsOnOne (text : Batch → List ℕ) (old new : Handed) (batch : Batch) : Type 0 where
@@ -71,8 +73,10 @@ pub record HandsOn (text : Batch → List ℕ) (old new : Handed) : Type 0 where
   pub calls : List (Option Batch)
   pub are : AreCalls text old new calls
 
--- Batches were handed on, and then the exporter was shut down: that hands on nothing, and where it
--- failed it counts as one failure more.
+-- # what a reader hands on (SDK, periodic exporting metric reader) [HandsOnToEnd, HandsOn,
+-- AreCalls, IsCall, HandsOnOne, HandsOnNothing, IsCounted]
+-- Batches, each once and in order, counted by the exporter's answers, with a flush after each
+-- collection; then the exporter is shut down, and a fault of that is one failure more.
 pub record HandsOnToEnd (text : Batch → List ℕ) (old new : Handed) : Type 0 where
   pub before : Handed
   pub hands_on : HandsOn text old before

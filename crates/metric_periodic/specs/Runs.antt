@@ -1,14 +1,15 @@
 -- A whole run of a periodic reader.
-use Rattle.std.specs.Prelude.{◌≡◌, ℕ, Bool, Option}
+use Rattle.std.specs.Prelude.{◌≡◌, ℕ, Option}
 use Rattle.metric_export.specs.Ticks.{moment_of}
+use Rattle.metric_export.specs.declared.tick.StopCause.{StopCause}
 use Rattle.metric_export.specs.declared.tick.Tick.{Tick}
 use Rattle.metric_periodic.specs.Collections.{Collected, Collecting, CollectingLast}
 use Rattle.metric_periodic.specs.Exported.{Answering, Exporting, ExportsCollected, IsFlushed, IsRetried, ShutsDown, Tally}
-use Rattle.metric_periodic.specs.Turns.{Giving, MakesTurns, Progress, is_stop}
+use Rattle.metric_periodic.specs.Turns.{Giving, MakesTurns, Progress, stop_of}
 
 -- After its turns a run makes the last collection, at the moment of the last tick, calls the
 -- exporter for each batch that it gave, and lets it try once more what it keeps. The run was stopped
--- where the ticker's last tick was a stop.
+-- where the ticker's last tick was a stop, for its cause.
 pub record ReadsAll {T C E : Type 0}
     (gives : Giving T)
     (collects : Collecting C)
@@ -19,7 +20,7 @@ pub record ReadsAll {T C E : Type 0}
     (most : ℕ)
     (start : Progress T C E)
     (ticker : T)
-    (stopped : Bool)
+    (stopped : Option StopCause)
     (kept : Option C)
     (counts : Tally E) : Type 0 where
   pub last : Tick
@@ -27,7 +28,7 @@ pub record ReadsAll {T C E : Type 0}
   pub after_turns : Tally E
   pub turns : MakesTurns gives collects exports flushes most start ticker last seat
       after_turns
-  pub is_stopped : stopped ≡ is_stop last
+  pub is_stopped : stopped ≡ stop_of last
   pub collected : Collected
   pub collects_at : collects_last (moment_of last) seat kept collected
   pub before_retry : Tally E
@@ -46,7 +47,7 @@ pub record IsRun {T C E : Type 0}
     (most : ℕ)
     (start : Progress T C E)
     (ticker : T)
-    (stopped : Bool)
+    (stopped : Option StopCause)
     (kept : Option C)
     (counts : Tally E) : Type 0 where
   pub before_shutdown : Tally E
@@ -65,7 +66,7 @@ pub record IsOpenRun {T C E : Type 0}
     (most : ℕ)
     (start : Progress T C E)
     (ticker : T)
-    (stopped : Bool)
+    (stopped : Option StopCause)
     (kept : Option C)
     (counts : Tally E) : Type 0 where
   pub before_flush : Tally E

@@ -1,5 +1,6 @@
 -- A periodic reader, as contracts see it, and its turns.
-use Rattle.std.specs.Prelude.{◌≡◌, ◌<◌, ℕ, zero, suc, Bool, true, false}
+use Rattle.std.specs.Prelude.{◌≡◌, ◌<◌, ℕ, zero, suc, Option, Some, None}
+use Rattle.metric_export.specs.declared.tick.StopCause.{StopCause}
 use Rattle.metric_export.specs.declared.tick.Tick.{Tick}
 use Rattle.metric_export.specs.declared.tick.Tick.TheVariants.{At, Stop}
 use Rattle.metric_periodic.specs.Collections.{Collected, Collecting}
@@ -15,10 +16,10 @@ pub record OpenPeriodicValue (E : Type 0) : Type 0 where
   pub counts : Tally E
   pub turns : ℕ
 
--- whether a tick is a stop
-abbrev pub is_stop : Tick → Bool
-is_stop (At moment) = false
-is_stop (Stop moment) = true
+-- why the ticker stops with a tick, where that is a stop
+abbrev pub stop_of : Tick → Option StopCause
+stop_of (At moment) = None
+stop_of (Stop moment cause) = Some cause
 
 -- how far a run has come: its ticker, the moment of the last tick, the seat,
 -- and the exporter with the counts
@@ -73,7 +74,8 @@ AreTurns {T} {C} {E} gives collects exports flushes (suc turns) old new =
 -- and the ticker then gave a stop.
 abbrev pub EndsTurns : {T : Type 0} → Giving T → ℕ → ℕ → ℕ → T → T → Tick → Type 0
 EndsTurns gives most made moment old new (At last) = (made ≡ most) × ((last ≡ moment) × (new ≡ old))
-EndsTurns gives most made moment old new (Stop last) = (made < most) × gives old new (Stop last)
+EndsTurns gives most made moment old new (Stop last cause) =
+    (made < most) × gives old new (Stop last cause)
 
 -- All turns of a run, from a start on: what they leave of the ticker, the last tick, the seat,
 -- and the exporter with the counts.

@@ -1,5 +1,5 @@
 //! A periodic reader that outlives its run.
-ghost use Rattle.std.specs.Prelude.{◌≡◌, ◌+◌, ◌≤◌, false};
+ghost use Rattle.std.specs.Prelude.{◌≡◌, ◌+◌, ◌≤◌, None};
 ghost use Rattle.metric_io.specs.Counts.{higher_count};
 ghost use Rattle.metric_export.specs.ExporterCalls.{IsExport, IsFlush, IsRetry};
 ghost use Rattle.metric_periodic.specs.Each.{CollectsLastPatiently, CollectsPatiently};
@@ -12,7 +12,7 @@ use crate::exports::Exports;
 use crate::reading::{Ended, Reading, read_open};
 use crate::seat::Patiently;
 use metric_book::Book;
-use metric_export::{MetricExporter, Ticker};
+use metric_export::{MetricExporter, StopCause, Ticker};
 use metric_provider::{Collector, Gate, Provider};
 use std::alloc::Global;
 use std::marker::Model;
@@ -42,8 +42,8 @@ impl<E> Model for OpenPeriodic<E> {
 pub struct OpenEnd<E> {
     /// The reader, whose exporter is open.
     pub reader: OpenPeriodic<E>,
-    /// Whether the ticker said that the reader was to stop.
-    pub stopped: bool,
+    /// Why the ticker stopped, where it did before it was asked as often as it may be.
+    pub stopped: Option<StopCause>,
     /// The collector, where its last collection was refused something.
     pub kept: Option<Collector>,
 }
@@ -84,7 +84,7 @@ impl<E: MetricExporter> OpenPeriodic<E> {
             ticker.new result.stopped result.kept result.reader.counts }
         ensures turns { result.reader.turns ≡ self.turns }
         ensures asked { T.asked ticker.new ≤ T.asked ticker.old + self.turns }
-        ensures all_turns { result.stopped ≡ false →
+        ensures all_turns { result.stopped ≡ None →
             higher_count (T.asked ticker.old) self.turns ≤ T.asked ticker.new }
     {
         let OpenPeriodic { exports, turns } = self;

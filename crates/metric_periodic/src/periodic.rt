@@ -1,5 +1,5 @@
 //! The periodic reader.
-ghost use Rattle.std.specs.Prelude.{◌≡◌, ◌+◌, ◌<◌, ◌≤◌, IsSome, false};
+ghost use Rattle.std.specs.Prelude.{◌≡◌, ◌+◌, ◌<◌, ◌≤◌, IsSome, None};
 ghost use Rattle.metric_io.specs.Counts.{higher_count};
 ghost use Rattle.metric_export.specs.ExporterCalls.{IsExport, IsFlush, IsRetry, IsShutdown};
 ghost use Rattle.metric_export.specs.declared.state.ExporterState.{ExporterState};
@@ -13,7 +13,7 @@ use crate::counts::RunningCounts;
 use crate::exports::Exports;
 use crate::reading::{Ended, Reading, read_to_end};
 use metric_book::Book;
-use metric_export::{MetricExporter, Ticker};
+use metric_export::{MetricExporter, StopCause, Ticker};
 use metric_provider::{Collector, Gate, Provider};
 use std::alloc::Global;
 use std::marker::Model;
@@ -50,8 +50,8 @@ pub struct PeriodicEnd<E> {
     pub refused: u64,
     /// The flushes of the exporter that failed.
     pub unflushed: u64,
-    /// Whether the ticker said that the reader was to stop.
-    pub stopped: bool,
+    /// Why the ticker stopped, where it did before it was asked as often as it may be.
+    pub stopped: Option<StopCause>,
     /// The collector, where its last collection was refused.
     pub kept: Option<Collector>,
 }
@@ -92,7 +92,7 @@ impl<E: MetricExporter> Periodic<E> {
             (tally result.exporter result.exported result.failed result.delayed
             result.refused result.unflushed) }
         ensures asked { T.asked ticker.new ≤ T.asked ticker.old + self.turns }
-        ensures all_turns { result.stopped ≡ false →
+        ensures all_turns { result.stopped ≡ None →
             higher_count (T.asked ticker.old) self.turns ≤ T.asked ticker.new }
         ensures handed { HandsOnToEnd (E.text self.exporter provider.now.plan)
             (handed (E.contents self.exporter) 0 0 0)
@@ -132,7 +132,7 @@ impl<E: MetricExporter> Periodic<E> {
             (tally result.exporter result.exported result.failed result.delayed
             result.refused result.unflushed) }
         ensures asked { T.asked ticker.new ≤ T.asked ticker.old + self.turns }
-        ensures all_turns { result.stopped ≡ false →
+        ensures all_turns { result.stopped ≡ None →
             higher_count (T.asked ticker.old) self.turns ≤ T.asked ticker.new }
         ensures handed { HandsOnToEnd (E.text self.exporter provider.now.plan)
             (handed (E.contents self.exporter) 0 0 0)

@@ -1,14 +1,14 @@
 //! The turns of a periodic reader, with any ticker, seat and exporter.
-ghost use Rattle.std.specs.Prelude.{◌≡◌, ◌+◌, ◌≤◌, false};
+ghost use Rattle.std.specs.Prelude.{◌≡◌, ◌+◌, ◌≤◌, None};
 ghost use Rattle.metric_io.specs.Counts.{higher_count};
 ghost use Rattle.metric_export.specs.ExporterCalls.{IsExport, IsFlush, IsRetry, IsShutdown};
 ghost use Rattle.metric_periodic.specs.Runs.{IsOpenRun, IsRun, ReadsAll};
-ghost use Rattle.metric_periodic.specs.Turns.{IsCollectedAt, MakesTurns, is_stop, progress};
+ghost use Rattle.metric_periodic.specs.Turns.{IsCollectedAt, MakesTurns, stop_of, progress};
 
 use crate::counts::Listener;
 use crate::exports::Exports;
 use crate::seat::Seat;
-use metric_export::{MetricExporter, Tick, Ticker};
+use metric_export::{MetricExporter, StopCause, Tick, Ticker};
 use metric_plan::Plan;
 use std::alloc::Global;
 
@@ -19,11 +19,11 @@ pub(crate) struct Reading<'a, C, E, L> {
     pub listener: &'a L,
 }
 
-/// What a run leaves: the exporter with the counts, whether the ticker said that the run was to stop,
+/// What a run leaves: the exporter with the counts, why the ticker stopped the run where it did,
 /// and the seat where its last collection was refused.
 pub(crate) struct Ended<C, E> {
     pub exports: Exports<E>,
-    pub stopped: bool,
+    pub stopped: Option<StopCause>,
     pub kept: Option<C>,
 }
 
@@ -47,7 +47,7 @@ pub(crate) fn read_to_end<R, P, C: Seat<R, P>, E: MetricExporter, T: Ticker<R>, 
         (progress ticker.old 0 reading.entry.seat reading.entry.exports)
         ticker.new result.stopped result.kept result.exports }
     ensures asked { T.asked ticker.new ≤ T.asked ticker.old + turns }
-    ensures all_turns { result.stopped ≡ false →
+    ensures all_turns { result.stopped ≡ None →
         higher_count (T.asked ticker.old) turns ≤ T.asked ticker.new }
     ensures told { L.told reading.entry.listener.now
         result.exports.exported result.exports.failed result.exports.delayed
@@ -88,7 +88,7 @@ pub(crate) fn read_open<R, P, C: Seat<R, P>, E: MetricExporter, T: Ticker<R>, L:
         (progress ticker.old 0 reading.entry.seat reading.entry.exports)
         ticker.new result.stopped result.kept result.exports }
     ensures asked { T.asked ticker.new ≤ T.asked ticker.old + turns }
-    ensures all_turns { result.stopped ≡ false →
+    ensures all_turns { result.stopped ≡ None →
         higher_count (T.asked ticker.old) turns ≤ T.asked ticker.new }
     ensures told { L.told reading.entry.listener.now
         result.exports.exported result.exports.failed result.exports.delayed
@@ -131,7 +131,7 @@ fn read_all<R, P, C: Seat<R, P>, E: MetricExporter, T: Ticker<R>, L: Listener>(
         (progress ticker.old 0 reading.entry.seat reading.entry.exports)
         ticker.new result.stopped result.kept result.exports }
     ensures asked { T.asked ticker.new ≤ T.asked ticker.old + turns }
-    ensures all_turns { result.stopped ≡ false →
+    ensures all_turns { result.stopped ≡ None →
         higher_count (T.asked ticker.old) turns ≤ T.asked ticker.new }
 {
     let mut reading = reading;
@@ -146,18 +146,18 @@ fn read_all<R, P, C: Seat<R, P>, E: MetricExporter, T: Ticker<R>, L: Listener>(
     exports.retry(alloc, plan);
     Ended {
         exports,
-        stopped: stops(last),
+        stopped: stop_of(last),
         kept,
     }
 }
 
-// Whether a tick is a stop.
-fn stops(last: Tick) -> bool
-    ensures { result ≡ is_stop last }
+// Why the ticker stops with a tick, where that is a stop.
+fn stop_of(last: Tick) -> Option<StopCause>
+    ensures { result ≡ stop_of last }
 {
     match last {
-        Tick::At(_) => false,
-        Tick::Stop(_) => true,
+        Tick::At(_) => None,
+        Tick::Stop(_, cause) => Some(cause),
     }
 }
 
@@ -178,13 +178,13 @@ fn make_turns<R, P, C: Seat<R, P>, E: MetricExporter, T: Ticker<R>, L: Listener>
         (progress ticker.old 0 reading.old.seat reading.old.exports)
         ticker.new result reading.new.seat reading.new.exports }
     ensures asked { T.asked ticker.new ≤ T.asked ticker.old + turns }
-    ensures all_turns { is_stop result ≡ false →
+    ensures all_turns { stop_of result ≡ None →
         higher_count (T.asked ticker.old) turns ≤ T.asked ticker.new }
 {
     let mut last = 0;
     for _turn in 0..turns {
         match ticker.next(rt) {
-            Tick::Stop(moment) => return Tick::Stop(moment),
+            Tick::Stop(moment, cause) => return Tick::Stop(moment, cause),
             Tick::At(now) => {
                 collect_and_export(rt, alloc, plan, provider, now, reading);
                 last = now;

@@ -2,8 +2,14 @@
 use Rattle.std.proofs.Common.{rules}
 use Rattle.metric_export.proofs.clock_ticker.ClockTicker.tick.Goals as goal
 
-pub returns-clause-tick : goal.returns-clause-tick
-returns-clause-tick c = search rules
+pub returns-in-None-clause-tick : goal.returns-in-None-clause-tick
+returns-in-None-clause-tick c = search rules
 
-pub returns-clause-after : goal.returns-clause-after
-returns-clause-after c = search rules
+pub returns-in-Some-clause-tick : goal.returns-in-Some-clause-tick
+returns-in-Some-clause-tick c = search rules
+
+pub returns-in-None-clause-after : goal.returns-in-None-clause-after
+returns-in-None-clause-after c = search rules
+
+pub returns-in-Some-clause-after : goal.returns-in-Some-clause-after
+returns-in-Some-clause-after c = search rules

@@ -1,5 +1,8 @@
 -- what is left of the queue is kept
-use Rattle.std.proofs.Common.{Result, ap, rules, ◌∙◌}
+use Rattle.std.proofs.Common.{Result, List, true≢false, ap, sym, rules, ◌∙◌}
+use Rattle.std.specs.List.{list_all}
+use Rattle.metric_history.specs.declared.batch.Batch.{Batch}
+use Rattle.metric_export.specs.Exports.{is_own}
 use Rattle.metric_export.specs.Queues.{retried}
 use Rattle.metric_export.specs.declared.fault.ExportFault.{ExportFault}
 use Rattle.metric_export.proofs.queued.QueuedMetricExporter.retry.Goals as goal
@@ -8,12 +11,12 @@ pub returns-clause-gives : goal.returns-clause-gives
 returns-clause-gives g c =
     rw (← c.self.view_is)
     (record {
-      when_open = λ open_state. record {
+      when_open = λ open_state own. record {
         mid = c.export_each-handed.new.exporter;
         sent = c.export_each-handed.result.taken;
         refused = c.export_each-handed.result.refused;
         below = c.retry.result;
-        tries = rw (← c.deref.ensures.value) c.export_each-handed.ensures.handed;
+        tries = rw (← c.deref-2.ensures.value) c.export_each-handed.ensures.handed;
         retries_below = record {
           own = c.retry.ensures.gives;
           keeps = c.retry.ensures.text;
@@ -33,5 +36,6 @@ returns-clause-gives g c =
         most = search rules;
         state = search rules;
       };
+      when_other = λ open_state other. absurd (true≢false (sym c.in_ok-own_batches.ensures.own ∙ ap (λ (ks : List Batch). list_all (is_own c.args.plan.now) ks) c.deref.ensures.value ∙ other));
       when_shut = λ shut. absurd (shut c.in_ok-admit.ensures);
     })

@@ -1,12 +1,12 @@
 -- the text is written to the sink that is open, or else to a new one
-use Rattle.std.proofs.Common.{refl}
+use Rattle.std.proofs.Common.{refl, sym, true≢false, ◌∙◌}
 use Rattle.metric_export.proofs.reopening_exporter.ReopeningExporterMetricExporter.export.Goals as goal
 
 pub returns-clause-gives : goal.returns-clause-gives
 returns-clause-gives g c =
     rw (← c.self.view_is)
     (record {
-      writes = λ _. record {
+      writes = λ _ _. record {
         found = c.take_sink-found.result;
         finds = c.take_sink-found.ensures;
         writes = c.write_to_found-left.ensures.written;
@@ -14,5 +14,6 @@ returns-clause-gives g c =
         state = refl;
         encoding = refl;
       };
+      other_plan = λ other. absurd (true≢false (sym c.in_ok-own_plan.ensures.own ∙ other));
       unwritten = λ shut. absurd (shut c.in_ok-admit.ensures);
     })
