@@ -24,6 +24,8 @@ spelled digits =
     if nat_lt (length digits) 7 then digits ++ codes ".0"
     else concat (pointed (significant digits) ∷ codes "e+" ∷ exponent (length digits - 1) ∷ [])
 
+-- # boundary as it is written (Prometheus)
+-- The digits of a whole number as its double is written.
 abbrev pub le_text : ℤ → List ℕ
 le_text (pos n) = spelled (decimal n)
 le_text (negsuc n) = codes "-" ++ spelled (decimal (suc n))

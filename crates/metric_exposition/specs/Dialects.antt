@@ -4,6 +4,8 @@ use Rattle.metric_exposition.specs.declared.dialect.Dialect.{Dialect}
 use Rattle.metric_exposition.specs.declared.dialect.Dialect.TheVariants.{Text, OpenMetrics}
 use Rattle.metric_exposition.specs.declared.dialect.Dialect.TheVariants.{OpenMetricsCreated}
 
+-- # dialect (Prometheus text format, OpenMetrics) [is_open_metrics, created_at]
+-- The text format, OpenMetrics, or that with the lines that tell when series begin.
 abbrev pub is_open_metrics : Dialect → Bool
 is_open_metrics Text = false
 is_open_metrics OpenMetrics = true

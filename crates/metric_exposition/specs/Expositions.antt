@@ -59,8 +59,8 @@ instrument_lines dialect meters streams batch instrument =
     (λ meter. flat_map (reported_lines dialect meter instrument.keys streams batch.start) batch.streams)
     (slice_get meters instrument.meter) []
 
--- the lines of a batch, in the order of its streams and points; nothing where its number names no
--- instrument of the catalogue
+-- # exposition of a batch (profile)
+-- These lines of each stream that has points, in order.
 unfoldable pub exposition : Dialect → Contents → List Stream → Batch → List ℕ
 exposition dialect catalogue streams batch =
     option_map_or (instrument_lines dialect catalogue.meters streams batch)

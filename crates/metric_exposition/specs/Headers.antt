@@ -33,7 +33,8 @@ abbrev pub unit_lines : Bool → List ℕ → Stream → List ℕ
 unit_lines true family stream = unit_line family (unit_text stream)
 unit_lines false family stream = []
 
--- the lines before the samples of a stream, whose family has this name
+-- # lines before the points (Prometheus text format, OpenMetrics)
+-- Help, type, and in OpenMetrics the unit.
 abbrev pub header : Dialect → List ℕ → Stream → List ℕ
 header dialect family stream =
     described (is_open_metrics dialect) family

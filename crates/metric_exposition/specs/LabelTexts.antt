@@ -22,7 +22,9 @@ quoted text = codes "=\"" ++ (escaped true text ++ codes "\"")
 abbrev pub label_text : Label → List ℕ
 label_text label = label.0 ++ quoted label.1
 
--- labels with commas between; one whose text is empty is left out
+-- # labels of a line (Prometheus text format) [labels_text, braced]
+-- The labels of a point with commas between, without those whose text is empty; in braces, where
+-- there are any.
 unfoldable pub labels_text : List Label → List ℕ
 labels_text labels = join_by label_text (44 ∷ []) (shown labels)
 

@@ -18,7 +18,8 @@ end_by false = []
 abbrev pub end_text : Dialect → List ℕ
 end_text dialect = end_by (is_open_metrics dialect)
 
--- a page: the resource, the batches, and the end
+-- # page (OpenMetrics) [page, end_text]
+-- The target, the expositions of batches, and the end.
 abbrev pub page : Dialect → List OwnedAttr → Contents → List Stream → List Batch → List ℕ
 page dialect resource catalogue streams batches =
     target_text dialect resource

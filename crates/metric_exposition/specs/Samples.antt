@@ -51,6 +51,8 @@ sums_from before counts =
 abbrev pub buckets_from : ℕ → List ℤ → List ℕ → List (List ℕ × ℕ)
 buckets_from before boundaries counts = zip (les boundaries) (sums_from before counts)
 
+-- # buckets (Prometheus text format, histogram)
+-- Each boundary, and at last `+Inf`, with the sum of the counts up to its own.
 abbrev pub buckets : List ℤ → List ℕ → List (List ℕ × ℕ)
 buckets boundaries counts = buckets_from 0 boundaries counts
 
@@ -78,7 +80,9 @@ histogram_lines dialect family labels created boundaries count counts sum = conc
     ∷ count_line (is_open_metrics dialect) family labels (sum_told dialect boundaries sum) count
     ∷ created_line family labels created ∷ [])
 
--- a point by its value
+-- # lines of a point (Prometheus text format, OpenMetrics)
+-- A number, or the buckets, the sum and the count of a histogram, and when they begin where the
+-- dialect tells it.
 abbrev pub value_lines
     : Dialect → MetricType → List ℕ → List ℕ → Option ℕ → List ℤ → PointValue → List ℕ
 value_lines dialect type family labels created boundaries (Sum n) =

@@ -21,7 +21,8 @@ target_header true =
 target_header false =
     described false (codes "target_info") [] (codes "Target metadata") (codes "gauge")
 
--- the lines of a resource, nothing of one without attributes
+-- # target (OpenTelemetry, Prometheus compatibility)
+-- The attributes of a resource as labels of `target_info`.
 abbrev pub target_text : Dialect → List OwnedAttr → List ℕ
 target_text dialect [] = []
 target_text dialect (attribute ∷ resource) =

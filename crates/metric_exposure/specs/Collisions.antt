@@ -14,7 +14,9 @@ use Rattle.metric_exposure.specs.declared.fault.ExposureFault.TheVariants.{NameC
 abbrev pub is_claimed : ℕ → List ℕ → Stream → Bool
 is_claimed reader name stream = stream.reader == reader && is_among (claims_of stream) name
 
--- the place of the reader's first stream that claims a name
+-- # collision of a name (profile) [first_claim, collision_by]
+-- The first name of a stream that the target claims or an earlier stream of the reader, with the
+-- first such stream.
 unfoldable pub first_claim : ℕ → List Stream → List ℕ → Option ℕ
 first_claim reader streams name = position_from (is_claimed reader name) 0 streams
 

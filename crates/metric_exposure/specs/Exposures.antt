@@ -71,7 +71,8 @@ faults_at outlet contents streams reader number =
     then stream_faults outlet contents reader (take number streams) number stream else [])
     (slice_get streams number) []
 
--- all faults of a reader's streams, in order
+-- # faults of a reader's streams (profile)
+-- Those of each stream in order: delta, boundary, name, keys; for OTLP boundaries alone.
 unfoldable pub exposure_faults : Outlet → Contents → List Stream → ℕ → List ExposureFault
 exposure_faults outlet contents streams reader =
     flat_map (faults_at outlet contents streams reader) (range_with_len 0 (length streams))

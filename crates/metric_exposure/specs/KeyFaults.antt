@@ -55,7 +55,9 @@ abbrev pub value_fault : ℕ → ℕ → Key → Option ExposureFault
 value_fault stream key own =
     if are_confused own then Some (faults.ValueCollision stream key) else None
 
--- the faults of a key, where these labels are taken before it
+-- # faults of a key (profile) [key_faults, all_key_faults]
+-- That its label says nothing or is taken, and that two of its values, or a value and its absence,
+-- look alike.
 abbrev pub key_faults : ℕ → ℕ → List (List ℕ) → Key → List ExposureFault
 key_faults stream key taken own =
     cons_option (label_fault stream key taken (label_of own.name))

@@ -21,7 +21,10 @@ use Rattle.metric_exposure.specs.declared.outlet.Outlet.TheVariants.{Prometheus}
 use Rattle.metric_exposure.specs.Collisions.{is_of_target}
 use Rattle.metric_exposure.specs.Exposures.{exposure_faults, keys_of}
 
--- The stream has this number, and is the reader's, whose streams pass.
+-- # streams that pass (profile) [Passes, NamesAreSound, LabelsAreSound, FamiliesAreApart,
+-- NoneClaimsTheTarget, SeriesAreApart]
+-- What holds of a reader's streams without a fault: sound names and labels, families and series
+-- that are apart.
 pub record Passes (contents : Contents) (streams : List Stream) (reader number : ℕ)
     (stream : Stream) : Type 0 where
   pub none : exposure_faults Prometheus contents streams reader ≡ []
@@ -85,7 +88,8 @@ abbrev pub running : ℕ → List ℕ → List ℕ
 running before [] = []
 running before (count ∷ counts) = (before + count) ∷ running (before + count) counts
 
--- They rise from a number on, and the last is the count.
+-- # buckets that rise (Prometheus data model, histogram) [RisesTo, BucketsRise]
+-- Running sums of a point's counts rise, and the last is the point's count.
 abbrev pub RisesTo : ℕ → ℕ → List ℕ → Type 0
 RisesTo count from [] = from ≡ count
 RisesTo count from (sum ∷ sums) = (from ≤ sum) × RisesTo count sum sums

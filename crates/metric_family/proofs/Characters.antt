@@ -121,10 +121,6 @@ plain_unless_digit (c ∷ name) e = by (is_ascii_digit c)
     by true = e
     by false = e
 
-pub plain_family : (stream : Stream) → Plain (family stream)
-unfolding family
-plain_family stream = plain_unless_digit (joined (family_parts stream)) (plain_joined (family_parts stream) (plain_family_parts stream))
-
 -- such a text is UTF-8
 small : (c : ℕ) → is_label_character c ≡ true → c < 128
 small c e = grind (arith, nat_tests)

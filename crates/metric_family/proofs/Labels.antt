@@ -1,5 +1,5 @@
 -- What labels are made of, and how they are written.
-use Rattle.std.proofs.Common.{◌≡◌, ℕ, suc, ◌+◌, ◌<◌, Bool, true, false, cond, List, [], ◌∷◌, ◌++◌, length, drop, get_or, refl, sym, ap, ◌∙◌, arith, append_assoc, drop-cons}
+use Rattle.std.proofs.Common.{◌≡◌, ℕ, ◌+◌, Bool, true, false, cond, List, [], ◌∷◌, ◌++◌, refl, ap, ◌∙◌}
 use Rattle.std.specs.Prelude.{codes}
 use Rattle.std.specs.Char.{is_ascii_alphanumeric, is_ascii_digit}
 use Rattle.std.proofs.lemmas.List.Folds.{list_all-append}
@@ -32,11 +32,3 @@ plain_unless_key (c ∷ label) e = by (is_ascii_digit c)
 pub plain_label : (key : List ℕ) → Plain (label_of key)
 unfolding label_of
 plain_label key = plain_unless_key (squeezed false key) (plain_squeezed false key)
-
--- one character more
-pub squeezed_turn : (out next key : List ℕ) (i byte : ℕ) (between : Bool) → i < length key → byte ≡ get_or key i byte → next ≡ out ++ squeezed_one between byte
-    → next ++ squeezed (is_between byte) (drop (i + 1) key) ≡ out ++ squeezed between (drop i key)
-squeezed_turn out next key i byte between within is written =
-    let more : i + 1 ≡ suc i = omega arith in
-    let cut : drop i key ≡ byte ∷ drop (i + 1) key = drop-cons key i byte within ∙ ap (λ (c : ℕ). c ∷ drop (suc i) key) (sym is) ∙ ap (λ (n : ℕ). byte ∷ drop n key) (sym more) in
-    rw (written, cut) (append_assoc out (squeezed_one between byte) (squeezed (is_between byte) (drop (i + 1) key)))

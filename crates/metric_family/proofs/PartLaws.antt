@@ -30,10 +30,6 @@ pub side_is : (named : List ℕ → List ℕ) (text : List ℕ) → list_any is_
 unfolding side joined
 side_is named text e = ap (λ b. cond b [] (with_parts [] (words (named (trimmed text))))) e ∙ ap (with_parts []) (sym (without_none (named (trimmed text))))
 
-pub side_none : (named : List ℕ → List ℕ) (text : List ℕ) → list_any is_brace text ≡ true → side named text ≡ []
-unfolding side
-side_none named text e = ap (λ b. cond b [] (joined (words (named (trimmed text))))) e
-
 split_pair : (test : List ℕ → Bool) (a b : List ℕ) → filter test (filter is_some (a ∷ b ∷ [])) ≡ filter test (filter is_some (a ∷ [])) ++ filter test (filter is_some (b ∷ []))
 split_pair test a b = by (is_some a)
   where

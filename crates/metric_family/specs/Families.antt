@@ -25,7 +25,8 @@ type_by Sum rises = sum_type rises
 type_by LastValue rises = Gauge
 type_by (aggregations.Histogram boundaries) rises = Histogram
 
--- the type of a stream's family
+-- # type of a family (Prometheus text format)
+-- A sum that only rises is a counter, another sum and a last value a gauge.
 unfoldable pub type_of : Stream → MetricType
 type_of stream = type_by stream.aggregation (is_monotonic stream.kind)
 
@@ -71,7 +72,9 @@ abbrev pub unless_digit : List ℕ → List ℕ
 unless_digit [] = []
 unless_digit (c ∷ name) = if is_ascii_digit c then 95 ∷ c ∷ name else c ∷ name
 
--- the name of a stream's family, without `_total`; empty where no part is left
+-- # family (Prometheus, naming by the Collector)
+-- The words of a stream's name and the parts of its unit that are none of these, with `_` between;
+-- empty where none is left.
 unfoldable pub family : Stream → List ℕ
 family stream = unless_digit (joined (family_parts stream))
 
@@ -83,6 +86,8 @@ ends_with_words name words = bytes_eq name words || ends_with ◌==◌ name (95 
 abbrev pub unit_told : List ℕ → List ℕ → List ℕ
 unit_told name unit = if ends_with_words name unit then unit else []
 
+-- # unit that is told (OpenMetrics, `# UNIT`)
+-- The parts of the unit, where the family ends with them.
 unfoldable pub unit_text : Stream → List ℕ
 unit_text stream = unit_told (family stream) (joined (unit_parts stream.unit))
 
@@ -99,5 +104,7 @@ abbrev pub claims_by : List ℕ → MetricType → List (List ℕ)
 claims_by [] type = []
 claims_by (c ∷ name) type = map (λ suffix. c ∷ name ++ suffix) (suffixes type)
 
+-- # claims (OpenMetrics, sample names)
+-- The names of a family and of its samples.
 unfoldable pub claims_of : Stream → List (List ℕ)
 claims_of stream = claims_by (family stream) (type_of stream)

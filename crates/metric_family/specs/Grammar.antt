@@ -10,7 +10,8 @@ is_label_start c = is_ascii_alphabetic c || c == 95
 abbrev pub is_label_character : ℕ → Bool
 is_label_character c = is_ascii_alphanumeric c || c == 95
 
--- a name: the same, and colons
+-- # grammar (Prometheus data model) [IsName, IsLabel]
+-- What Prometheus takes for a name and for a label.
 abbrev pub IsName : List ℕ → Type 0
 IsName [] = ⊥
 IsName (c ∷ text) =

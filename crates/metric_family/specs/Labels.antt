@@ -25,7 +25,8 @@ abbrev pub unless_key : List ℕ → List ℕ
 unless_key [] = []
 unless_key (c ∷ label) = if is_ascii_digit c then codes "key_" ++ c ∷ label else c ∷ label
 
--- the label of a key
+-- # label (Prometheus, naming by the Collector)
+-- A key with one `_` for each run of others than letters and digits.
 unfoldable pub label_of : List ℕ → List ℕ
 label_of key = unless_key (squeezed false key)
 
@@ -57,7 +58,8 @@ scope_labels meter =
     ∷ (codes "otel_scope_version", meter.version)
     ∷ (codes "otel_scope_schema_url", meter.schema_url) ∷ []
 
--- the labels of a point, in order: of its series, and of its scope
+-- # labels of a point (profile) [point_labels, shown]
+-- Those of its kept and present keys, and those of its scope.
 unfoldable pub point_labels : Meter → List Key → List Bool → Option (List ℕ) → List Label
 point_labels meter keys kept set = series_labels keys kept set ++ scope_labels meter
 

@@ -92,7 +92,8 @@ side named text = if list_any is_brace text then [] else joined (words (named (t
 abbrev pub is_slash : ℕ → Bool
 is_slash c = c == 47
 
--- what stands before the first slash of a unit, and what stands after it
+-- # parts of a unit (Prometheus, naming by the Collector) [main_words, per_words, unit_parts]
+-- What the side of a unit before its slash and the side after it are called, by words.
 unfoldable pub main_words : List ℕ → List ℕ
 main_words unit = side unit_name (before_first is_slash unit)
 

@@ -11,7 +11,8 @@ is_between c = not (is_ascii_alphanumeric c)
 abbrev pub is_some : List ℕ → Bool
 is_some word = not (length word == 0)
 
--- the longest runs of ASCII letters and digits
+-- # words (Prometheus, naming by the Collector)
+-- The longest runs of ASCII letters and digits of a text.
 unfoldable pub words : List ℕ → List (List ℕ)
 words text = filter is_some (slice_split is_between text)
 

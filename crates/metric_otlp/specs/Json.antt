@@ -46,7 +46,8 @@ named name value = codes "\"" ++ (name ++ (codes "\":" ++ value))
 abbrev pub unless : Bool → List ℕ → Option (List ℕ)
 unless out text = if out then None else Some text
 
--- an object, of the members that are not left out
+-- # object (JSON)
+-- The members that are not left out, with commas between.
 unfoldable pub object : List (Option (List ℕ)) → List ℕ
 object members =
     codes "{" ++ (joined (λ text. text) (filter_map (λ member. member) members) ++ codes "}")

@@ -94,7 +94,8 @@ request_json resource batch report =
 abbrev pub report_line : List OwnedAttr → Batch → Report → List ℕ
 report_line resource batch report = request_json resource batch report ++ codes "\n"
 
--- the line of a batch, empty where it reports nothing
+-- # line (OTLP, JSON encoding)
+-- The same request as a line of JSON.
 abbrev pub line : List OwnedAttr → Contents → List Stream → Batch → List ℕ
 line resource catalogue streams batch =
     option_map_or (report_line resource batch) (report_of catalogue streams batch) []

@@ -66,7 +66,8 @@ metric_message keys batch stream points = concat (
     ∷ text_field 3 stream.unit
     ∷ block (data_number stream.aggregation) (data_message keys batch stream points) ∷ [])
 
--- its field in the metrics of its scope
+-- # metric, scope (OTLP, metrics)
+-- A message `Metric` for each stream of a report; a `ScopeMetrics` of them.
 abbrev pub metric_field : List Key → Batch → ReportedStream → List ℕ
 metric_field keys batch reported =
     block 2 (metric_message keys batch reported.stream reported.points)

@@ -42,7 +42,8 @@ point_message keys kept bounds batch set (Last number) = number_point keys kept 
 point_message keys kept bounds batch set (Buckets count counts sum min max) =
     histogram_point keys kept bounds batch set count counts sum min max
 
--- the field of a point in its metric
+-- # point (OTLP, metrics)
+-- A message `NumberDataPoint` or `HistogramDataPoint`, by its value.
 abbrev pub point_field : List Key → List Bool → List ℤ → Batch → Point → List ℕ
 point_field keys kept bounds batch point =
     block 1 (point_message keys kept bounds batch point.set point.value)

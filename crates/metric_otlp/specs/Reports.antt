@@ -32,8 +32,8 @@ pub record Report : Type 0 where
 abbrev pub some_streams : List ReportedStream → Option (List ReportedStream)
 some_streams streams = if length streams == 0 then None else Some streams
 
--- the report of a batch, unless it has no points, or its number names no instrument or this one's no
--- meter
+-- # report of a batch (profile)
+-- The meter and the keys of its instrument, and its streams that have points.
 unfoldable pub report_of : Contents → List Stream → Batch → Option Report
 report_of catalogue streams batch = do
   instrument ← slice_get catalogue.instruments batch.instrument

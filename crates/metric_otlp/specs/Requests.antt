@@ -21,7 +21,9 @@ abbrev pub reported_message : List OwnedAttr → Batch → Report → List ℕ
 reported_message resource batch report =
     block 1 (resource_message resource) ++ block 2 (scope_message batch report)
 
--- the request of a batch, empty where it reports nothing
+-- # request (OTLP, collector) [request, requests]
+-- A message `ExportMetricsServiceRequest` of one batch, or no bytes; that of several batches is
+-- theirs one after the other.
 abbrev pub request : List OwnedAttr → Contents → List Stream → Batch → List ℕ
 request resource catalogue streams batch =
     option_map_or (λ report. block 1 (reported_message resource batch report))

@@ -23,7 +23,9 @@ any_value (Text text) = block 1 text
 any_value (Flag flag) = varint_field 2 (flag_number flag)
 any_value (Whole number) = varint_field 3 (cast_unsigned w64 number)
 
--- a field that is an attribute: its key, and its value
+-- # attribute, attributes of a series (OTLP, common) [attribute_field, series_fields]
+-- A message `KeyValue`; one for each key that is kept and present, or the mark of the overflow
+-- series.
 unfoldable pub attribute_field : ℕ → Attribute → List ℕ
 attribute_field field attribute =
     block field (text_field 1 attribute.0 ++ block 2 (any_value attribute.1))

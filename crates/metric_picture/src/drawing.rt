@@ -1,6 +1,7 @@
 //! The picture of a catalogue and a config.
+use crate::clashes::{Clash, clashes_of};
 use crate::diagram::{Diagram, Link, Node, Tone};
-use crate::exported::{each_stream, grouped_streams, red_flags};
+use crate::exported::{each_stream, grouped_streams};
 use crate::instruments::{each_instrument, grouped_instruments, stream_counts};
 use crate::lanes::with_lanes;
 use crate::links::Links;
@@ -37,9 +38,9 @@ fn diagram_of(
     config: &Config,
     streams: &Streams,
 ) -> Result<Diagram, AllocError> {
-    let red = red_flags(alloc, streams)?;
-    let columns = columns_of(alloc, catalogue, config, streams.list(), &red)?;
-    let links = links_of(alloc, catalogue, config, streams.list(), &red, &columns)?;
+    let clashes = clashes_of(alloc, catalogue, config, streams)?;
+    let columns = columns_of(alloc, catalogue, config, streams.list(), &clashes)?;
+    let links = links_of(alloc, catalogue, config, streams.list(), &clashes, &columns)?;
     let columns = columns.into_nodes(alloc, config.views().is_empty())?;
     Ok(Diagram { columns, links })
 }
@@ -86,15 +87,15 @@ fn columns_of(
     catalogue: &Catalogue,
     config: &Config,
     list: &[Stream],
-    red: &[bool],
+    clashes: &[Option<Clash>],
 ) -> Result<Columns, AllocError> {
     let is_grouped = catalogue.instruments().len() > MOST_INSTRUMENTS || list.len() > MOST_STREAMS;
     let instruments = instrument_slots(alloc, catalogue, list, is_grouped)?;
     let views = with_lanes(alloc, view_nodes(alloc, config)?, list, &instruments)?;
     let streams = if is_grouped {
-        grouped_streams(alloc, catalogue, config, list, red)?
+        grouped_streams(alloc, catalogue, config, list, clashes)?
     } else {
-        each_stream(alloc, catalogue, config, list, red)?
+        each_stream(alloc, catalogue, config, list, clashes)?
     };
     Ok(Columns {
         instruments,
@@ -123,13 +124,13 @@ fn links_of(
     catalogue: &Catalogue,
     config: &Config,
     streams: &[Stream],
-    red: &[bool],
+    clashes: &[Option<Clash>],
     columns: &Columns,
 ) -> Result<Vec<Link>, AllocError> {
     if config.views().is_empty() {
-        direct_links(alloc, streams, red, columns)
+        direct_links(alloc, streams, clashes, columns)
     } else {
-        view_links(alloc, catalogue, config, streams, red, columns)
+        view_links(alloc, catalogue, config, streams, clashes, columns)
     }
 }
 
@@ -137,14 +138,14 @@ fn links_of(
 fn direct_links(
     alloc: Global,
     streams: &[Stream],
-    red: &[bool],
+    clashes: &[Option<Clash>],
     columns: &Columns,
 ) -> Result<Vec<Link>, AllocError> {
     let (height, width) = (columns.instruments.nodes.len(), columns.streams.nodes.len());
     let mut links = Links::new(alloc, INSTRUMENTS, height, width)?;
-    for (number, (stream, is_red)) in streams.iter().zip(red).enumerate() {
+    for (number, (stream, clash)) in streams.iter().zip(clashes).enumerate() {
         let from = columns.instruments.at(stream.instrument as usize);
-        links.add(from, columns.streams.at(number), link_tone(*is_red))?;
+        links.add(from, columns.streams.at(number), link_tone(*clash))?;
     }
     let mut all = Vec::new(alloc);
     links.push_to(&mut all)?;
@@ -157,7 +158,7 @@ fn view_links(
     catalogue: &Catalogue,
     config: &Config,
     streams: &[Stream],
-    red: &[bool],
+    clashes: &[Option<Clash>],
     columns: &Columns,
 ) -> Result<Vec<Link>, AllocError> {
     let (height, width) = (columns.instruments.nodes.len(), columns.views.nodes.len());
@@ -165,7 +166,7 @@ fn view_links(
     let views = config.views();
     link_selected(&mut to_views, catalogue, views, &columns.instruments)?;
     let mut to_streams = Links::new(alloc, VIEWS, width, columns.streams.nodes.len())?;
-    link_streams(&mut to_views, &mut to_streams, columns, streams, red)?;
+    link_streams(&mut to_views, &mut to_streams, columns, streams, clashes)?;
     all_links(alloc, &to_views, &to_streams)
 }
 
@@ -214,10 +215,10 @@ fn link_streams(
     to_streams: &mut Links,
     columns: &Columns,
     streams: &[Stream],
-    red: &[bool],
+    clashes: &[Option<Clash>],
 ) -> Result<(), AllocError> {
-    for (number, (stream, is_red)) in streams.iter().zip(red).enumerate() {
-        let tone = link_tone(*is_red);
+    for (number, (stream, clash)) in streams.iter().zip(clashes).enumerate() {
+        let tone = link_tone(*clash);
         let from = match stream.view {
             Some(view) => view as usize,
             None => {
@@ -232,6 +233,10 @@ fn link_streams(
     Ok(())
 }
 
-fn link_tone(is_red: bool) -> Tone {
-    if is_red { Tone::Red } else { Tone::Plain }
+fn link_tone(clash: Option<Clash>) -> Tone {
+    if clash.is_some() {
+        Tone::Red
+    } else {
+        Tone::Plain
+    }
 }

@@ -1,24 +1,11 @@
 //! The boxes of streams.
+use crate::clashes::Clash;
 use crate::diagram::{Node, Tone};
-use crate::links::raise;
 use crate::slots::Slots;
 use metric_catalogue::Catalogue;
 use metric_contents::Key;
-use metric_resolve::{Streams, Warning};
 use metric_views::{Config, Stream, StreamAggregation, Temporality};
 use std::alloc::{AllocError, Global};
-
-/// Of each stream, whether it has the identity of another one.
-pub(crate) fn red_flags(alloc: Global, streams: &Streams) -> Result<Vec<bool>, AllocError> {
-    let mut flags = vec![in alloc; false; streams.list().len()]?;
-    for warning in streams.warnings() {
-        if let Warning::Collision { a, b } = *warning {
-            raise(flags.as_mut_slice(), a as usize);
-            raise(flags.as_mut_slice(), b as usize);
-        }
-    }
-    Ok(flags)
-}
 
 /// A box for each stream, below the title of its reader.
 pub(crate) fn each_stream(
@@ -26,17 +13,17 @@ pub(crate) fn each_stream(
     catalogue: &Catalogue,
     config: &Config,
     streams: &[Stream],
-    red: &[bool],
+    clashes: &[Option<Clash>],
 ) -> Result<Slots, AllocError> {
     let mut slots = Slots::new(alloc);
     let mut reader = None;
-    for (stream, is_red) in streams.iter().zip(red) {
+    for (stream, clash) in streams.iter().zip(clashes) {
         if reader != Some(stream.reader) {
             reader = Some(stream.reader);
             let title = reader_node(alloc, config, stream.reader as usize)?;
             slots.nodes.push(title)?;
         }
-        slots.add(stream_node(alloc, catalogue, stream, *is_red)?)?;
+        slots.add(stream_node(alloc, catalogue, stream, *clash)?)?;
     }
     Ok(slots)
 }
@@ -54,15 +41,19 @@ fn stream_node(
     alloc: Global,
     catalogue: &Catalogue,
     stream: &Stream,
-    is_red: bool,
+    clash: Option<Clash>,
 ) -> Result<Node, AllocError> {
     let title = String::from_str(alloc, stream.name.get().as_str())?;
-    let mut node = Node::new(alloc, title, stream_tone(is_red, is_filtered(stream)));
+    let mut node = Node::new(
+        alloc,
+        title,
+        stream_tone(clash.is_some(), is_filtered(stream)),
+    );
     let (kind, temporality) = (points_word(stream), temporality_word(stream.temporality));
     node.add_line(format!(in alloc; "{kind}, {temporality}"))?;
     add_kept(alloc, &mut node, catalogue, stream)?;
-    if is_red {
-        node.add_line(String::from_str(alloc, "collides: another stream has its identity"))?;
+    if let Some(clash) = clash {
+        node.add_line(String::from_str(alloc, clash.line()))?;
     }
     Ok(node)
 }
@@ -139,6 +130,8 @@ struct Group {
     count: usize,
     // How many of them collide.
     red: usize,
+    // In what the first of them does.
+    clash: Option<Clash>,
     // How many of them leave a key out.
     filtered: usize,
 }
@@ -147,6 +140,7 @@ const NO_STREAM: Group = Group {
     first: usize::MAX,
     count: 0,
     red: 0,
+    clash: None,
     filtered: 0,
 };
 
@@ -156,9 +150,9 @@ pub(crate) fn grouped_streams(
     catalogue: &Catalogue,
     config: &Config,
     streams: &[Stream],
-    red: &[bool],
+    clashes: &[Option<Clash>],
 ) -> Result<Slots, AllocError> {
-    let groups = groups_of(alloc, config, streams, red)?;
+    let groups = groups_of(alloc, config, streams, clashes)?;
     let mut slots = Slots::new(alloc);
     add_groups(alloc, catalogue, config, streams, &groups, &mut slots)?;
     Ok(slots)
@@ -208,25 +202,26 @@ fn groups_of(
     alloc: Global,
     config: &Config,
     streams: &[Stream],
-    red: &[bool],
+    clashes: &[Option<Clash>],
 ) -> Result<Vec<Group>, AllocError> {
     let width = config.views().len().saturating_add(1);
     let places = config.readers().len().saturating_mul(width);
     let mut groups = vec![in alloc; NO_STREAM; places]?;
-    for (number, (stream, is_red)) in streams.iter().zip(red).enumerate() {
+    for (number, (stream, clash)) in streams.iter().zip(clashes).enumerate() {
         if let Some(group) = groups.get_mut(group_of(stream, width)) {
-            *group = joined(*group, number, *is_red, is_filtered(stream));
+            *group = joined(*group, number, *clash, is_filtered(stream));
         }
     }
     Ok(groups)
 }
 
 // A group with one more stream.
-fn joined(group: Group, number: usize, is_red: bool, is_filtered: bool) -> Group {
+fn joined(group: Group, number: usize, clash: Option<Clash>, is_filtered: bool) -> Group {
     Group {
         first: group.first.min(number),
         count: group.count.saturating_add(1),
-        red: group.red.saturating_add(usize::from(is_red)),
+        red: group.red.saturating_add(usize::from(clash.is_some())),
+        clash: group.clash.or(clash),
         filtered: group.filtered.saturating_add(usize::from(is_filtered)),
     }
 }
@@ -251,7 +246,7 @@ fn group_node(
     group: Group,
 ) -> Result<Node, AllocError> {
     match streams.get(group.first) {
-        Some(stream) if group.count == 1 => stream_node(alloc, catalogue, stream, group.red > 0),
+        Some(stream) if group.count == 1 => stream_node(alloc, catalogue, stream, group.clash),
         _ => several_node(alloc, view, group),
     }
 }

@@ -4,6 +4,7 @@
 //! view, with their number. Streams that collide are red. Links of default streams pass below the views.
 #![tactic(auto)]
 
+mod clashes;
 mod diagram;
 mod drawing;
 mod exported;
