@@ -8,7 +8,7 @@ use crate::words::Words;
 use crate::works::{Work, least};
 use metric_sdk::{
     Attr, Batch, Dialect, Encoding, Exposition, OtlpBytes, OtlpLines, Plain, Plan, Resource,
-    ResourceFault, ValueRef,
+    ResourceFault,
 };
 use std::alloc::Global;
 use std::sync::Wait;
@@ -118,8 +118,7 @@ fn batch_of(alloc: Global, written: &Written) -> anyhow::Result<(Plan, Batch)> {
 }
 
 fn resource(alloc: Global) -> Result<Resource, ResourceFault> {
-    let (key, value) = ("service.name", ValueRef::Text("bench"));
-    Resource::new(alloc, &[Attr { key, value }])
+    Resource::new(alloc, &[Attr::text("service.name", "bench")])
 }
 
 /// Writes a batch, or copies what is written. A number that depends on each byte.

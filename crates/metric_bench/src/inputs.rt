@@ -1,5 +1,5 @@
 //! Catalogues and configs of a size, set keys and attributes.
-use metric_sdk::{Attr, Plan, SetKey, ValueRef, certified_plan};
+use metric_sdk::{Attr, Plan, SetKey, certified_plan};
 use std::alloc::{AllocError, Global};
 use std::ops::Range;
 
@@ -243,8 +243,7 @@ fn value_name(number: u32) -> &'static str {
 
 // The attribute of a key whose value has this number.
 fn attribute(key: &'static str, number: u32) -> Attr<'static> {
-    let value = ValueRef::Text(value_name(number));
-    Attr { key, value }
+    Attr::text(key, value_name(number))
 }
 
 /// The names of three values.

@@ -1,7 +1,7 @@
 //! An exporter of the service's own: it adds up what it is handed, and looks whether a window is missing.
 ghost use Rattle.std.specs.Prelude.{[], None};
 
-use metric_sdk::{Batch, ExportFault, ExporterState, MetricExporter, Plan, PointValue};
+use metric_sdk::{Batch, ExportFault, ExporterState, MetricExporter, Plan, PointValue, own_plan};
 use std::alloc::Global;
 use std::sync::atomic::{AtomicBool, Ordering};
 
@@ -91,8 +91,9 @@ impl MetricExporter for Ledger<'_> {
 
     ghost shutdown_gives = { λ _ _ _. Unit {0} };
 
-    fn export(&mut self, _alloc: Global, _plan: &Plan, batch: &Batch) -> Result<(), ExportFault> {
+    fn export(&mut self, _alloc: Global, plan: &Plan, batch: &Batch) -> Result<(), ExportFault> {
         self.state.admit()?;
+        own_plan(plan, batch)?;
         if self.device.is_out.load(Ordering::SeqCst) {
             self.failures = self.failures.saturating_add(1);
             return Err(ExportFault::Write);

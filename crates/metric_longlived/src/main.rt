@@ -1,5 +1,5 @@
-//! A service that lives long, to copy from: budgets with a spare that workers ask for, runs that roll over, one reader that
-//! outlives them, and an exporter whose device is out for a while. What was exported adds up to what was recorded: no window is
+//! A service that lives long, to copy from: budgets with a spare that workers ask for, runs that roll over, and a queue that
+//! outlives them over an exporter whose device is out for a while. What was exported adds up to what was recorded: no window is
 //! lost, and none is exported twice.
 #![tactic(auto)]
 
@@ -9,7 +9,7 @@ use anyhow::{Context, Result, bail, ensure};
 use ledger::{Device, Ledger};
 use metric_sdk::{
     Attr, ClockTicker, Collector, Counter, MeterProvider, OpenPeriodic, Queued, Recorder, Refusal,
-    RunningCounts, Runs, ServiceFault, StopFlag, Totals, ValueRef, counter, now, open,
+    RunningCounts, Runs, StopFlag, Totals, ValueRef, counter, now, open, roll_over_all,
     shutdown_all,
 };
 use std::sync::Wait;
@@ -52,55 +52,93 @@ const JOBS: &[(&str, i64)] = &[
     ("mail", 6),
 ];
 
-// A provider with its seats, and the reader that goes on from run to run. What its device does not take the queue keeps.
+// A provider with its seats.
 #[derive(Drop)]
-struct Service<'a> {
+struct Service {
     provider: MeterProvider,
     recorders: Vec<Recorder>,
-    seats: Vec<Collector>,
-    reader: OpenPeriodic<Queued<Ledger<'a>>>,
+    readers: Vec<Collector>,
 }
 
+// What the device does not take the queue keeps.
+type Queue<'a> = Queued<Ledger<'a>>;
+
 fn main(rt: HostRuntime) -> Result<()> {
-    let (device, counts, mut runs) = (Device::new(), RunningCounts::new(), Runs::new());
-    let alloc = rt.alloc();
-    let (provider, recorders, seats) = open(&rt, alloc, CATALOGUE, CONFIG, now(&rt)?, runs.next())?;
-    let queue = Queued::new(alloc, Ledger::new(&device), 1_000);
+    let (device, mut runs, alloc) = (Device::new(), Runs::new(), rt.alloc());
+    let mut queue = Queued::new(alloc, Ledger::new(&device), 1_000);
+    let start = now(&rt)?;
+    let (provider, recorders, readers) = open(&rt, alloc, CATALOGUE, CONFIG, start, &mut runs)?;
     let first = Service {
         provider,
         recorders,
-        seats,
-        reader: OpenPeriodic::new(queue, u32::MAX),
+        readers,
     };
-    let (second, totals) = roll_over(&rt, live(&rt, first, &counts)?, runs.next())?;
-    let mut recorded = sum_of(&totals);
+    let (second, mut recorded) = live_on(&rt, first, &mut queue, runs.next())?;
     println!(rt; "first run: {recorded}")?;
     device.set_out(true);
-    let (third, totals) = roll_over(&rt, live(&rt, second, &counts)?, runs.next())?;
-    recorded = recorded.saturating_add(sum_of(&totals));
-    println!(rt; "with the second run: {recorded}")?;
-    let waiting = third.reader.exporter().kept().len();
-    ensure!(
-        waiting > 0,
-        "the queue keeps nothing while the device is out"
-    );
+    let (third, more) = live_on(&rt, second, &mut queue, runs.next())?;
+    recorded = recorded.saturating_add(more);
+    let waits = !queue.kept().is_empty();
+    println!(rt; "with the second run: {recorded}, some in the queue: {waits}")?;
     device.set_out(false);
-    let (queue, totals) = end(&rt, live(&rt, third, &counts)?)?;
-    recorded = recorded.saturating_add(sum_of(&totals));
+    recorded = recorded.saturating_add(live_to_end(&rt, third, &mut queue)?);
     println!(rt; "with the third run: {recorded}")?;
+    let lost = queue.dropped();
     let (ledger, kept) = queue.into_parts();
-    let (exported, gaps) = (ledger.sum(), ledger.gaps());
-    println!(rt; "exported: {exported}, gaps {gaps}, kept {}", kept.len())?;
-    println!(rt;
-        "lost: {}, delayed: {}",
-        counts.failed(),
-        counts.delayed() > 0
-    )?;
+    let (exported, gaps, kept) = (ledger.sum(), ledger.gaps(), kept.len());
+    println!(rt; "exported: {exported}, gaps {gaps}, kept {kept}, lost {lost}")?;
     ensure!(
         i128::from(exported) == recorded,
         "not all was exported once"
     );
     Ok(())
+}
+
+// One run, and then the next one begins, also while the device is out: the queue keeps what it has. What the run came to is told.
+fn live_on<R: Threads + Wait + Clock + Sync + AllocGlobal>(
+    rt: &R,
+    service: Service,
+    queue: &mut Queue<'_>,
+    run: u64,
+) -> Result<(Service, i128)> {
+    let Service {
+        provider,
+        recorders,
+        readers,
+    } = live(rt, service, queue)?;
+    let (alloc, moment) = (rt.alloc(), now(rt)?);
+    let next = match roll_over_all(rt, alloc, provider, recorders, readers, queue, moment, run) {
+        Ok(next) => next,
+        Err(left) => match left.into_next() {
+            Ok(next) => next,
+            Err(left) => bail!("{left}"),
+        },
+    };
+    let recorded = sum_of(&next.totals);
+    let service = Service {
+        provider: next.provider,
+        recorders: next.recorders,
+        readers: next.collectors,
+    };
+    Ok((service, recorded))
+}
+
+// The last run. What it came to is told; the queue tries once more what it keeps.
+fn live_to_end<R: Threads + Wait + Clock + Sync + AllocGlobal>(
+    rt: &R,
+    service: Service,
+    queue: &mut Queue<'_>,
+) -> Result<i128> {
+    let Service {
+        provider,
+        recorders,
+        readers,
+    } = live(rt, service, queue)?;
+    let (alloc, moment) = (rt.alloc(), now(rt)?);
+    match shutdown_all(rt, alloc, provider, recorders, readers, queue, moment) {
+        Ok(totals) => Ok(sum_of(&totals)),
+        Err(left) => bail!("{left}"),
+    }
 }
 
 // What was recorded in a run.
@@ -111,28 +149,29 @@ fn sum_of(totals: &Totals) -> i128 {
     }
 }
 
-// One run: the workers record, while the reader exports every millisecond, and a last time when they have ended.
-fn live<'a, R: Threads + Wait + Clock + Sync + AllocGlobal>(
+// One run: the workers record, while the reader exports every millisecond, and a last time when they have ended. Its seat is there
+// still where that was refused.
+fn live<R: Threads + Wait + Clock + Sync + AllocGlobal>(
     rt: &R,
-    service: Service<'a>,
-    counts: &RunningCounts,
-) -> Result<Service<'a>> {
+    service: Service,
+    queue: &mut Queue<'_>,
+) -> Result<Service> {
     let Service {
         provider,
         mut recorders,
-        mut seats,
-        reader,
+        mut readers,
     } = service;
     let pages = counter(provider.plan(), "office", "pages", &["kind"])?;
-    let seat = seats.pop().context("no reader")?;
-    let stop = StopFlag::new();
-    let lent = &provider;
+    let seat = readers.pop().context("no reader")?;
+    let (stop, counts, lent) = (StopFlag::new(), RunningCounts::new(), &provider);
     let work = |_, recorder: &mut Recorder| do_jobs(rt, lent, &pages, recorder);
-    let (end, recorders) = join(
+    let (kept, recorders) = join(
         rt,
         || {
             let mut ticker = ClockTicker::new(1, u64::MAX, &stop);
-            reader.run(rt, rt.alloc(), lent, seat, &mut ticker, counts)
+            let reader = OpenPeriodic::new(queue, u32::MAX);
+            let end = reader.run(rt, rt.alloc(), lent, seat, &mut ticker, &counts);
+            end.kept
         },
         || {
             for_each_mut(rt, recorders.as_mut_slice(), 64, &work);
@@ -140,13 +179,13 @@ fn live<'a, R: Threads + Wait + Clock + Sync + AllocGlobal>(
             recorders
         },
     );
-    // A seat that is kept would collect once more: its last collection was refused.
-    ensure!(end.kept.is_none(), "the last collection was refused");
+    if let Some(seat) = kept {
+        readers.push(seat)?;
+    }
     Ok(Service {
         provider,
         recorders,
-        seats,
-        reader: end.reader,
+        readers,
     })
 }
 
@@ -176,55 +215,5 @@ fn record<R: Wait>(
             pages.add(rt, provider, recorder, &[kind], count)
         }
         answer => answer,
-    }
-}
-
-// Ends a run and begins the next one: the reader and its queue go on with new seats. What the run came to is told.
-fn roll_over<'a, R: Wait + Clock + AllocGlobal>(
-    rt: &R,
-    service: Service<'a>,
-    run: u64,
-) -> Result<(Service<'a>, Totals)> {
-    let Service {
-        provider,
-        recorders,
-        seats: _,
-        reader,
-    } = service;
-    let rolled = provider.roll_over(rt, rt.alloc(), recorders, now(rt)?, run);
-    let rolled = rolled.map_err(ServiceFault::from)?;
-    let next = Service {
-        provider: rolled.provider,
-        recorders: rolled.recorders,
-        seats: rolled.collectors,
-        reader,
-    };
-    Ok((next, rolled.totals))
-}
-
-// Ends the service. Its reader has collected a last time; the queue tries once more what it keeps.
-fn end<'a, R: Wait + Clock + AllocGlobal>(
-    rt: &R,
-    service: Service<'a>,
-) -> Result<(Queued<Ledger<'a>>, Totals)> {
-    let Service {
-        provider,
-        recorders,
-        seats,
-        reader,
-    } = service;
-    let mut queue = reader.into_exporter();
-    let moment = now(rt)?;
-    match shutdown_all(
-        rt,
-        rt.alloc(),
-        provider,
-        recorders,
-        seats,
-        &mut queue,
-        moment,
-    ) {
-        Ok(totals) => Ok((queue, totals)),
-        Err(left) => bail!("{left}"),
     }
 }

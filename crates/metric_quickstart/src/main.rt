@@ -2,7 +2,7 @@
 #![tactic(auto)]
 
 use anyhow::{Context, Result};
-use metric_sdk::{Attr, StdSink, ValueRef, counter, open, write_batch};
+use metric_sdk::{Attr, Runs, StdSink, counter, open, write_batch};
 use std::io;
 
 const CATALOGUE: &str = "format = 1
@@ -21,16 +21,18 @@ budget = [{ instrument = 0, amount = 1000 }]
 const CONFIG: &str = "format = 1\n[[reader]]\nname = 'console'\n";
 
 fn main(rt: HostRuntime) -> Result<()> {
-    let (provider, mut recorders, mut readers) = open(&rt, rt.alloc(), CATALOGUE, CONFIG, 0, 1)?;
+    let (alloc, mut runs) = (rt.alloc(), Runs::new());
+    let opened = open(&rt, alloc, CATALOGUE, CONFIG, 0, &mut runs)?;
+    let (provider, mut recorders, mut readers) = opened;
     let orders = counter(provider.plan(), "shop", "orders", &["country"])?;
     let recorder = recorders.first_mut().context("no recorder")?;
     for (country, articles) in [("de", 2), ("fr", 1), ("de", 5)] {
-        let (key, value) = ("country", ValueRef::Text(country));
-        orders.add(&rt, &provider, recorder, &[Attr { key, value }], articles)?;
+        let attributes = [Attr::text("country", country)];
+        orders.add(&rt, &provider, recorder, &attributes, articles)?;
     }
     let reader = readers.first_mut().context("no reader")?;
-    let batch = reader.collect(&rt, rt.alloc(), &provider, orders.number(), 1_000)?;
+    let batch = reader.collect(&rt, alloc, &provider, orders.number(), 1_000)?;
     let mut console = StdSink::new(io::writer(&rt));
-    write_batch(rt.alloc(), &mut console, provider.plan(), &batch)?;
+    write_batch(alloc, &mut console, provider.plan(), &batch)?;
     Ok(())
 }

@@ -4,6 +4,8 @@ use Rattle.std.specs.Prelude.{slice_get, slice_index, if◌then◌else◌}
 use Rattle.std.proofs.lemmas.List.{length-drop}
 use Rattle.std.proofs.lemmas.Option.{slice_get_within, get_or_from_slice_get}
 use Rattle.metric_aggregate.specs.Value.{sum_of}
+use Rattle.metric_audit.specs.AuditedStands.{AuditedValue, StandsAudited}
+use Rattle.metric_book.specs.Journals.{Standing}
 use Rattle.metric_core.specs.BudgetLaws.{kept_journal}
 use Rattle.metric_core.specs.Cells.{CellKept, CellValue}
 use Rattle.metric_history.specs.declared.entry.Entry.{Entry}
@@ -41,19 +43,28 @@ window_length false mark journal = refl
 all_at : (P : NumberedStream → Type 0) (streams : List NumberedStream) (k : ℕ) (s : NumberedStream) → All P streams → slice_get streams k ≡ Some s → P s
 all_at P streams k s all found = subst P (get_or_from_slice_get streams k s s found) (all k s (slice_get_within streams k s found))
 
-pub tables_bounded : (c : CellValue MarkedValue) → BoundsJournals → IsCertified c.facts → CellKept StandsMarked c → AreTablesBounded c
-tables_bounded c law certified k = record {
-  one_each = one_each c.book.tables c.facts.streams (windows_of c.facts k.journal c.marks) k.known.book.tables;
+pub tables_bounded : {B : Type 0} (standing : B → Standing) (tables : MarkedValue) (c : CellValue B) → BoundsJournals → IsCertified c.facts → (k : CellKept standing c)
+    → StandsMarked tables c.facts k.journal c.marks → AreTablesBounded c tables.tables
+tables_bounded {B} standing tables c law certified k stands = record {
+  one_each = one_each tables.tables c.facts.streams (windows_of c.facts k.journal c.marks) stands.tables;
   each = λ at s t here there.
       let reader = s.stream.reader in
       let own : List Entry = windows_of c.facts k.journal c.marks reader in
       let bounded : IsBounded c.facts s.stream own =
-      all_at (λ (r : NumberedStream). IsBounded c.facts r.stream (window (is_delta c.facts reader) (slice_index c.marks reader) k.journal)) c.facts.streams at s (law c.facts k.journal (is_delta c.facts reader) (slice_index c.marks reader) certified.safe (kept_journal StandsMarked c k)) here in
+      all_at (λ (r : NumberedStream). IsBounded c.facts r.stream (window (is_delta c.facts reader) (slice_index c.marks reader) k.journal)) c.facts.streams at s (law c.facts k.journal (is_delta c.facts reader) (slice_index c.marks reader) certified.safe (kept_journal standing c k)) here in
       record {
         window = own;
         counted = window_length (is_delta c.facts reader) (slice_index c.marks reader) k.journal ∙ ap (λ (n : ℕ). if is_delta c.facts reader then n - slice_index c.marks reader else n) (sym k.known.counted);
-        stands = stands_at c.book.tables c.facts.streams (windows_of c.facts k.journal c.marks) k.known.book.tables at s t here there;
+        stands = stands_at tables.tables c.facts.streams (windows_of c.facts k.journal c.marks) stands.tables at s t here there;
         bounded = bounded;
         summed = λ keeps cumulative. bounded.summed keeps ∙ ap (λ (d : Bool). sum_of (values (window d (slice_index c.marks reader) k.journal))) cumulative ∙ sym k.known.summed;
       };
 }
+
+-- those of a book that keeps nothing else
+pub marked_bounded : (c : CellValue MarkedValue) → BoundsJournals → IsCertified c.facts → CellKept StandsMarked c → AreTablesBounded c c.book.tables
+marked_bounded c law certified k = tables_bounded StandsMarked c.book c law certified k k.known.book
+
+-- those of a book that keeps the recordings beside them
+pub audited_bounded : (c : CellValue AuditedValue) → BoundsJournals → IsCertified c.facts → CellKept StandsAudited c → AreTablesBounded c c.book.tables.tables
+audited_bounded c law certified k = tables_bounded StandsAudited c.book.tables c law certified k k.known.book.tables

@@ -1,51 +1,62 @@
 -- How a service ends: each reader collects a last time, an exporter is handed what it
 -- collected, and the provider is finished.
-use Rattle.std.specs.Prelude.{◌≡◌, ◌⊎◌, ℕ, Bool, true, ◌&&◌, List, [], ◌∷◌, ◌++◌, Option, Some}
-use Rattle.std.specs.Prelude.{None, Result, Ok, Err, drop, filter, is_none, length}
+use Rattle.std.specs.Prelude.{◌≡◌, ◌≢◌, ◌⊎◌, ℕ, Bool, true, ◌&&◌, ◌==◌, List, [], ◌∷◌, Option, Some}
+use Rattle.std.specs.Prelude.{None, Result, Ok, Err, drop, is_none, length}
 use Rattle.std.specs.List.{list_all}
 use Rattle.metric_history.specs.declared.batch.Batch.{Batch}
-use Rattle.metric_export.specs.Handings.{Exporting, HandsOnInOrder, has_points}
+use Rattle.metric_export.specs.Handings.{Exporting, HandsOnInOrder}
 use Rattle.metric_export.specs.declared.fault.ExportFault.{ExportFault}
-use Rattle.metric_periodic.specs.Collections.{AreNextBatches}
+use Rattle.metric_periodic.specs.Each.{CollectsEach}
 use Rattle.metric_periodic.specs.Exported.{Answering}
+use Rattle.metric_periodic.specs.declared.each.RefusedInstrument.{RefusedInstrument}
 use Rattle.metric_plan.specs.Plans.{PlanValue}
-use Rattle.metric_provider.specs.Collections.{AllRefused, with_all_seen}
 use Rattle.metric_provider.specs.Seats.{CollectorValue, ProviderValue, RecorderValue}
-use Rattle.metric_provider.specs.Totals.{Finishes, RefusesFinish, seated}
+use Rattle.metric_provider.specs.Totals.{Finishes, RefusesFinish}
 use Rattle.metric_provider.specs.declared.fault.FinishFault.{FinishFault}
 use Rattle.metric_provider.specs.declared.fault.FinishFault.TheVariants.{Memory}
 use Rattle.metric_provider.specs.declared.totals.Totals.{Totals}
 use Rattle.metric_sdk.specs.declared.ended.ReaderEnd.{ReaderEnd}
 use Rattle.metric_sdk.specs.declared.ended.Uncollected.{Uncollected}
+use Rattle.metric_sdk.specs.declared.ended.Uncollected.TheVariants.{All, Instruments}
 use Rattle.metric_sdk.specs.declared.ended.Unexported.{Unexported}
 
 -- ---- what an exporter takes
 
--- The batches with points were handed on in order, up to the first that the exporter neither took
--- nor keeps, which is left with those after it.
+-- Batches were handed on in order, up to the first that the exporter neither took nor keeps, which
+-- is left with those after it.
 abbrev pub HandsOn : {E : Type 0} → Exporting E → E → E → List Batch → Option Unexported → Type 0
-HandsOn exports old new batches None =
-    let pointed = filter has_points batches in HandsOnInOrder exports old new pointed (length pointed) None
+HandsOn exports old new batches None = HandsOnInOrder exports old new batches (length batches) None
 HandsOn exports old new batches (Some left) =
-    let pointed = filter has_points batches in
-    (taken : ℕ) × (HandsOnInOrder exports old new pointed taken (Some left.fault)
-    × (left.batches.items ≡ drop taken pointed))
+    (taken : ℕ) × (HandsOnInOrder exports old new batches taken (Some left.fault)
+    × (left.batches.items ≡ drop taken batches))
 
 -- ---- how readers end
 
--- what the last collection of a seat at a time gave, and what it leaves where it was refused
-abbrev pub CollectsToEnd : ProviderValue → ℕ → CollectorValue → List Batch
-    → Option Uncollected → Type 0
-CollectsToEnd p now seat batches None = AreNextBatches p seat now batches
-CollectsToEnd p now seat batches (Some left) =
-    AllRefused p seat now batches left.instrument left.refusal
-    × (left.seat ≡ with_all_seen seat batches)
+-- the instruments that were refused, as they are told where there is one
+abbrev pub AreRefused : List RefusedInstrument → Option Uncollected → Type 0
+AreRefused refused None = refused ≡ []
+AreRefused refused (Some All) = ⊥
+AreRefused refused (Some (Instruments told)) = (told.items ≡ refused) × (refused ≢ [])
 
--- A reader collected a last time, and what that gave was handed on.
+-- The last collection of a seat at a time, the batches with points that it gave, and what it was
+-- refused. Either there was no memory for the lists, or a refused instrument hides no other.
+abbrev pub CollectsToEnd : ProviderValue → ℕ → CollectorValue → CollectorValue → List Batch
+    → Option Uncollected → Type 0
+CollectsToEnd p now old new batches None = CollectsEach p now old new batches []
+CollectsToEnd p now old new batches (Some All) = (new ≡ old) × (batches ≡ [])
+CollectsToEnd p now old new batches (Some (Instruments refused)) =
+    CollectsEach p now old new batches refused.items × (refused.items ≢ [])
+
+-- # end of a reader, of all (SDK, shutdown) [EndsReader, CollectsToEnd, HandsOn, EndsAll,
+-- SettlesAtEnd, EndsClean, EndsSome, HandsOutPlan]
+-- A last collection of each instrument, of which the exporter was handed each batch with points in
+-- order, up to the first that it refused; the seat, the instruments that were refused and the
+-- batches that are left. All readers ended, or none where there is no memory to tell; then a new try
+-- of what the exporter keeps, and a flush.
 pub record EndsReader {E : Type 0} (p : ProviderValue) (now : ℕ) (exports : Exporting E)
     (old new : E) (seat : CollectorValue) (end : ReaderEnd) : Type 0 where
   pub batches : List Batch
-  pub collected : CollectsToEnd p now seat batches end.uncollected
+  pub collected : CollectsToEnd p now seat end.seat batches end.uncollected
   pub handed : HandsOn exports old new batches end.unexported
 
 -- so did each of some readers, one after the other
@@ -57,9 +68,38 @@ EndsEach {E} p now exports old new (seat ∷ seats) (end ∷ ends) =
     × (EndsReader p now exports old mid seat end × EndsEach p now exports mid new seats ends)
 EndsEach p now exports old new _ _ = ⊥
 
+-- all of some readers ended and none was not asked, or none was asked
+abbrev pub EndsAll : {E : Type 0} → ProviderValue → ℕ → Exporting E → E → E → List CollectorValue
+    → List ReaderEnd → List CollectorValue → Type 0
+EndsAll p now exports old new seats ends unasked =
+    (EndsEach p now exports old new seats ends × (unasked ≡ []))
+    ⊎ ((new ≡ old) × ((ends ≡ []) × (unasked ≡ seats)))
+
+-- whether each reader was asked, by those that were not
+abbrev pub are_asked : List CollectorValue → Bool
+are_asked unasked = length unasked == 0
+
+-- whether a reader was refused no instrument
+abbrev pub is_collected : ReaderEnd → Bool
+is_collected end = is_none end.uncollected
+
+-- whether each was asked and refused none
+abbrev pub are_collected : List ReaderEnd → List CollectorValue → Bool
+are_collected ends unasked = are_asked unasked && list_all is_collected ends
+
+-- whether nothing that a reader collected is handed back
+abbrev pub is_exported : ReaderEnd → Bool
+is_exported end = is_none end.unexported
+
 -- whether nothing is left of a reader
 abbrev pub is_clean : ReaderEnd → Bool
 is_clean end = is_none end.uncollected && is_none end.unexported
+
+-- whether nothing is left of any, and the exporter then has sent what it kept and is flushed
+abbrev pub are_clean : List ReaderEnd → List CollectorValue → Option ExportFault
+    → Option ExportFault → Bool
+are_clean ends unasked unsent unflushed =
+    ((are_asked unasked && is_none unsent) && is_none unflushed) && list_all is_clean ends
 
 -- ---- how a service ends
 
@@ -109,14 +149,12 @@ abbrev pub plan_of : {T P F : Type 0} → Result (T × P) F → Option P
 plan_of (Ok parts) = Some parts.1
 plan_of (Err unfinished) = None
 
--- The first readers ended as is told of each, and the others were not asked, which are none
--- where the provider is finished. The exporter then tried once more what it keeps, and was flushed.
+-- All readers ended, as is told of each, and the exporter then tried once more what it keeps and
+-- was flushed; or there was no memory to tell, no reader was asked, and it did the same.
 pub record EndsSome {E : Type 0} (p : ProviderValue) (now : ℕ) (exports : Exporting E)
     (retries flushes : Answering E) (old new : E) (seats : List CollectorValue)
     (ends : List ReaderEnd) (unasked : List CollectorValue)
     (unsent unflushed : Option ExportFault) : Type 0 where
-  pub asked : List CollectorValue
-  pub all : seats ≡ asked ++ unasked
   pub between : E
-  pub each : EndsEach p now exports old between asked ends
+  pub all : EndsAll p now exports old between seats ends unasked
   pub settled : SettlesAtEnd retries flushes between new unsent unflushed

@@ -1,21 +1,19 @@
 //! What is left of a service at its end.
 use metric_book::Book;
-use metric_contents::Refusal;
 use metric_export::ExportFault;
 use metric_history::Batch;
+use metric_periodic::RefusedInstrument;
 use metric_plan::Plan;
 use metric_provider::{Collector, FinishFault, Gate, Provider, Recorder, Totals};
 use std::fmt;
 
-/// A reader whose last collection was refused.
+/// What the last collection of a reader was refused.
 #[derive(Drop)]
-pub struct Uncollected {
-    /// Its seat.
-    pub seat: Collector,
-    /// The number of the instrument that was refused. The batches of those before it were handed on.
-    pub instrument: u32,
-    /// Why.
-    pub refusal: Refusal,
+pub enum Uncollected {
+    /// All instruments: there was no memory for the list of their batches.
+    All,
+    /// These instruments, in order, each with its cause. The batches of the others were handed on.
+    Instruments(Vec<RefusedInstrument>),
 }
 
 /// Batches that an exporter neither took nor keeps.
@@ -31,7 +29,9 @@ pub struct Unexported {
 /// How a reader ended.
 #[derive(Drop)]
 pub struct ReaderEnd {
-    /// Its seat, where its last collection was refused.
+    /// Its seat, which has seen its last batches. It collects again of a provider that goes on.
+    pub seat: Collector,
+    /// What its last collection was refused, where it was.
     pub uncollected: Option<Uncollected>,
     /// What its last collection gave and the exporter neither took nor keeps.
     pub unexported: Option<Unexported>,
@@ -74,31 +74,58 @@ impl<B: Book, G: Gate> fmt::Display for EndFault<B, G> {
         for (place, end) in self.readers.iter().enumerate() {
             write_end(f, place, end)?;
         }
-        if let Some(fault) = self.unsent {
-            write!(f, "; not sent: {fault}")?;
-        }
-        match self.unflushed {
-            Some(fault) => write!(f, "; not flushed: {fault}"),
-            None => Ok(()),
-        }
+        write_settled(f, self.unsent, self.unflushed)
+    }
+}
+
+// Writes what an exporter still keeps, and that it is not flushed.
+pub(crate) fn write_settled<W: fmt::Write>(
+    f: &mut fmt::Formatter<W>,
+    unsent: Option<ExportFault>,
+    unflushed: Option<ExportFault>,
+) -> fmt::Result {
+    if let Some(fault) = unsent {
+        write!(f, "; not sent: {fault}")?;
+    }
+    match unflushed {
+        Some(fault) => write!(f, "; not flushed: {fault}"),
+        None => Ok(()),
     }
 }
 
 // Writes what was refused to a reader.
-fn write_end<W: fmt::Write>(
+pub(crate) fn write_end<W: fmt::Write>(
     f: &mut fmt::Formatter<W>,
     place: usize,
     end: &ReaderEnd,
 ) -> fmt::Result {
     if let Some(left) = &end.uncollected {
-        let instrument = left.instrument;
-        let refusal = left.refusal;
-        write!(f, "; reader {place}, instrument {instrument}: {refusal}")?;
+        write_uncollected(f, place, left)?;
     }
     if let Some(left) = &end.unexported {
         let count = left.batches.len();
         let fault = left.fault;
         write!(f, "; reader {place}, {count} batches not exported: {fault}")?;
+    }
+    Ok(())
+}
+
+// Writes what the last collection of a reader was refused.
+fn write_uncollected<W: fmt::Write>(
+    f: &mut fmt::Formatter<W>,
+    place: usize,
+    left: &Uncollected,
+) -> fmt::Result {
+    match left {
+        Uncollected::All => write!(f, "; reader {place}, all instruments: Memory")?,
+        Uncollected::Instruments(refused) => {
+            for RefusedInstrument {
+                instrument,
+                refusal,
+            } in refused {
+                write!(f, "; reader {place}, instrument {instrument}: {refusal}")?;
+            }
+        }
     }
     Ok(())
 }

@@ -5,7 +5,8 @@
 //!    are. [`open`] reads them, makes a certificate that no limit and no number can overflow, checks it, and starts: a
 //!    [`MeterProvider`] with the seat of each recorder and each reader, in the order of the texts, or the first [`SetupFault`].
 //!    [`open_certified`] takes a certificate that somebody else made, whom it does not trust. [`now`] gives the moment of the
-//!    start, [`Runs`] the number of the run. (512 instruments with 256 views take some 150 ns for each pair of the two.)
+//!    start, the one [`Runs`] of a process the number of the run. (512 instruments with 256 views take some 150 ns for each
+//!    pair of the two.)
 //! 2. **Names.** [`counter`], [`up_down_counter`], [`histogram`] and [`gauge`] find an instrument of the plan by the names of its
 //!    meter and its own, and compare its kind and its keys with what the service is going to record: a [`Handle`] of that kind
 //!    ([`Counter`] and so on), or a [`HandleFault`] before anything was recorded. [`take_recorder`] and [`take_reader`] take a
@@ -23,8 +24,8 @@
 //!    list of [`Measurement`]s, up to a [`SetsFault`].
 //! 5. **Export.** [`Periodic`] collects at each [`Tick`] of a [`Ticker`], a [`ClockTicker`] until its [`StopFlag`] is set or a
 //!    [`ListTicker`]; it hands each batch on to a [`MetricExporter`], as a [`TextExporter`] is, flushes that after each
-//!    collection, and at its end collects a last time. What it did is a [`PeriodicEnd`], and what it has done so far other
-//!    threads read of its [`RunningCounts`]; `StopFlag::wake` lets it export now. An [`Encoding`] says what a batch is as
+//!    collection, and at its end collects a last time. What it did, and the [`StopCause`] of its ticker, is a [`PeriodicEnd`]; what
+//!    it has done so far other threads read of its [`RunningCounts`]; `StopFlag::wake` lets it export now. An [`Encoding`] says what a batch is as
 //!    bytes, [`Plain`] its text, [`OtlpLines`] the lines that the OpenTelemetry Collector reads of a file, [`OtlpBytes`] what
 //!    an OTLP receiver takes, both with the attributes of a [`Resource`] (or a [`ResourceFault`]); `TextExporter::of` and
 //!    `ReopeningExporter::of` write in any. An exporter's fault is an [`ExportFault`]: a [`Queued`] keeps what was refused and
@@ -32,24 +33,27 @@
 //!    sink anew; other threads read the [`QueueCounts`] of a [`ToldQueue`]. An [`OpenPeriodic`] leaves its exporter open at its
 //!    [`OpenEnd`], and goes on in the next run; in it, and by [`collect_each`], a [`RefusedInstrument`] of a [`Collection`]
 //!    hides no other. [`export_each`] hands a list on and tells what was [`Handed`], [`has_points`] what need not be. An
-//!    exporter of one's own takes a batch apart: it has the [`StreamPoints`] of each [`Stream`], a [`Point`] the
-//!    [`PointValue`] of one series, whose [`attributes`] the plan knows. By hand: a [`Collector`] collects the [`Batch`] of
+//!    exporter of one's own refuses a batch of another plan by [`own_plan`], and takes one apart: it has the [`StreamPoints`]
+//!    of each [`Stream`], a [`Point`] the [`PointValue`] of one series, whose [`attributes`] the plan knows. By hand: a [`Collector`] collects the [`Batch`] of
 //!    one instrument or of all, up to an [`AllFault`], and [`write_batch`] writes its text, [`write_encoded`] its bytes. (A
 //!    collection takes 23 to 54 ns a point.)
 //!    For Prometheus an [`Exposition`] has the lines of a page in a [`Dialect`], and a [`PageExporter`] hands the whole page to
 //!    [`Pages`] after each collection, as to a file that node_exporter reads. Before anything is recorded, [`expose`] tells
 //!    whether a server would hold each sample of a reader's pages, and [`expose_to_otlp`] whether each boundary leaves as it
 //!    is, or the first [`ExposureFault`].
-//! 6. **End.** [`shutdown_all`] lets readers collect a last time, exports what they give, flushes, and finishes the provider; an
-//!    [`EndFault`] has each cause, and hands back what is left, with the plan to export it by. `Provider::finish` alone gives the [`Totals`], a [`Total`] for
-//!    each instrument, exactly what the recorders were told, or a [`FinishFault`]; `Provider::finish_keeping` also the plan. Calls
-//!    that hand things back have them in a tuple with the fault: `?` makes a [`ServiceFault`] of each.
+//! 6. **End.** [`shutdown_all`] lets readers collect a last time, exports what they give, flushes, and finishes the
+//!    provider; an [`EndFault`] has each cause, and hands back what is left, with the plan to export it by.
+//!    `Provider::finish` alone gives the [`Totals`], a [`Total`] for each instrument, exactly what the recorders were
+//!    told, or a [`FinishFault`]; `Provider::finish_keeping` also the plan, and `Provider::finish_partly` ends where a
+//!    recorder's seat was lost, with what is [`Partly`] known. Calls that hand things back have them in a tuple with the
+//!    fault: `?` makes a [`ServiceFault`] of each.
 //! 7. **A long life.** Budgets end: [`headrooms`] tells how often each instrument may be recorded, its [`Headroom`]. So
-//!    `Provider::roll_over` ends a run and starts the next one of the same plan, with new seats and full budgets, or hands all
-//!    back with a [`RollFault`]. For what no recorder's budget foresees an instrument may have a spare: while the run goes on,
-//!    `Provider::grant` gives some of it to any recorder, and by `Recorder::ask` a recorder whose budget is spent
-//!    ([`Refusal::Budget`]) asks for some itself, until nothing is left ([`Refusal::NoSpare`]). The certificate vouches for the
-//!    budgets and the spare together.
+//!    `Provider::roll_over` ends a run and starts the next one of the same plan, with new seats and full budgets, or hands
+//!    all back with a [`RollFault`]; [`roll_over_all`] does so with the readers and their exporter, up to a [`RollLeft`].
+//!    For what no recorder's budget foresees an instrument may have a spare: while the run goes on, `Provider::grant`
+//!    gives some of it to any recorder, and by `Recorder::ask` a recorder whose budget is spent ([`Refusal::Budget`]) asks
+//!    for some itself, until nothing is left ([`Refusal::NoSpare`]). The certificate vouches for the budgets and the spare
+//!    together.
 //! 8. **Files that are wrong.** [`lint`] gives a [`Remark`] on each thing in the files that looks like a mistake;
 //!    [`locate_in_catalogue`] and [`locate_in_config`] give the [`Position`] of a fault, and [`explain_unsafe`] the
 //!    [`UnsafePart`] for which there is no certificate. For people a [`Diagnosis`] says in one line where a fault is and why, with
@@ -61,13 +65,14 @@
 //!    certified [`Plan`], or a [`CheckFault`]; [`start`] makes the [`Provider`] of a plan. [`certified_plan`] and
 //!    [`vouched_plan`] give the plan of texts. Wherever a value has a [`Text`] or an [`Items`], it is a `String` or a `Vec` that
 //!    contracts see as a text or a list: read it by `as_str` and `as_slice`.
-//! 10. **Other books.** A provider is generic over the book that keeps the recordings of an instrument, and over a [`Gate`], by
-//!    which a test holds threads inside a lock. Services take [`Marked`] and [`NoGate`], of whose tables
-//!    [`tables_are_bounded`] speaks. A service that has to prove its numbers to somebody, for billing or after an incident,
-//!    starts with [`Audited`]: beside the tables it keeps each recording, 32 bytes in the list of its instrument and 24 in the
-//!    seat of its recorder, so it takes memory as long as a run lasts, and some 70 ns more for each of them. Its totals have the
-//!    journal of each instrument, its recordings as [`Entry`], and the [`Slip`]s of each recorder; [`audit`] tells whether these
-//!    and the batches agree, or an [`AuditFault`].
+//! 10. **Other books.** A provider is generic over the book that keeps the recordings of an instrument, and over a
+//!    [`Gate`], by which a test holds threads inside a lock. Services take [`Marked`] and [`NoGate`];
+//!    [`batches_are_bounded`] says of each batch, over every book, what [`tables_are_bounded`] says of running tables. A
+//!    service that has to prove its numbers to somebody, for billing or after an incident, starts with [`Audited`]:
+//!    beside the tables it keeps each recording, 32 bytes in the list of its instrument and 24 in the seat of its
+//!    recorder, so it takes memory as long as a run lasts, and some 70 ns more for each of them. Its totals have the
+//!    journal of each instrument, its recordings as [`Entry`], and the [`Slip`]s of each recorder; [`audit`] tells
+//!    whether these and the batches agree, or an [`AuditFault`].
 //! 11. **Devices.** A [`Sink`] takes bytes, a [`Source`] gives them: [`StdSink`] and [`StdSource`] are those of std,
 //!     [`CutSink`] and [`CutSource`] are of memory, and a [`KeepingExporter`] keeps its batches, in which
 //!     [`value_of`] finds a point, for tests. [`read_all`] and [`write_all`] move a whole
@@ -76,8 +81,11 @@
 
 mod ended;
 mod ending;
+mod last;
 mod opening;
 mod provider;
+mod rolled;
+mod rolling;
 mod runs;
 mod service_fault;
 mod tables;
@@ -114,7 +122,9 @@ pub use metric_base::Text;
 pub use metric_catalogue::Catalogue;
 pub use metric_catalogue::CatalogueDefect;
 pub use metric_catalogue::CatalogueFault;
+pub use metric_catalogue::CatalogueField;
 pub use metric_catalogue::CataloguePlace;
+pub use metric_catalogue::CatalogueSpot;
 pub use metric_cert::CertFault;
 pub use metric_cert::Certificate;
 pub use metric_check::check;
@@ -150,6 +160,7 @@ pub use metric_export::Plain;
 pub use metric_export::QueueCounts;
 pub use metric_export::Queued;
 pub use metric_export::ReopeningExporter;
+pub use metric_export::StopCause;
 pub use metric_export::StopFlag;
 pub use metric_export::TextExporter;
 pub use metric_export::Tick;
@@ -158,6 +169,7 @@ pub use metric_export::ToldQueue;
 pub use metric_export::attributes;
 pub use metric_export::export_each;
 pub use metric_export::has_points;
+pub use metric_export::own_plan;
 pub use metric_export::write_batch;
 pub use metric_export::write_encoded;
 pub use metric_exposition::Dialect;
@@ -236,6 +248,7 @@ pub use metric_provider::Finished;
 pub use metric_provider::Gate;
 pub use metric_provider::Measurement;
 pub use metric_provider::NoGate;
+pub use metric_provider::Partly;
 pub use metric_provider::Provider;
 pub use metric_provider::Recorder;
 pub use metric_provider::RollFault;
@@ -245,6 +258,7 @@ pub use metric_provider::Slip;
 pub use metric_provider::Told;
 pub use metric_provider::Total;
 pub use metric_provider::Totals;
+pub use metric_provider::batches_are_bounded;
 pub use metric_provider::start;
 pub use metric_resource::Resource;
 pub use metric_resource::ResourceFault;
@@ -252,7 +266,9 @@ pub use metric_setup::SetupFault;
 pub use metric_setup::certified_plan;
 pub use metric_setup::vouched_plan;
 pub use metric_views::Config;
+pub use metric_views::ConfigField;
 pub use metric_views::ConfigPlace;
+pub use metric_views::ConfigSpot;
 pub use metric_views::Reader;
 pub use metric_views::Stream;
 pub use metric_views::StreamAggregation;
@@ -262,7 +278,12 @@ pub use metric_views::ViewFault;
 pub use opening::open;
 pub use opening::open_certified;
 pub use provider::MeterProvider;
+pub use rolled::RollLeft;
+pub use rolled::Unrollable;
+pub use rolled::Unrolled;
+pub use rolling::roll_over_all;
 pub use runs::Runs;
 pub use runs::now;
 pub use service_fault::ServiceFault;
+pub use tables::audited_tables_are_bounded;
 pub use tables::tables_are_bounded;

@@ -1,10 +1,12 @@
 //! A service from its texts to its seats.
-ghost use Rattle.std.specs.Prelude.{◌≡◌, IfErr, IfOk, IsTrue, false};
+ghost use Rattle.std.specs.Prelude.{◌≡◌, IfErr, IfOk, IsTrue, OnErr, OnOk, false};
+ghost use Rattle.metric_io.specs.Counts.{next_count};
 ghost use Rattle.metric_provider.specs.Rolling.{new_collectors, new_recorders};
 ghost use Rattle.metric_provider.specs.Seats.{provider_of};
 ghost use Rattle.metric_setup.specs.Setups.{IsCertifiedPlan, IsFirstClaimFault, IsFirstFault, IsVouchedPlan};
 
 use crate::provider::MeterProvider;
+use crate::runs::Runs;
 use metric_marked::Marked;
 use metric_plan::Plan;
 use metric_provider::{Collector, NoGate, Recorder, start};
@@ -14,31 +16,34 @@ use std::sync::Wait;
 
 /// A provider of a catalogue and a config that are given as TOML, with a seat for each recorder and each reader, in the order of
 /// the two: both texts are read, a certificate is made and checked, and the provider starts at a time in nanoseconds (as
-/// [`now`](crate::now) gives it), as the run of this number (as [`Runs`](crate::Runs) gives them).
+/// [`now`](crate::now) gives it), as the next run of a process. By its number seats tell their provider from all others, so
+/// all providers of a process are opened with one [`Runs`].
 ///
 /// # Errors
 ///
-/// Those of [`certified_plan`]; [`SetupFault::Memory`] also where there is no memory for the provider.
+/// Those of [`certified_plan`]; [`SetupFault::Memory`] also where there is no memory for the provider. No number is given then.
 pub fn open<R: Wait>(
     rt: &R,
     alloc: Global,
     catalogue_text: &str,
     config_text: &str,
     now: u64,
-    run: u64,
+    runs: &mut Runs,
 ) -> Result<(MeterProvider, Vec<Recorder>, Vec<Collector>), SetupFault>
     ensures plan { IfOk result (λ opened.
         IsCertifiedPlan catalogue_text.now config_text.now opened.0.plan) }
-    ensures run { IfOk result (λ opened. opened.0.run ≡ run) }
+    ensures run { IfOk result (λ opened. opened.0.run ≡ next_count runs.old) }
+    ensures given { OnOk result (runs.new ≡ next_count runs.old) }
+    ensures not_given { OnErr result (runs.new ≡ runs.old) }
     ensures recorders { IfOk result (λ opened.
-        opened.1.items ≡ new_recorders false run opened.0.plan) }
+        opened.1.items ≡ new_recorders false opened.0.run opened.0.plan) }
     ensures collectors { IfOk result (λ opened.
-        opened.2.items ≡ new_collectors run opened.0.plan) }
+        opened.2.items ≡ new_collectors opened.0.run opened.0.plan) }
     ensures first { IfErr result (λ fault.
         IsFirstFault fault catalogue_text.now config_text.now) }
 {
     let plan = certified_plan(alloc, catalogue_text, config_text)?;
-    started(rt, alloc, plan, now, run)
+    started(rt, alloc, plan, now, runs)
 }
 
 /// [`open`] with a certificate that somebody else made, whom nobody trusts: it is read and checked, and none is made.
@@ -53,20 +58,22 @@ pub fn open_certified<R: Wait>(
     config_text: &str,
     certificate_text: &str,
     now: u64,
-    run: u64,
+    runs: &mut Runs,
 ) -> Result<(MeterProvider, Vec<Recorder>, Vec<Collector>), SetupFault>
     ensures plan { IfOk result (λ opened.
         IsVouchedPlan catalogue_text.now config_text.now certificate_text.now opened.0.plan) }
-    ensures run { IfOk result (λ opened. opened.0.run ≡ run) }
+    ensures run { IfOk result (λ opened. opened.0.run ≡ next_count runs.old) }
+    ensures given { OnOk result (runs.new ≡ next_count runs.old) }
+    ensures not_given { OnErr result (runs.new ≡ runs.old) }
     ensures recorders { IfOk result (λ opened.
-        opened.1.items ≡ new_recorders false run opened.0.plan) }
+        opened.1.items ≡ new_recorders false opened.0.run opened.0.plan) }
     ensures collectors { IfOk result (λ opened.
-        opened.2.items ≡ new_collectors run opened.0.plan) }
+        opened.2.items ≡ new_collectors opened.0.run opened.0.plan) }
     ensures first { IfErr result (λ fault.
         IsFirstClaimFault fault catalogue_text.now config_text.now certificate_text.now) }
 {
     let plan = vouched_plan(alloc, catalogue_text, config_text, certificate_text)?;
-    started(rt, alloc, plan, now, run)
+    started(rt, alloc, plan, now, runs)
 }
 
 // The provider of a certified plan with its seats. Only want of memory refuses it.
@@ -75,16 +82,24 @@ fn started<R: Wait>(
     alloc: Global,
     plan: Plan,
     now: u64,
-    run: u64,
+    runs: &mut Runs,
 ) -> Result<(MeterProvider, Vec<Recorder>, Vec<Collector>), SetupFault>
     requires { IsTrue plan.is_certified }
-    ensures provider { IfOk result (λ opened. opened.0 ≡ provider_of plan run) }
-    ensures recorders { IfOk result (λ opened. opened.1.items ≡ new_recorders false run plan) }
-    ensures collectors { IfOk result (λ opened. opened.2.items ≡ new_collectors run plan) }
+    ensures provider { let run = next_count runs.old in
+        IfOk result (λ opened. opened.0 ≡ provider_of plan run) }
+    ensures recorders { let run = next_count runs.old in
+        IfOk result (λ opened. opened.1.items ≡ new_recorders false run plan) }
+    ensures collectors { let run = next_count runs.old in
+        IfOk result (λ opened. opened.2.items ≡ new_collectors run plan) }
+    ensures given { OnOk result (runs.new ≡ next_count runs.old) }
+    ensures not_given { OnErr result (runs.new ≡ runs.old) }
     ensures memory { IfErr result (λ fault. fault ≡ SetupFault.Memory) }
 {
-    match start::<R, Marked, NoGate>(rt, alloc, plan, now, run, NoGate) {
-        Ok(opened) => Ok(opened),
+    match start::<R, Marked, NoGate>(rt, alloc, plan, now, runs.coming(), NoGate) {
+        Ok(opened) => {
+            let _ = runs.next();
+            Ok(opened)
+        }
         Err(_) => Err(SetupFault::Memory),
     }
 }

@@ -27,10 +27,10 @@ fn nanoseconds_at(time: SystemTime) -> u64
     }
 }
 
-/// Numbers for runs. Seats of two providers with one number are told apart by nothing, so a process makes one `Runs` and takes the
-/// number of each run from it: 1, 2, 3 and so on. That they rise by one is proved; that a process has but one `Runs` is up to the
-/// process. 2^64 - 1 is given again after it was given; no process gets there, and
-/// [`Provider::roll_over`](crate::Provider::roll_over) refuses the number of the run that is going.
+/// Numbers for runs. Seats of two providers with one number are told apart by nothing, so a process makes one `Runs`, with which
+/// [`open`](crate::open) opens each provider, and takes the number of each roll-over from it: 1, 2, 3 and so on. That they rise by
+/// one is proved; that a process has but one `Runs` is up to the process. 2^64 - 1 is given again after it was given; no process
+/// gets there, and [`Provider::roll_over`](crate::Provider::roll_over) refuses the number of the run that is going.
 ///
 /// Contracts see the number that was given last, 0 before the first.
 #[derive(Debug, Drop)]
@@ -52,12 +52,19 @@ impl Runs {
         Runs { last: 0 }
     }
 
+    // The number that is given next.
+    pub(crate) fn coming(&self) -> u64
+        ensures { result ≡ next_count self.now }
+    {
+        self.last.saturating_add(1)
+    }
+
     /// The number of the next run.
     pub fn next(&mut self) -> u64
         ensures number { result ≡ next_count self.old }
         ensures given { self.new ≡ result }
     {
-        self.last = self.last.saturating_add(1);
+        self.last = self.coming();
         self.last
     }
 }

@@ -13,8 +13,8 @@ use json_lines::JsonLines;
 use metric_sdk::{
     Attr, BoundCounter, ClockTicker, Collector, Counted, Counter, Gauge, Histogram, MeterProvider,
     MetricExporter, OtlpLines, Periodic, Plan, Recorder, Refusal, Resource, Runs, ServiceFault,
-    StdSink, StopFlag, TextExporter, UpDownCounter, ValueRef, counter, expose_to_otlp, gauge,
-    histogram, now, open, take_reader, up_down_counter,
+    StdSink, StopFlag, TextExporter, UpDownCounter, counter, expose_to_otlp, gauge, histogram, now,
+    open, take_reader, up_down_counter,
 };
 use std::env;
 use std::fs::{self, File, OpenOptions};
@@ -64,9 +64,9 @@ impl Shop {
         let number = seat.seat().number();
         for (route, status, took, size) in SERVED[number as usize % SERVED.len()] {
             let (items, errors) = (i64::from(status == 200), i64::from(status == 500));
-            let route = attr("route", ValueRef::Text(route));
-            let status = attr("status", ValueRef::Whole(status));
-            let worker = attr("worker", ValueRef::Whole(i64::from(number)));
+            let route = Attr::text("route", route);
+            let status = Attr::whole("status", status);
+            let worker = Attr::whole("worker", i64::from(number));
             let _ = self.requests.add(rt, provider, seat, &[route, status], 1);
             let _ = self.errors.add(rt, provider, seat, errors);
             let _ = self.duration.record(rt, provider, seat, &[route], took);
@@ -79,10 +79,6 @@ impl Shop {
     }
 }
 
-fn attr<'a>(key: &'a str, value: ValueRef<'a>) -> Attr<'a> {
-    Attr { key, value }
-}
-
 fn main(rt: HostRuntime) -> Result<()> {
     let words: Vec<String> = env::args(&rt)?.collect(rt.alloc())?;
     let [_, catalogue, config, file] = words.as_slice() else {
@@ -91,10 +87,17 @@ fn main(rt: HostRuntime) -> Result<()> {
     let catalogue = fs::read_to_string(&rt, catalogue.as_str())?;
     let config = fs::read_to_string(&rt, config.as_str())?;
     let file = added_to().open(&rt, file.as_str())?;
-    let service = attr("service.name", ValueRef::Text("shop"));
+    let service = Attr::text("service.name", "shop");
     let resource = Resource::new(rt.alloc(), &[service])?;
-    let (start, run) = (now(&rt)?, Runs::new().next());
-    let (provider, recorders, readers) = open(&rt, rt.alloc(), &catalogue, &config, start, run)?;
+    let (start, mut runs) = (now(&rt)?, Runs::new());
+    let (provider, recorders, readers) = open(
+        &rt,
+        rt.alloc(),
+        &catalogue,
+        &config,
+        start,
+        &mut runs,
+    )?;
     let mut seats = Vec::with_capacity(rt.alloc(), recorders.len())?;
     let lines = TextExporter::of(OtlpLines::new(resource), StdSink::new(file));
     // What takes these lines stamps each one.

@@ -2,7 +2,7 @@
 use crate::soak::figures::{Figures, add};
 use crate::soak::inputs::{ASKED, CLOSED, FIRST, INSTRUMENTS, LEAST, MORE, SECOND, VALUES};
 use metric_book::Book;
-use metric_sdk::{Attr, NoGate, Provider, Recorder, Refusal, ValueRef};
+use metric_sdk::{Attr, NoGate, Provider, Recorder, Refusal};
 use std::sync::Wait;
 
 /// What a recorder was told of an instrument, counted beside the seat.
@@ -148,8 +148,5 @@ impl Worker {
 }
 
 fn attr<'a>(key: &'a str, value: u32) -> Attr<'a> {
-    Attr {
-        key,
-        value: ValueRef::Whole(i64::from(value)),
-    }
+    Attr::whole(key, i64::from(value))
 }

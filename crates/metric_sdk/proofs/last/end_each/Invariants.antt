@@ -3,7 +3,7 @@ use Rattle.std.proofs.Common.{◌≤◌, ◌+◌, length, vec_capacity, vec_len}
 use Rattle.std.specs.Vec.Iter.{into_iter_len}
 use Rattle.metric_export.specs.ExporterCalls.{IsExport}
 use Rattle.metric_sdk.specs.Endings.{EndsEach}
-use Rattle.metric_sdk.proofs.ending.end_each.Given as goal
+use Rattle.metric_sdk.proofs.last.end_each.Given as goal
 
 abbrev pub invariant-loop-seat : goal.invariant-loop-seat
 invariant-loop-seat g l =

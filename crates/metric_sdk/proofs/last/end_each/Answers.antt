@@ -1,7 +1,7 @@
 -- one reader more
 use Rattle.std.proofs.Common.{arith}
 use Rattle.metric_sdk.proofs.EndLaws.{next_ended}
-use Rattle.metric_sdk.proofs.ending.end_each.Goals as goal
+use Rattle.metric_sdk.proofs.last.end_each.Goals as goal
 
 pub loop-seat-preserved : goal.loop-seat-preserved
 loop-seat-preserved g c = record {

@@ -1,5 +1,5 @@
 -- one call of the exporter
-use Rattle.metric_sdk.proofs.ending.flush.Goals as goal
+use Rattle.metric_sdk.proofs.last.flush.Goals as goal
 
 pub returns-in-Ok : goal.returns-in-Ok
 returns-in-Ok g c = record {
