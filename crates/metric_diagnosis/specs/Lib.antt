@@ -1,2 +1,4 @@
+pub mod Exposures
 pub mod Places
 pub mod Unsafe
+pub mod Marks

@@ -1,6 +1,6 @@
 //! The faults of a catalogue's text.
 ghost use Rattle.std.specs.Prelude.{◌≡◌, IfOk};
-ghost use Rattle.metric_diagnosis.specs.Places.{StandsInCatalogue};
+ghost use Rattle.metric_diagnosis.specs.Marks.{StandsInCatalogue};
 
 use crate::diagnosis::Diagnosis;
 use crate::sources::NamedText;
@@ -9,7 +9,7 @@ use crate::toml_fault::MEMORY;
 use metric_catalogue::CatalogueFault;
 use std::alloc::{AllocError, Global};
 
-/// What a person is told of a fault of a catalogue's text: the place of its table, and which field is wrong, and why. Of another
+/// What a person is told of a fault of a catalogue's text: the place of its field, and what is wrong with it. Of another
 /// text or another fault than `Catalogue::read` answers of it the words may be less exact. Fails only where memory is refused.
 pub fn diagnose_catalogue<'t>(
     alloc: Global,
@@ -23,7 +23,7 @@ pub fn diagnose_catalogue<'t>(
 {
     let spot = match fault {
         CatalogueFault::NotToml => Spot::Text,
-        CatalogueFault::At(defect, place) => Spot::Table(TableFault::Catalogue(defect, place)),
+        CatalogueFault::At(defect, spot) => Spot::Table(TableFault::Catalogue(defect, spot)),
         CatalogueFault::Memory => Spot::Nowhere(MEMORY),
     };
     diagnose(alloc, source, fault, spot)

@@ -1,386 +1,249 @@
-//! The cause of a fault of a catalogue.
+//! The cause of a fault of a catalogue, and the way to its field.
 use crate::cause::{Cause, Named};
-use crate::fields::{
-    BUDGET_FIELDS, CATALOGUE_FIELDS, Field, INSTRUMENT_FIELDS, KEY_FIELDS, METER_FIELDS,
-    RECORDER_FIELDS,
-};
 use crate::mistake::{Mistake, Wrong};
-use crate::rows::row_mistake;
-use crate::tables::{first_with, list_in, name_at, name_in, table_at, text_in};
-use crate::walk::{field_mistake, first_mistake, unknown_field};
-use metric_catalogue::{CatalogueDefect, CataloguePlace};
+use crate::reasons::{
+    Entries, number_of, of_boundaries, of_format, of_list, of_name, of_range, of_repeated, of_unit,
+    of_value, of_word,
+};
+use crate::site::Site;
+use crate::tables::{instrument_at, instrument_count, is_among, name_in};
+use crate::way::{Way, table_on};
+use metric_catalogue::{
+    CatalogueDefect, CatalogueField, CataloguePlace, CatalogueSpot, field_names,
+};
+use metric_views::kind_names;
 use std::alloc::Global;
 use toml::{Table, Value};
 
-// How many instruments a catalogue can have.
-const MOST_INSTRUMENTS: usize = 512;
-
-// The cause of a defect at a place of the top table of a catalogue.
+// The way to what is wrong in the top table of a catalogue, and the cause.
 pub(crate) fn catalogue_cause<'v>(
     alloc: Global,
     top: &'v Table,
     defect: CatalogueDefect,
-    place: CataloguePlace,
-) -> Cause<'v> {
-    let otherwise = words_of(defect);
-    match place {
-        CataloguePlace::Top => {
-            Cause::of(
-                None,
-                first_mistake(alloc, top, CATALOGUE_FIELDS, 0),
-                otherwise,
-            )
-        }
-        CataloguePlace::Meter(number) => meter_cause(alloc, top, number as usize, otherwise),
-        CataloguePlace::Instrument(number) => {
-            instrument_cause(alloc, top, number as usize, otherwise)
-        }
-        CataloguePlace::Recorder(number) => recorder_cause(alloc, top, number as usize, otherwise),
-    }
-}
-
-fn meter_cause<'v>(
-    alloc: Global,
-    top: &'v Table,
-    number: usize,
-    otherwise: &'static str,
-) -> Cause<'v> {
-    let meters = list_in(top, "meter");
-    let subject = Named::new("meter", number, name_at(meters, number));
-    Cause::of(
-        Some(subject),
-        meter_mistake(alloc, meters, number),
-        otherwise,
+    spot: CatalogueSpot,
+) -> (Way<'v>, Cause<'v>) {
+    let site = site_of(top, defect, spot);
+    let mistake = Mistake {
+        field: spot.field.name(),
+        part: "",
+        wrong: wrong_of(alloc, top, defect, spot, site),
+    };
+    let (outer, inner) = subjects_of(top, spot.place);
+    (
+        site.way,
+        Cause {
+            outer,
+            inner,
+            mistake,
+        },
     )
 }
 
-// The mistake of a meter's table: of its own fields, of the number of instruments, of their list, or of its name.
-fn meter_mistake<'v>(alloc: Global, meters: &'v [Value], number: usize) -> Option<Mistake<'v>> {
-    let table = table_at(meters, number)?;
-    if let Some(mistake) = unknown_field(table, METER_FIELDS) {
-        return Some(mistake);
-    }
-    if let Some(mistake) = field_mistake(alloc, table, own_meter_fields(), 0) {
-        return Some(mistake);
-    }
-    let count = instruments_in(meters, number.saturating_add(1));
-    if count > MOST_INSTRUMENTS {
-        let wrong = Wrong::TooMany(count, MOST_INSTRUMENTS, "instruments with those before");
-        return Some(Mistake::of("instrument", wrong));
-    }
-    match field_mistake(alloc, table, METER_FIELDS, 0) {
-        Some(mistake) => Some(mistake),
-        None => same_meter(meters, number, table),
+// Where the field of a spot is, and its value.
+fn site_of<'v>(top: &'v Table, defect: CatalogueDefect, spot: CatalogueSpot) -> Site<'v> {
+    match defect {
+        CatalogueDefect::UnknownField => unknown_site(top, spot),
+        _ => known_site(top, spot),
     }
 }
 
-// The fields of a meter but for its list of instruments.
-fn own_meter_fields() -> &'static [Field] {
-    match METER_FIELDS {
-        [own @ .., _instruments] => own,
-        [] => METER_FIELDS,
+// Where the field is that the table of a spot does not know.
+fn unknown_site<'v>(top: &'v Table, spot: CatalogueSpot) -> Site<'v> {
+    let names = field_names(spot.place, format_of(top));
+    Site::of_other(top, way_to(top, spot.place), names)
+}
+
+fn known_site<'v>(top: &'v Table, spot: CatalogueSpot) -> Site<'v> {
+    let way = way_to(top, spot.place);
+    Site::of_known(top, way, spot.field.name(), spot.entry)
+}
+
+// The number of the format, where the file has it.
+fn format_of(top: &Table) -> u8 {
+    match number_of(top.get("format")) {
+        Some(1) => 1,
+        _ => 2,
     }
 }
 
-// The first meter, before this one, with the same name, version and schema URL.
-fn same_meter<'v>(meters: &[Value], number: usize, table: &Table) -> Option<Mistake<'v>> {
-    for (first, other) in meters.iter().take(number).enumerate() {
-        if is_same_meter(other, table) {
-            let wrong = Wrong::Taken("meter", first, ", as are version and schema_url");
-            return Some(Mistake::of("name", wrong));
-        }
-    }
-    None
-}
-
-fn is_same_meter(other: &Value, table: &Table) -> bool {
-    match other.as_table() {
-        Some(other) => {
-            is_same_text(other, table, "name")
-                && is_same_text(other, table, "version")
-                && is_same_text(other, table, "schema_url")
-        }
-        None => false,
+// The way to the table of a place.
+fn way_to<'v>(top: &Table, place: CataloguePlace) -> Way<'v> {
+    match place {
+        CataloguePlace::Top => Way::top(),
+        CataloguePlace::Meter(number) => Way::top().element("meter", number),
+        CataloguePlace::Instrument(number) => way_to_instrument(top, number),
+        CataloguePlace::Key(number, key) => way_to_instrument(top, number).element("key", key),
+        CataloguePlace::Recorder(number) => Way::top().element("recorder", number),
+        CataloguePlace::Budget(number, budget) => Way::top()
+            .element("recorder", number)
+            .element("budget", budget),
     }
 }
 
-// Whether both tables have the same text, which is empty where it is left out.
-fn is_same_text(left: &Table, right: &Table, name: &str) -> bool {
-    text_in(left, name).unwrap_or("") == text_in(right, name).unwrap_or("")
+fn way_to_instrument<'v>(top: &Table, number: u32) -> Way<'v> {
+    let (meter, instrument) = instrument_at(top, number as usize);
+    Way::top()
+        .then("meter", Some(meter))
+        .then("instrument", Some(instrument))
 }
 
-// How many instruments the first so many meters have.
-fn instruments_in(meters: &[Value], number: usize) -> usize {
-    let mut count = 0usize;
-    for meter in meters.iter().take(number) {
-        count = count.saturating_add(instruments_of(meter).len());
-    }
-    count
-}
-
-fn instruments_of(meter: &Value) -> &[Value] {
-    match meter.as_table() {
-        Some(table) => list_in(table, "instrument"),
-        None => &[],
-    }
-}
-
-// The tables of the meter of the instrument of a number, with its place among them.
-fn instrument_at(meters: &[Value], number: usize) -> (&[Value], usize) {
-    let mut left = number;
-    for meter in meters {
-        let instruments = instruments_of(meter);
-        if left < instruments.len() {
-            return (instruments, left);
-        }
-        left -= instruments.len();
-    }
-    (&[], left)
-}
-
-fn instrument_cause<'v>(
-    alloc: Global,
+// The table of a place as a person knows it, with the one that it stands in where that is an instrument or a recorder.
+fn subjects_of<'v>(
     top: &'v Table,
-    number: usize,
-    otherwise: &'static str,
-) -> Cause<'v> {
-    let (instruments, place) = instrument_at(list_in(top, "meter"), number);
-    let subject = Named::new("instrument", number, name_at(instruments, place));
-    let Some(table) = table_at(instruments, place) else {
-        return Cause::of(Some(subject), None, otherwise);
-    };
-    match own_mistake(alloc, top, instruments, place, number, table) {
-        Some(mistake) => Cause::of(Some(subject), Some(mistake), otherwise),
-        None => key_cause(alloc, table, subject, otherwise),
-    }
-}
-
-// The mistake of an instrument's own fields, or of its name, which an instrument of the meter before it has.
-fn own_mistake<'v>(
-    alloc: Global,
-    top: &'v Table,
-    instruments: &'v [Value],
-    place: usize,
-    number: usize,
-    table: &'v Table,
-) -> Option<Mistake<'v>> {
-    match fields_mistake(alloc, top, table) {
-        Some(mistake) => Some(mistake),
-        None => same_name(instruments, place, number, table),
-    }
-}
-
-fn fields_mistake<'v>(alloc: Global, top: &'v Table, table: &'v Table) -> Option<Mistake<'v>> {
-    if let Some(mistake) = unknown_field(table, INSTRUMENT_FIELDS) {
-        return Some(mistake);
-    }
-    match later_field(top, table) {
-        Some(mistake) => Some(mistake),
-        None => field_mistake(alloc, table, INSTRUMENT_FIELDS, 0),
-    }
-}
-
-// A field that only format 2 has, where the file is of format 1.
-fn later_field<'v>(top: &Table, table: &Table) -> Option<Mistake<'v>> {
-    if is_of_format(top, 2) {
-        return None;
-    }
-    if table.contains_key("allowed") {
-        return Some(Mistake::of("allowed", LATER));
-    }
-    if table.contains_key("spare") {
-        return Some(Mistake::of("spare", LATER));
-    }
-    None
-}
-
-const LATER: Wrong<'static> = Wrong::Plain(" is only known with format = 2 at the top");
-
-fn is_of_format(top: &Table, format: i64) -> bool {
-    match top.get("format") {
-        Some(value) => value.as_integer() == Some(format),
-        None => false,
-    }
-}
-
-// The first instrument of the meter, before this one, with the same name.
-fn same_name<'v>(
-    instruments: &[Value],
-    place: usize,
-    number: usize,
-    table: &Table,
-) -> Option<Mistake<'v>> {
-    let name = name_in(table)?;
-    for (first, other) in instruments.iter().take(place).enumerate() {
-        if is_named(other, name) {
-            let first = number.saturating_sub(place).saturating_add(first);
-            let wrong = Wrong::Taken("instrument", first, " of the meter, without ASCII case");
-            return Some(Mistake::of("name", wrong));
+    place: CataloguePlace,
+) -> (Option<Named<'v>>, Option<Named<'v>>) {
+    let name = name_on(top, place);
+    match place {
+        CataloguePlace::Top => (None, None),
+        CataloguePlace::Meter(number) => (Some(Named::new("meter", number, name)), None),
+        CataloguePlace::Instrument(number) => (Some(Named::new("instrument", number, name)), None),
+        CataloguePlace::Recorder(number) => (Some(Named::new("recorder", number, name)), None),
+        CataloguePlace::Key(number, key) => {
+            let outer = name_on(top, CataloguePlace::Instrument(number));
+            let outer = Named::new("instrument", number, outer);
+            (Some(outer), Some(Named::new("key", key, name)))
+        }
+        CataloguePlace::Budget(number, budget) => {
+            let outer = name_on(top, CataloguePlace::Recorder(number));
+            let outer = Named::new("recorder", number, outer);
+            (Some(outer), Some(Named::new("budget", budget, None)))
         }
     }
-    None
 }
 
-fn is_named(other: &Value, name: &str) -> bool {
-    match other.as_table() {
-        Some(table) => name_in(table).unwrap_or("").eq_ignore_ascii_case(name),
-        None => false,
-    }
+fn name_on(top: &Table, place: CataloguePlace) -> Option<&str> {
+    name_in(table_on(top, way_to(top, place))?)
 }
 
-// The mistake of an instrument's keys, and then of its rows.
-fn key_cause<'v>(
+// What is wrong with the field.
+fn wrong_of<'v>(
     alloc: Global,
-    table: &'v Table,
-    subject: Named<'v>,
-    otherwise: &'static str,
-) -> Cause<'v> {
-    let keys = list_in(table, "key");
-    for number in 0..keys.len() {
-        if let Some(mistake) = key_mistake(alloc, keys, number) {
-            let inner = Named::new("key", number, name_at(keys, number));
-            return Cause::of(Some(subject), Some(mistake), otherwise).inside(inner);
-        }
-    }
-    Cause::of(Some(subject), row_mistake(table, keys), otherwise)
-}
-
-fn key_mistake<'v>(alloc: Global, keys: &'v [Value], number: usize) -> Option<Mistake<'v>> {
-    let key = table_at(keys, number)?;
-    match first_mistake(alloc, key, KEY_FIELDS, 0) {
-        Some(mistake) => Some(mistake),
-        None => taken_name("key", keys, number, key),
-    }
-}
-
-// That the name of a table is that of one before it.
-pub(crate) fn taken_name<'v>(
-    what: &'static str,
-    tables: &[Value],
-    number: usize,
-    table: &Table,
-) -> Option<Mistake<'v>> {
-    let first = first_with(tables, "name", name_in(table)?)?;
-    if first < number {
-        Some(Mistake::of("name", Wrong::Taken(what, first, "")))
-    } else {
-        None
-    }
-}
-
-fn recorder_cause<'v>(
-    alloc: Global,
-    top: &'v Table,
-    number: usize,
-    otherwise: &'static str,
-) -> Cause<'v> {
-    let recorders = list_in(top, "recorder");
-    let subject = Named::new("recorder", number, name_at(recorders, number));
-    match recorder_mistake(alloc, recorders, number) {
-        Some(mistake) => Cause::of(Some(subject), Some(mistake), otherwise),
-        None => budget_cause(
-            alloc,
-            top,
-            budgets_at(recorders, number),
-            subject,
-            otherwise,
-        ),
-    }
-}
-
-fn recorder_mistake<'v>(
-    alloc: Global,
-    recorders: &'v [Value],
-    number: usize,
-) -> Option<Mistake<'v>> {
-    let table = table_at(recorders, number)?;
-    match first_mistake(alloc, table, RECORDER_FIELDS, 0) {
-        Some(mistake) => Some(mistake),
-        None => taken_name("recorder", recorders, number, table),
-    }
-}
-
-// The budgets of the recorder of a number.
-fn budgets_at(recorders: &[Value], number: usize) -> &[Value] {
-    match table_at(recorders, number) {
-        Some(table) => list_in(table, "budget"),
-        None => &[],
-    }
-}
-
-// The mistake of a recorder's budgets.
-fn budget_cause<'v>(
-    alloc: Global,
-    top: &'v Table,
-    budgets: &'v [Value],
-    subject: Named<'v>,
-    otherwise: &'static str,
-) -> Cause<'v> {
-    let count = instruments_in(list_in(top, "meter"), usize::MAX);
-    for number in 0..budgets.len() {
-        if let Some(mistake) = budget_mistake(alloc, budgets, number, count) {
-            let inner = Named::new("budget", number, None);
-            return Cause::of(Some(subject), Some(mistake), otherwise).inside(inner);
-        }
-    }
-    Cause::of(Some(subject), None, otherwise)
-}
-
-fn budget_mistake<'v>(
-    alloc: Global,
-    budgets: &'v [Value],
-    number: usize,
-    count: usize,
-) -> Option<Mistake<'v>> {
-    let budget = table_at(budgets, number)?;
-    match first_mistake(alloc, budget, BUDGET_FIELDS, count) {
-        Some(mistake) => Some(mistake),
-        None => same_budget(budgets, number, budget),
-    }
-}
-
-// The first budget of the recorder, before this one, for the same instrument.
-fn same_budget<'v>(budgets: &[Value], number: usize, budget: &Table) -> Option<Mistake<'v>> {
-    let instrument = budget.get("instrument")?.as_integer()?;
-    for (first, other) in budgets.iter().take(number).enumerate() {
-        if is_for(other, instrument) {
-            let wrong = Wrong::Taken("budget", first, " of the recorder");
-            return Some(Mistake::of("instrument", wrong));
-        }
-    }
-    None
-}
-
-fn is_for(budget: &Value, instrument: i64) -> bool {
-    match budget.as_table() {
-        Some(table) => match table.get("instrument") {
-            Some(value) => value.as_integer() == Some(instrument),
-            None => false,
+    top: &Table,
+    defect: CatalogueDefect,
+    spot: CatalogueSpot,
+    site: Site<'v>,
+) -> Wrong<'v> {
+    let value = site.value;
+    match defect {
+        CatalogueDefect::MissingField => site.missing(),
+        CatalogueDefect::WrongKind => wrong_kind(spot, value),
+        CatalogueDefect::UnknownField => unknown_field(top, spot, site.name),
+        CatalogueDefect::BadName => bad_name(alloc, spot, value),
+        CatalogueDefect::BadUnit => of_unit(alloc, value),
+        CatalogueDefect::BadRange => bad_range(spot, value),
+        CatalogueDefect::BadBoundaries => of_boundaries(value),
+        CatalogueDefect::DuplicateValue => of_repeated(value),
+        CatalogueDefect::UnknownInstrument => match number_of(value) {
+            Some(number) => Wrong::NoInstrument(number, instrument_count(top)),
+            None => of_value(value, "the number of an instrument"),
         },
-        None => false,
+        CatalogueDefect::TooMany => Wrong::TooMany(most_of(spot)),
+        CatalogueDefect::BadCombination => Wrong::Row(spot.entry.unwrap_or(0), UNFIT),
+        CatalogueDefect::DuplicateCombination => Wrong::Row(spot.entry.unwrap_or(0), REPEATED),
+        _ => Wrong::Plain(words_of(defect)),
     }
 }
 
-// What a defect is, where its field is not found.
+const UNFIT: &str =
+    " does not fit the keys: it has one entry for each key, the number of a value from 1 on, or 0 if the key is optional";
+
+const REPEATED: &str = " is listed before";
+
+// What is told of a defect without a value.
 fn words_of(defect: CatalogueDefect) -> &'static str {
     match defect {
-        CatalogueDefect::MissingField => "a needed field is missing",
-        CatalogueDefect::WrongKind => "a field's value is of another kind than the format says",
-        CatalogueDefect::UnknownField => "a field is not known here",
-        CatalogueDefect::BadName => "a name is none",
-        CatalogueDefect::BadUnit => "the unit is none",
-        CatalogueDefect::DuplicateMeter => "the meter is declared before",
-        CatalogueDefect::DuplicateInstrument => "the instrument is declared before in the meter",
-        CatalogueDefect::DuplicateKey => "a key is declared twice",
-        CatalogueDefect::DuplicateValue => "a value of a key stands twice",
-        CatalogueDefect::ReservedKey => "a key has the name that marks the overflow point",
-        CatalogueDefect::BadRange => "a range or an amount is not one",
-        CatalogueDefect::BadBoundaries => "boundaries do not rise",
-        CatalogueDefect::UnknownInstrument => "a budget is for an instrument that is not there",
-        CatalogueDefect::DuplicateRecorder => "the recorder is declared before",
-        CatalogueDefect::DuplicateBudget => "two budgets are for one instrument",
-        CatalogueDefect::TooMany => "a list or a text is too long",
-        CatalogueDefect::BadCombination => "a row of combinations does not fit the keys",
-        CatalogueDefect::DuplicateCombination => "a row of combinations stands twice",
+        CatalogueDefect::DuplicateMeter => {
+            ": an earlier meter has the same name, version and schema_url"
+        }
+        CatalogueDefect::DuplicateInstrument => {
+            ": an earlier instrument of the meter has the same name, without ASCII case"
+        }
+        CatalogueDefect::DuplicateKey => ": an earlier key of the instrument has the same name",
+        CatalogueDefect::DuplicateRecorder => ": an earlier recorder has the same name",
+        CatalogueDefect::DuplicateBudget => {
+            ": an earlier budget of the recorder is for the same instrument"
+        }
+        CatalogueDefect::ReservedKey =>
+            ": this name marks the overflow point, and no key may have it",
+        _ => " is wrong",
+    }
+}
+
+// That a value is of another kind than the field takes.
+fn wrong_kind<'v>(spot: CatalogueSpot, value: Option<&'v Value>) -> Wrong<'v> {
+    match spot.field {
+        CatalogueField::Format => of_format(value, "catalogue", "1 and 2"),
+        CatalogueField::Kind => of_word(value, kind_names()),
+        CatalogueField::Range => of_value(value, "two whole numbers"),
+        CatalogueField::Boundaries => of_list(value, Entries::Numbers),
+        CatalogueField::Spare | CatalogueField::Amount => of_value(value, "a whole number"),
+        CatalogueField::Optional => of_value(value, "true or false"),
+        CatalogueField::Values | CatalogueField::Allowed => wrong_entry(spot, value),
+        CatalogueField::Meter
+        | CatalogueField::Recorder
+        | CatalogueField::Key
+        | CatalogueField::Budget => of_list(value, Entries::Tables),
+        CatalogueField::Instrument => match spot.place {
+            CataloguePlace::Budget(_, _) => of_value(value, "the number of an instrument"),
+            _ => of_list(value, Entries::Tables),
+        },
+        CatalogueField::Unknown
+        | CatalogueField::Name
+        | CatalogueField::Version
+        | CatalogueField::SchemaUrl
+        | CatalogueField::Unit
+        | CatalogueField::Description => of_value(value, "text"),
+    }
+}
+
+// That a value of a key or a row, or the list of them, is of another kind.
+fn wrong_entry<'v>(spot: CatalogueSpot, value: Option<&'v Value>) -> Wrong<'v> {
+    match (spot.entry, value, spot.field) {
+        (Some(number), Some(value), CatalogueField::Values) => {
+            Wrong::EntryNotA(number, value, "text, a whole number, true or false")
+        }
+        (Some(number), Some(value), _) => Wrong::EntryNotA(
+            number,
+            value,
+            "a list of whole numbers",
+        ),
+        _ => of_value(value, "a list"),
+    }
+}
+
+// That the table does not know a field, or does only from a later format on.
+fn unknown_field<'v>(top: &Table, spot: CatalogueSpot, name: &'v str) -> Wrong<'v> {
+    if is_among(field_names(spot.place, 2), name) {
+        return Wrong::Later(name);
+    }
+    Wrong::Unknown(name, field_names(spot.place, format_of(top)))
+}
+
+fn bad_name<'v>(alloc: Global, spot: CatalogueSpot, value: Option<&'v Value>) -> Wrong<'v> {
+    match spot.place {
+        CataloguePlace::Instrument(_) => of_name(alloc, value),
+        _ => of_value(value, "a name, which has one character at least"),
+    }
+}
+
+fn bad_range<'v>(spot: CatalogueSpot, value: Option<&'v Value>) -> Wrong<'v> {
+    match spot.field {
+        CatalogueField::Range => of_range(value),
+        _ => of_value(value, "a whole number from 0 on"),
+    }
+}
+
+// The most that a field may have.
+fn most_of(spot: CatalogueSpot) -> &'static str {
+    match (spot.field, spot.entry) {
+        (CatalogueField::Meter, _) => "64 meters",
+        (CatalogueField::Recorder, _) => "64 recorders",
+        (CatalogueField::Instrument, _) => "512 instruments of all meters",
+        (CatalogueField::Boundaries, _) => "128 boundaries",
+        (CatalogueField::Key, _) => "8 keys",
+        (CatalogueField::Allowed, _) => "4096 rows",
+        (CatalogueField::Values, None) => "1000 values",
+        (CatalogueField::Budget, _) => "512 budgets",
+        _ => "1023 characters",
     }
 }

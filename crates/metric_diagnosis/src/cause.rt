@@ -8,7 +8,7 @@ use std::fmt;
 #[derive(Clone, Copy)]
 pub(crate) struct Named<'v> {
     pub(crate) what: &'static str,
-    pub(crate) number: usize,
+    pub(crate) number: u32,
     pub(crate) name: Option<&'v str>,
 }
 
@@ -17,38 +17,12 @@ pub(crate) struct Named<'v> {
 pub(crate) struct Cause<'v> {
     pub(crate) outer: Option<Named<'v>>,
     pub(crate) inner: Option<Named<'v>>,
-    pub(crate) mistake: Option<Mistake<'v>>,
-    // What is told where no mistake is found.
-    pub(crate) otherwise: &'static str,
+    pub(crate) mistake: Mistake<'v>,
 }
 
 impl<'v> Named<'v> {
-    pub(crate) fn new(what: &'static str, number: usize, name: Option<&'v str>) -> Named<'v> {
+    pub(crate) fn new(what: &'static str, number: u32, name: Option<&'v str>) -> Named<'v> {
         Named { what, number, name }
-    }
-}
-
-impl<'v> Cause<'v> {
-    // A mistake of a table.
-    pub(crate) fn of(
-        outer: Option<Named<'v>>,
-        mistake: Option<Mistake<'v>>,
-        otherwise: &'static str,
-    ) -> Cause<'v> {
-        Cause {
-            outer,
-            inner: None,
-            mistake,
-            otherwise,
-        }
-    }
-
-    // The same mistake, of a table in the table.
-    pub(crate) fn inside(self, inner: Named<'v>) -> Cause<'v> {
-        Cause {
-            inner: Some(inner),
-            ..self
-        }
     }
 }
 
@@ -70,9 +44,6 @@ impl fmt::Display for Cause<'_> {
         if let Some(inner) = self.inner {
             write_one(f, ("", &inner), ": ")?;
         }
-        match self.mistake {
-            Some(mistake) => f.write(mistake),
-            None => f.write_str(self.otherwise),
-        }
+        f.write(self.mistake)
     }
 }

@@ -1,6 +1,6 @@
 //! The faults of a config's text.
 ghost use Rattle.std.specs.Prelude.{◌≡◌, IfOk};
-ghost use Rattle.metric_diagnosis.specs.Places.{StandsInConfig};
+ghost use Rattle.metric_diagnosis.specs.Marks.{StandsInConfig};
 
 use crate::diagnosis::Diagnosis;
 use crate::sources::NamedText;
@@ -9,7 +9,7 @@ use crate::toml_fault::MEMORY;
 use metric_views::ViewFault;
 use std::alloc::{AllocError, Global};
 
-/// What a person is told of a fault of a config's text: the place of its table, and which field is wrong, and why. Of another
+/// What a person is told of a fault of a config's text: the place of its field, and what is wrong with it. Of another
 /// text or another fault than `Config::read` answers of it the words may be less exact. Fails only where memory is refused.
 pub fn diagnose_config<'t>(
     alloc: Global,
@@ -23,7 +23,7 @@ pub fn diagnose_config<'t>(
 {
     let spot = match fault {
         ViewFault::NotToml => Spot::Text,
-        ViewFault::At(defect, place) => Spot::Table(TableFault::Config(defect, place)),
+        ViewFault::At(defect, spot) => Spot::Table(TableFault::Config(defect, spot)),
         ViewFault::Memory => Spot::Nowhere(MEMORY),
     };
     diagnose(alloc, source, fault, spot)

@@ -1,87 +1,200 @@
-//! The cause of a fault of a config.
-use crate::catalogue_cause::taken_name;
+//! The cause of a fault of a config, and the way to its field.
 use crate::cause::{Cause, Named};
-use crate::fields::{CONFIG_FIELDS, READER_FIELDS, VIEW_FIELDS};
-use crate::mistake::Mistake;
-use crate::tables::{list_in, name_at, table_at};
-use crate::walk::{field_mistake, first_mistake, unknown_field};
-use metric_views::{ConfigPlace, ViewDefect};
+use crate::mistake::{Mistake, Wrong};
+use crate::reasons::{
+    Entries, of_boundaries, of_format, of_list, of_name, of_pattern, of_value, of_word,
+};
+use crate::site::Site;
+use crate::tables::name_in;
+use crate::way::{Way, table_on};
+use metric_contents::Kind;
+use metric_views::{ConfigField, ConfigPlace, ConfigSpot, ViewDefect, field_names, kind_names};
 use std::alloc::Global;
 use toml::{Table, Value};
 
-// The cause of a defect at a place of the top table of a config.
+const TEMPORALITIES: &[&str] = &["delta", "cumulative"];
+
+const AGGREGATIONS: &[&str] = &[
+    "default",
+    "drop",
+    "sum",
+    "last_value",
+    "explicit_bucket_histogram",
+];
+
+// What a gauge can be aggregated by.
+const GAUGE_AGGREGATIONS: &[&str] = &["default", "drop", "last_value", "explicit_bucket_histogram"];
+
+// The way to what is wrong in the top table of a config, and the cause.
 pub(crate) fn config_cause<'v>(
     alloc: Global,
     top: &'v Table,
     defect: ViewDefect,
-    place: ConfigPlace,
-) -> Cause<'v> {
-    let otherwise = words_of(defect);
-    match place {
-        ConfigPlace::Top => {
-            Cause::of(None, first_mistake(alloc, top, CONFIG_FIELDS, 0), otherwise)
-        }
-        ConfigPlace::Reader(number) => reader_cause(alloc, top, number as usize, otherwise),
-        ConfigPlace::View(number) => view_cause(alloc, top, number as usize, otherwise),
-    }
-}
-
-fn reader_cause<'v>(
-    alloc: Global,
-    top: &'v Table,
-    number: usize,
-    otherwise: &'static str,
-) -> Cause<'v> {
-    let readers = list_in(top, "reader");
-    let subject = Named::new("reader", number, name_at(readers, number));
-    Cause::of(
-        Some(subject),
-        reader_mistake(alloc, readers, number),
-        otherwise,
+    spot: ConfigSpot,
+) -> (Way<'v>, Cause<'v>) {
+    let site = site_of(top, defect, spot);
+    let mistake = Mistake {
+        field: spot.field.name(),
+        part: part_of(spot),
+        wrong: wrong_of(alloc, defect, spot, site),
+    };
+    (
+        site.way,
+        Cause {
+            outer: subject_of(top, spot.place),
+            inner: None,
+            mistake,
+        },
     )
 }
 
-// The mistake of a reader's table: that its name is taken is told after its name and before its choices.
-fn reader_mistake<'v>(alloc: Global, readers: &'v [Value], number: usize) -> Option<Mistake<'v>> {
-    let table = table_at(readers, number)?;
-    if let Some(mistake) = unknown_field(table, READER_FIELDS) {
-        return Some(mistake);
-    }
-    let (name, choices) = READER_FIELDS.split_at(1);
-    if let Some(mistake) = field_mistake(alloc, table, name, 0) {
-        return Some(mistake);
-    }
-    match taken_name("reader", readers, number, table) {
-        Some(mistake) => Some(mistake),
-        None => field_mistake(alloc, table, choices, 0),
+// Where the field of a spot is, and its value.
+fn site_of<'v>(top: &'v Table, defect: ViewDefect, spot: ConfigSpot) -> Site<'v> {
+    match (defect, spot.kind) {
+        (ViewDefect::UnknownField, _) => unknown_site(top, spot),
+        (_, Some(kind)) => choice_site(top, spot, kind),
+        (_, None) => known_site(top, spot),
     }
 }
 
-fn view_cause<'v>(
-    alloc: Global,
-    top: &'v Table,
-    number: usize,
-    otherwise: &'static str,
-) -> Cause<'v> {
-    let subject = Named::new("view", number, None);
-    let mistake = match table_at(list_in(top, "view"), number) {
-        Some(table) => first_mistake(alloc, table, VIEW_FIELDS, 0),
-        None => None,
-    };
-    Cause::of(Some(subject), mistake, otherwise)
+// Where the field is that the table of a spot does not know, or that of its choices.
+fn unknown_site<'v>(top: &'v Table, spot: ConfigSpot) -> Site<'v> {
+    let names = known_by(spot);
+    Site::of_other(top, way_to_choices(spot), names)
 }
 
-// What a defect is, where its field is not found.
-fn words_of(defect: ViewDefect) -> &'static str {
+// The way to the choices of a field, or to the table itself.
+fn way_to_choices<'v>(spot: ConfigSpot) -> Way<'v> {
+    let name = spot.field.name();
+    let way = way_to(spot.place);
+    if name.is_empty() {
+        way
+    } else {
+        way.then(name, None)
+    }
+}
+
+fn choice_site<'v>(top: &'v Table, spot: ConfigSpot, kind: Kind) -> Site<'v> {
+    Site::of_known(top, way_to_choices(spot), word_of(kind), None)
+}
+
+fn known_site<'v>(top: &'v Table, spot: ConfigSpot) -> Site<'v> {
+    Site::of_known(top, way_to(spot.place), spot.field.name(), None)
+}
+
+// The way to the table of a place.
+fn way_to<'v>(place: ConfigPlace) -> Way<'v> {
+    match place {
+        ConfigPlace::Top => Way::top(),
+        ConfigPlace::Reader(number) => Way::top().element("reader", number),
+        ConfigPlace::View(number) => Way::top().element("view", number),
+    }
+}
+
+// The table of a place as a person knows it.
+fn subject_of<'v>(top: &'v Table, place: ConfigPlace) -> Option<Named<'v>> {
+    match place {
+        ConfigPlace::Top => None,
+        ConfigPlace::Reader(number) => {
+            let name = match table_on(top, way_to(place)) {
+                Some(table) => name_in(table),
+                None => None,
+            };
+            Some(Named::new("reader", number, name))
+        }
+        ConfigPlace::View(number) => Some(Named::new("view", number, None)),
+    }
+}
+
+// The kind of instrument whose choice is wrong.
+fn part_of(spot: ConfigSpot) -> &'static str {
+    match spot.kind {
+        Some(kind) => word_of(kind),
+        None => "",
+    }
+}
+
+fn word_of(kind: Kind) -> &'static str {
+    match kind {
+        Kind::Counter => "counter",
+        Kind::UpDownCounter => "up_down_counter",
+        Kind::Histogram => "histogram",
+        Kind::Gauge => "gauge",
+    }
+}
+
+// What is wrong with the field.
+fn wrong_of<'v>(alloc: Global, defect: ViewDefect, spot: ConfigSpot, site: Site<'v>) -> Wrong<'v> {
+    let value = site.value;
     match defect {
-        ViewDefect::MissingField => "a needed field is missing",
-        ViewDefect::WrongKind => "a field's value is of another kind than the format says",
-        ViewDefect::UnknownField => "a field is not known here",
-        ViewDefect::BadPattern => "the instrument's name is no pattern",
-        ViewDefect::BadName => "a name is none",
-        ViewDefect::BadBoundaries => "boundaries do not rise",
-        ViewDefect::BadLimit => "a limit is not from 1 to 1000000",
-        ViewDefect::DuplicateReader => "the reader is declared before",
-        ViewDefect::TooMany => "a list or a text is too long",
+        ViewDefect::MissingField => site.missing(),
+        ViewDefect::WrongKind => wrong_kind(spot, value),
+        ViewDefect::UnknownField => Wrong::Unknown(site.name, known_by(spot)),
+        ViewDefect::BadPattern => of_pattern(alloc, value),
+        ViewDefect::BadName => match spot.field {
+            ConfigField::StreamName => of_name(alloc, value),
+            _ => of_value(value, "a name, which has one character at least"),
+        },
+        ViewDefect::BadBoundaries => of_boundaries(value),
+        ViewDefect::BadLimit => of_value(value, "a whole number from 1 to 1000000"),
+        ViewDefect::DuplicateReader => Wrong::Plain(": an earlier reader has the same name"),
+        ViewDefect::TooMany => Wrong::TooMany(most_of(spot.field, value)),
+    }
+}
+
+// The fields of the table in which one is not known.
+fn known_by(spot: ConfigSpot) -> &'static [&'static str] {
+    match spot.field {
+        ConfigField::Unknown => field_names(spot.place),
+        _ => kind_names(),
+    }
+}
+
+// That a value is of another kind than the field takes.
+fn wrong_kind<'v>(spot: ConfigSpot, value: Option<&'v Value>) -> Wrong<'v> {
+    match spot.field {
+        ConfigField::Format => of_format(value, "config", "1"),
+        ConfigField::Reader | ConfigField::View => of_list(value, Entries::Tables),
+        ConfigField::InstrumentType => of_word(value, kind_names()),
+        ConfigField::Boundaries => of_list(value, Entries::Numbers),
+        ConfigField::Keep | ConfigField::Exclude => of_list(value, Entries::Texts),
+        ConfigField::Temporality | ConfigField::Aggregation | ConfigField::Limit => {
+            wrong_choice(spot, value)
+        }
+        ConfigField::Unknown
+        | ConfigField::Name
+        | ConfigField::InstrumentName
+        | ConfigField::InstrumentUnit
+        | ConfigField::MeterName
+        | ConfigField::MeterVersion
+        | ConfigField::MeterSchemaUrl
+        | ConfigField::StreamName
+        | ConfigField::Description => of_value(value, "text"),
+    }
+}
+
+// That a reader's choice for a kind, or what a view chooses, is of another kind.
+fn wrong_choice<'v>(spot: ConfigSpot, value: Option<&'v Value>) -> Wrong<'v> {
+    match (spot.place, spot.kind, spot.field) {
+        (ConfigPlace::Reader(_), None, _) => of_value(value, "a table"),
+        (_, _, ConfigField::Limit) => of_value(value, "a whole number"),
+        (_, _, ConfigField::Temporality) => of_word(value, TEMPORALITIES),
+        (_, Some(Kind::Gauge), _) => of_word(value, GAUGE_AGGREGATIONS),
+        _ => of_word(value, AGGREGATIONS),
+    }
+}
+
+// The most that a field may have.
+fn most_of(field: ConfigField, value: Option<&Value>) -> &'static str {
+    let is_list = match value {
+        Some(value) => value.as_array().is_some(),
+        None => false,
+    };
+    match field {
+        ConfigField::Reader => "16 readers",
+        ConfigField::View => "256 views",
+        ConfigField::Boundaries => "128 boundaries",
+        ConfigField::Keep | ConfigField::Exclude if is_list => "64 keys, each of 1023 characters,",
+        _ => "1023 characters",
     }
 }

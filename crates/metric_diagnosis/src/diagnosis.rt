@@ -3,6 +3,7 @@ ghost use Rattle.std.specs.Prelude.{◌≡◌};
 
 use crate::excerpt::Excerpt;
 use crate::sentence::{write_part, write_two};
+use crate::shown::FileName;
 use crate::sources::NamedText;
 use metric_advice::Position;
 use std::fmt;
@@ -14,7 +15,8 @@ pub struct Diagnosis<'t, F> {
     pub fault: F,
     /// The name of the file that the fault is in.
     pub file: &'t str,
-    /// Where the table of the fault begins, or where the text breaks off that is no TOML; nothing where that is not found.
+    /// Where the field of the fault stands, or the table that a remark is of or that lacks a field, or where a text breaks off
+    /// that is no TOML; nothing where that is not found.
     pub position: Option<Position>,
     /// The line at the position, without its end; empty where there is no position.
     pub line: &'t str,
@@ -51,7 +53,7 @@ impl<'t, F> Diagnosis<'t, F> {
 
 impl<F> fmt::Display for Diagnosis<'_, F> {
     fn fmt<W: fmt::Write>(&self, f: &mut fmt::Formatter<W>) -> fmt::Result {
-        f.write_str(self.file)?;
+        f.write(FileName(self.file))?;
         if let Some(Position { line, column }) = self.position {
             write_two(f, (":", &line), (":", &column), "")?;
         }

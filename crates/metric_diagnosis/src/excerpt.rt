@@ -1,10 +1,20 @@
 //! A line of a text with a mark.
 use crate::sentence::write_two;
+use crate::shown::visible;
 use metric_advice::Position;
 use std::fmt;
 
+// How many characters of a line are shown.
+const WIDTH: usize = 120;
+
+// How many of these stand before the mark, where the line is cut there.
+const BEFORE: usize = 60;
+
+// What stands for characters that are left out.
+const CUT: &str = "..";
+
 /// A line of a text with its number, and a mark below a place in it. As a text it is two lines, of which each ends with a line
-/// feed, or empty.
+/// feed, or empty. Of a long line some 120 characters round the mark are shown. Control characters are shown as symbols.
 #[derive(Clone, Copy)]
 pub struct Excerpt<'t> {
     position: Option<Position>,
@@ -21,39 +31,75 @@ impl fmt::Display for Excerpt<'_> {
     fn fmt<W: fmt::Write>(&self, f: &mut fmt::Formatter<W>) -> fmt::Result {
         match self.position {
             Some(Position { line, column }) => {
-                let text = self.line;
-                let mark = Mark { text, column };
+                let window = Window::new(self.line, column.saturating_sub(1));
                 write!(f, "{line:>5}")?;
-                write_two(f, (" | ", &text), ("\n      | ", &mark), "\n")
+                write_two(f, (" | ", &window), ("\n      | ", &window.mark()), "\n")
             }
             None => Ok(()),
         }
     }
 }
 
-// A mark below a column of a line.
+// The part of a line that is shown.
 #[derive(Clone, Copy)]
-struct Mark<'t> {
+struct Window<'t> {
     text: &'t str,
-    column: usize,
+    // How many characters are left out at the front.
+    start: usize,
+    // How many characters stand before the mark.
+    marked: usize,
 }
 
-impl fmt::Display for Mark<'_> {
-    fn fmt<W: fmt::Write>(&self, f: &mut fmt::Formatter<W>) -> fmt::Result {
-        let bytes = self.text.as_bytes();
-        let before = self.column.saturating_sub(1).min(bytes.len());
-        for byte in &bytes[..before] {
-            write_blank(f, *byte)?;
+impl<'t> Window<'t> {
+    fn new(text: &'t str, marked: usize) -> Window<'t> {
+        let start = if text.chars().count() <= WIDTH {
+            0
+        } else {
+            marked.saturating_sub(BEFORE)
+        };
+        Window {
+            text,
+            start,
+            marked,
         }
-        f.write_str("^")
+    }
+
+    // The mark below the window.
+    fn mark(&self) -> Mark {
+        let shown = self.marked.saturating_sub(self.start);
+        let cut = if self.start == 0 { 0 } else { CUT.len() };
+        Mark {
+            before: shown.saturating_add(cut),
+        }
     }
 }
 
-// What stands below a byte that is not marked. A character has one byte that does not go on with another.
-fn write_blank<W: fmt::Write>(f: &mut fmt::Formatter<W>, byte: u8) -> fmt::Result {
-    match byte {
-        b'\t' => f.write_str("\t"),
-        0x80..=0xbf => Ok(()),
-        _ => f.write_str(" "),
+impl fmt::Display for Window<'_> {
+    fn fmt<W: fmt::Write>(&self, f: &mut fmt::Formatter<W>) -> fmt::Result {
+        if self.start > 0 {
+            f.write_str(CUT)?;
+        }
+        for character in self.text.chars().skip(self.start).take(WIDTH) {
+            f.write_char(visible(character))?;
+        }
+        if self.text.chars().skip(self.start).count() > WIDTH {
+            f.write_str(CUT)?;
+        }
+        Ok(())
+    }
+}
+
+// A mark after so many blanks.
+#[derive(Clone, Copy)]
+struct Mark {
+    before: usize,
+}
+
+impl fmt::Display for Mark {
+    fn fmt<W: fmt::Write>(&self, f: &mut fmt::Formatter<W>) -> fmt::Result {
+        for _ in 0..self.before {
+            f.write_str(" ")?;
+        }
+        f.write_str("^")
     }
 }

@@ -2,20 +2,22 @@
 ghost use Rattle.std.specs.Prelude.{◌≡◌, IfOk};
 ghost use Rattle.metric_diagnosis.specs.Places.{IsAbout, RemarkStands};
 
+use crate::buckets::told_bucket;
 use crate::diagnosis::Diagnosis;
+use crate::missed::words_of_nothing;
 use crate::places::{Place, position_of, source_of, told};
-use crate::room::told_room;
 use crate::sources::Pair;
 use crate::told::{instrument_of, recorder_of};
-use crate::unsafe_parts::told_collision;
+use crate::unsafe_parts::{told_collision, told_limit};
 use metric_advice::{KeyList, Remark};
-use metric_catalogue::CataloguePlace;
+use metric_catalogue::{Catalogue, CataloguePlace};
 use metric_views::{ConfigPlace, View};
 use std::alloc::{AllocError, Global};
 
 /// What a person is told of a remark of `lint`: the place of the view, the recorder or the instrument that it is about, and what
-/// looks like a mistake. The file is the catalogue for budgets, else the config. Two streams of one identity stand at the view of the
-/// later one, else of the first; that there is no reader, at the top. Of a remark that `lint` does not give on this pair the words may
+/// looks like a mistake. The file is the catalogue for recorders and for budgets, else the config. Two streams of one identity stand
+/// at the view of the later one, else of the first; budgets that give a stream more series than its limit, at its view, else at its
+/// reader; buckets that tell nothing, at the view or the instrument; that there is no recorder or no reader, at the top. Of a remark that `lint` does not give on this pair the words may
 /// be less exact. Fails only where memory is refused.
 pub fn diagnose_remark<'t>(
     alloc: Global,
@@ -42,7 +44,7 @@ fn told_of(alloc: Global, pair: Pair<'_>, remark: Remark) -> Result<(Place, Stri
         Remark::Collision { first, later } => told_collision(alloc, pair, first, later),
         Remark::SelectsNothing { view } => told(
             place_of_view(view),
-            words_of_view(alloc, view, "selects no instrument"),
+            words_of_nothing(alloc, pair, view),
         ),
         Remark::UnknownKey { view, list, place } => told(
             place_of_view(view),
@@ -51,27 +53,40 @@ fn told_of(alloc: Global, pair: Pair<'_>, remark: Remark) -> Result<(Place, Stri
         Remark::UnusedBoundaries { view } => {
             told(place_of_view(view), words_of_view(alloc, view, UNUSED))
         }
-        Remark::NoBudget {
-            instrument,
-            recorder,
-        } => told(
-            Place::Catalogue(CataloguePlace::Recorder(recorder)),
-            words_of_budget(alloc, pair, instrument, recorder),
-        ),
-        Remark::OverBudget { instrument } => told(
+        Remark::Unrecorded { instrument } => told(
             Place::Catalogue(CataloguePlace::Instrument(instrument)),
-            told_room(alloc, pair, instrument, None),
+            words_of_instrument(alloc, pair, instrument, UNRECORDED),
+        ),
+        Remark::NothingAllowed { instrument } => told(
+            Place::Catalogue(CataloguePlace::Instrument(instrument)),
+            words_of_instrument(alloc, pair, instrument, NOTHING),
+        ),
+        Remark::OneValue { instrument } => told(
+            Place::Catalogue(CataloguePlace::Instrument(instrument)),
+            words_of_instrument(alloc, pair, instrument, ONE_VALUE),
+        ),
+        Remark::OneBucket { stream } => told_bucket(alloc, pair, stream),
+        Remark::OverBudget { instrument, limit } => told_limit(alloc, pair, instrument, limit),
+        Remark::NoBudget { recorder } => told(
+            Place::Catalogue(CataloguePlace::Recorder(recorder)),
+            words_of_idle(alloc, pair, recorder),
+        ),
+        Remark::NoRecorder => told(
+            Place::Catalogue(CataloguePlace::Top),
+            String::from_str(alloc, NO_RECORDER),
         ),
         Remark::NoReader => told(
             Place::Config(ConfigPlace::Top),
-            String::from_str(alloc, NONE),
+            String::from_str(alloc, NO_READER),
         ),
     }
 }
 
 const UNUSED: &str = "gives boundaries, and no stream of it is a histogram";
 
-const NONE: &str = "there is no reader, so nothing is collected";
+const NO_RECORDER: &str = "there is no recorder, so nothing can be recorded";
+
+const NO_READER: &str = "there is no reader, so nothing is collected";
 
 fn words_of_view(alloc: Global, view: u32, what: &str) -> Result<String, AllocError> {
     format!(in alloc; "view {view} {what}")
@@ -135,15 +150,38 @@ fn key_at(view: &View, list: KeyList, place: u32) -> &str {
     }
 }
 
-fn words_of_budget(
+const UNRECORDED: &str =
+    "no recorder has a budget for it, and it has no spare, so nobody can record on it";
+
+const NOTHING: &str = "field \"allowed\" lists no combination, so no recording can be made on it";
+
+const ONE_VALUE: &str = "its range is one value, so that no recording tells anything";
+
+fn words_of_instrument(
     alloc: Global,
     pair: Pair<'_>,
     instrument: u32,
-    recorder: u32,
+    words: &str,
 ) -> Result<String, AllocError> {
     let instrument = instrument_of(pair.catalogue, instrument);
+    format!(in alloc; "{instrument}: {words}")
+}
+
+// A recorder without a budget: it can ask for a grant where an instrument has a spare.
+fn words_of_idle(alloc: Global, pair: Pair<'_>, recorder: u32) -> Result<String, AllocError> {
+    let has_spare = has_spare(pair.catalogue);
     let recorder = recorder_of(pair.catalogue, recorder);
-    format!(in alloc;
-        "{recorder} has no budget for {instrument}, and records there only with a grant"
-    )
+    if has_spare {
+        format!(in alloc; "{recorder} has no budget, and records only by a grant")
+    } else {
+        format!(in alloc; "{recorder} has no budget, so it can record nothing")
+    }
+}
+
+// Whether some instrument has a spare.
+fn has_spare(catalogue: &Catalogue) -> bool {
+    catalogue
+        .instruments()
+        .iter()
+        .any(|instrument| instrument.spare > 0)
 }

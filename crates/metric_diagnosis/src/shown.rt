@@ -1,7 +1,10 @@
-//! Values of a TOML text, as a person reads them.
+//! Values and names of a text, as a person reads them.
 use crate::sentence::write_part;
 use std::fmt;
 use toml::Value;
+
+// How many characters of a text are shown.
+const MOST: usize = 100;
 
 // A value. Of a list, a table and a date only what it is.
 #[derive(Clone, Copy)]
@@ -21,28 +24,70 @@ impl fmt::Display for Shown<'_> {
     }
 }
 
-// A text in quotes.
+// A text in quotes, which is cut where it is long.
 #[derive(Clone, Copy)]
 pub(crate) struct Quoted<'t>(pub(crate) &'t str);
 
 impl fmt::Display for Quoted<'_> {
     fn fmt<W: fmt::Write>(&self, f: &mut fmt::Formatter<W>) -> fmt::Result {
         let text = self.0;
-        write!(f, "{text:?}")
+        if text.chars().count() <= MOST {
+            return write!(f, "{text:?}");
+        }
+        f.write_str("\"")?;
+        for character in text.chars().take(MOST) {
+            f.write_char(visible(character))?;
+        }
+        f.write_str("..\"")
     }
 }
 
-// Words in a row, with commas between them.
+// The name of a file, without what moves a terminal's cursor.
+#[derive(Clone, Copy)]
+pub(crate) struct FileName<'t>(pub(crate) &'t str);
+
+impl fmt::Display for FileName<'_> {
+    fn fmt<W: fmt::Write>(&self, f: &mut fmt::Formatter<W>) -> fmt::Result {
+        for character in self.0.chars() {
+            f.write_char(visible(character))?;
+        }
+        Ok(())
+    }
+}
+
+// A character that takes one place in a line and moves nothing: a control character is shown by a sign for one.
+pub(crate) fn visible(character: char) -> char {
+    match character {
+        '\t' => ' ',
+        '\u{1b}' => '\u{241b}',
+        '\0'..='\u{1f}' | '\u{7f}'..='\u{9f}' => '\u{fffd}',
+        '\u{200b}'..='\u{200f}' | '\u{2028}'..='\u{202e}' => '\u{fffd}',
+        '\u{2060}'..='\u{2069}' | '\u{feff}' => '\u{fffd}',
+        _ => character,
+    }
+}
+
+// Words in a row, with commas between them, and a word before the last.
 #[derive(Clone, Copy)]
 pub(crate) struct Words(pub(crate) &'static [&'static str]);
 
 impl fmt::Display for Words {
     fn fmt<W: fmt::Write>(&self, f: &mut fmt::Formatter<W>) -> fmt::Result {
-        let mut comma = "";
-        for word in self.0 {
-            write_part(f, (comma, word))?;
-            comma = ", ";
+        let last = self.0.len().saturating_sub(1);
+        for (place, word) in self.0.iter().enumerate() {
+            write_part(f, (before(place, last), word))?;
         }
         Ok(())
+    }
+}
+
+// What stands before the word of a place.
+pub(crate) fn before(place: usize, last: usize) -> &'static str {
+    if place == 0 {
+        ""
+    } else if place == last {
+        " or "
+    } else {
+        ", "
     }
 }

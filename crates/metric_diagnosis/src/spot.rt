@@ -1,16 +1,18 @@
 //! A fault of one text, told with where it stands.
-ghost use Rattle.std.specs.Prelude.{◌≡◌, IfOk};
-ghost use Rattle.metric_diagnosis.specs.Places.{StandsAt, place_of};
-ghost use Rattle.metric_advice.specs.Positions.{located};
+ghost use Rattle.std.specs.Prelude.{◌≡◌, IfOk, IfSome};
+ghost use Rattle.metric_diagnosis.specs.Marks.{IsMarked, Marks, catalogue_word, config_word, word_of};
 
 use crate::catalogue_cause::catalogue_cause;
 use crate::config_cause::config_cause;
 use crate::diagnosis::Diagnosis;
+use crate::finder::find;
+use crate::marked::marked;
 use crate::sources::NamedText;
 use crate::toml_fault::{told_of_error, told_of_toml};
-use metric_advice::{Position, locate_in_catalogue, locate_in_config};
-use metric_catalogue::{CatalogueDefect, CataloguePlace};
-use metric_views::{ConfigPlace, ViewDefect};
+use crate::way::Way;
+use metric_advice::Position;
+use metric_catalogue::{CatalogueDefect, CatalogueSpot};
+use metric_views::{ConfigSpot, ViewDefect};
 use std::alloc::{AllocError, Global};
 use toml::Table;
 
@@ -19,17 +21,17 @@ use toml::Table;
 pub(crate) enum Spot {
     // The text as a whole, which is no TOML.
     Text,
-    // A table of it.
+    // A field of it.
     Table(TableFault),
     // No place in it. These words tell the fault.
     Nowhere(&'static str),
 }
 
-// What is wrong with which table.
+// What is wrong with which field.
 #[derive(Clone, Copy)]
 pub(crate) enum TableFault {
-    Catalogue(CatalogueDefect, CataloguePlace),
-    Config(ViewDefect, ConfigPlace),
+    Catalogue(CatalogueDefect, CatalogueSpot),
+    Config(ViewDefect, ConfigSpot),
 }
 
 // What a person is told of a fault of a text, which is of this spot.
@@ -41,7 +43,7 @@ pub(crate) fn diagnose<'t, F: Drop>(
 ) -> Result<Diagnosis<'t, F>, AllocError>
     ensures fault { IfOk result (λ told. told.fault ≡ fault) }
     ensures file { IfOk result (λ told. told.file.now ≡ source.entry.name.now) }
-    ensures place { IfOk result (λ told. StandsAt source.entry.text.now spot told.position) }
+    ensures place { IfOk result (λ told. IsMarked source.entry.text.now spot told.position) }
 {
     let (position, words) = told_of(alloc, source.text, spot)?;
     Ok(Diagnosis::new(source, fault, position, words))
@@ -49,41 +51,91 @@ pub(crate) fn diagnose<'t, F: Drop>(
 
 // Where a spot of a text stands, and the cause of its fault.
 fn told_of(alloc: Global, text: &str, spot: Spot) -> Result<(Option<Position>, String), AllocError>
-    ensures { IfOk result (λ told. StandsAt text.now spot told.0) }
+    ensures { IfOk result (λ told. IsMarked text.now spot told.0) }
 {
     match spot {
         Spot::Text => told_of_toml(alloc, text),
-        Spot::Table(fault) => {
-            let position = position_of(alloc, text, fault)?;
-            let words = words_of(alloc, text, fault)?;
-            Ok((position, words))
-        }
+        Spot::Table(fault) => told_of_table(alloc, text, fault),
         Spot::Nowhere(words) => Ok((None, String::from_str(alloc, words)?)),
     }
 }
 
-// Where the table of a fault stands.
-fn position_of(alloc: Global, text: &str, fault: TableFault) -> Result<Option<Position>, AllocError>
-    ensures { IfOk result (λ found. found ≡ located text.now (place_of fault)) }
+// Where the field of a fault stands, and the cause in words.
+fn told_of_table(
+    alloc: Global,
+    text: &str,
+    fault: TableFault,
+) -> Result<(Option<Position>, String), AllocError>
+    ensures { IfOk result (λ told. IfSome told.0 (Marks text.now (word_of fault))) }
+{
+    match toml::table_from_str(alloc, text) {
+        Ok(top) => told_in(alloc, text, &top, fault),
+        Err(error) => Ok((None, told_of_error(alloc, error)?)),
+    }
+}
+
+fn told_in(
+    alloc: Global,
+    text: &str,
+    top: &Table,
+    fault: TableFault,
+) -> Result<(Option<Position>, String), AllocError>
+    ensures { IfOk result (λ told. IfSome told.0 (Marks text.now (word_of fault))) }
+{
+    let (way, cause) = match fault {
+        TableFault::Catalogue(defect, spot) => catalogue_cause(alloc, top, defect, spot),
+        TableFault::Config(defect, spot) => config_cause(alloc, top, defect, spot),
+    };
+    let words = format!(in alloc; "{cause}")?;
+    let position = position_of(alloc, text, way, fault)?;
+    Ok((position, words))
+}
+
+// Where the place that a way leads to stands.
+fn position_of(
+    alloc: Global,
+    text: &str,
+    way: Way<'_>,
+    fault: TableFault,
+) -> Result<Option<Position>, AllocError>
+    ensures { IfOk result (λ found. IfSome found (Marks text.now (word_of fault))) }
+{
+    match find(alloc, text, way)? {
+        Some(start) => Ok(marked(text.as_bytes(), start, word_of(fault).as_bytes())),
+        None => Ok(None),
+    }
+}
+
+// The word that stands where a fault does.
+fn word_of(fault: TableFault) -> &'static str
+    ensures { result.now ≡ word_of fault }
 {
     match fault {
-        TableFault::Catalogue(_, place) => locate_in_catalogue(alloc, text, place),
-        TableFault::Config(_, place) => locate_in_config(alloc, text, place),
+        TableFault::Catalogue(defect, spot) => catalogue_word(defect, spot),
+        TableFault::Config(defect, spot) => config_word(defect, spot),
     }
 }
 
-// The cause of the fault of a table, in words.
-fn words_of(alloc: Global, text: &str, fault: TableFault) -> Result<String, AllocError> {
-    match toml::table_from_str(alloc, text) {
-        Ok(top) => cause_in(alloc, &top, fault),
-        Err(error) => told_of_error(alloc, error),
+fn catalogue_word(defect: CatalogueDefect, spot: CatalogueSpot) -> &'static str
+    ensures { result.now ≡ catalogue_word defect spot }
+{
+    match defect {
+        CatalogueDefect::MissingField | CatalogueDefect::UnknownField => "",
+        _ => match spot.entry {
+            Some(_) => "",
+            None => spot.field.name(),
+        },
     }
 }
 
-fn cause_in(alloc: Global, top: &Table, fault: TableFault) -> Result<String, AllocError> {
-    let cause = match fault {
-        TableFault::Catalogue(defect, place) => catalogue_cause(alloc, top, defect, place),
-        TableFault::Config(defect, place) => config_cause(alloc, top, defect, place),
-    };
-    format!(in alloc; "{cause}")
+fn config_word(defect: ViewDefect, spot: ConfigSpot) -> &'static str
+    ensures { result.now ≡ config_word defect spot }
+{
+    match defect {
+        ViewDefect::MissingField | ViewDefect::UnknownField => "",
+        _ => match spot.kind {
+            Some(_) => "",
+            None => spot.field.name(),
+        },
+    }
 }

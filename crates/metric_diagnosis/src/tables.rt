@@ -17,65 +17,60 @@ pub(crate) fn list_of(value: &Value) -> Option<&[Value]> {
     }
 }
 
-// The table of a number in a list.
-pub(crate) fn table_at(values: &[Value], number: usize) -> Option<&Table> {
-    match values.get(number) {
-        Some(value) => value.as_table(),
-        None => None,
-    }
-}
-
-// The text of a field, where it is one.
-pub(crate) fn text_in<'v>(table: &'v Table, name: &str) -> Option<&'v str> {
-    match table.get(name) {
+// The name that a table gives itself.
+pub(crate) fn name_in(table: &Table) -> Option<&str> {
+    match table.get("name") {
         Some(value) => value.as_str(),
         None => None,
     }
 }
 
-// The name of the table of a number in a list.
-pub(crate) fn name_at(values: &[Value], number: usize) -> Option<&str> {
-    name_in(table_at(values, number)?)
-}
-
-// The name that a table gives itself.
-pub(crate) fn name_in(table: &Table) -> Option<&str> {
-    text_in(table, "name")
-}
-
-// The number of the first of these tables whose text of a field is this one.
-pub(crate) fn first_with(values: &[Value], name: &str, text: &str) -> Option<usize> {
-    for (first, value) in values.iter().enumerate() {
-        if has_text(value, name, text) {
-            return Some(first);
+// The first field, by name, that is none of these.
+pub(crate) fn other_field<'v>(table: &'v Table, names: &[&str]) -> Option<&'v str> {
+    for key in table.keys() {
+        if !is_among(names, key.as_str()) {
+            return Some(key.as_str());
         }
     }
     None
 }
 
-fn has_text(value: &Value, name: &str, text: &str) -> bool {
-    match value.as_table() {
-        Some(table) => text_in(table, name) == Some(text),
-        None => false,
+// Whether a name is one of these.
+pub(crate) fn is_among(names: &[&str], key: &str) -> bool {
+    for name in names {
+        if *name == key {
+            return true;
+        }
+    }
+    false
+}
+
+// The instruments of a meter.
+fn instruments_of(meter: &Value) -> &[Value] {
+    match meter.as_table() {
+        Some(table) => list_in(table, "instrument"),
+        None => &[],
     }
 }
 
-// The number of the first of these values that is the same as one, before that one's number.
-pub(crate) fn first_same(values: &[Value], number: usize, value: &Value) -> Option<usize> {
-    for (first, other) in values.iter().take(number).enumerate() {
-        if other == value {
-            return Some(first);
+// The meter of the instrument of a number, and the instrument's number among those of the meter.
+pub(crate) fn instrument_at(top: &Table, number: usize) -> (usize, usize) {
+    let mut left = number;
+    for (meter, value) in list_in(top, "meter").iter().enumerate() {
+        let count = instruments_of(value).len();
+        if left < count {
+            return (meter, left);
         }
+        left -= count;
     }
-    None
+    (usize::MAX, left)
 }
 
-// The first of these values that is no whole number.
-pub(crate) fn first_of_no_number(values: &[Value]) -> Option<&Value> {
-    for value in values {
-        if value.as_integer().is_none() {
-            return Some(value);
-        }
+// How many instruments the meters have.
+pub(crate) fn instrument_count(top: &Table) -> usize {
+    let mut count = 0usize;
+    for meter in list_in(top, "meter") {
+        count = count.saturating_add(instruments_of(meter).len());
     }
-    None
+    count
 }

@@ -2,6 +2,7 @@
 use crate::cause::Named;
 use crate::places::{Place, position_of};
 use crate::sentence::{write_one, write_part, write_three};
+use crate::shown::FileName;
 use crate::sources::{NamedText, Pair};
 use metric_advice::Position;
 use metric_catalogue::Catalogue;
@@ -15,7 +16,7 @@ pub(crate) fn instrument_of(catalogue: &Catalogue, number: u32) -> Named<'_> {
         Some(instrument) => Some(instrument.name.get().as_str()),
         None => None,
     };
-    Named::new("instrument", number as usize, name)
+    Named::new("instrument", number, name)
 }
 
 // The recorder of a number, with its name.
@@ -24,7 +25,7 @@ pub(crate) fn recorder_of(catalogue: &Catalogue, number: u32) -> Named<'_> {
         Some(recorder) => Some(recorder.name.as_str()),
         None => None,
     };
-    Named::new("recorder", number as usize, name)
+    Named::new("recorder", number, name)
 }
 
 // The reader of a number, with its name.
@@ -33,7 +34,7 @@ fn reader_of(config: &Config, number: u32) -> Named<'_> {
         Some(reader) => Some(reader.name.as_str()),
         None => None,
     };
-    Named::new("reader", number as usize, name)
+    Named::new("reader", number, name)
 }
 
 // A stream with what it comes from.
@@ -63,7 +64,7 @@ pub(crate) fn told_stream<'t>(
     let view = told_view(alloc, pair, stream.view)?;
     let name = stream.name.get().as_str();
     Ok(ToldStream {
-        stream: Named::new("stream", number as usize, Some(name)),
+        stream: Named::new("stream", number, Some(name)),
         reader: reader_of(pair.config, stream.reader),
         instrument: instrument_of(pair.catalogue, stream.instrument),
         view,
@@ -111,7 +112,7 @@ impl fmt::Display for ToldView<'_> {
             Some(Position { line, column }) => {
                 write_three(
                     f,
-                    (" at ", &self.source.name),
+                    (" at ", &FileName(self.source.name)),
                     (":", &line),
                     (":", &column),
                     "",

@@ -69,7 +69,7 @@ fn told_part(alloc: Global, pair: Pair<'_>, part: UnsafePart) -> Result<(Place, 
 }
 
 // The same of an instrument that may be recorded too often.
-fn told_limit(
+pub(crate) fn told_limit(
     alloc: Global,
     pair: Pair<'_>,
     instrument: u32,

@@ -1,0 +1,60 @@
+//! The position of a word in a text.
+ghost use Rattle.std.specs.Prelude.{◌≡◌, ◌≤◌, ◌+◌, length, IfSome};
+ghost use Rattle.metric_diagnosis.specs.Marks.{Marks, after, after_all, goes_on, start};
+
+use metric_advice::Position;
+
+// The position of the word that stands from a byte on, where it does.
+pub(crate) fn marked(text: &[u8], start: usize, word: &[u8]) -> Option<Position>
+    ensures { IfSome result (Marks text.now word.now) }
+{
+    if start > text.len() {
+        return None;
+    }
+    let (before, rest) = text.split_at(start);
+    if rest.starts_with(word) {
+        Some(after_all(before))
+    } else {
+        None
+    }
+}
+
+// The position after these bytes.
+pub(crate) fn after_all(bytes: &[u8]) -> Position
+    ensures { result ≡ after_all start bytes.now }
+{
+    let mut place = Position { line: 1, column: 1 };
+    for byte in bytes {
+        place = after(place, *byte);
+    }
+    place
+}
+
+fn after(place: Position, byte: u8) -> Position
+    requires line { place.line ≤ 18446744073709551614 }
+    requires column { place.column ≤ 18446744073709551614 }
+    ensures exact { result ≡ after place byte }
+    ensures line { result.line ≤ place.line + 1 }
+    ensures column { result.column ≤ place.column + 1 }
+{
+    if byte == b'\n' {
+        Position {
+            line: place.line + 1,
+            column: 1,
+        }
+    } else if goes_on(byte) {
+        place
+    } else {
+        Position {
+            line: place.line,
+            column: place.column + 1,
+        }
+    }
+}
+
+// Whether a byte goes on with a character.
+fn goes_on(byte: u8) -> bool
+    ensures { result ≡ goes_on byte }
+{
+    128 <= byte && byte <= 191
+}

@@ -1,0 +1,184 @@
+//! Why a view selects nothing.
+use crate::sentence::write_three;
+use crate::shown::Quoted;
+use crate::sources::Pair;
+use crate::told::instrument_of;
+use metric_base::Text;
+use metric_contents::{Instrument, Kind, Meter};
+use metric_views::{Criteria, is_of_kind, is_text};
+use std::alloc::{AllocError, Global};
+use std::fmt;
+
+// A criterion of a view, with what an instrument has in its place.
+#[derive(Clone, Copy)]
+struct Missed<'t> {
+    what: &'static str,
+    own: &'t str,
+    field: &'static str,
+}
+
+impl fmt::Display for Missed<'_> {
+    fn fmt<W: fmt::Write>(&self, f: &mut fmt::Formatter<W>) -> fmt::Result {
+        write_three(
+            f,
+            ("", &self.what),
+            (" is ", &Quoted(self.own)),
+            (", not as field ", &Quoted(self.field)),
+            " says",
+        )
+    }
+}
+
+// What is told of a view that selects nothing: of the instrument that comes nearest, which criterion keeps it out.
+pub(crate) fn words_of_nothing(
+    alloc: Global,
+    pair: Pair<'_>,
+    view: u32,
+) -> Result<String, AllocError> {
+    let Some(own) = pair.config.views().get(view as usize) else {
+        return format!(in alloc; "view {view} selects no instrument");
+    };
+    if !is_named(pair, &own.criteria) {
+        return format!(in alloc;
+            "view {view} selects no instrument: none has such a name as field \"instrument_name\" says"
+        );
+    }
+    words_of_nearest(alloc, pair, view, &own.criteria)
+}
+
+// Whether some instrument has the name that a criterion asks for.
+fn is_named(pair: Pair<'_>, criteria: &Criteria) -> bool {
+    pair.catalogue
+        .instruments()
+        .iter()
+        .any(|instrument| has_name(criteria, instrument))
+}
+
+fn has_name(criteria: &Criteria, instrument: &Instrument) -> bool {
+    match &criteria.instrument_name {
+        Some(pattern) => pattern.matches(instrument.name.get()),
+        None => true,
+    }
+}
+
+fn words_of_nearest(
+    alloc: Global,
+    pair: Pair<'_>,
+    view: u32,
+    criteria: &Criteria,
+) -> Result<String, AllocError> {
+    match nearest(pair, criteria) {
+        Some((number, missed)) => {
+            let instrument = instrument_of(pair.catalogue, number);
+            format!(in alloc;
+                "view {view} selects no instrument: {instrument} comes nearest, and {missed}"
+            )
+        }
+        None => format!(in alloc; "view {view} selects no instrument: there is none"),
+    }
+}
+
+// The first instrument of the name that misses the fewest criteria, with the first that it misses.
+fn nearest<'t>(pair: Pair<'t>, criteria: &Criteria) -> Option<(u32, Missed<'t>)> {
+    let mut found = None;
+    let mut fewest = usize::MAX;
+    for (number, instrument) in pair.catalogue.instruments().iter().enumerate() {
+        if let Some((count, missed)) = misses(pair, criteria, instrument)
+            && count < fewest
+        {
+            fewest = count;
+            found = Some((number as u32, missed));
+        }
+    }
+    found
+}
+
+// How many criteria an instrument of the name misses, and the first of them.
+fn misses<'t>(
+    pair: Pair<'t>,
+    criteria: &Criteria,
+    instrument: &'t Instrument,
+) -> Option<(usize, Missed<'t>)> {
+    if !has_name(criteria, instrument) {
+        return None;
+    }
+    let meter = pair.catalogue.meters().get(instrument.meter as usize)?;
+    let mut count = 0usize;
+    let mut first = None;
+    for missed in missed_by(criteria, meter, instrument) {
+        if let Some(missed) = missed {
+            count = count.saturating_add(1);
+            first = first.or(Some(missed));
+        }
+    }
+    Some((count, first?))
+}
+
+// The criteria but the name, where an instrument misses them.
+fn missed_by<'t>(
+    criteria: &Criteria,
+    meter: &'t Meter,
+    instrument: &'t Instrument,
+) -> [Option<Missed<'t>>; 5] {
+    let unit = instrument.unit.get().as_str();
+    [
+        missed_kind(criteria, instrument.kind),
+        missed_text(
+            &criteria.instrument_unit,
+            "its unit",
+            unit,
+            "instrument_unit",
+        ),
+        missed_text(
+            &criteria.meter_name,
+            "the name of its meter",
+            meter.name.as_str(),
+            "meter_name",
+        ),
+        missed_text(
+            &criteria.meter_version,
+            "the version of its meter",
+            meter.version.as_str(),
+            "meter_version",
+        ),
+        missed_text(
+            &criteria.meter_schema_url,
+            "the schema URL of its meter",
+            meter.schema_url.as_str(),
+            "meter_schema_url",
+        ),
+    ]
+}
+
+fn missed_kind<'t>(criteria: &Criteria, kind: Kind) -> Option<Missed<'t>> {
+    if is_of_kind(&criteria.instrument_type, kind) {
+        return None;
+    }
+    Some(Missed {
+        what: "its kind",
+        own: word_of(kind),
+        field: "instrument_type",
+    })
+}
+
+fn missed_text<'t>(
+    criterion: &Option<Text>,
+    what: &'static str,
+    own: &'t str,
+    field: &'static str,
+) -> Option<Missed<'t>> {
+    if is_text(criterion, own) {
+        return None;
+    }
+    Some(Missed { what, own, field })
+}
+
+// A kind as a catalogue names it.
+fn word_of(kind: Kind) -> &'static str {
+    match kind {
+        Kind::Counter => "counter",
+        Kind::UpDownCounter => "up_down_counter",
+        Kind::Histogram => "histogram",
+        Kind::Gauge => "gauge",
+    }
+}
