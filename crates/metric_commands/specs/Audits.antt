@@ -41,7 +41,9 @@ abbrev pub slips_by : Contents → ℕ → ℕ → Event → Reply → List Slip
 slips_by contents i r event Accepted = recorded_by contents i r event
 slips_by contents i r event _ = []
 
--- those that a history makes for a recorder on an instrument, oldest first
+-- # slips and batches that a history tells (profile) [slips_told, batches_told, AreSlipsOf]
+-- For a recorder and an instrument the slip of each accepted recording, with the set key that its
+-- attributes name; for an instrument the batches with which its events were answered; oldest first.
 abbrev pub slips_told : Contents → History → ℕ → ℕ → List Slip
 slips_told contents [] i r = []
 slips_told contents (a ∷ older) i r =
@@ -89,7 +91,8 @@ pub record EndsAudit (facts : RunFacts) (start : ℕ) (journal : List Entry) (h 
   pub made : AreSlipsOf facts.contents h i slips
   pub ends : Audits own i start journal slips (batches_told h i) end
 
--- so it ends for the instrument of a number
+-- # audited run (profile) [AuditEnds, AreAudited, SomeFails]
+-- The audit of each instrument's journal with these slips and batches ends well.
 abbrev pub AuditEnds : RunFacts → ℕ → List Entry → History → ℕ
     → Result (Unit {0}) AuditFault → Type 0
 AuditEnds facts start journal h i end =

@@ -46,7 +46,8 @@ pub record IsCertified (read : Parts) (text : List ℕ) : Type 0 where
   pub declared : IsDeclared read contents config
   pub written : IsTextFor contents config text
 
--- The text that making a certificate of the input writes.
+-- # certificate of an input (profile) [IsCertificateText, IsTextFor]
+-- A text that is read as the certificate made for what the parts declare.
 pub record IsCertificateText (input text : List ℕ) : Type 0 where
   pub read : Parts
   pub is_read : IsRead show_needs (lines_of input) read

@@ -37,7 +37,8 @@ pub record IsCertifiedInput (input : List ℕ) (plan : PlanValue) : Type 0 where
 abbrev pub accepted_text : List ℕ
 accepted_text = codes "accepted\n"
 
--- The text that checking the input writes.
+-- # acceptance (profile) [IsAcceptance, IsFirstCheckFault]
+-- The text `accepted`, where the certificate of an input is valid.
 pub record IsAcceptance (input text : List ℕ) : Type 0 where
   pub plan : PlanValue
   pub certified : IsCertifiedInput input plan

@@ -16,7 +16,9 @@ use Rattle.metric_commands.specs.declared.fault.KitFault.TheVariants.{Certificat
 use Rattle.metric_commands.specs.declared.fault.KitFault.TheVariants.{Check}
 use Rattle.metric_commands.specs.Declarations.{IsDeclared, IsDeclaredFault}
 
--- The catalogue, the config and the certificate that the parts are.
+-- # claimed, certified plan (profile) [IsClaimed, IsCertifiedPlan, IsClaimFault]
+-- What the parts declare with their certificate; the plan of it where the certificate is valid; the
+-- first fault where it is none or not valid.
 pub record IsClaimed (read : Parts) (contents : Contents) (config : Setup)
     (certificate : Certificate) : Type 0 where
   pub declared : IsDeclared read contents config

@@ -51,7 +51,10 @@ pub record IsAnswerTo {A : Type 0} (needs : Needs) (IsAnswer : Parts → A → T
   pub is_read : IsRead needs (lines_of input) read
   pub is_answer : IsAnswer read answer
 
--- A command reads its input, and writes the text that is due of it or stops with its first fault.
+-- # promises of a command (profile)
+-- Done, its whole text is written; else a prefix, and nothing where the input has a fault; each
+-- fault is the first that the bytes have; `Read` and `Write` only where a device failed or a limit
+-- was passed.
 pub record RunsCommand {A : Type 0} (IsText : List ℕ → List ℕ → Type 0)
     (IsFirstFault : List ℕ → KitFault → Type 0)
     (source : SourceRun) (sink : SinkRun) (result : Result A KitFault) : Type 0 where

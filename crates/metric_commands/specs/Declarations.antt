@@ -13,7 +13,8 @@ use Rattle.metric_commands.specs.declared.fault.KitFault.{KitFault}
 use Rattle.metric_commands.specs.declared.fault.KitFault.TheVariants.{Catalogue}
 use Rattle.metric_commands.specs.declared.fault.KitFault.TheVariants.{Config as BadConfig, Memory}
 
--- The catalogue and the config that the parts are.
+-- # what is declared (profile) [IsDeclared, IsDeclaredFault]
+-- The catalogue and the config that the parts of an input are; or the first fault of the two.
 abbrev pub IsDeclared : Parts → Contents → Setup → Type 0
 IsDeclared read = texts.IsDeclared read.catalogue read.config
 

@@ -44,7 +44,8 @@ from_audit (audits.Slips recorder) = Audit (audits.Slips recorder)
 from_audit (audits.Batch at) = Audit (audits.Batch at)
 from_audit audits.Memory = Memory
 
--- 1 where the input is refused, 3 where it is unreadable, 4 without memory, 5 where the sink failed
+-- # exit status (profile)
+-- 0 done, 1 refused, 2 no command, 3 unreadable input, 4 memory, 5 write fault.
 abbrev pub status_of : KitFault → ℕ
 status_of Read = 3
 status_of (Input line) = 3

@@ -59,7 +59,9 @@ abbrev pub IsEndTold : {A : Type 0} → Result A KitFault → SinkRun → Type 0
 IsEndTold (Ok done) errors = Keeps errors.contents errors.contents_after
 IsEndTold (Err fault) errors = TellsLine errors
 
--- A command line's command is run, and its end is told, also by the exit status.
+-- # a command line run (profile) [RunsTold, RunsLine, IsUnasked]
+-- Each names one command, which runs with its own promises; a fault is told by one line, and how
+-- the command ends by the exit status. Without a command only that is told.
 pub record RunsTold (line : Line) (source : SourceRun) (sink errors : SinkRun) (status : ℕ)
     : Type 0 where
   pub end : Result (Unit {0}) KitFault

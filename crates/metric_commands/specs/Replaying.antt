@@ -73,8 +73,9 @@ pub record IsPrepared (options : ReplayOptions) (read : Parts) (plan : PlanValue
   pub has_script : read.script ≡ Some script
   pub is_script : IsScript script.lines start events
 
--- The replies to the script of the parts: a legal one for each event,
--- and none of them want of memory.
+-- # replies to an input (profile) [IsAnswered, IsReplayed]
+-- A legal reply for each event of its script, none of them want of memory, under the plan of what
+-- it declares.
 pub record IsAnswered (options : ReplayOptions) (read : Parts) (plan : PlanValue)
     (replies : List Reply) : Type 0 where
   pub script : ScriptLines
@@ -104,7 +105,9 @@ pub record IsReplayed (options : ReplayOptions) (input : List ℕ) (plan : PlanV
 abbrev pub audit_text : ReplayOptions → List Reply → List ℕ
 audit_text options replies = if options.audit then audited_text (accepted_count replies) else []
 
--- The text that a replay of the input writes.
+-- # output of an input (profile)
+-- The texts of the replies to it, one after the other; with an audit also the line of it, and each
+-- instrument is audited.
 pub record IsOutput (options : ReplayOptions) (input text : List ℕ) : Type 0 where
   pub plan : PlanValue
   pub replies : List Reply
@@ -122,8 +125,8 @@ pub record IsFormed (text : PlanValue → Reply → List ℕ) (options : ReplayO
   pub replayed : IsReplayed options input plan replies
   pub written : bytes ≡ formed_text (text plan) replies
 
--- The bytes that a replay of the input writes in an encoding: those of each batch among the
--- replies, in their order.
+-- # encoded output of an input (profile)
+-- The bytes of each batch among the replies in an encoding, in their order, and of no other reply.
 pub record IsEncodedOutput (encode : PlanValue → Batch → List ℕ) (options : ReplayOptions)
     (input bytes : List ℕ) : Type 0 where
   pub plan : PlanValue
@@ -166,7 +169,8 @@ abbrev pub IsReplayFault : ReplayOptions → KitFault → Parts → Type 0
 IsReplayFault options (Input line) read = IsFaultyScript options line read
 IsReplayFault options fault read = IsPlanFault options fault read
 
--- The fault is the first that the input has: of its parts, of what they declare, of its script.
+-- # first fault of an input (profile)
+-- Of its parts, then of what they declare, then of its script.
 abbrev pub IsFirstFault : ReplayOptions → List ℕ → KitFault → Type 0
 IsFirstFault options input (Input line) =
     IsFaultyLine (needs_of options) (lines_of input) line

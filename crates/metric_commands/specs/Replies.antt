@@ -16,7 +16,8 @@ use Rattle.metric_commands.specs.Written.{parts_text}
 abbrev pub refused_text : Refusal → List ℕ
 refused_text refusal = codes "refused " ++ (refusal_text refusal ++ codes "\n")
 
--- one reply under the plan
+-- # text of a reply (profile) [reply_text, replies_text]
+-- `accepted`, `closed`, `granted`, the refusal with its number and name, or the batch.
 abbrev pub reply_text : PlanValue → Reply → List ℕ
 reply_text plan Accepted = codes "accepted" ++ 10 ∷ []
 reply_text plan (Collected batch) = batch_text plan.facts.contents plan.config plan.streams batch
@@ -42,6 +43,8 @@ abbrev pub is_accepted : Reply → Bool
 is_accepted Accepted = true
 is_accepted _ = false
 
+-- # line of an audit (profile) [accepted_count, audited_text]
+-- `audited` and how many replies accept a recording.
 abbrev pub accepted_count : List Reply → ℕ
 accepted_count replies = count_by is_accepted replies
 

@@ -54,7 +54,9 @@ due_history facts start h [] = h
 due_history facts start h (event ∷ events) =
     due_history facts start (answered event (due_reply facts start h event) ∷ h) events
 
--- the replies to events after a history
+-- # due replies (profile) [due_replies, due_history]
+-- The replies to events after a history where memory is never refused: each accepted, answered with
+-- its batch, done or granted, or else refused as it has to be.
 unfoldable pub due_replies : RunFacts → ℕ → History → List Event → List Reply
 due_replies facts start h [] = []
 due_replies facts start h (event ∷ events) =

@@ -33,7 +33,8 @@ use Rattle.metric_commands.specs.Written.{parts_text}
 abbrev pub show_needs : Needs
 show_needs = record { certificate = false; script = false }
 
--- the lines of streams, numbered from 0, and those of warnings
+-- # listing (profile)
+-- The lines of the streams, numbered from 0, and those of the warnings.
 unfoldable pub listing_text : Contents → Setup → List Stream → List Warning → List ℕ
 listing_text contents config streams warnings =
     parts_text (shown_text contents config) streams
@@ -47,13 +48,15 @@ pub record IsListed (read : Parts) (text : List ℕ) : Type 0 where
   pub written : text ≡ listing_text contents config (streams_of contents config)
       (warnings_of contents config)
 
--- The text that showing the input writes.
+-- # shown text of an input (profile)
+-- The listing of the streams and warnings that its catalogue and its config give.
 pub record IsShown (input text : List ℕ) : Type 0 where
   pub read : Parts
   pub is_read : IsRead show_needs (lines_of input) read
   pub listed : IsListed read text
 
--- The fault is the first that the input has.
+-- # first fault of a shown input (profile)
+-- Of its parts, then of its catalogue, then of its config.
 abbrev pub IsFirstShowFault : List ℕ → KitFault → Type 0
 IsFirstShowFault input (Input line) = IsFaultyLine show_needs (lines_of input) line
 IsFirstShowFault input (Catalogue fault) =

@@ -1,5 +1,5 @@
 //! What replies are written as.
-ghost use Rattle.std.specs.Prelude.{◌≡◌, ◌++◌, OnOk, IfErr};
+ghost use Rattle.std.specs.Prelude.{◌≡◌, ◌++◌, OnOk, IfErr, IfOk};
 ghost use Rattle.std.specs.Io.KnownBytes.{Appends};
 ghost use Rattle.metric_io.specs.Prefix.{AppendsPrefix};
 ghost use Rattle.metric_contents.specs.Refusals.{refusal_text};
@@ -10,7 +10,7 @@ ghost use Rattle.metric_commands.specs.Written.{IsSinkFault};
 use crate::fault::KitFault;
 use crate::parts::write_text;
 use metric_contents::Refusal;
-use metric_export::{Encoding, ExportFault, Plain, write_encoded};
+use metric_export::{Encoding, Plain};
 use metric_history::{Batch, Reply};
 use metric_io::Sink;
 use metric_plan::Plan;
@@ -61,6 +61,20 @@ fn push_refusal(out: &mut Vec<u8>, refusal: &Refusal) -> Result<(), AllocError>
     push_byte(out, b'\n')
 }
 
+// The bytes of a batch in an encoding.
+fn bytes_of<E: Encoding>(
+    alloc: Global,
+    encoding: &E,
+    plan: &Plan,
+    batch: &Batch,
+) -> Result<Vec<u8>, AllocError>
+    ensures { IfOk result (λ text. text.items ≡ E.text encoding.now plan.now batch.now) }
+{
+    let mut text = Vec::new(alloc);
+    encoding.push(alloc, &mut text, plan, batch)?;
+    Ok(text)
+}
+
 // Writes a batch in an encoding.
 #[tactic(auto, using(metric_io::specs::Prefix::prefixes))]
 fn write_collected<E: Encoding, W: Sink>(
@@ -77,11 +91,8 @@ fn write_collected<E: Encoding, W: Sink>(
     ensures broken { IfErr result (IsSinkFault (W.failures sink.old) (W.failures sink.new)) }
     ensures counted { OnOk result (W.failures sink.new ≡ W.failures sink.old) }
 {
-    match write_encoded(alloc, sink, encoding, plan, batch) {
-        Ok(()) => Ok(()),
-        Err(ExportFault::Memory) => Err(KitFault::Memory),
-        Err(ExportFault::Write | ExportFault::ShutDown | ExportFault::Kept) => Err(KitFault::Write),
-    }
+    let text = bytes_of(alloc, encoding, plan, batch)?;
+    write_text(sink, &text)
 }
 
 /// Each reply as a line, and a batch as an exporter writes it.

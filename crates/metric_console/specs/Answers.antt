@@ -1,6 +1,6 @@
 -- What each command answers, and with which fault it stops before it writes.
-use Rattle.std.specs.Prelude.{◌≡◌, map}
-use Rattle.std.specs.List.{AllZip}
+use Rattle.std.specs.Prelude.{◌≡◌, ℕ, false, List, codes, if◌then◌else◌, map}
+use Rattle.std.specs.List.{AllZip, flat_map}
 use Rattle.metric_parts.specs.declared.parts.Parts.{Parts}
 use Rattle.metric_contents.specs.declared.contents.Contents.{Contents}
 use Rattle.metric_views.specs.declared.config.Setup.{Setup}
@@ -11,6 +11,9 @@ use Rattle.metric_resolve.specs.Warnings.{warnings_of}
 use Rattle.metric_bounds.specs.Amounts.{total_of}
 use Rattle.metric_advice.specs.Headrooms.{IsHeadroom}
 use Rattle.metric_advice.specs.Remarks.{AreRemarks}
+use Rattle.metric_advice.specs.declared.remark.Remark.{Remark}
+use Rattle.metric_request.specs.declared.request.Outlets.{Outlets}
+use Rattle.metric_request.specs.declared.request.Request.{Request}
 use Rattle.metric_request.specs.declared.request.Task.{Task}
 use Rattle.metric_request.specs.declared.request.Task.TheVariants.{Lint, Show, Make, Check}
 use Rattle.metric_request.specs.declared.request.Task.TheVariants.{Headroom, Replay, Draw}
@@ -18,6 +21,8 @@ use Rattle.metric_commands.specs.declared.fault.KitFault.{KitFault}
 use Rattle.metric_commands.specs.Certifying.{IsCertified, IsMakeFault}
 use Rattle.metric_commands.specs.Claims.{IsCertifiedPlan, IsClaimFault}
 use Rattle.metric_commands.specs.Declarations.{IsDeclared, IsDeclaredFault}
+use Rattle.metric_console.specs.Concerns.{names, unless_allowed}
+use Rattle.metric_console.specs.Exposures.{all_exposures}
 use Rattle.metric_console.specs.declared.listing.Listing.{Listing}
 use Rattle.metric_console.specs.declared.rooms.Rooms.{Rooms}
 use Rattle.metric_console.specs.declared.notes.Notes.{Notes}
@@ -42,10 +47,22 @@ pub record AreRooms (parts : Parts) (rooms : Rooms) : Type 0 where
       (streams_of rooms.declared.catalogue rooms.declared.config))
       (all_instruments rooms.declared.catalogue) rooms.rooms
 
--- The remarks on what the parts declare.
-pub record AreNotes (parts : Parts) (notes : Notes) : Type 0 where
+-- the ways out that are told of: none where that is allowed
+abbrev pub told_outlets : Outlets → List (List ℕ) → Outlets
+told_outlets outlets allowed =
+    if names allowed (codes "exposure") then record { prometheus = false; otlp = false } else outlets
+
+-- The remarks on what the parts declare that are not allowed, with what the ways out would lose that
+-- are asked for.
+pub record AreNotes (request : Request) (parts : Parts) (notes : Notes) : Type 0 where
   pub declared : IsDeclared parts notes.declared.catalogue notes.declared.config
-  pub remarks : AreRemarks notes.declared.catalogue notes.declared.config notes.remarks
+  pub all : List Remark
+  pub are_remarks : AreRemarks notes.declared.catalogue notes.declared.config all
+  pub remarks : notes.remarks ≡ flat_map (unless_allowed request.concerns.allowed) all
+  pub exposures : notes.exposures.items
+      ≡ all_exposures (told_outlets request.options.outlets request.concerns.allowed)
+      notes.declared.catalogue notes.declared.config
+      (streams_of notes.declared.catalogue notes.declared.config)
 
 -- The parts are right.
 pub record AreRight (parts : Parts) : Type 0 where
@@ -58,15 +75,24 @@ pub record IsAccepted (parts : Parts) : Type 0 where
   pub plan : PlanValue
   pub certified : IsCertifiedPlan parts plan
 
--- Each command answers of the parts what it is asked for.
-abbrev pub IsAnswer : Task → Parts → Answer → Type 0
-IsAnswer Make parts (answers.Certificate text) = IsCertified parts text
-IsAnswer Check parts answers.Accepted = IsAccepted parts
-IsAnswer Show parts (answers.Streams listing) = IsListing parts listing
-IsAnswer Headroom parts (answers.Rooms rooms) = AreRooms parts rooms
-IsAnswer Lint parts (answers.Notes notes) = AreNotes parts notes
-IsAnswer Draw parts (answers.Picture text) = AreRight parts
-IsAnswer task parts answer = ⊥
+-- What a command answers that asks for nothing but the parts.
+abbrev pub IsPlainAnswer : Task → Parts → Answer → Type 0
+IsPlainAnswer Make parts (answers.Certificate text) = IsCertified parts text
+IsPlainAnswer Check parts answers.Accepted = IsAccepted parts
+IsPlainAnswer Show parts (answers.Streams listing) = IsListing parts listing
+IsPlainAnswer Headroom parts (answers.Rooms rooms) = AreRooms parts rooms
+IsPlainAnswer Draw parts (answers.Picture text) = AreRight parts
+IsPlainAnswer task parts answer = ⊥
+
+abbrev pub IsNoted : Request → Parts → Answer → Type 0
+IsNoted request parts (answers.Notes notes) = AreNotes request parts notes
+IsNoted request parts answer = ⊥
+
+-- # what each command answers (profile) [IsAnswer, IsAnswerFault]
+-- Each command answers of the parts what it is asked for, or the first fault that they have to it.
+abbrev pub IsAnswer : Task → Request → Parts → Answer → Type 0
+IsAnswer Lint request = IsNoted request
+IsAnswer task request = IsPlainAnswer task
 
 -- The fault is the first that the parts have, to a command.
 abbrev pub IsAnswerFault : Task → KitFault → Parts → Type 0

@@ -1,11 +1,12 @@
 -- Where an answer is written, and the exit status then.
-use Rattle.std.specs.Prelude.{◌≡◌, ◌&&◌, ◌==◌, ℕ, Bool, not, List, Option, Some, None, codes}
-use Rattle.std.specs.Prelude.{if◌then◌else◌, length}
+use Rattle.std.specs.Prelude.{◌≡◌, ℕ, List, Option, Some, None, codes, if◌then◌else◌}
 use Rattle.std.specs.Io.KnownBytes.{Appends}
+use Rattle.metric_console.specs.Concerns.{denies_some}
 use Rattle.metric_console.specs.Folders.{MadeFile, Makes}
 use Rattle.metric_console.specs.declared.answer.Answer.{Answer}
 use Rattle.metric_console.specs.declared.answer.Answer.TheVariants as answers
 
+-- # where an answer is written (profile) [IsDelivered, IsDeliveredAnswer]
 -- The text is made as a file at the path and nothing written to the sink, or else the text is
 -- written to the sink and no file made.
 abbrev pub IsDelivered : Option (List ℕ) → List ℕ → Option (List MadeFile) → Option (List MadeFile)
@@ -35,8 +36,7 @@ IsPrinted answers.Accepted contents contents_after =
     Appends contents contents_after (codes "accepted\n")
 IsPrinted answer contents contents_after = Unit {0}
 
--- 1 where there are remarks and they are errors, else 0
-abbrev pub answer_status : Bool → Answer → ℕ
-answer_status strict (answers.Notes notes) =
-    if strict && not (length notes.remarks == 0) then 1 else 0
-answer_status strict _ = 0
+-- 1 where these words deny some remark, else 0
+abbrev pub answer_status : List (List ℕ) → Answer → ℕ
+answer_status denied (answers.Notes notes) = if denies_some denied notes then 1 else 0
+answer_status denied _ = 0

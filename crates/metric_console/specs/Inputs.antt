@@ -22,7 +22,9 @@ abbrev pub optional_text : List ℕ → Option (List ℕ) → List ℕ
 optional_text header None = []
 optional_text header (Some text) = part_text header text
 
--- each file under its header, and then the script
+-- # the input of parts that the files of a replay make up, and what its replay is in each form
+-- (profile) [input_of, IsReplayIn]
+-- Each file under its header, and then the script.
 unfoldable pub input_of : List ℕ → List ℕ → Option (List ℕ) → List ℕ → List ℕ
 input_of catalogue config certificate script =
     part_text (codes "%% catalogue\n") catalogue ++ part_text (codes "%% config\n") config

@@ -1,7 +1,9 @@
 pub mod Folders
 pub mod Readings
 pub mod Faults
+pub mod Concerns
 pub mod Answers
+pub mod Exposures
 pub mod Delivered
 pub mod Fleets
 pub mod Inputs

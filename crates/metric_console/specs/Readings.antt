@@ -12,6 +12,7 @@ abbrev pub MayBeHeld : (List ℕ → Option (List ℕ)) → Option (List ℕ) �
 MayBeHeld held None text = text ≡ None
 MayBeHeld held (Some path) text = IsSomeAnd text (IsHeld held path)
 
+-- # the texts of a request's files (profile)
 -- They are the texts of the files, and no part but those three is read yet.
 pub record AreTexts (held : List ℕ → Option (List ℕ)) (files : Files) (texts : Texts) : Type 0 where
   pub catalogue : IsHeld held files.catalogue texts.parts.catalogue

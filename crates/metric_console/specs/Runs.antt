@@ -44,10 +44,10 @@ writing made contents folder folder_after sink sink_after = record {
 pub record Answers (request : Request) (parts : Parts) (writing : Writing) (status : ℕ)
     : Type 0 where
   pub answer : Answer
-  pub is_answer : IsAnswer request.task parts answer
+  pub is_answer : IsAnswer request.task request parts answer
   pub delivered : IsDeliveredAnswer request.files.output answer writing.made writing.made_after
       writing.contents writing.contents_after
-  pub is_status : status ≡ answer_status request.options.strict answer
+  pub is_status : status ≡ answer_status request.concerns.denied answer
 
 -- A fault is of a device, or the first that the parts have, or a
 -- certificate is not there to be checked.
@@ -156,6 +156,7 @@ abbrev pub exit_of : Result ℕ ConsoleFault → ℕ
 exit_of (Ok status) = status
 exit_of (Err fault) = status_of fault
 
+-- # what running a request does (profile)
 -- A request is run, and its end is told by the exit status.
 pub record RunsRequest (known : Known) (request : Request) (writing : Writing)
     (sink : SinkRun) (status : ℕ) : Type 0 where

@@ -3,7 +3,7 @@ ghost use Rattle.std.specs.Prelude.{◌≡◌, ◌≢◌, IfErr, IfOk, IsSome};
 ghost use Rattle.metric_commands.specs.Claims.{IsClaimFault};
 ghost use Rattle.metric_commands.specs.Certifying.{IsMakeFault};
 ghost use Rattle.metric_commands.specs.Declarations.{IsDeclaredFault};
-ghost use Rattle.metric_console.specs.Answers.{IsAnswer, IsAnswerFault};
+ghost use Rattle.metric_console.specs.Answers.{IsAnswer, IsAnswerFault, IsNoted, IsPlainAnswer};
 
 use crate::listing::{Listing, listing_of};
 use crate::notes::{Notes, notes_of};
@@ -12,7 +12,7 @@ use metric_base::Text;
 use metric_commands::{KitFault, certificate_text, certified_plan, declared_of};
 use metric_parts::Parts;
 use metric_picture::draw;
-use metric_request::Task;
+use metric_request::{Request, Task};
 use std::alloc::Global;
 
 /// What a command answers.
@@ -33,10 +33,15 @@ pub(crate) enum Answer {
 }
 
 /// The answer of a command to the parts that its files are, or the first fault of them.
-pub(crate) fn answer_of(alloc: Global, task: Task, parts: &Parts<'_>) -> Result<Answer, KitFault>
+pub(crate) fn answer_of(
+    alloc: Global,
+    task: Task,
+    request: &Request,
+    parts: &Parts<'_>,
+) -> Result<Answer, KitFault>
     requires other { task ≢ Task.Replay }
     requires certificate { task ≡ Task.Check → IsSome parts.now.certificate }
-    ensures ok { IfOk result (IsAnswer task parts.now) }
+    ensures ok { IfOk result (IsAnswer task request.now parts.now) }
     ensures first { IfErr result (λ fault. IsAnswerFault task fault parts.now) }
 {
     match task {
@@ -44,14 +49,14 @@ pub(crate) fn answer_of(alloc: Global, task: Task, parts: &Parts<'_>) -> Result<
         Task::Check => checked(alloc, parts),
         Task::Show => listed(alloc, parts),
         Task::Headroom => roomed(alloc, parts),
-        Task::Lint => noted(alloc, parts),
+        Task::Lint => noted(alloc, request, parts),
         Task::Draw => drawn(alloc, parts),
         Task::Replay => unreachable!(),
     }
 }
 
 fn made(alloc: Global, parts: &Parts<'_>) -> Result<Answer, KitFault>
-    ensures ok { IfOk result (IsAnswer Task.Make parts.now) }
+    ensures ok { IfOk result (IsPlainAnswer Task.Make parts.now) }
     ensures first { IfErr result (λ fault. IsMakeFault fault parts.now) }
 {
     let text = certificate_text(alloc, parts)?;
@@ -60,7 +65,7 @@ fn made(alloc: Global, parts: &Parts<'_>) -> Result<Answer, KitFault>
 
 fn checked(alloc: Global, parts: &Parts<'_>) -> Result<Answer, KitFault>
     requires { IsSome parts.now.certificate }
-    ensures ok { IfOk result (IsAnswer Task.Check parts.now) }
+    ensures ok { IfOk result (IsPlainAnswer Task.Check parts.now) }
     ensures first { IfErr result (λ fault. IsClaimFault fault parts.now) }
 {
     let _plan = certified_plan(alloc, parts)?;
@@ -68,28 +73,28 @@ fn checked(alloc: Global, parts: &Parts<'_>) -> Result<Answer, KitFault>
 }
 
 fn listed(alloc: Global, parts: &Parts<'_>) -> Result<Answer, KitFault>
-    ensures ok { IfOk result (IsAnswer Task.Show parts.now) }
+    ensures ok { IfOk result (IsPlainAnswer Task.Show parts.now) }
     ensures first { IfErr result (λ fault. IsDeclaredFault fault parts.now) }
 {
     Ok(Answer::Streams(listing_of(alloc, parts)?))
 }
 
 fn roomed(alloc: Global, parts: &Parts<'_>) -> Result<Answer, KitFault>
-    ensures ok { IfOk result (IsAnswer Task.Headroom parts.now) }
+    ensures ok { IfOk result (IsPlainAnswer Task.Headroom parts.now) }
     ensures first { IfErr result (λ fault. IsDeclaredFault fault parts.now) }
 {
     Ok(Answer::Rooms(rooms_of(alloc, parts)?))
 }
 
-fn noted(alloc: Global, parts: &Parts<'_>) -> Result<Answer, KitFault>
-    ensures ok { IfOk result (IsAnswer Task.Lint parts.now) }
+fn noted(alloc: Global, request: &Request, parts: &Parts<'_>) -> Result<Answer, KitFault>
+    ensures ok { IfOk result (IsNoted request.now parts.now) }
     ensures first { IfErr result (λ fault. IsDeclaredFault fault parts.now) }
 {
-    Ok(Answer::Notes(notes_of(alloc, parts)?))
+    Ok(Answer::Notes(notes_of(alloc, request, parts)?))
 }
 
 fn drawn(alloc: Global, parts: &Parts<'_>) -> Result<Answer, KitFault>
-    ensures ok { IfOk result (IsAnswer Task.Draw parts.now) }
+    ensures ok { IfOk result (IsPlainAnswer Task.Draw parts.now) }
     ensures first { IfErr result (λ fault. IsDeclaredFault fault parts.now) }
 {
     let declared = declared_of(alloc, parts)?;

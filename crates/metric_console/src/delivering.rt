@@ -5,12 +5,12 @@ ghost use Rattle.metric_console.specs.Delivered.{IsDelivered, IsDeliveredAnswer,
 ghost use Rattle.metric_console.specs.Faults.{IsDeliveryFault, IsDeviceFault};
 
 use crate::answer::Answer;
+use crate::concerns::denies_some;
 use crate::fault::{ConsoleFault, of_device, of_sheet};
 use crate::folder::Folder;
-use crate::notes::Notes;
+use crate::noting::print_notes;
 use crate::parts::Texts;
 use crate::rooms::{RoomSheet, Rooms};
-use crate::telling::push_note;
 use metric_base::Text;
 use metric_commands::KitFault;
 use metric_io::{Broken, Sink, write_all};
@@ -18,12 +18,12 @@ use metric_request::{Options, Request};
 use metric_sheet::{Sheet, write_json, write_table};
 use std::alloc::Global;
 
-// The exit status of a command that is done, and of one whose remarks are errors.
+// The exit status of a command that is done, and of one of whose remarks one is denied.
 const DONE: u8 = 0;
 
 const REMARKED: u8 = 1;
 
-/// Writes an answer where the request wants it, and gives the exit status: 1 where there are remarks and they are errors, else 0.
+/// Writes an answer where the request wants it, and gives the exit status: 1 where a remark is denied, else 0.
 ///
 /// # Errors
 ///
@@ -40,12 +40,12 @@ pub(crate) fn deliver<F: Folder, W: Sink>(
     ensures delivered { OnOk result (IsDeliveredAnswer request.now.files.output answer.now
         (F.made folder.old) (F.made folder.new) (W.contents sink.old) (W.contents sink.new)) }
     ensures status { IfOk result (λ status.
-        status ≡ answer_status request.now.options.strict answer.now) }
+        status ≡ answer_status request.now.concerns.denied answer.now) }
     ensures unmade { OnErr result (F.made folder.new ≡ F.made folder.old) }
     ensures device { IfErr result IsDeliveryFault }
 {
     write_answer(alloc, request, texts, answer, columns, folder, sink)?;
-    Ok(status_of(request.options.strict, answer))
+    Ok(status_of(request.concerns.denied.as_slice(), answer))
 }
 
 // Writes an answer where the request wants it.
@@ -93,11 +93,11 @@ fn print_answer<W: Sink>(
 }
 
 // The exit status of an answer that is written.
-fn status_of(strict: bool, answer: &Answer) -> u8
-    ensures { result ≡ answer_status strict answer.now }
+fn status_of(denied: &[Text], answer: &Answer) -> u8
+    ensures { result ≡ answer_status denied.now answer.now }
 {
     match answer {
-        Answer::Notes(notes) if strict && !notes.remarks.is_empty() => REMARKED,
+        Answer::Notes(notes) if denies_some(denied, notes) => REMARKED,
         _ => DONE,
     }
 }
@@ -168,7 +168,8 @@ fn print_sheet<S: Sheet, W: Sink>(
     }
 }
 
-fn flush<W: Sink>(sink: &mut W) -> Result<(), KitFault>
+/// Passes on what a sink holds back.
+pub(crate) fn flush<W: Sink>(sink: &mut W) -> Result<(), KitFault>
     ensures { IfErr result IsDeviceFault }
 {
     match sink.flush() {
@@ -188,31 +189,4 @@ fn print_rooms<W: Sink>(
 {
     let sheet = RoomSheet { rooms, options };
     print_sheet(alloc, sink, &sheet, options, columns)
-}
-
-// Writes a line or more for each remark.
-fn print_notes<W: Sink>(
-    alloc: Global,
-    sink: &mut W,
-    request: &Request,
-    texts: &Texts,
-    notes: &Notes,
-) -> Result<(), KitFault>
-    ensures { IfErr result IsDeviceFault }
-{
-    for remark in notes.remarks.as_slice() {
-        let mut note = String::new(alloc);
-        match push_note(
-            alloc,
-            &mut note,
-            &request.files,
-            texts,
-            &notes.declared,
-            *remark,
-        ) {
-            Ok(()) => print(sink, note.as_str())?,
-            Err(_) => return Err(KitFault::Memory),
-        }
-    }
-    Ok(())
 }

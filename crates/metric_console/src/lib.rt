@@ -6,13 +6,17 @@
 #![tactic(auto)]
 
 mod answer;
+mod concerns;
 mod delivering;
+mod exposures;
 mod fault;
 mod fleet;
 mod folder;
 mod listing;
 mod marks;
+mod note_sheet;
 mod notes;
+mod noting;
 mod parts;
 mod program;
 mod replaying;

@@ -4,7 +4,7 @@ ghost use Rattle.metric_commands.specs.Declarations.{IsDeclaredFault};
 ghost use Rattle.metric_console.specs.Answers.{IsListing};
 
 use crate::marks::{Marks, mark_cell, marks_of};
-use crate::rows::stream_row;
+use crate::rows::{family_cell, stream_row};
 use metric_base::Items;
 use metric_bounds::totals;
 use metric_commands::{Declared, KitFault, declared_of};
@@ -13,7 +13,7 @@ use metric_resolve::{Streams, resolve};
 use metric_sheet::{Cell, Sheet};
 use std::alloc::{AllocError, Global};
 
-static TITLES: [&str; 14] = [
+static TITLES: [&str; 15] = [
     "number",
     "reader",
     "instrument",
@@ -28,6 +28,7 @@ static TITLES: [&str; 14] = [
     "bytes",
     "clash",
     "unfit",
+    "family",
 ];
 
 /// The streams of a config, with what is to be warned of, and how often each instrument may be recorded.
@@ -87,6 +88,7 @@ impl Sheet for Listing {
                 let mut row = stream_row(alloc, &self.declared, totals, number, stream)?;
                 row.push(mark_cell(self.marks.clash_of(number)))?;
                 row.push(mark_cell(self.marks.unfit_of(stream.instrument)))?;
+                row.push(family_cell(alloc, stream)?)?;
                 Ok(row)
             }
             None => Ok(Vec::new(alloc)),

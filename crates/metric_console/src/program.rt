@@ -134,7 +134,7 @@ fn run_answer<F: Folder, W: Sink, E: Sink>(
     if task == Task::Check && texts.parts.certificate.is_none() {
         return Err(missing(Role::Certificate));
     }
-    let answer = answer_of(alloc, task, &texts.parts)?;
+    let answer = answer_of(alloc, task, request, &texts.parts)?;
     let status = deliver(alloc, request, texts, &answer, columns, folder, sink)?;
     warn(alloc, request, texts, &answer, errors);
     Ok(status)

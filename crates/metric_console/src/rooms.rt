@@ -156,11 +156,11 @@ impl RoomSheet<'_> {
         recordings: u128,
     ) -> Result<(), AllocError> {
         row.push(Cell::Number(recordings))?;
-        let seconds = recordings / u128::from(self.options.rate.max(1));
+        let rate = u128::from(self.options.rate.max(1));
         row.push(if self.options.json {
-            Cell::Number(seconds)
+            Cell::Number(recordings / rate)
         } else {
-            Cell::Text(lasting(alloc, seconds)?)
+            Cell::Text(lasting(alloc, recordings, rate)?)
         })?;
         Ok(())
     }

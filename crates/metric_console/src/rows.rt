@@ -7,6 +7,7 @@ use metric_bounds::{listed, product};
 use metric_catalogue::Catalogue;
 use metric_commands::Declared;
 use metric_contents::{Instrument, Key, Kind};
+use metric_family::family_of;
 use metric_sheet::Cell;
 use metric_views::{Stream, StreamAggregation, Temporality};
 use std::alloc::{AllocError, Global};
@@ -112,6 +113,16 @@ fn push_bounds(
     push_text(alloc, row, within.word())?;
     row.push(Cell::Number(table_bytes(series, stream)))?;
     Ok(())
+}
+
+/// What Prometheus calls the metric family of a stream, where a word is left for it.
+pub(crate) fn family_cell(alloc: Global, stream: &Stream) -> Result<Cell, AllocError> {
+    let family = family_of(alloc, stream)?;
+    if family.as_str().is_empty() {
+        Ok(Cell::Nothing)
+    } else {
+        Cell::text(alloc, family.as_str())
+    }
 }
 
 fn reader_name<'a>(declared: &'a Declared, stream: &Stream) -> &'a str {

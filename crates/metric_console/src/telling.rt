@@ -5,9 +5,11 @@ ghost use Rattle.metric_console.specs.Told.{IsLineEnd};
 
 use crate::answer::Answer;
 use crate::delivering::print;
+use crate::exposures::Exposure;
 use crate::fault::{ConsoleFault, Role};
 use crate::folder::{Unread, Unwritten};
 use crate::listing::Listing;
+use crate::notes::Notes;
 use crate::parts::Texts;
 use crate::replaying::lines_before;
 use metric_advice::{Remark, remark_of};
@@ -15,7 +17,7 @@ use metric_base::Text;
 use metric_commands::{Declared, KitFault, declared_of};
 use metric_diagnosis::{
     Diagnosis, NamedText, Pair, diagnose_catalogue, diagnose_certificate, diagnose_check,
-    diagnose_config, diagnose_make, diagnose_remark,
+    diagnose_config, diagnose_exposure, diagnose_make, diagnose_remark,
 };
 use metric_io::Sink;
 use metric_make::MakeFault;
@@ -52,7 +54,11 @@ pub(crate) fn tell_line<W: Sink, E: Sink>(fault: LineFault, sink: &mut W, errors
 // What is told of a misuse of an option.
 fn words_of(misuse: Misuse) -> &'static str {
     match misuse {
-        Misuse::Deny => "error: '--deny' knows 'remarks' alone\n",
+        Misuse::Deny =>
+            "error: '--deny' knows 'remarks' and their kinds alone; try 'wormweekly lint --help'\n",
+        Misuse::Allow =>
+            "error: '--allow' knows the kinds of remarks alone; try 'wormweekly lint --help'\n",
+        Misuse::Outlet => "error: '--for' knows 'prometheus' and 'otlp' alone\n",
         Misuse::Form => "error: '--as' knows 'otlp-json' and 'otlp-bytes' alone\n",
         Misuse::Audit => "error: '--audit' audits replies, and with '--as' none are printed\n",
         Misuse::Resource => "error: '--resource' belongs to '--as'\n",
@@ -268,7 +274,8 @@ fn source_of<'t>(path: &'t Text, text: &'t Text) -> NamedText<'t> {
     }
 }
 
-fn pair_of<'t>(files: &'t Files, texts: &'t Texts, declared: &'t Declared) -> Pair<'t> {
+/// The catalogue and the config, with the texts that they were read from.
+pub(crate) fn pair_of<'t>(files: &'t Files, texts: &'t Texts, declared: &'t Declared) -> Pair<'t> {
     Pair {
         catalogue: &declared.catalogue,
         catalogue_source: source_of(&files.catalogue, &texts.parts.catalogue),
@@ -302,6 +309,23 @@ fn told_script(
 // A fault as `metric_kit` tells it.
 fn told_plain(alloc: Global, fault: KitFault) -> Result<String, AllocError> {
     format!(in alloc; "{fault}\n")
+}
+
+/// Puts what is told of an exposure last, with the line that it is in.
+pub(crate) fn push_exposure(
+    alloc: Global,
+    note: &mut String,
+    files: &Files,
+    texts: &Texts,
+    notes: &Notes,
+    exposure: Exposure,
+) -> Result<(), AllocError> {
+    let pair = pair_of(files, texts, &notes.declared);
+    let Exposure { outlet, fault } = exposure;
+    let streams = notes.streams.as_slice();
+    let told = diagnose_exposure(alloc, pair, streams, outlet, fault);
+    let text = spelled(alloc, told)?;
+    note.push_str(text.as_str())
 }
 
 /// Puts what a remark says last, with the line that it is in.

@@ -3,3 +3,4 @@ mod FaultLemmas
 mod NumberLaws
 mod Readings
 mod Resources
+mod Words

@@ -58,7 +58,13 @@ table_app name =
     (number_rule (codes "width") 0 most_width (codes "0"))
 
 abbrev pub lint_app : App
-lint_app = with_rule (pair_app (codes "lint")) (text_rule (codes "deny"))
+lint_app =
+    with_rule
+    (with_rule
+    (with_rule (with_rule (pair_app (codes "lint")) (flag_rule (codes "json")))
+    (texts_rule (codes "deny")))
+    (texts_rule (codes "allow")))
+    (texts_rule (codes "for"))
 
 abbrev pub show_app : App
 show_app = table_app (codes "show")
@@ -103,5 +109,7 @@ first_app =
 abbrev pub second_app : App
 second_app = with_subcommand (with_subcommand first_app make_app.top) check_app.top
 
+-- # what the words of a command line ask for (profile) [program_app, request_in]
+-- What the words of a command line ask for.
 abbrev pub program_app : App
 program_app = with_subcommand (with_subcommand second_app replay_app.top) draw_app.top

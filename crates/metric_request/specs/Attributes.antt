@@ -27,7 +27,9 @@ misuse_of resources.TooMany = TooMany
 misuse_of resources.EmptyKey = EmptyKey
 misuse_of _ = RepeatedKey
 
--- the attributes that words give, in order, or the first fault of the words
+-- # the attributes that the words of `--resource` give, and the first misuse of an option (profile)
+-- [resource_in, resource_asked]
+-- The attributes that words give, in order, or the first fault of the words.
 abbrev pub resource_in : List Text → Result (List OwnedAttr) Misuse
 resource_in words =
     if list_all has_equals words then with_fault misuse_of (resource_of (map attribute_of words))

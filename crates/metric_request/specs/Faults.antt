@@ -34,8 +34,10 @@ IsMemory Nothing = ⊥
 IsMemory (Misused misuse) = ⊥
 IsMemory Memory = Unit {0}
 
--- A call for help or for the version is told as that, want of memory as such,
--- and everything else as a misuse.
+-- # what a refusal by clap is told as, and why words ask for nothing (profile) [TellsKind,
+-- IsNoRequest]
+-- A call for help or for the version is told as that, want of memory as such, and everything else
+-- as a misuse.
 abbrev pub TellsKind : ErrorKind → LineFault → Type 0
 TellsKind DisplayHelp = IsToldOrMemory
 TellsKind DisplayVersion = IsToldOrMemory

@@ -1,21 +1,25 @@
 -- What the words of a command line mean.
 use Rattle.std.specs.Prelude.{◌&&◌, ◌||◌, Bool, false, not, List, [], Option, Some, None}
 use Rattle.std.specs.Prelude.{Result, codes, is_some, if◌then◌else◌, unwrap_or}
+use Rattle.std.specs.List.{list_any}
 use Rattle.std.specs.Option.{option_and_then, option_map_or}
 use Rattle.std.specs.Result.{result_unwrap_or}
 use Rattle.std.specs.Str.{bytes_eq}
 use Rattle.clap.specs.Words.{Row, Text, all_of, first_of}
 use Rattle.metric_base.specs.Steps.{◌>>=◌, require}
+use Rattle.metric_advice.specs.Kinds.{is_kind}
 use Rattle.metric_contents.specs.declared.attributes.OwnedAttr.{OwnedAttr}
 use Rattle.metric_request.specs.Attributes.{resource_in}
 use Rattle.metric_request.specs.Numbers.{number_in}
 use Rattle.metric_request.specs.declared.fault.Misuse.{Misuse}
-use Rattle.metric_request.specs.declared.fault.Misuse.TheVariants.{Deny, Audit, Resource}
+use Rattle.metric_request.specs.declared.fault.Misuse.TheVariants.{Deny, Allow, Outlet, Audit, Resource}
 use Rattle.metric_request.specs.declared.fault.Misuse.TheVariants as misuses
+use Rattle.metric_request.specs.declared.request.Concerns.{Concerns}
 use Rattle.metric_request.specs.declared.request.Files.{Files}
 use Rattle.metric_request.specs.declared.request.Form.{Form}
 use Rattle.metric_request.specs.declared.request.Form.TheVariants.{Replies, OtlpLines, OtlpBytes}
 use Rattle.metric_request.specs.declared.request.Options.{Options}
+use Rattle.metric_request.specs.declared.request.Outlets.{Outlets}
 use Rattle.metric_request.specs.declared.request.Request.{Request}
 use Rattle.metric_request.specs.declared.request.Task.{Task}
 use Rattle.metric_request.specs.declared.request.Task.TheVariants.{Lint, Show, Make, Check}
@@ -52,10 +56,48 @@ abbrev pub forms_else : List Row → Bool
 forms_else rows =
     option_map_or (λ word. not (is_some (form_of word))) (first_of (codes "as") rows) false
 
--- `--deny` was given another word than `remarks`
+-- the words of all uses of an option
+abbrev pub words_in : Text → List Row → List Text
+words_in id rows = unwrap_or (all_of id rows) []
+
+-- a word is a kind of remark
+abbrev pub is_concern : Text → Bool
+is_concern word = bytes_eq word (codes "exposure") || is_kind word
+
+-- it is that, or stands for all
+abbrev pub is_denied : Text → Bool
+is_denied word = bytes_eq word (codes "remarks") || is_concern word
+
+-- a use of `--deny` names neither
 abbrev pub denies_else : List Row → Bool
-denies_else rows = option_map_or (λ text. not (bytes_eq text (codes "remarks")))
-    (first_of (codes "deny") rows) false
+denies_else rows = list_any (λ word. not (is_denied word)) (words_in (codes "deny") rows)
+
+-- a use of `--allow` names no kind of remark
+abbrev pub allows_else : List Row → Bool
+allows_else rows = list_any (λ word. not (is_concern word)) (words_in (codes "allow") rows)
+
+abbrev pub concerns_in : List Row → Concerns
+concerns_in rows = record {
+  allowed = words_in (codes "allow") rows;
+  denied = words_in (codes "deny") rows;
+}
+
+-- a use of `--for` names this way out
+abbrev pub is_for : Text → List Row → Bool
+is_for outlet rows = list_any (λ word. bytes_eq word outlet) (words_in (codes "for") rows)
+
+abbrev pub outlets_in : List Row → Outlets
+outlets_in rows = record {
+  prometheus = is_for (codes "prometheus") rows;
+  otlp = is_for (codes "otlp") rows;
+}
+
+abbrev pub is_outlet : Text → Bool
+is_outlet word = bytes_eq word (codes "prometheus") || bytes_eq word (codes "otlp")
+
+-- a use of `--for` names no way out
+abbrev pub outlets_else : List Row → Bool
+outlets_else rows = list_any (λ word. not (is_outlet word)) (words_in (codes "for") rows)
 
 -- the text of an argument that has to be given
 abbrev pub text_in : Text → List Row → Text
@@ -83,7 +125,7 @@ files_in rows = record {
 
 abbrev pub options_in : List Row → Options
 options_in rows = record {
-  strict = has_word (codes "deny") (codes "remarks") rows;
+  outlets = outlets_in rows;
   json = has_word (codes "json") (codes "true") rows;
   audit = has_word (codes "audit") (codes "true") rows;
   form = form_in rows;
@@ -92,20 +134,18 @@ options_in rows = record {
   instances = number_in (first_of (codes "instances") rows);
 }
 
--- the words of all uses of `--resource`
-abbrev pub resource_words : List Row → List Text
-resource_words rows = unwrap_or (all_of (codes "resource") rows) []
-
 -- the resource that is asked for, or the first misuse of an option
 unfoldable pub resource_asked : List Row → Result (List OwnedAttr) Misuse
 resource_asked rows = do
   _ ← require (not (denies_else rows)) Deny
+  _ ← require (not (allows_else rows)) Allow
+  _ ← require (not (outlets_else rows)) Outlet
   _ ← require (not (forms_else rows)) misuses.Form
   _ ← require (not (is_some (first_of (codes "as") rows)
       && has_word (codes "audit") (codes "true") rows)) Audit
   _ ← require (is_some (first_of (codes "as") rows)
       || not (is_some (first_of (codes "resource") rows))) Resource
-  resource_in (resource_words rows)
+  resource_in (words_in (codes "resource") rows)
 
 -- the request of a command by its name, with its arguments
 abbrev pub request_in : Text × List Row → Request
@@ -114,5 +154,6 @@ request_in named =
       task = task_of named.0;
       files = files_in named.1;
       options = options_in named.1;
+      concerns = concerns_in named.1;
       resource = result_unwrap_or (resource_asked named.1) [];
     }

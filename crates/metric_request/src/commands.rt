@@ -25,6 +25,25 @@ const EXAMPLE: &str = "Example:
 
 Status: 0 done, 1 refused, 2 usage, 3 unreadable input, 4 no memory, 5 a write failed.";
 
+const LINTS: &str = "Kinds, each to be named as often as wanted:
+  unfit              a view that names an aggregation that does not fit
+  collision          two streams of one identity
+  selects-nothing    a view that selects no instrument
+  unknown-key        a key of a view that no selected instrument declares
+  unused-boundaries  boundaries of a view that makes no histogram
+  unrecorded         an instrument that nobody can record on
+  nothing-allowed    an instrument that lists no combination
+  one-value          an instrument of one value, which tells nothing
+  one-bucket         boundaries of which one bucket takes each value
+  over-budget        budgets above what is safe
+  no-budget          a recorder without any budget
+  no-recorder        a catalogue without a recorder
+  no-reader          a config without a reader
+  exposure           what a way out would lose
+
+Example:
+  wormweekly lint catalogue.toml config.toml --deny remarks --allow no-budget";
+
 /// The program with all its commands.
 pub(crate) fn program<'a>(alloc: Global) -> Result<Command<'a>, AllocError>
     ensures { IfOk result (λ command. app_of command ≡ program_app) }
@@ -81,7 +100,7 @@ fn with_argument<'a>(
 fn bare<'a>(alloc: Global) -> Command<'a>
     ensures { app_of result ≡ bare_app }
 {
-    named(alloc, "wormweekly", ABOUT, EXAMPLE).version("1.0")
+    named(alloc, "wormweekly", ABOUT, EXAMPLE).version("0.4.0")
 }
 
 // A command, with what it does and an example.
@@ -134,10 +153,16 @@ fn lint<'a>(alloc: Global) -> Result<Command<'a>, AllocError>
         alloc,
         "lint",
         "Prints what looks like a mistake, with its place",
-        "Example:\n  wormweekly lint catalogue.toml config.toml --deny remarks",
+        LINTS,
     );
-    let help = "`remarks`: end with status 1 where there are any";
-    with_argument(command, text(alloc, "deny", "WHAT", help))
+    let help = "Print a line of JSON for each remark";
+    let command = with_argument(command, flag(alloc, "json", help));
+    let help = "End with status 1 where there are such remarks; `remarks`: any";
+    let command = with_argument(command, texts(alloc, "deny", "KIND", help));
+    let help = "Leave such remarks out";
+    let command = with_argument(command, texts(alloc, "allow", "KIND", help));
+    let help = "Tell too what a way out would lose, as often as wanted: `prometheus` or `otlp`";
+    with_argument(command, texts(alloc, "for", "OUTLET", help))
 }
 
 fn show<'a>(alloc: Global) -> Result<Command<'a>, AllocError>

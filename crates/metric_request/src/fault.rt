@@ -10,8 +10,12 @@ use std::alloc::{AllocError, Global};
 /// What an option does not take.
 #[derive(Clone, Copy, Debug, PartialEq, Eq, Drop)]
 pub enum Misuse {
-    /// `--deny` was given something else than `remarks`.
+    /// `--deny` was given something else than `remarks` or a kind of them.
     Deny,
+    /// `--allow` was given no kind of remark that there is.
+    Allow,
+    /// `--for` was given no way out that there is.
+    Outlet,
     /// `--as` was given no form that there is.
     Form,
     /// `--audit` stands beside `--as`, which prints no replies that were audited.

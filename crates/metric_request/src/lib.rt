@@ -10,4 +10,4 @@ mod request;
 
 pub use fault::{LineFault, Misuse};
 pub use reading::request_of;
-pub use request::{Files, Form, Options, Request, Task};
+pub use request::{Concerns, Files, Form, Options, Outlets, Request, Task};

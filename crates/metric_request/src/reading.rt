@@ -1,18 +1,22 @@
 //! The reading of a command line.
-ghost use Rattle.std.specs.Prelude.{◌≡◌, [], IfErr, IfOk, IsOk, IsSomeAnd, Ok, OnOk, Some, is_some, map, true};
+ghost use Rattle.std.specs.Prelude.{◌≡◌, [], IfErr, IfOk, IsOk, IsSomeAnd, Ok, OnOk, Some, codes, is_some, map, not, true};
+ghost use Rattle.std.specs.List.{list_any};
+ghost use Rattle.std.specs.Str.{bytes_eq};
 ghost use Rattle.clap.specs.Words.{fault_of, first_of, found_of, rows_of, subcommand_of, subcommand_rows_of, takes};
 ghost use Rattle.metric_request.specs.Apps.{program_app};
 ghost use Rattle.metric_request.specs.Attributes.{resource_in};
 ghost use Rattle.metric_request.specs.Faults.{IsAllowed, IsMisuse, IsNoRequest, IsNotAsked, IsOwn};
 ghost use Rattle.metric_request.specs.Numbers.{number_in, number_of};
-ghost use Rattle.metric_request.specs.Requests.{certificate_in, denies_else, files_in, form_in, form_of, forms_else, has_word, options_in, request_in, resource_asked, resource_words, script_in, task_of, text_in};
+ghost use Rattle.metric_request.specs.Requests.{certificate_in, denies_else, files_in, form_in, form_of, forms_else, has_word, options_in, request_in, resource_asked, script_in, task_of, text_in};
+ghost use Rattle.metric_request.specs.Requests.{allows_else, concerns_in, is_concern, is_denied, is_for, is_outlet, outlets_else, outlets_in, words_in};
 
 use crate::attributes::resource_of;
 use crate::commands::program;
 use crate::fault::{LineFault, Misuse, fault_of};
-use crate::request::{Files, Form, Options, Request, Task};
+use crate::request::{Concerns, Files, Form, Options, Outlets, Request, Task};
 use clap::ArgMatches;
-use metric_base::Text;
+use metric_advice::is_kind;
+use metric_base::{Items, Text};
 use metric_resource::Resource;
 use std::alloc::{AllocError, Global};
 
@@ -72,10 +76,12 @@ fn named_request(
 {
     let resource = resource_asked(alloc, arguments)?;
     let files = files_of(alloc, arguments)?;
+    let concerns = concerns_in(alloc, arguments)?;
     Ok(Request {
         task: task_of(command),
         files,
         options: options_of(arguments),
+        concerns,
         resource,
     })
 }
@@ -92,6 +98,12 @@ fn resource_asked(alloc: Global, arguments: &ArgMatches<'_>) -> Result<Resource,
     if denies_else(arguments) {
         return Err(LineFault::Misused(Misuse::Deny));
     }
+    if allows_else(arguments) {
+        return Err(LineFault::Misused(Misuse::Allow));
+    }
+    if outlets_else(arguments) {
+        return Err(LineFault::Misused(Misuse::Outlet));
+    }
     if forms_else(arguments) {
         return Err(LineFault::Misused(Misuse::Form));
     }
@@ -107,9 +119,9 @@ fn resource_asked(alloc: Global, arguments: &ArgMatches<'_>) -> Result<Resource,
 // The resource that the words of all uses of `--resource` give.
 fn resource_given(alloc: Global, arguments: &ArgMatches<'_>) -> Result<Resource, LineFault>
     ensures given { IfOk result (λ resource.
-        resource_in (resource_words (rows_of (found_of arguments.now))) ≡ Ok resource) }
+        resource_in (words_in (codes "resource") (rows_of (found_of arguments.now))) ≡ Ok resource) }
     ensures refused { IfErr result (λ fault.
-        IsMisuse fault (resource_in (resource_words (rows_of (found_of arguments.now))))) }
+        IsMisuse fault (resource_in (words_in (codes "resource") (rows_of (found_of arguments.now))))) }
 {
     match arguments.get_strs("resource") {
         Some(words) => resource_of(alloc, words),
@@ -210,7 +222,7 @@ fn options_of(arguments: &ArgMatches<'_>) -> Options
     ensures { result ≡ options_in (rows_of (found_of arguments.now)) }
 {
     Options {
-        strict: has_word(arguments, "deny", "remarks"),
+        outlets: outlets_in(arguments),
         json: has_word(arguments, "json", "true"),
         audit: has_word(arguments, "audit", "true"),
         form: form_in(arguments),
@@ -247,14 +259,127 @@ fn has_word(arguments: &ArgMatches<'_>, id: &str, word: &str) -> bool
     arguments.get_str(id) == Some(word)
 }
 
-// Whether `--deny` was given another word than `remarks`.
+// Whether a use of `--deny` names neither `remarks` nor a kind of them.
 fn denies_else(arguments: &ArgMatches<'_>) -> bool
     ensures { result ≡ denies_else (rows_of (found_of arguments.now)) }
 {
-    match arguments.get_str("deny") {
-        Some(word) => word != "remarks",
+    match arguments.get_strs("deny") {
+        Some(words) => has_other_than_denied(words),
         None => false,
     }
+}
+
+fn has_other_than_denied(words: &[&str]) -> bool
+    ensures { result ≡ list_any (λ w. not (is_denied w.now)) words.now }
+{
+    words.iter().any(|word| !is_denied(word))
+}
+
+fn is_denied(word: &str) -> bool
+    ensures { result ≡ is_denied word.now }
+{
+    word == "remarks" || is_concern(word)
+}
+
+// Whether a use of `--allow` names no kind of remark.
+fn allows_else(arguments: &ArgMatches<'_>) -> bool
+    ensures { result ≡ allows_else (rows_of (found_of arguments.now)) }
+{
+    match arguments.get_strs("allow") {
+        Some(words) => has_other_than_concerns(words),
+        None => false,
+    }
+}
+
+fn has_other_than_concerns(words: &[&str]) -> bool
+    ensures { result ≡ list_any (λ w. not (is_concern w.now)) words.now }
+{
+    words.iter().any(|word| !is_concern(word))
+}
+
+// Whether a word is a kind of remark.
+fn is_concern(word: &str) -> bool
+    ensures { result ≡ is_concern word.now }
+{
+    word == "exposure" || is_kind(word)
+}
+
+// Which remarks count.
+fn concerns_in(alloc: Global, arguments: &ArgMatches<'_>) -> Result<Concerns, AllocError>
+    ensures { IfOk result (λ concerns. concerns ≡ concerns_in (rows_of (found_of arguments.now))) }
+{
+    let allowed = words_in(alloc, arguments, "allow")?;
+    let denied = words_in(alloc, arguments, "deny")?;
+    Ok(Concerns { allowed, denied })
+}
+
+// The words of all uses of an option.
+fn words_in(alloc: Global, arguments: &ArgMatches<'_>, id: &str) -> Result<Items<Text>, AllocError>
+    ensures { IfOk result (λ words. words ≡ words_in id.now (rows_of (found_of arguments.now))) }
+{
+    match arguments.get_strs(id) {
+        Some(words) => owned(alloc, words),
+        None => owned(alloc, &[]),
+    }
+}
+
+fn owned(alloc: Global, words: &[&str]) -> Result<Items<Text>, AllocError>
+    ensures { IfOk result (λ owned. owned ≡ map (λ w. w.now) words.now) }
+{
+    let mut owned = Items::new(alloc);
+    for word in words {
+        owned.push(Text::new(alloc, word)?)?;
+    }
+    Ok(owned)
+}
+
+// The ways out that the uses of `--for` name.
+fn outlets_in(arguments: &ArgMatches<'_>) -> Outlets
+    ensures { result ≡ outlets_in (rows_of (found_of arguments.now)) }
+{
+    Outlets {
+        prometheus: is_for(arguments, "prometheus"),
+        otlp: is_for(arguments, "otlp"),
+    }
+}
+
+// Whether a use of `--for` names a way out.
+fn is_for(arguments: &ArgMatches<'_>, outlet: &str) -> bool
+    ensures { result ≡ is_for outlet.now (rows_of (found_of arguments.now)) }
+{
+    match arguments.get_strs("for") {
+        Some(words) => has_word_among(words, outlet),
+        None => false,
+    }
+}
+
+fn has_word_among(words: &[&str], wanted: &str) -> bool
+    ensures { result ≡ list_any (λ w. bytes_eq w.now wanted.now) words.now }
+{
+    words.iter().any(|word| *word == wanted)
+}
+
+// Whether a use of `--for` names no way out.
+fn outlets_else(arguments: &ArgMatches<'_>) -> bool
+    ensures { result ≡ outlets_else (rows_of (found_of arguments.now)) }
+{
+    match arguments.get_strs("for") {
+        Some(words) => has_other_than_outlets(words),
+        None => false,
+    }
+}
+
+fn has_other_than_outlets(words: &[&str]) -> bool
+    ensures { result ≡ list_any (λ w. not (is_outlet w.now)) words.now }
+{
+    words.iter().any(|word| !is_outlet(word))
+}
+
+// Whether a word names a way out.
+fn is_outlet(word: &str) -> bool
+    ensures { result ≡ is_outlet word.now }
+{
+    word == "prometheus" || word == "otlp"
 }
 
 // The number that an option has, and 0 without one.

@@ -1,5 +1,5 @@
 //! What a command line asks for.
-use metric_base::Text;
+use metric_base::{Items, Text};
 use metric_resource::Resource;
 
 /// A command of the program.
@@ -47,11 +47,20 @@ pub enum Form {
     OtlpBytes,
 }
 
+/// The ways out of the points that a command asks about.
+#[derive(Clone, Copy, Debug, PartialEq, Eq)]
+pub struct Outlets {
+    /// Pages of Prometheus.
+    pub prometheus: bool,
+    /// Requests of OTLP.
+    pub otlp: bool,
+}
+
 /// How a command is done. What does not belong to the command is off, or zero.
 #[derive(Clone, Copy, Debug, PartialEq, Eq)]
 pub struct Options {
-    /// Whether remarks are errors.
-    pub strict: bool,
+    /// The ways out for which remarks are made.
+    pub outlets: Outlets,
     /// Whether the answer is lines of JSON.
     pub json: bool,
     /// Whether the replies are audited before they are printed.
@@ -66,6 +75,15 @@ pub struct Options {
     pub instances: u32,
 }
 
+/// Which remarks count.
+#[derive(Debug, Drop)]
+pub struct Concerns {
+    /// The kinds of remarks that are left out.
+    pub allowed: Items<Text>,
+    /// The kinds of remarks that are errors; `remarks` stands for all.
+    pub denied: Items<Text>,
+}
+
 /// What a command line asks for.
 #[derive(Drop)]
 pub struct Request {
@@ -75,6 +93,8 @@ pub struct Request {
     pub files: Files,
     /// How it is done.
     pub options: Options,
+    /// Which remarks count.
+    pub concerns: Concerns,
     /// The attributes of what produces the batches that a replay prints.
     pub resource: Resource,
 }

@@ -18,6 +18,9 @@ use std::process::ExitCode;
 // The exit status of a program that writes into a closed pipe and is ended by its signal.
 const CLOSED: u8 = 141;
 
+const NOT_TEXT: &str =
+    "error: a word of the command line is not UTF-8, as the path of a file has to be\n";
+
 fn main(rt: HostRuntime) -> ExitCode {
     ExitCode::from(run(&rt, asked(&rt)))
 }
@@ -29,12 +32,14 @@ fn asked(rt: &HostRuntime) -> Result<Request, LineFault> {
     request_of(rt.alloc(), &words)
 }
 
-// The words of the command line. One that is not UTF-8 is a word of no command.
+// The words of the command line, each of which has to be UTF-8, also the path of a file.
 fn words(rt: &HostRuntime) -> Result<Vec<String>, LineFault> {
     match env::args(rt) {
         Ok(words) => Ok(words.collect(rt.alloc())?),
         Err(error) => match error.kind() {
-            ErrorKind::InvalidData => Err(LineFault::Nothing),
+            ErrorKind::InvalidData => {
+                Err(LineFault::Usage(String::from_str(rt.alloc(), NOT_TEXT)?))
+            }
             _ => Err(LineFault::Memory),
         },
     }
