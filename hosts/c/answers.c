@@ -456,6 +456,18 @@ static struct told spare(const struct row *row) {
     return told;
 }
 
+/* That of one instrument. */
+static struct told headrooms(const struct row *row) {
+    wormweekly_headroom_out out[INSTRUMENTS] = { { 0 } };
+    struct told told =
+        answered(wormweekly_headrooms(&recorders[row->recorder], out, room_for(row, INSTRUMENTS)));
+    told.numbers[0] = (int64_t)out[row->instrument].declared;
+    told.numbers[1] = (int64_t)out[row->instrument].most;
+    told.numbers[2] = (int64_t)out[row->instrument].limit;
+    told.numbers[3] = (int64_t)out[row->instrument].stream;
+    return told;
+}
+
 static struct told close(const struct row *row) { return answered(wormweekly_close(&instruments[row->instrument])); }
 
 static struct told settle(const struct row *row) {
@@ -662,6 +674,10 @@ static const struct row ORDERS_ROWS[] = {
     { CALL(budget), .recorder = RECORDERS, .answer = WORMWEEKLY_STRANGER },
     { CALL(budget), .instrument = INSTRUMENTS, .answer = WORMWEEKLY_STRANGER },
     { CALL(spare), .numbers = { 0, 0, 0 } },
+    { CALL(headrooms), .instrument = ORDERS, .numbers = { 11, 92233720368547758, 1, 0 } },
+    { CALL(headrooms), .instrument = ARTICLES, .recorder = NIGHT, .numbers = { 5, 92233720368547758, 3, 0 } },
+    { CALL(headrooms), .instrument = QUEUE, .numbers = { 3, 2049638230412172401, 1, 0 } },
+    { CALL(headrooms), .is_short = 1, .answer = WORMWEEKLY_TOO_SHORT },
     { CALL(ask), .amount = 1, .answer = WORMWEEKLY_NO_SPARE },
     { CALL(ask), .recorder = RECORDERS, .answer = WORMWEEKLY_STRANGER },
     { CALL(settle), .recorder = DAY, .handles.recorders = 1, .answer = WORMWEEKLY_RECORDER_MISSING },
@@ -759,6 +775,7 @@ static const struct row FREED_ROWS[] = {
     { CALL(reader_name), .reader = CHANGES },
     { CALL(ask), .recorder = NIGHT },
     { CALL(budget), .recorder = NIGHT },
+    { CALL(headrooms), .recorder = NIGHT },
     { CALL(settle), ALL_RECORDERS },
 };
 

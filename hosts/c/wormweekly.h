@@ -51,6 +51,9 @@
 #include <stddef.h>
 #include <stdint.h>
 
+/* The version of this header and of the library. */
+#define WORMWEEKLY_VERSION "0.4.0"
+
 #ifdef __cplusplus
 extern "C" {
 #endif
@@ -148,6 +151,16 @@ typedef struct {
     uint64_t granted;
     uint64_t left;
 } wormweekly_spare_out;
+
+/* How often an instrument may be recorded, all recorders together: as often as the catalogue declares, with what it spares; the
+ * most that is safe while all else stays as it is; and what one more would break: a count (0), two sums 2^64 apart (1), the
+ * least (2) or the greatest int64_t (3), or the series of a stream (4), whose number is in `stream`. */
+typedef struct {
+    uint64_t declared;
+    uint64_t most;
+    uint64_t limit;
+    uint64_t stream;
+} wormweekly_headroom_out;
 
 /* How many recordings, and their sum: high and low are the 128 bits of its size, negative is 1 where it is below 0. */
 typedef struct {
@@ -317,6 +330,10 @@ uint32_t wormweekly_ask(wormweekly_instrument *instrument, wormweekly_recorder *
  * instrument's mutex). Ask for more in time: a recording past the budget is refused, and not counted. */
 uint32_t wormweekly_budget(wormweekly_instrument *instrument, wormweekly_recorder *recorder, wormweekly_budget_out *out);
 uint32_t wormweekly_spare(wormweekly_instrument *instrument, wormweekly_spare_out *out);
+
+/* Writes how often each instrument of the recorder's plan may be recorded, in order, where there is room for all of them. It
+ * looks at each stream of the plan, so ask once. Needs no mutex. */
+uint32_t wormweekly_headrooms(wormweekly_recorder *recorder, wormweekly_headroom_out *out, size_t room);
 
 /* Ends the recordings of an instrument (under its mutex). It is collected and settled as before. */
 uint32_t wormweekly_close(wormweekly_instrument *instrument);

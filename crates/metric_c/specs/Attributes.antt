@@ -37,7 +37,10 @@ given_first own texts =
     (λ (value : AttrValue × List ℕ). ((key.0, value.0), value.1)) (value_first own key.1))
     (text_first own.key texts)
 
--- all attributes, or none where one of them is none
+-- # attributes given flat (profile)
+-- The attributes of a list of lengths over one text: each takes its key, and its value where that
+-- is a text, from the front; none where a length leads past, a text is no UTF-8, or there is no
+-- such kind.
 abbrev pub attributes_from : List Attribute → List ℕ → Option (List Given)
 attributes_from [] texts = Some []
 attributes_from (own ∷ others) texts =

@@ -4,7 +4,8 @@ use Rattle.metric_contents.specs.Encoding.{Given}
 use Rattle.metric_contents.specs.Refusals.{number_of}
 use Rattle.metric_contents.specs.declared.refusal.Refusal.{Refusal}
 
--- 0 for done, else the number of the refusal
+-- # code (profile) [code_of, IsCodeOf, WhereBoth]
+-- 0 for done, else the number of the refusal; 100 where a handle is null.
 abbrev pub code_of : Result (Unit {0}) Refusal → ℕ
 code_of (Ok done) = 0
 code_of (Err refusal) = number_of refusal

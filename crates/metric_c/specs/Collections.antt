@@ -15,7 +15,8 @@ use Rattle.metric_hosted.specs.Hosts.{HostedValue, number_of}
 abbrev pub allowance : HostedValue → HostedReader → Result Facts Refusal
 allowance h own = allowance_of own.plan h own.seat
 
--- What a refused collection at a time is answered.
+-- # collected through handles (SDK, collect) [Refuses, Collects]
+-- What a collection is refused for; the instrument and the reader after it, which holds the batch.
 abbrev pub Refuses : HostedValue → HostedReader → ℕ → Result (Unit {0}) Refusal → Type 0
 Refuses h own now (Ok done) = Unit {0}
 Refuses h own now (Err refusal) = AnswersReading (allowance h own) h own.seat now (Err refusal)

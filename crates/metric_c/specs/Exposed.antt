@@ -7,7 +7,8 @@ use Rattle.metric_exposure.specs.declared.outlet.Outlet.TheVariants.{Prometheus}
 use Rattle.metric_hosted.specs.declared.planned.HostedReader.{HostedReader}
 use Rattle.metric_c.specs.Texts.{IsFront}
 
--- the first fault that keeps them from it
+-- # exposed (Prometheus) [exposed, AnswersExposed]
+-- The first fault that keeps a reader's streams from a page, told as far as there is room.
 abbrev pub exposed : HostedReader → Result (Unit {0}) ExposureFault
 exposed own =
     first_of

@@ -19,3 +19,6 @@ held alloc (block_ptr b o) (Some x) =
 
 abbrev pub held_coded : Coded (Option the_row.Denot)
 held_coded = coded_option the_row.coded
+
+-- # held (profile) [held]
+-- A handle owns nothing at null, else the value at its pointer with the right to free it.

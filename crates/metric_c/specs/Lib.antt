@@ -20,4 +20,5 @@ pub mod Walking
 pub mod Settlements
 pub mod Closing
 pub mod Granting
+pub mod Headrooms
 pub mod Budgets

@@ -126,7 +126,9 @@ pub record BeginsOf (plan : PlanValue) (start run : ℕ) (counts : Counts) (befo
 abbrev pub IsNextCode : PlanValue → ℕ → Type 0
 IsNextCode plan code = IsOpenCode code ⊎ ((code ≡ 103) × (plan.is_certified ≡ false))
 
--- A run of such a plan begins, and this is how many of each it has.
+-- # opened (profile) [Opens, Begins]
+-- A plan of the texts; the first handles hold a new instrument, recorder, reader for each that it
+-- declares, those after them what they held.
 pub record Opens (IsPlan : PlanValue → Type 0) (start run : ℕ) (counts : Counts)
     (before after : AllHeld) : Type 0 where
   pub plan : PlanValue

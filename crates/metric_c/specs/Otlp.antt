@@ -21,7 +21,9 @@ abbrev pub line_of : HostedReader → List OwnedAttr → List ℕ
 line_of own resource =
     option_map_or (line resource own.plan.facts.contents own.plan.streams) own.last []
 
--- the encoding of a number: the request (0), or its line of JSON (1)
+-- # batch that leaves (OTLP; Prometheus) [encoded, AnswersOtlp]
+-- The batch that a reader keeps as a request or a line of OTLP, and as lines of a page; none before
+-- one.
 abbrev pub encoded : ℕ → HostedReader → List OwnedAttr → Option (List ℕ)
 encoded json own resource =
     if json == 0 then Some (request_of own resource)

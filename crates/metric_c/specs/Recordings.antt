@@ -15,7 +15,8 @@ admission h own attrs value = admission_of own.plan h own.seat attrs value
 abbrev pub admission_key : HostedValue → HostedRecorder → List ℕ → ℤ → Result (List ℕ) Refusal
 admission_key h own set value = admission_of_key own.plan h own.seat set value
 
--- what a recording with this admission is answered
+-- # recorded through handles (Metrics API, synchronous instruments) [Answers, Records]
+-- What a recording is answered, and the instrument and the seat after it.
 abbrev pub Answers : Result (List ℕ) Refusal → HostedValue → HostedRecorder → ℤ
     → Result (Unit {0}) Refusal → Type 0
 Answers allowed h own value result = AnswersHosted allowed own.plan h own.seat value result

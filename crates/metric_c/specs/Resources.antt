@@ -14,7 +14,9 @@ use Rattle.metric_c.specs.declared.resources.NoResource.TheVariants.{NoText, Ref
 abbrev pub owned_of : Given → OwnedAttr
 owned_of given = record { key = given.0; value = given.1 }
 
--- the resource of attributes as a host gives them, or its first fault; none where they are not read
+-- # resource as a host gives it (Resource SDK) [resource_from, number_of_fault]
+-- The resource of the attributes that are spelled, or its first fault with its number; none where
+-- they are not read.
 abbrev pub resource_from : List Attribute → List ℕ → Option (Result (List OwnedAttr) ResourceFault)
 resource_from given texts =
     option_map (λ (attrs : List Given). resource_of (map owned_of attrs))

@@ -73,8 +73,10 @@ pub record AnswersAllTold (h : HostedValue) (seats : List (Option HostedRecorder
   pub all : AllTold h seats told
   pub answer : AnswersTold h told out code
 
--- what settling is answered: for the first handle that tells nothing, else for what all of them
--- tell, unless memory was refused
+-- # settled through handles (profile) [AnswersSettle, AllTold, IsSettled, IsFirstUntold]
+-- Each handle holds a seat of the instrument's run, and the total of what they were told is
+-- written, or the number of their fault is answered; else that of the first handle that tells
+-- nothing.
 abbrev pub AnswersSettle : HostedValue → List (Option HostedRecorder) → TotalOut → ℕ → Type 0
 AnswersSettle h seats out code =
     AnswersAllTold h seats out code ⊎ (IsFirstUntold h seats code ⊎ (code ≡ 11))

@@ -5,8 +5,9 @@ use Rattle.std.specs.Prelude.{◌≡◌, ◌⊎◌, ◌<◌, ◌++◌, ℕ, List
 abbrev pub AreFirst : {T : Type 0} → List T → List T → List T → Type 0
 AreFirst made before after = after ≡ made ++ drop (length made) before
 
--- what writing a list into a buffer is answered: 0 where its first places have it, 102
--- where there is no room for all of it
+-- # told text (profile) [AnswersAll, AnswersText]
+-- A text or a list in the first places of a buffer whose others stay, or the answer that there is
+-- no room for it; of a text the length in either case.
 abbrev pub AnswersAll : {T : Type 0} → List T → List T → List T → ℕ → Type 0
 AnswersAll all before after code =
     ((code ≡ 0) × AreFirst all before after) ⊎ ((code ≡ 102) × (length before < length all))

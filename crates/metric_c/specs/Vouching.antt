@@ -4,7 +4,8 @@ use Rattle.metric_setup.specs.Setups.{IsFirstClaimFault}
 use Rattle.metric_setup.specs.declared.fault.SetupFault.{SetupFault}
 use Rattle.metric_setup.specs.declared.fault.SetupFault.TheVariants.{Memory}
 
--- Three texts have this first fault.
+-- # fault of three texts (profile)
+-- The first fault of a catalogue, a config and a certificate, other than want of memory.
 pub record HasVouchFault (catalogue config certificate : List ℕ) : Type 0 where
   pub fault : SetupFault
   pub told : fault ≢ Memory

@@ -34,7 +34,9 @@ abbrev pub IsWritten : {T : Type 0} → Option T → T → ℕ → Type 0
 IsWritten None out code = code ≡ 106
 IsWritten (Some x) out code = (code ≡ 0) × (out ≡ x)
 
--- the batch as a whole
+-- # walked batch (profile) [batch_out, stream_out, point_out, text_at, entry_value]
+-- The batch, the stream at a place and a point of it as they are written out; the texts,
+-- boundaries, buckets, keys and values that they have.
 abbrev pub batch_out : Batch → BatchOut
 batch_out batch = record {
   instrument = batch.instrument;

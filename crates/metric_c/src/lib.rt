@@ -33,6 +33,7 @@ mod empty;
 mod ending;
 mod exposed;
 mod grants;
+mod headrooms;
 mod instrument_handle;
 mod names;
 mod next;
@@ -65,6 +66,7 @@ pub use ending::{
 };
 pub use exposed::wormweekly_expose;
 pub use grants::wormweekly_grant;
+pub use headrooms::{HeadroomOut, wormweekly_headrooms};
 pub use instrument_handle::InstrumentHandle;
 pub use names::{wormweekly_name, wormweekly_reader_name};
 pub use next::wormweekly_next_run;

@@ -72,6 +72,37 @@
 //!
 //! [`Recorder::left`] tells what a recorder has left, [`Recorder::ask`] gets more of what an instrument has to spare
 //! ([`Instrument::spare`]), and [`Metrics::roll_over`] ends a run with its totals and begins the next one with full budgets.
+//! [`Metrics::headrooms`] tells how far the catalogue's budgets could be raised.
+//!
+//! # Recording without forgetting
+//!
+//! A [`Key`] names an attribute once. [`Recorder::during`] counts some work as under way and [`Recorder::timed`] measures it, both on
+//! every way out of it. So a web service gives each of its workers a recorder, and wraps a request in both:
+//!
+//! ```
+//! use wormweekly::{Key, Prepared, Recorder, TimeUnit};
+//!
+//! const ROUTE: Key = Key::new("http.route");
+//!
+//! struct Worker {
+//!     recorder: Recorder,
+//!     active: Prepared,
+//!     took: Prepared,
+//! }
+//!
+//! impl Worker {
+//!     fn serve(&mut self, request: impl FnOnce() -> u16) -> u16 {
+//!         let Worker { recorder, active, took } = self;
+//!         let ((status, timed), counted) =
+//!             recorder.during(active, |recorder| recorder.timed(took, TimeUnit::Milliseconds, |_| request()));
+//!         if let Err(refusal) = counted.and(timed) {
+//!             eprintln!("not recorded: {refusal}");
+//!         }
+//!         status
+//!     }
+//! }
+//! # let _ = ROUTE.of("/pay");
+//! ```
 //!
 //! # What a host owes, and nothing checks
 //!
@@ -83,6 +114,9 @@
 mod batch;
 mod dialect;
 mod fault;
+mod headroom;
+mod key;
+mod measured;
 mod metrics;
 mod opening;
 #[allow(missing_docs)]
@@ -99,6 +133,9 @@ pub use fault::{
     ExposureFault, ListRefusal, OpenFault, Refusal, ResourceFault, RollFault, SettleFault,
     UnknownName,
 };
+pub use headroom::{Headroom, Limit};
+pub use key::Key;
+pub use measured::TimeUnit;
 pub use metrics::{Instrument, Metrics, Rolled, Spare, Total};
 pub use opening::{Opened, open, open_certified};
 pub use reader::Reader;

@@ -1,6 +1,7 @@
 //! The instruments of a run.
 use crate::dialect::Dialect;
 use crate::fault::{Refusal, RollFault, SettleFault, UnknownName};
+use crate::headroom::Headroom;
 use crate::opening::{Opened, next};
 use crate::raw::{self, Handle};
 use crate::reader::Reader;
@@ -104,6 +105,27 @@ impl Metrics {
             page += &reader.prometheus(dialect)?;
         }
         Ok(page + dialect.end())
+    }
+
+    /// How often each instrument may be recorded, in order: what the catalogue declares, and the most that is safe. Takes no lock.
+    /// It looks at each stream of the plan, so ask once.
+    ///
+    /// # Errors
+    ///
+    /// [`Refusal::Stranger`] where the recorder is of another run, [`Refusal::Memory`].
+    pub fn headrooms(&self, recorder: &mut Recorder) -> Result<Vec<Headroom>, Refusal> {
+        let is_own = |instrument: &Instrument| instrument.run() == recorder.run();
+        if !self.instruments.iter().all(is_own) {
+            return Err(Refusal::Stranger);
+        }
+        let mut out = vec![raw::Headroom::default(); self.instruments.len()];
+        // SAFETY: the handle is as the library left it, this call has it alone, and the buffer is borrowed for it.
+        let code =
+            unsafe { raw::wormweekly_headrooms(recorder.handle(), out.as_mut_ptr(), out.len()) };
+        match code {
+            0 => Ok(out.iter().map(Headroom::of).collect()),
+            code => Err(Refusal::of(code)),
+        }
     }
 
     /// Ends this run by the recorders of all of it, and opens the next one of the same plan, since a time in nanoseconds. So a

@@ -67,6 +67,15 @@ pub struct Spare {
 
 #[repr(C)]
 #[derive(Clone, Copy, Default)]
+pub struct Headroom {
+    pub declared: u64,
+    pub most: u64,
+    pub limit: u64,
+    pub stream: u64,
+}
+
+#[repr(C)]
+#[derive(Clone, Copy, Default)]
 pub struct Batch {
     pub instrument: u64,
     pub streams: u64,
@@ -283,6 +292,7 @@ unsafe extern "C" {
         recorder: &mut Handle,
         out: &mut Budget,
     ) -> u32;
+    pub fn wormweekly_headrooms(recorder: *mut Handle, out: *mut Headroom, room: usize) -> u32;
     pub fn wormweekly_spare(instrument: &mut Handle, out: &mut Spare) -> u32;
     pub fn wormweekly_close(instrument: &mut Handle) -> u32;
     pub fn wormweekly_settle(

@@ -70,6 +70,11 @@ impl Recorder {
         &mut self.handle
     }
 
+    // The number of its run.
+    pub(crate) fn run(&self) -> u64 {
+        self.run
+    }
+
     /// The name.
     pub fn name(&self) -> &str {
         &self.name

@@ -1,7 +1,7 @@
 //! What a service lives on: budgets, grants, names and runs.
 use wormweekly::{
-    Budget, Dialect, ExposureFault, Opened, Refusal, Resource, ResourceFault, RollFault, Rolled,
-    SettleFault, Spare, Total, open,
+    Budget, Dialect, ExposureFault, Headroom, Key, Limit, Opened, Refusal, Resource, ResourceFault,
+    RollFault, Rolled, SettleFault, Spare, TimeUnit, Total, open,
 };
 
 const CATALOGUE: &str = "format = 2
@@ -206,5 +206,72 @@ fn a_run_goes_over_into_the_next() -> Result<(), Box<dyn std::error::Error>> {
         "{batch}"
     );
     assert_eq!(next.metrics.settle(&mut next.recorders)?[0].sum, 9);
+    Ok(())
+}
+
+#[test]
+fn headrooms_are_told_of_each_instrument() {
+    let Opened {
+        metrics,
+        mut recorders,
+        ..
+    } = opened();
+    let most = i64::MAX as u64 / 100;
+    let limit = Limit::SumHigh;
+    let of = |declared| Headroom {
+        declared,
+        most,
+        limit,
+    };
+    assert_eq!(metrics.headrooms(&mut recorders[1]), Ok(vec![of(9), of(9)]));
+    let other = &mut opened().recorders[0];
+    assert_eq!(metrics.headrooms(other), Err(Refusal::Stranger));
+}
+
+const QUEUE: &str = "format = 1
+[[meter]]
+name = 'queue'
+[[meter.instrument]]
+name = 'active'
+kind = 'up_down_counter'
+range = [-1, 1]
+key = [{ name = 'lane', values = ['a', 'b'] }]
+[[meter.instrument]]
+name = 'took'
+kind = 'histogram'
+range = [0, 60000]
+[[recorder]]
+name = 'worker'
+budget = [{ instrument = 0, amount = 5 }, { instrument = 1, amount = 1 }]
+";
+
+const LANE: Key = Key::new("lane");
+
+// What a piece of work is counted as on every way out of it.
+#[test]
+fn work_is_counted_as_under_way_until_it_ends() -> Result<(), Box<dyn std::error::Error>> {
+    let mut run = open(QUEUE, CONFIG, 0)?;
+    let instruments = ["active", "took"].map(|name| run.metrics.instrument(name).cloned());
+    let [Ok(active), Ok(took)] = instruments else {
+        panic!("both instruments are declared");
+    };
+    let worker = &mut run.recorders[0];
+    let lane = worker.prepare(&active, &[LANE.of("b")])?;
+    let all = worker.prepare(&took, &[])?;
+    let (made, counted) = worker.during(&lane, |worker| worker.left(&active));
+    assert_eq!((made, counted), (Ok(4), Ok(())));
+    let panicked = std::panic::catch_unwind(std::panic::AssertUnwindSafe(|| {
+        worker.during(&lane, |_| panic!("the work fails"))
+    }));
+    assert!(panicked.is_err());
+    let ((answer, timed), counted) =
+        worker.during(&lane, |worker| worker.timed(&all, TimeUnit::Seconds, |_| 7));
+    // The fifth recording was the last of the budget, so the end of the third piece of work is refused.
+    assert_eq!((answer, timed, counted), (7, Ok(()), Err(Refusal::Budget)));
+    let (answer, counted) = worker.during(&lane, |_| 8);
+    assert_eq!((answer, counted), (8, Err(Refusal::Budget)));
+    let totals = run.metrics.settle(&mut run.recorders)?;
+    assert_eq!(totals[0], Total { count: 5, sum: 1 });
+    assert_eq!(totals[1].count, 1);
     Ok(())
 }

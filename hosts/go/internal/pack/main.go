@@ -12,7 +12,7 @@ import (
 	"path/filepath"
 )
 
-const root = "wormweekly@v0.1.0"
+const root = "wormweekly@v0.4.0"
 
 func main() {
 	if len(os.Args) != 4 {

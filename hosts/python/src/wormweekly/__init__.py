@@ -52,7 +52,7 @@ from wormweekly._refusals import (
 )
 from wormweekly._scopes import InFlight, Timer
 
-__version__ = "0.1.0"
+__version__ = "0.4.0"
 
 __all__ = [
     "AttributeRefusal",

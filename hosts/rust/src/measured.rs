@@ -1,0 +1,88 @@
+//! Recordings round some work, which no way out of it leaves out.
+use crate::fault::Refusal;
+use crate::recorder::{Prepared, Recorder};
+use std::time::{Duration, Instant};
+
+/// The unit in which a duration is recorded, which is that of the instrument.
+#[derive(Clone, Copy, Debug, PartialEq, Eq)]
+pub enum TimeUnit {
+    /// Whole seconds.
+    Seconds,
+    /// Whole milliseconds.
+    Milliseconds,
+    /// Whole microseconds.
+    Microseconds,
+    /// Nanoseconds.
+    Nanoseconds,
+}
+
+impl TimeUnit {
+    // As many whole units as a duration has; the greatest number where it has more.
+    fn whole(self, duration: Duration) -> i64 {
+        let whole = match self {
+            TimeUnit::Seconds => u128::from(duration.as_secs()),
+            TimeUnit::Milliseconds => duration.as_millis(),
+            TimeUnit::Microseconds => duration.as_micros(),
+            TimeUnit::Nanoseconds => duration.as_nanos(),
+        };
+        i64::try_from(whole).unwrap_or(i64::MAX)
+    }
+}
+
+// Takes back what was added while some work went on, where nobody else does.
+struct InFlight<'a> {
+    recorder: &'a mut Recorder,
+    active: &'a Prepared,
+    is_counted: bool,
+}
+
+impl InFlight<'_> {
+    fn end(&mut self) -> Result<(), Refusal> {
+        match std::mem::take(&mut self.is_counted) {
+            true => self.recorder.record_prepared(self.active, -1),
+            false => Ok(()),
+        }
+    }
+}
+
+impl Drop for InFlight<'_> {
+    fn drop(&mut self) {
+        // Only the work's panic comes here with something counted, and there is nobody to tell.
+        let _ = self.end();
+    }
+}
+
+impl Recorder {
+    /// Does some work, and counts it as under way meanwhile: 1 is added to an up-down counter before it, and taken away after
+    /// it, also where it ends by `?` or in a panic. The work is done whatever is refused; where the first recording is, the second
+    /// is left out. With what the work gave comes the first [`Refusal`].
+    pub fn during<T>(
+        &mut self,
+        active: &Prepared,
+        work: impl FnOnce(&mut Recorder) -> T,
+    ) -> (T, Result<(), Refusal>) {
+        let began = self.record_prepared(active, 1);
+        let mut under_way = InFlight {
+            recorder: self,
+            active,
+            is_counted: began.is_ok(),
+        };
+        let done = work(under_way.recorder);
+        let ended = under_way.end();
+        (done, began.and(ended))
+    }
+
+    /// Does some work, and records in a histogram how long it took, in whole units. The work is done whatever is refused; with what it gave
+    /// comes the [`Refusal`], as [`Refusal::ValueRange`] where it took longer than the instrument's range has units.
+    pub fn timed<T>(
+        &mut self,
+        took: &Prepared,
+        unit: TimeUnit,
+        work: impl FnOnce(&mut Recorder) -> T,
+    ) -> (T, Result<(), Refusal>) {
+        let began = Instant::now();
+        let done = work(self);
+        let recorded = self.record_prepared(took, unit.whole(began.elapsed()));
+        (done, recorded)
+    }
+}
