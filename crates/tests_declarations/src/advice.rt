@@ -99,6 +99,10 @@ const REMARKS: &[(&str, &str)] = &[
     ("format = 1\n[[reader]]\nname = 'r'", ""),
     ("format = 1", "there is no reader\n"),
     (
+        "format = 1\n[[view]]\ninstrument_name = 'queue'\nboundaries = [1]",
+        "there is no reader\n",
+    ),
+    (
         "format = 1
 [[reader]]
 name = 'r'
@@ -149,21 +153,47 @@ fn told_remarks<R: Abort>(rt: &R, alloc: Global, catalogue: &str, config: &str) 
     remarks_of(rt, alloc, &declared)
 }
 
-const IDLE: &str = "format = 1
+const HEAD: &str = "format = 2
 [[meter]]
 name = 'm'
-instrument = [{ name = 'c', kind = 'counter', range = [0, 9] }]
-[[recorder]]
-name = 'one'
-[[recorder]]
-name = 'two'
-budget = [{ instrument = 0, amount = 0 }]
+[[meter.instrument]]
+name = 'c'
+kind = 'counter'
+range = [0, 9]
+[[meter.instrument]]
+name = 'd'
+kind = 'counter'
+range = [0, 9]
 ";
 
-const IDLE_REMARKS: &str = "recorder 0 has no budget for instrument 0
-recorder 1 has no budget for instrument 0
-there is no reader
-";
+// The end of a catalogue, and the remarks on it: each that is of the catalogue, and what comes nearest without.
+const ENDS: &[(&str, &str)] = &[
+    ("", "there is no recorder\n"),
+    (
+        "[[recorder]]\nname = 'a'\nbudget = [{ instrument = 0, amount = 1 }]\n[[recorder]]\nname = 'b'\nbudget = [{ instrument = 1, amount = 1 }]",
+        "",
+    ),
+    (
+        "[[recorder]]\nname = 'a'\nbudget = [{ instrument = 0, amount = 1 }]\n[[recorder]]\nname = 'b'\nbudget = [{ instrument = 0, amount = 0 }]",
+        "instrument 1 has no budget and no spare\nrecorder 1 has no budget\n",
+    ),
+    (
+        "allowed = []\nkey = [{ name = 'k', values = [1] }]\n[[recorder]]\nname = 'a'\nbudget = [{ instrument = 0, amount = 1 }, { instrument = 1, amount = 1 }]",
+        "instrument 1 allows no combination\n",
+    ),
+    (
+        "[[meter.instrument]]\nname = 'e'\nkind = 'gauge'\nrange = [7, 7]\nspare = 1\n[[meter.instrument]]\nname = 'f'\nkind = 'counter'\nrange = [7, 7]\nspare = 1\n[[meter.instrument]]\nname = 'g'\nkind = 'counter'\nrange = [0, 0]\nspare = 1\n[[recorder]]\nname = 'a'\nbudget = [{ instrument = 0, amount = 1 }, { instrument = 1, amount = 1 }]",
+        "instrument 2 has one value alone\ninstrument 4 has one value alone\n",
+    ),
+    (
+        "[[meter.instrument]]\nname = 'h'\nkind = 'histogram'\nrange = [3, 9]\nspare = 1\nboundaries = [2, 9]\n[[meter.instrument]]\nname = 'i'\nkind = 'histogram'\nrange = [3, 9]\nspare = 1\nboundaries = [2, 8]\n[[meter.instrument]]\nname = 'j'\nkind = 'histogram'\nrange = [3, 9]\nspare = 1\nboundaries = [3]\n[[recorder]]\nname = 'a'\nbudget = [{ instrument = 0, amount = 1 }, { instrument = 1, amount = 1 }]",
+        "one bucket of stream 2 takes each value\n",
+    ),
+    (
+        "spare = 1\n[[recorder]]\nname = 'a'\nbudget = [{ instrument = 0, amount = 1 }]",
+        "",
+    ),
+];
 
 #[test]
 fn each_remark_comes_up_and_a_clean_pair_has_none(rt: HostRuntime) {
@@ -171,8 +201,16 @@ fn each_remark_comes_up_and_a_clean_pair_has_none(rt: HostRuntime) {
         let told = told_remarks(&rt, rt.alloc(), JOBS, config);
         assert_equal(&rt, told.as_str(), *wanted);
     }
-    let idle = told_remarks(&rt, rt.alloc(), IDLE, "format = 1");
-    assert_equal(&rt, idle.as_str(), IDLE_REMARKS);
+}
+
+#[test]
+fn each_remark_on_a_catalogue_comes_up_and_its_neighbour_has_none(rt: HostRuntime) {
+    for (end, wanted) in ENDS {
+        let catalogue = format!(in rt.alloc(); "{HEAD}{end}").or_fail(&rt);
+        let config = "format = 1\n[[reader]]\nname = 'r'";
+        let told = told_remarks(&rt, rt.alloc(), catalogue.as_str(), config);
+        assert_equal(&rt, told.as_str(), *wanted);
+    }
 }
 
 const BUSY: &str = "format = 1
@@ -404,6 +442,18 @@ fn catalogue_place<R: Abort>(rt: &R, alloc: Global, text: &str, place: Catalogue
     let found = locate_in_catalogue(alloc, text, place).or_fail(rt);
     format!(in alloc; "{found:?}").or_fail(rt)
 }
+
+// A list of instruments in one line, in which no place is found.
+const IDLE: &str = "format = 1
+[[meter]]
+name = 'm'
+instrument = [{ name = 'c', kind = 'counter', range = [0, 9] }]
+[[recorder]]
+name = 'one'
+[[recorder]]
+name = 'two'
+budget = [{ instrument = 0, amount = 0 }]
+";
 
 fn config_place<R: Abort>(rt: &R, alloc: Global, text: &str, place: ConfigPlace) -> String {
     let found = locate_in_config(alloc, text, place).or_fail(rt);

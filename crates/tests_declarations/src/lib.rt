@@ -30,6 +30,8 @@ mod families;
 #[cfg(test)]
 mod memory;
 #[cfg(test)]
+mod outlets;
+#[cfg(test)]
 mod patterns;
 #[cfg(test)]
 mod pictures;

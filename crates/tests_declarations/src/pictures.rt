@@ -98,3 +98,43 @@ fn instruments_and_streams_share_boxes(rt: HostRuntime) {
     let told = boxes_of(&rt, rt.alloc(), picture.as_str());
     assert_equal(&rt, told.as_str(), BOXES);
 }
+
+const SHARED: &str = "format = 1
+[[meter]]
+name = 'm'
+[[meter.instrument]]
+name = 'h'
+kind = 'histogram'
+range = [0, 9]
+[[meter.instrument]]
+name = 'h.count'
+kind = 'gauge'
+range = [0, 9]
+";
+
+// The gauge has a name of the histogram's family.
+const SHARED_BOXES: &str = "plain
+h
+histogram
+plain
+h.count
+gauge
+reader r
+red
+h
+histogram, cumulative
+its names collide in Prometheus
+red
+h.count
+last value, cumulative
+its names collide in Prometheus
+";
+
+#[test]
+fn families_that_collide_are_red(rt: HostRuntime) {
+    let config = "format = 1\n[[reader]]\nname = 'r'\n";
+    let declared = read_both(&rt, rt.alloc(), SHARED, config);
+    let picture = draw(rt.alloc(), &declared.catalogue, &declared.config).or_fail(&rt);
+    let told = boxes_of(&rt, rt.alloc(), picture.as_str());
+    assert_equal(&rt, told.as_str(), SHARED_BOXES);
+}

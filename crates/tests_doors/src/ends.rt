@@ -3,7 +3,7 @@ use crate::asserted::{OrFail, assert_equal};
 use crate::exports::{Failing, Seats, failing_at, hit_seats};
 use metric_sdk::{
     EndFault, ListTicker, Marked, MetricExporter, NoGate, OpenPeriodic, Queued, Refusal,
-    RefusedInstrument, RunningCounts, Tick, collect_each, shutdown_all,
+    RefusedInstrument, RunningCounts, StopCause, Tick, collect_each, shutdown_all,
 };
 use std::alloc::Global;
 use std::process::Abort;
@@ -58,7 +58,7 @@ fn what_nobody_keeps_is_handed_back(rt: HostRuntime) {
     assert_equal(&rt, queue.inner().taken.as_slice(), &[(10, 1)]);
 }
 
-const TICKS: &[Tick] = &[Tick::At(10), Tick::At(20), Tick::Stop(30)];
+const TICKS: &[Tick] = &[Tick::At(10), Tick::At(20), Tick::Stop(30, StopCause::Flag)];
 
 // A recording, runs of one reader over two runs of the provider, and one queue: what is exported are the two recordings, each
 // once, and no batch without points.
@@ -73,7 +73,11 @@ fn a_reader_outlives_its_run(rt: HostRuntime) {
         let seat = seats.pop().expect(&rt, "no reader");
         let mut ticker = ListTicker::new(TICKS);
         let end = reader.run(&rt, alloc, &provider, seat, &mut ticker, &counts);
-        assert_equal(&rt, (end.stopped, end.kept.is_none()), (true, true));
+        assert_equal(
+            &rt,
+            (end.stopped, end.kept.is_none()),
+            (Some(StopCause::Flag), true),
+        );
         reader = end.reader;
     }
     let told = (reader.exported(), reader.failed(), reader.delayed());

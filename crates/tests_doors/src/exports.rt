@@ -5,8 +5,8 @@ use crate::asserted::{OrFail, assert_equal};
 use metric_sdk::{
     Batch, Broken, ClockTicker, Collector, CutSink, Encoding, ExportFault, ExporterState,
     KeepingExporter, ListTicker, Marked, MeterProvider, MetricExporter, NoGate, OpenSink, Periodic,
-    PeriodicEnd, Plan, QueueCounts, Queued, Recorder, ReopeningExporter, RunningCounts, StopFlag,
-    TextExporter, Tick, ToldQueue, certified_plan, start,
+    PeriodicEnd, Plan, QueueCounts, Queued, Recorder, ReopeningExporter, RunningCounts, StopCause,
+    StopFlag, TextExporter, Tick, ToldQueue, certified_plan, own_plan, start,
 };
 use std::alloc::{AllocError, Global};
 use std::process::Abort;
@@ -32,7 +32,7 @@ name = 'd'
 temporality = { counter = 'delta' }
 ";
 
-const TICKS: &[Tick] = &[Tick::At(10), Tick::At(20), Tick::Stop(30)];
+const TICKS: &[Tick] = &[Tick::At(10), Tick::At(20), Tick::Stop(30, StopCause::Flag)];
 
 // An exporter whose calls of these numbers, counted from 1, fail. It keeps the time of each batch that it takes, with how many
 // points the first stream has.
@@ -58,8 +58,9 @@ impl MetricExporter for Failing {
 
     ghost shutdown_gives = { λ _ _ _. Unit {0} };
 
-    fn export(&mut self, _alloc: Global, _plan: &Plan, batch: &Batch) -> Result<(), ExportFault> {
+    fn export(&mut self, _alloc: Global, plan: &Plan, batch: &Batch) -> Result<(), ExportFault> {
         self.state.admit()?;
+        own_plan(plan, batch)?;
         self.number = self.number.saturating_add(1);
         if self.fails_at.contains(&self.number) {
             self.failures = self.failures.saturating_add(1);

@@ -20,3 +20,7 @@ mod life;
 mod outlets;
 #[cfg(test)]
 mod pages;
+#[cfg(test)]
+mod rolls;
+#[cfg(test)]
+mod strangers;

@@ -48,7 +48,7 @@ budget = [{ instrument = 0, amount = 10 }]
 
 // Catalogues and configs, each with what it comes to.
 const OPENED: &[[&str; 3]] = &[
-    [CATALOGUE, CONFIG, "run 7, recorders 0 1, readers 0 1"],
+    [CATALOGUE, CONFIG, "recorders 0 1, readers 0 1"],
     ["=", "=", "catalogue 1 NotToml"],
     [CATALOGUE, "=", "config 1 NotToml"],
     [HIGH, CONFIG, "make 4 SumHigh"],
@@ -60,7 +60,7 @@ type Opened = Result<(MeterProvider, Vec<Recorder>, Vec<Collector>), SetupFault>
 fn write_opened<R: Abort>(out: &mut String, rt: &R, opened: &Opened) {
     match opened {
         Ok((provider, recorders, collectors)) => {
-            write!(out, "run 7, recorders").or_fail(rt);
+            write!(out, "recorders").or_fail(rt);
             for seat in recorders {
                 if seat.admits(provider, 0, &[], 0).is_ok() {
                     write!(out, " {}", seat.number()).or_fail(rt);
@@ -77,8 +77,9 @@ fn write_opened<R: Abort>(out: &mut String, rt: &R, opened: &Opened) {
 
 #[test]
 fn two_texts_are_opened(rt: HostRuntime) {
+    let mut runs = Runs::new();
     for [catalogue, config, wanted] in OPENED {
-        let opened = open(&rt, rt.alloc(), catalogue, config, 5, 7);
+        let opened = open(&rt, rt.alloc(), catalogue, config, 5, &mut runs);
         let mut told = String::new(rt.alloc());
         write_opened(&mut told, &rt, &opened);
         assert_equal(&rt, told.as_str(), wanted);
@@ -97,7 +98,7 @@ fn certificate_for<R: Abort>(rt: &R, alloc: Global, catalogue: &str, config: &st
 
 // Catalogues and configs, each with what it comes to by the certificate for the first two texts.
 const VOUCHED: &[[&str; 3]] = &[
-    [CATALOGUE, CONFIG, "run 7, recorders 0 1, readers 0 1"],
+    [CATALOGUE, CONFIG, "recorders 0 1, readers 0 1"],
     ["=", CONFIG, "catalogue 1 NotToml"],
     [CATALOGUE, "=", "config 1 NotToml"],
     [HIGH, CONFIG, "check 6 StreamStrange"],
@@ -105,14 +106,23 @@ const VOUCHED: &[[&str; 3]] = &[
 
 #[test]
 fn a_certificate_is_checked(rt: HostRuntime) {
+    let mut runs = Runs::new();
     let text = certificate_for(&rt, rt.alloc(), CATALOGUE, CONFIG);
     for [catalogue, config, wanted] in VOUCHED {
-        let opened = open_certified(&rt, rt.alloc(), catalogue, config, text.as_str(), 5, 7);
+        let opened = open_certified(
+            &rt,
+            rt.alloc(),
+            catalogue,
+            config,
+            text.as_str(),
+            5,
+            &mut runs,
+        );
         let mut told = String::new(rt.alloc());
         write_opened(&mut told, &rt, &opened);
         assert_equal(&rt, told.as_str(), wanted);
     }
-    let opened = open_certified(&rt, rt.alloc(), CATALOGUE, CONFIG, "=", 5, 7);
+    let opened = open_certified(&rt, rt.alloc(), CATALOGUE, CONFIG, "=", 5, &mut runs);
     let mut told = String::new(rt.alloc());
     write_opened(&mut told, &rt, &opened);
     assert_equal(&rt, told.as_str(), "certificate 1 NotToml");
@@ -137,7 +147,8 @@ struct Service {
 }
 
 fn opened<R: Abort + Wait>(rt: &R, alloc: Global) -> Service {
-    let (provider, recorders, collectors) = open(rt, alloc, CATALOGUE, CONFIG, 5, 1).or_fail(rt);
+    let opened = open(rt, alloc, CATALOGUE, CONFIG, 5, &mut Runs::new());
+    let (provider, recorders, collectors) = opened.or_fail(rt);
     Service {
         provider,
         recorders,

@@ -2,7 +2,7 @@
 use crate::asserted::{OrFail, assert_equal};
 use metric_sdk::{
     Attr, Batch, CutSink, Encoding, MeterProvider, MetricExporter, OtlpBytes, OtlpLines, Resource,
-    ResourceFault, TextExporter, ValueRef, counter, open,
+    ResourceFault, Runs, TextExporter, ValueRef, counter, open,
 };
 use std::alloc::Global;
 use std::process::Abort;
@@ -60,7 +60,8 @@ const MESSAGE: &[&[u8]] = &[
 
 #[test]
 fn batches_leave_in_the_opentelemetry_protocol(rt: HostRuntime) {
-    let opened = open(&rt, rt.alloc(), HITS, READER, 5, 1).or_fail(&rt);
+    let mut runs = Runs::new();
+    let opened = open(&rt, rt.alloc(), HITS, READER, 5, &mut runs).or_fail(&rt);
     let (provider, mut recorders, mut readers) = opened;
     let hits = counter(provider.plan(), "m", "hits", &[]).or_fail(&rt);
     let recorder = recorders.first_mut().expect(&rt, "no recorder");

@@ -3,8 +3,8 @@
 use crate::asserted::{OrFail, assert_equal};
 use metric_sdk::{
     Attr, Batch, Broken, CutSink, Dialect, Encoding, ExportFault, Exposition, MeterProvider,
-    MetricExporter, PageExporter, Pages, Resource, TextExporter, ValueRef, counter, histogram,
-    open,
+    MetricExporter, PageExporter, Pages, Resource, Runs, TextExporter, ValueRef, counter,
+    histogram, open,
 };
 use std::alloc::Global;
 use std::process::Abort;
@@ -119,7 +119,8 @@ fn assert_lines<R: Abort + Wait>(rt: &R, alloc: Global, provider: &MeterProvider
 
 #[test]
 fn a_page_is_handed_on_after_each_collection(rt: HostRuntime) {
-    let opened = open(&rt, rt.alloc(), CATALOGUE, CONFIG, 5, 1).or_fail(&rt);
+    let mut runs = Runs::new();
+    let opened = open(&rt, rt.alloc(), CATALOGUE, CONFIG, 5, &mut runs).or_fail(&rt);
     let (provider, mut recorders, mut readers) = opened;
     let hits = counter(provider.plan(), "m", "hits", &[]).or_fail(&rt);
     let sizes = histogram(provider.plan(), "m", "size", &[]).or_fail(&rt);

@@ -212,6 +212,7 @@ fn streams_of<R: Abort>(
 fn batch_of<R: Abort>(rt: &R, alloc: Global, told: &Told) -> Batch {
     let ([reader, instrument], [from, mark, start, time], value) = *told;
     Batch {
+        plan: 0,
         reader,
         instrument,
         from,

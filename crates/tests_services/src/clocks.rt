@@ -1,6 +1,6 @@
 //! What a clock's ticker waits for and reads, by a clock of the tests' own.
 use crate::asserted::assert_equal;
-use metric_export::{ClockTicker, StopFlag, Tick, Ticker};
+use metric_export::{ClockTicker, StopCause, StopFlag, Tick, Ticker};
 use metric_sdk::now;
 use std::cell::Cell;
 use std::io;
@@ -53,7 +53,12 @@ const CASES: &[Case] = &[
         period: 3,
         most: 9,
         moments: &[5, 3, 9],
-        ticks: &[Tick::At(5), Tick::At(5), Tick::At(9), Tick::Stop(9)],
+        ticks: &[
+            Tick::At(5),
+            Tick::At(5),
+            Tick::At(9),
+            Tick::Stop(9, StopCause::Clock),
+        ],
         readings: 20,
     },
     Case {
@@ -67,7 +72,7 @@ const CASES: &[Case] = &[
         period: 5,
         most: 1,
         moments: &[4, 6],
-        ticks: &[Tick::At(4), Tick::Stop(6)],
+        ticks: &[Tick::At(4), Tick::Stop(6, StopCause::Ticks)],
         readings: 8,
     },
 ];
@@ -110,15 +115,28 @@ fn a_run_starts_at_the_clocks_moment(rt: HostRuntime) {
     }
 }
 
+// Whether a tick is asked for, whether the flag is set, and how often a wait of 3 milliseconds then reads the clock: the tick ends
+// no wait, the flag each.
+const WAITS: &[(bool, bool, u64)] = &[
+    (false, false, 5),
+    (true, false, 5),
+    (false, true, 1),
+    (true, true, 1),
+];
+
 #[test]
 fn a_flag_is_asked_and_waited_on(rt: HostRuntime) {
-    let flag = StopFlag::new();
-    let clock = clock_of(&rt, &[]);
-    assert_equal(
-        &rt,
-        (flag.is_set(&rt), flag.wait(&clock, 3)),
-        (false, false),
-    );
-    flag.set(&rt);
-    assert_equal(&rt, (flag.is_set(&rt), flag.wait(&clock, 3)), (true, true));
+    for (is_woken, is_set, readings) in WAITS {
+        let flag = StopFlag::new();
+        let clock = clock_of(&rt, &[]);
+        if *is_woken {
+            flag.wake(&rt);
+        }
+        if *is_set {
+            flag.set(&rt);
+        }
+        let told = (flag.is_set(&rt), flag.wait(&clock, 3));
+        assert_equal(&rt, told, (*is_set, *is_set));
+        assert_equal(&rt, clock.readings.get(), *readings);
+    }
 }

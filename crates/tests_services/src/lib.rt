@@ -18,6 +18,8 @@ mod counter;
 #[cfg(test)]
 mod crossed;
 #[cfg(test)]
+mod early;
+#[cfg(test)]
 mod exporters;
 #[cfg(test)]
 mod gates;
@@ -29,6 +31,8 @@ mod grants;
 mod hosted;
 #[cfg(test)]
 mod keys;
+#[cfg(test)]
+mod partly;
 #[cfg(test)]
 mod periods;
 #[cfg(test)]

@@ -4,7 +4,7 @@ use crate::exporters::sink_of;
 use crate::samples::{BOTH, FIVE, PAIR};
 use crate::seats::{Seats, hit_once, seats_of};
 use crate::texts::write_numbers;
-use metric_export::{ListTicker, TextExporter, Tick};
+use metric_export::{ListTicker, StopCause, TextExporter, Tick};
 use metric_io::CutSink;
 use metric_periodic::{Periodic, PeriodicEnd, RunningCounts};
 use metric_provider::Collector;
@@ -14,10 +14,10 @@ use std::process::Abort;
 use std::sync::Wait;
 
 /// When the periodic readers collect.
-pub(crate) const TICKS: &[Tick] = &[Tick::At(10), Tick::At(20), Tick::Stop(30)];
+pub(crate) const TICKS: &[Tick] = &[Tick::At(10), Tick::At(20), Tick::Stop(30, StopCause::Flag)];
 
 // A stop before the first tick; what comes after it is never asked for.
-const STOP: &[Tick] = &[Tick::Stop(10), Tick::At(20)];
+const STOP: &[Tick] = &[Tick::Stop(10, StopCause::Clock), Tick::At(20)];
 
 // The text of the delta reader's batch at the start.
 const AT_START: &str = "collected 0 1
@@ -60,7 +60,7 @@ const RUNS: &[Run] = &[
         turns: 9,
         room: None,
         flushes: true,
-        told: "exported 3 failed 0 refused 0 unflushed 0 true false true",
+        told: "exported 3 failed 0 refused 0 unflushed 0 flag false true",
         first: FIVE,
         rest: "collected 20 0\ncollected 30 0\n",
     },
@@ -70,7 +70,7 @@ const RUNS: &[Run] = &[
         turns: 2,
         room: None,
         flushes: true,
-        told: "exported 3 failed 0 refused 0 unflushed 0 false false true",
+        told: "exported 3 failed 0 refused 0 unflushed 0 turns false true",
         first: FIVE,
         rest: "collected 20 0\ncollected 20 0\n",
     },
@@ -80,7 +80,7 @@ const RUNS: &[Run] = &[
         turns: 1,
         room: None,
         flushes: true,
-        told: "exported 2 failed 0 refused 0 unflushed 0 false false true",
+        told: "exported 2 failed 0 refused 0 unflushed 0 turns false true",
         first: FIVE,
         rest: "collected 10 0\n",
     },
@@ -90,7 +90,7 @@ const RUNS: &[Run] = &[
         turns: 0,
         room: None,
         flushes: true,
-        told: "exported 1 failed 0 refused 0 unflushed 0 false false true",
+        told: "exported 1 failed 0 refused 0 unflushed 0 turns false true",
         first: AT_START,
         rest: "",
     },
@@ -100,7 +100,7 @@ const RUNS: &[Run] = &[
         turns: 9,
         room: None,
         flushes: false,
-        told: "exported 1 failed 3 refused 0 unflushed 2 true false true",
+        told: "exported 1 failed 3 refused 0 unflushed 2 flag false true",
         first: FIVE,
         rest: "",
     },
@@ -110,7 +110,7 @@ const RUNS: &[Run] = &[
         turns: 9,
         room: Some(20),
         flushes: true,
-        told: "exported 0 failed 4 refused 0 unflushed 2 true false true",
+        told: "exported 0 failed 4 refused 0 unflushed 2 flag false true",
         first: "collected 10 1\nstrea",
         rest: "",
     },
@@ -120,7 +120,7 @@ const RUNS: &[Run] = &[
         turns: 9,
         room: None,
         flushes: true,
-        told: "exported 0 failed 0 refused 3 unflushed 0 true true true",
+        told: "exported 0 failed 0 refused 3 unflushed 0 flag true true",
         first: "",
         rest: "",
     },
@@ -130,7 +130,7 @@ const RUNS: &[Run] = &[
         turns: 9,
         room: None,
         flushes: true,
-        told: "exported 3 failed 0 refused 3 unflushed 0 true true true",
+        told: "exported 3 failed 0 refused 3 unflushed 0 flag true true",
         first: FIRST,
         rest: "collected 20 0\ncollected 30 0\n",
     },
@@ -140,7 +140,7 @@ const RUNS: &[Run] = &[
         turns: 9,
         room: None,
         flushes: true,
-        told: "exported 1 failed 0 refused 0 unflushed 0 true false true",
+        told: "exported 1 failed 0 refused 0 unflushed 0 clock false true",
         first: FIVE,
         rest: "",
     },
@@ -223,7 +223,17 @@ fn end_after_hit<R: Abort + Wait>(rt: &R, alloc: Global, run: &Run) -> End {
     }
 }
 
-// Writes the counts of an end, whether the ticker stopped the run, whether the reader is handed back, and whether these texts
+// Why a ticker stopped a run, as a word.
+fn word_of(stopped: Option<StopCause>) -> &'static str {
+    match stopped {
+        None => "turns",
+        Some(StopCause::Flag) => "flag",
+        Some(StopCause::Clock) => "clock",
+        Some(StopCause::Ticks) => "ticks",
+    }
+}
+
+// Writes the counts of an end, why the ticker stopped the run, whether the reader is handed back, and whether these texts
 // are held.
 fn write_end<R: Abort>(out: &mut String, rt: &R, end: &End, run: &Run) {
     write_numbers(
@@ -236,7 +246,7 @@ fn write_end<R: Abort>(out: &mut String, rt: &R, end: &End, run: &Run) {
             (" unflushed ", end.unflushed),
         ],
     );
-    let (stopped, is_kept) = (end.stopped, end.kept.is_some());
+    let (stopped, is_kept) = (word_of(end.stopped), end.kept.is_some());
     let rest = end
         .exporter
         .sink()

@@ -6,7 +6,7 @@ use metric_export::{ClockTicker, StopFlag, Tick, Ticker};
 fn stops<R, T: Ticker<R>>(rt: &R, ticker: &mut T) -> u32 {
     let mut stops = 0u32;
     for _ in 0..4u32 {
-        if let Tick::Stop(_) = ticker.next(rt) {
+        if let Tick::Stop(_, _) = ticker.next(rt) {
             stops = stops.saturating_add(1);
         }
     }

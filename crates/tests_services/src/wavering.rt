@@ -6,7 +6,7 @@ ghost use Rattle.metric_export.specs.declared.state.ExporterState.TheVariants.{S
 use crate::asserted::assert_equal;
 use crate::periods::TICKS;
 use crate::seats::hit_once;
-use metric_export::{ExportFault, ExporterState, ListTicker, MetricExporter};
+use metric_export::{ExportFault, ExporterState, ListTicker, MetricExporter, own_plan};
 use metric_history::Batch;
 use metric_periodic::{Periodic, PeriodicEnd};
 use metric_plan::Plan;
@@ -40,8 +40,9 @@ impl MetricExporter for WaveringExporter {
 
     ghost shutdown_gives = { λ _ new _. new.state ≡ ShutDown };
 
-    fn export(&mut self, _alloc: Global, _plan: &Plan, batch: &Batch) -> Result<(), ExportFault> {
+    fn export(&mut self, _alloc: Global, plan: &Plan, batch: &Batch) -> Result<(), ExportFault> {
         self.state.admit()?;
+        own_plan(plan, batch)?;
         self.number = self.number.saturating_add(1);
         if self.number == self.fails_at {
             self.failures = self.failures.saturating_add(1);
