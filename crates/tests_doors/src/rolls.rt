@@ -63,16 +63,17 @@ fn goes_on<R: Abort>(
         Ok(next) => return (next.provider, next.recorders, next.collectors),
         Err(left) => left,
     };
-    match left.rolled {
+    let (rolled, readers) = (left.rolled, left.readers);
+    match rolled {
         Ok(next) => {
-            for end in &left.readers {
+            for end in &readers {
                 export_left(rt, alloc, &next, end, queue);
             }
             (next.provider, next.recorders, next.collectors)
         }
         Err(unrolled) => {
             let mut seats = Vec::new(alloc);
-            for end in left.readers {
+            for end in readers {
                 seats.push(end.seat).or_fail(rt);
             }
             (unrolled.provider, unrolled.recorders, seats)
