@@ -1,2 +1,3 @@
 pub mod TableLaws
 pub mod EndLaws
+pub mod HeadlineLaws

@@ -1,4 +1,5 @@
 pub mod Endings
+pub mod Headline
 pub mod Rolls
 pub mod Tables
 pub use Rattle.metric_bounds.specs.Safe

@@ -81,6 +81,7 @@
 
 mod ended;
 mod ending;
+mod headline;
 mod last;
 mod opening;
 mod provider;
@@ -96,6 +97,7 @@ pub use ended::Uncollected;
 pub use ended::Unexported;
 pub use ended::Unfinished;
 pub use ending::shutdown_all;
+pub use headline::certified_runs_are_exact;
 pub use metric_advice::Explanation;
 pub use metric_advice::Headroom;
 pub use metric_advice::KeyList;
