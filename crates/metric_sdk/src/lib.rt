@@ -5,23 +5,22 @@
 //!    are. [`open`] reads them, makes a certificate that no limit and no number can overflow, checks it, and starts: a
 //!    [`MeterProvider`] with the seat of each recorder and each reader, in the order of the texts, or the first [`SetupFault`].
 //!    [`open_certified`] takes a certificate that somebody else made, whom it does not trust. [`now`] gives the moment of the
-//!    start, the one [`Runs`] of a process the number of the run. (512 instruments with 256 views take some 150 ns for each
-//!    pair of the two.)
+//!    start, the one [`Runs`] of a process the number of the run.
 //! 2. **Names.** [`counter`], [`up_down_counter`], [`histogram`] and [`gauge`] find an instrument of the plan by the names of its
 //!    meter and its own, and compare its kind and its keys with what the service is going to record: a [`Handle`] of that kind
 //!    ([`Counter`] and so on), or a [`HandleFault`] before anything was recorded. [`take_recorder`] and [`take_reader`] take a
 //!    seat out of those that `open` gave.
 //! 3. **Recording.** A thread records with a [`Recorder`]: by a handle's `add` or `record`, with the [`Attr`]s, each a key with a
-//!    [`ValueRef`], and the value; 92 to 96 ns with three attributes, less than a lock and a map of three texts. What is not
-//!    counted is answered by a [`Refusal`], also attributes of which each is declared, but not together
-//!    ([`Refusal::Combination`] of the allowed [`Combinations`]); [`explain_refusal`] gives its [`Explanation`]. Nothing is
-//!    counted in another series, and no new series appears. `Recorder::accepted` tells what the seat was [`Told`] of, [`left`] what
-//!    is left of its budget. A [`Counted`] seat counts its refusals, and handles take it as they take a recorder's (a [`Seat`]);
-//!    `known_or` and `clamped` of a handle put a declared value in the place of one that is not, counted by a [`Replaced`].
-//! 4. **Bound attributes.** `Handle::bind` looks attributes up once, 40 of these ns for three of them; the [`Bound`] that it gives
-//!    records without them, in 46, and a [`BoundList`] hands on many under one lock, in 34 each. Below both are set keys:
-//!    `Recorder::admits` gives the [`SetKey`] of attributes, `Recorder::record_set` records by it, and `Recorder::record_sets` a
-//!    list of [`Measurement`]s, up to a [`SetsFault`].
+//!    [`ValueRef`], and the value. What is not counted is answered by a [`Refusal`], also attributes of which each is
+//!    declared, but not together ([`Refusal::Combination`] of the allowed [`Combinations`]); [`explain_refusal`] gives its
+//!    [`Explanation`]. Nothing is counted in another series, and no new series appears. `Recorder::accepted` tells what the
+//!    seat was [`Told`] of, [`left`] what is left of its budget. A [`Counted`] seat counts its refusals, and handles take it
+//!    as they take a recorder's (a [`Seat`]); `known_or` and `clamped` of a handle put a declared value in the place of one
+//!    that is not, counted by a [`Replaced`].
+//! 4. **Bound attributes.** `Handle::bind` looks attributes up once; the [`Bound`] that it gives records without a look-up,
+//!    and a [`BoundList`] hands on many under one lock. Below both are set keys: `Recorder::admits` gives the [`SetKey`] of
+//!    attributes, `Recorder::record_set` records by it, and `Recorder::record_sets` a list of [`Measurement`]s, up to a
+//!    [`SetsFault`].
 //! 5. **Export.** [`Periodic`] collects at each [`Tick`] of a [`Ticker`], a [`ClockTicker`] until its [`StopFlag`] is set or a
 //!    [`ListTicker`]; it hands each batch on to a [`MetricExporter`], as a [`TextExporter`] is, flushes that after each
 //!    collection, and at its end collects a last time. What it did, and the [`StopCause`] of its ticker, is a [`PeriodicEnd`]; what
@@ -35,8 +34,7 @@
 //!    hides no other. [`export_each`] hands a list on and tells what was [`Handed`], [`has_points`] what need not be. An
 //!    exporter of one's own refuses a batch of another plan by [`own_plan`], and takes one apart: it has the [`StreamPoints`]
 //!    of each [`Stream`], a [`Point`] the [`PointValue`] of one series, whose [`attributes`] the plan knows. By hand: a [`Collector`] collects the [`Batch`] of
-//!    one instrument or of all, up to an [`AllFault`], and [`write_batch`] writes its text, [`write_encoded`] its bytes. (A
-//!    collection takes 23 to 54 ns a point.)
+//!    one instrument or of all, up to an [`AllFault`], and [`write_batch`] writes its text, [`write_encoded`] its bytes.
 //!    For Prometheus an [`Exposition`] has the lines of a page in a [`Dialect`], and a [`PageExporter`] hands the whole page to
 //!    [`Pages`] after each collection, as to a file that node_exporter reads. Before anything is recorded, [`expose`] tells
 //!    whether a server would hold each sample of a reader's pages, and [`expose_to_otlp`] whether each boundary leaves as it
@@ -63,14 +61,14 @@
 //!    [`CatalogueFault`] or a [`ViewFault`] with its place; [`make`] gives a [`Certificate`], or a [`MakeFault`];
 //!    `Certificate::write` and `Certificate::read` take it from one machine to another; [`check`] trusts nobody and gives the
 //!    certified [`Plan`], or a [`CheckFault`]; [`start`] makes the [`Provider`] of a plan. [`certified_plan`] and
-//!    [`vouched_plan`] give the plan of texts. Wherever a value has a [`Text`] or an [`Items`], it is a `String` or a `Vec` that
+//!    [`vouched_plan`] give the plan of texts. What all of it comes to is one law, [`certified_runs_are_exact`]. Wherever a value has a [`Text`] or an [`Items`], it is a `String` or a `Vec` that
 //!    contracts see as a text or a list: read it by `as_str` and `as_slice`.
 //! 10. **Other books.** A provider is generic over the book that keeps the recordings of an instrument, and over a
 //!    [`Gate`], by which a test holds threads inside a lock. Services take [`Marked`] and [`NoGate`];
 //!    [`batches_are_bounded`] says of each batch, over every book, what [`tables_are_bounded`] says of running tables. A
 //!    service that has to prove its numbers to somebody, for billing or after an incident, starts with [`Audited`]:
 //!    beside the tables it keeps each recording, 32 bytes in the list of its instrument and 24 in the seat of its
-//!    recorder, so it takes memory as long as a run lasts, and some 70 ns more for each of them. Its totals have the
+//!    recorder, so it takes memory as long as a run lasts, and some time more for each of them. Its totals have the
 //!    journal of each instrument, its recordings as [`Entry`], and the [`Slip`]s of each recorder; [`audit`] tells
 //!    whether these and the batches agree, or an [`AuditFault`].
 //! 11. **Devices.** A [`Sink`] takes bytes, a [`Source`] gives them: [`StdSink`] and [`StdSource`] are those of std,
