@@ -5,7 +5,7 @@ use Rattle.metric_io.specs.Counts.{HasFailed}
 use Rattle.metric_io.specs.declared.devices.Broken.{Broken}
 use Rattle.metric_history.specs.declared.batch.Batch.{Batch}
 use Rattle.metric_plan.specs.Plans.{PlanValue}
-use Rattle.metric_export.specs.Exports.{Exports, Retries, is_own}
+use Rattle.metric_export.specs.Exports.{Exports, KeepsNone, Retries, is_own}
 use Rattle.metric_export.specs.States.{Answers, GoesOn, TextExporterValue, refused_in, state_after}
 use Rattle.metric_export.specs.declared.fault.ExportFault.{ExportFault}
 use Rattle.metric_export.specs.declared.fault.ExportFault.TheVariants as fault
@@ -93,6 +93,7 @@ pub record ExportsText {W E : Type 0}
   pub unwritten : old.state ≢ Open → new ≡ old
   pub memory : IsErrOf answer fault.Memory → new ≡ old
   pub other_plan : is_own plan batch ≡ false → new ≡ old
+  pub unkept : KeepsNone (is_own plan batch) answer
 
 -- what is said of a flush of a sink: the sink before and after it, and the answer
 abbrev pub Flushing : Type 0 → Type 1

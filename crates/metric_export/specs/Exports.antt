@@ -9,8 +9,10 @@ use Rattle.metric_export.specs.declared.fault.ExportFault.{ExportFault}
 use Rattle.metric_export.specs.declared.fault.ExportFault.TheVariants.{Write, ShutDown, Memory, Kept}
 use Rattle.metric_export.specs.declared.fault.ExportFault.TheVariants.{OtherPlan}
 
--- # what an export appends (SDK, push metric exporter) [is_own, plan_text, Exports]
--- The text of a batch of a plan in an encoding, a prefix of it, or nothing, by the call's answer.
+-- # what an export appends (SDK, push metric exporter) [is_own, plan_text, Exports,
+-- KeepsNone]
+-- The text of a batch of a plan in an encoding, a prefix of it, or nothing, by the call's answer. An
+-- exporter that keeps nothing never says that it keeps a batch.
 abbrev pub is_own : PlanValue → Batch → Bool
 is_own plan batch = batch.plan == print_of plan
 
@@ -37,6 +39,16 @@ is_taken (Err ShutDown) = false
 is_taken (Err Memory) = false
 is_taken (Err Kept) = true
 is_taken (Err OtherPlan) = false
+
+-- what an exporter that keeps nothing may answer for a batch, by whether that is of its plan: never
+-- that it keeps it, nor that a batch of its own plan is of another
+abbrev pub KeepsNone : Bool → Result (Unit {0}) ExportFault → Type 0
+KeepsNone own (Ok done) = Unit {0}
+KeepsNone own (Err Write) = Unit {0}
+KeepsNone own (Err ShutDown) = Unit {0}
+KeepsNone own (Err Memory) = Unit {0}
+KeepsNone own (Err Kept) = ⊥
+KeepsNone own (Err OtherPlan) = own ≡ false
 
 -- what a new try of what an exporter keeps did: nothing, or what the exporter says of it
 abbrev pub Retries : {E : Type 0} → (E → E → PlanValue → Result (Unit {0}) ExportFault → Type 0)

@@ -1,5 +1,6 @@
 -- An exporter of texts that opens a new sink after a failure.
 use Rattle.std.specs.Prelude.{◌≡◌, ◌≢◌, ℕ, true, false, List, Option, Some, None, Result, Ok, Err}
+use Rattle.metric_io.specs.Counts.{HasFailed}
 use Rattle.metric_io.specs.declared.devices.Broken.{Broken}
 use Rattle.metric_history.specs.declared.batch.Batch.{Batch}
 use Rattle.metric_plan.specs.Plans.{PlanValue}
@@ -38,51 +39,67 @@ left_open sink (Err fault.Memory) = Some sink
 left_open sink (Err fault.Kept) = Some sink
 left_open sink (Err fault.OtherPlan) = Some sink
 
+-- what a write is answered by: Write exactly where the sink failed, and for want of memory the sink
+-- was not asked
+abbrev pub AnswersWrite : {W : Type 0} → (W → ℕ) → W → W → Result (Unit {0}) ExportFault → Type 0
+AnswersWrite failures old new (Ok done) = failures new ≡ failures old
+AnswersWrite failures old new (Err fault.Write) = HasFailed (failures old) (failures new)
+AnswersWrite failures old new (Err fault.ShutDown) = ⊥
+AnswersWrite failures old new (Err fault.Memory) = new ≡ old
+AnswersWrite failures old new (Err fault.Kept) = ⊥
+AnswersWrite failures old new (Err fault.OtherPlan) = ⊥
+
 -- A text was written to a sink, or a prefix of it where the sink failed, which then is let go.
 pub record WritesText {W : Type 0}
     (contents : W → Option (List ℕ))
+    (failures : W → ℕ)
     (text : List ℕ)
     (sink : W)
     (left : Option W)
     (answer : Result (Unit {0}) ExportFault) : Type 0 where
   pub after : W
   pub exports : Exports (contents sink) (contents after) text answer
+  pub answers : AnswersWrite failures sink after answer
   pub left_is : left ≡ left_open after answer
 
 -- the same of the sink that was found; where none could be opened, the answer is Write
-abbrev pub WritesToFound : {W : Type 0} → (W → Option (List ℕ)) → List ℕ → Result W Broken
-    → Option W → Result (Unit {0}) ExportFault → Type 0
-WritesToFound contents text (Ok sink) left answer = WritesText contents text sink left answer
-WritesToFound contents text (Err broken) left answer = (left ≡ None) × (answer ≡ Err fault.Write)
+abbrev pub WritesToFound : {W : Type 0} → (W → Option (List ℕ)) → (W → ℕ) → List ℕ
+    → Result W Broken → Option W → Result (Unit {0}) ExportFault → Type 0
+WritesToFound contents failures text (Ok sink) left answer =
+    WritesText contents failures text sink left answer
+WritesToFound contents failures text (Err broken) left answer =
+    (left ≡ None) × (answer ≡ Err fault.Write)
 
 -- One text was handed on by an exporter that takes calls.
 pub record WritesAnew {O W E : Type 0}
     (opens : Opening O W)
     (contents : W → Option (List ℕ))
+    (failures : W → ℕ)
     (text : List ℕ)
     (old new : ReopeningValue O W E)
     (answer : Result (Unit {0}) ExportFault) : Type 0 where
   pub found : Result W Broken
   pub finds : FindsSink opens old.opener new.opener old.sink found
-  pub writes : WritesToFound contents text found new.sink answer
+  pub writes : WritesToFound contents failures text found new.sink answer
   pub counted : new.failures ≡ failures_after old.failures answer
   pub state : new.state ≡ old.state
   pub encoding : new.encoding ≡ old.encoding
 
 -- # what goes to sinks opened anew (profile) [ExportsAnew, WritesAnew, FindsSink, WritesText,
--- FlushesOpen, FlushesReopening, ShutsReopeningDown]
+-- AnswersWrite, FlushesOpen, FlushesReopening, ShutsReopeningDown]
 -- A text goes to the sink that is open, or else to a new one; one that failed is let go, also where
 -- a flush failed.
 pub record ExportsAnew {O W E : Type 0}
     (text : E → PlanValue → Batch → List ℕ)
     (opens : Opening O W)
     (contents : W → Option (List ℕ))
+    (failures : W → ℕ)
     (old new : ReopeningValue O W E)
     (plan : PlanValue)
     (batch : Batch)
     (answer : Result (Unit {0}) ExportFault) : Type 0 where
   pub writes : old.state ≡ Open → is_own plan batch ≡ true
-      → WritesAnew opens contents (text old.encoding plan batch) old new answer
+      → WritesAnew opens contents failures (text old.encoding plan batch) old new answer
   pub other_plan : is_own plan batch ≡ false → new ≡ old
   pub unwritten : old.state ≢ Open → new ≡ old
 

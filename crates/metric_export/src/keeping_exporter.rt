@@ -1,7 +1,7 @@
 //! An exporter that keeps its batches in memory.
 ghost use Rattle.std.specs.Prelude.{◌≡◌, [], Some};
 ghost use Rattle.std.specs.Io.KnownBytes.{Keeps};
-ghost use Rattle.metric_export.specs.Keepings.{KeepsBatch, OnlyShutDown};
+ghost use Rattle.metric_export.specs.Keepings.{KeepsBatch, OnlyFlushed, OnlyShutDown};
 ghost use Rattle.metric_export.specs.States.{Answers, GoesOn};
 
 use crate::belonging::own_plan;
@@ -68,11 +68,11 @@ impl MetricExporter for KeepingExporter {
 
     ghost state = { λ e. e.state };
 
-    ghost export_gives = { λ old new _ batch answer. KeepsBatch old new batch answer };
+    ghost export_gives = { KeepsBatch };
 
-    ghost flush_gives = { λ old new _. new ≡ old };
+    ghost flush_gives = { OnlyFlushed };
 
-    ghost shutdown_gives = { λ old new _. OnlyShutDown old new };
+    ghost shutdown_gives = { OnlyShutDown };
 
     fn export(&mut self, alloc: Global, plan: &Plan, batch: &Batch) -> Result<(), ExportFault> {
         self.state.admit()?;

@@ -1,6 +1,7 @@
 //! An exporter of texts that opens a new sink after a failure.
-ghost use Rattle.std.specs.Prelude.{◌≡◌, ◌≢◌, IsErrOf, IsOkUnless, None, Result};
+ghost use Rattle.std.specs.Prelude.{◌≡◌, ◌≢◌, IsErrOf, IsOkUnless, None, Result, true};
 ghost use Rattle.metric_io.specs.declared.devices.Broken.{Broken};
+ghost use Rattle.metric_export.specs.Exports.{is_own};
 ghost use Rattle.metric_export.specs.Reopens.{ExportsAnew, FindsSink, FlushesOpen, FlushesReopening, ShutsReopeningDown};
 ghost use Rattle.metric_export.specs.Reopens.{WritesText, WritesToFound};
 
@@ -122,7 +123,7 @@ impl<O: OpenSink<W>, W: Sink + Drop, E: Encoding + Drop> MetricExporter
 
     ghost state = { λ e. e.state };
 
-    ghost export_gives = { ExportsAnew E.text O.opens W.contents };
+    ghost export_gives = { ExportsAnew E.text O.opens W.contents W.failures };
 
     ghost flush_gives = { FlushesReopening W.flush_gives };
 
@@ -171,7 +172,8 @@ fn write_to_found<W: Sink + Drop, E: Encoding>(
     batch: &Batch,
     found: Result<W, Broken>,
 ) -> (Option<W>, Result<(), ExportFault>)
-    ensures written { WritesToFound W.contents (E.text encoding.now plan.now batch.now)
+    requires { is_own plan.now batch.now ≡ true }
+    ensures written { WritesToFound W.contents W.failures (E.text encoding.now plan.now batch.now)
         found result.0 result.1 }
     ensures not_shut_down { IsErrOf result.1 ExportFault.ShutDown → ⊥ }
 {
@@ -189,7 +191,8 @@ fn write_to<W: Sink + Drop, E: Encoding>(
     batch: &Batch,
     sink: W,
 ) -> (Option<W>, Result<(), ExportFault>)
-    ensures written { WritesText W.contents (E.text encoding.now plan.now batch.now)
+    requires { is_own plan.now batch.now ≡ true }
+    ensures written { WritesText W.contents W.failures (E.text encoding.now plan.now batch.now)
         sink result.0 result.1 }
     ensures not_shut_down { IsErrOf result.1 ExportFault.ShutDown → ⊥ }
 {

@@ -3,7 +3,7 @@ ghost use Rattle.std.specs.Prelude.{◌≡◌, ◌≢◌, false, Err, IsErrOf, I
 ghost use Rattle.std.specs.Io.KnownBytes.{Keeps};
 ghost use Rattle.metric_io.specs.Counts.{HasFailed, CountsFlush};
 ghost use Rattle.metric_export.specs.ExporterCalls.{ExportsText, FlushesOnce, FlushesText, ShutsTextDown};
-ghost use Rattle.metric_export.specs.Exports.{Exports, is_own};
+ghost use Rattle.metric_export.specs.Exports.{Exports, KeepsNone, is_own};
 ghost use Rattle.metric_export.specs.States.{Answers, refused_in, state_after};
 
 use crate::batch::write_encoded;
@@ -125,6 +125,7 @@ impl<W: Sink, E: Encoding + Drop> MetricExporter for TextExporter<W, E> {
         ensures other_plan { is_own plan.now batch.now ≡ false
             → result ≡ Err (refused_in self.old.state) }
         ensures other_unwritten { is_own plan.now batch.now ≡ false → self.new ≡ self.old }
+        ensures unkept { KeepsNone (is_own plan.now batch.now) result }
     {
         self.state.admit()?;
         own_plan(plan, batch)?;

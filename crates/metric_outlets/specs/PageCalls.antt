@@ -6,6 +6,7 @@ use Rattle.metric_io.specs.declared.devices.Broken.{Broken}
 use Rattle.metric_history.specs.declared.batch.Batch.{Batch}
 use Rattle.metric_plan.specs.Plans.{PlanValue}
 use Rattle.metric_export.specs.ExporterCalls.{flush_answer}
+use Rattle.metric_export.specs.Exports.{KeepsNone, is_own}
 use Rattle.metric_export.specs.declared.fault.ExportFault.{ExportFault}
 use Rattle.metric_export.specs.declared.fault.ExportFault.TheVariants as fault
 use Rattle.metric_export.specs.declared.state.ExporterState.{ExporterState}
@@ -29,7 +30,8 @@ pub record PageExporterValue (P : Type 0) : Type 0 where
 abbrev pub page_of : {P : Type 0} → PageExporterValue P → List ℕ
 page_of e = e.target ++ flat_map (λ lines. lines) e.lines ++ end_text e.dialect
 
--- the lines of a batch are kept, in place of those of its instrument; no page is replaced yet
+-- the lines of a batch are kept, in place of those of its instrument; no page is replaced yet, and a
+-- batch that it refused it does not say to keep
 abbrev pub KeepsLines : {P : Type 0} → PageExporterValue P → PageExporterValue P → PlanValue → Batch
     → Result (Unit {0}) ExportFault → Type 0
 KeepsLines old new plan batch (Ok done) =
@@ -37,7 +39,8 @@ KeepsLines old new plan batch (Ok done) =
       lines = slice_set old.lines batch.instrument
           (exposition old.dialect plan.facts.contents plan.streams batch);
     }
-KeepsLines old new plan batch (Err fault) = new ≡ old
+KeepsLines old new plan batch (Err fault) =
+    (new ≡ old) × KeepsNone (is_own plan batch) (Err fault)
 
 -- what is said of the replacement of a page: what takes pages before and after it, the page, and the
 -- answer
