@@ -202,12 +202,22 @@ pub(crate) fn failing_at(alloc: Global, fails_at: &'static [u64]) -> Failing {
     }
 }
 
+// How many exports of a queue that a reader is lent went out at once, were refused and were kept.
+fn counts_of<R: Abort + Wait>(
+    rt: &R,
+    alloc: Global,
+    queue: &mut Queued<Failing>,
+) -> (u64, u64, u64) {
+    let end = end_of(rt, alloc, queue, 70);
+    (end.exported, end.failed, end.delayed)
+}
+
+// The queue is lent: so each call of one that is lent is made.
 fn assert_case<R: Abort + Wait>(rt: &R, alloc: Global, case: &Case) {
     let failing = failing_at(alloc, case.fails_at);
-    let end = end_of(rt, alloc, Queued::new(alloc, failing, case.most), 70);
-    let queue = &end.exporter;
+    let mut queue = Queued::new(alloc, failing, case.most);
+    assert_equal(rt, counts_of(rt, alloc, &mut queue), case.counts);
     assert_equal(rt, queue.inner().taken.as_slice(), case.taken);
-    assert_equal(rt, (end.exported, end.failed, end.delayed), case.counts);
     let kept = queue.kept().len();
     assert_equal(
         rt,

@@ -7,6 +7,8 @@
 #[cfg(test)]
 mod asserted;
 #[cfg(test)]
+mod counts;
+#[cfg(test)]
 mod ends;
 #[cfg(test)]
 mod exports;

@@ -54,7 +54,9 @@ const OPENED: &[[&str; 3]] = &[
     [HIGH, CONFIG, "make 4 SumHigh"],
 ];
 
-type Opened = Result<(MeterProvider, Vec<Recorder>, Vec<Collector>), SetupFault>;
+type Seats = (MeterProvider, Vec<Recorder>, Vec<Collector>);
+
+type Opened = Result<Seats, SetupFault>;
 
 // Writes the numbers of the seats that serve the run, or the fault.
 fn write_opened<R: Abort>(out: &mut String, rt: &R, opened: &Opened) {
@@ -146,14 +148,26 @@ struct Service {
     collectors: Vec<Collector>,
 }
 
-fn opened<R: Abort + Wait>(rt: &R, alloc: Global) -> Service {
-    let opened = open(rt, alloc, CATALOGUE, CONFIG, 5, &mut Runs::new());
-    let (provider, recorders, collectors) = opened.or_fail(rt);
+// The same by a certificate that somebody else made.
+fn certified<R: Abort + Wait>(rt: &R, alloc: Global) -> Service {
+    let text = certificate_for(rt, alloc, CATALOGUE, CONFIG);
+    let certificate = text.as_str();
+    let mut runs = Runs::new();
+    let opened = open_certified(rt, alloc, CATALOGUE, CONFIG, certificate, 5, &mut runs);
+    service_of(opened.or_fail(rt))
+}
+
+fn service_of((provider, recorders, collectors): Seats) -> Service {
     Service {
         provider,
         recorders,
         collectors,
     }
+}
+
+fn opened<R: Abort + Wait>(rt: &R, alloc: Global) -> Service {
+    let opened = open(rt, alloc, CATALOGUE, CONFIG, 5, &mut Runs::new());
+    service_of(opened.or_fail(rt))
 }
 
 // Records on each instrument by the recorder that has a budget for it, so often, and writes the answers.
@@ -365,7 +379,7 @@ not finished: 1 RecorderMissing; reader 0, 2 batches not exported: 1 Write; read
 fn an_end_tells_each_cause(rt: HostRuntime) {
     for end in ENDS {
         let mut told = String::new(rt.alloc());
-        let mut service = opened(&rt, rt.alloc());
+        let mut service = certified(&rt, rt.alloc());
         write_recordings(
             &mut told,
             &rt,

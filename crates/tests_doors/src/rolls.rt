@@ -2,8 +2,8 @@
 use crate::asserted::{OrFail, assert_equal};
 use crate::exports::{Failing, Seats, failing_at, hit_seats};
 use metric_sdk::{
-    Marked, MetricExporter, NoGate, Queued, ReaderEnd, RollLeft, Rolled, roll_over_all,
-    shutdown_all,
+    KeepingExporter, Marked, MetricExporter, NoGate, Queued, ReaderEnd, RollLeft, Rolled,
+    roll_over_all, shutdown_all,
 };
 use std::alloc::Global;
 use std::process::Abort;
@@ -126,6 +126,31 @@ fn each_recording_goes_out_once_over_two_runs(rt: HostRuntime) {
     for case in CASES {
         assert_case(&rt, rt.alloc(), case);
     }
+}
+
+// The next run starts where the one that ended was collected from for the last time.
+#[test]
+fn the_next_run_starts_at_the_moment(rt: HostRuntime) {
+    let alloc = rt.alloc();
+    let (provider, recorders, readers) = hit_seats(&rt, alloc, 1);
+    let mut exporter = KeepingExporter::new(alloc);
+    let rolling = roll_over_all(
+        &rt,
+        alloc,
+        provider,
+        recorders,
+        readers,
+        &mut exporter,
+        10,
+        2,
+    );
+    let next = rolling.or_fail(&rt);
+    let (provider, mut seats) = (next.provider, next.collectors);
+    let seat = seats.first_mut().expect(&rt, "no reader");
+    let batch = seat.collect(&rt, alloc, &provider, 0, 20).or_fail(&rt);
+    assert_equal(&rt, (batch.start, batch.time), (10, 20));
+    let last = exporter.batches().first().expect(&rt, "no batch");
+    assert_equal(&rt, (last.start, last.time), (0, 10));
 }
 
 // A reader that is refused an instrument keeps the run from ending, and its seat comes back.

@@ -107,6 +107,21 @@ fn a_clock_is_read_after_each_period(rt: HostRuntime) {
     }
 }
 
+// A tick that is asked for comes at once, and those after it wait again: how often the clock was read then.
+const WOKEN: &[(Tick, u64)] = &[(Tick::At(5), 1), (Tick::At(6), 6), (Tick::At(7), 11)];
+
+#[test]
+fn a_woken_clock_waits_again(rt: HostRuntime) {
+    let flag = StopFlag::new();
+    let clock = clock_of(&rt, &[5, 6, 7]);
+    let mut ticker = ClockTicker::new(3, 9, &flag);
+    flag.wake(&rt);
+    for (tick, readings) in WOKEN {
+        assert_equal(&rt, ticker.next(&clock), *tick);
+        assert_equal(&rt, clock.readings.get(), *readings);
+    }
+}
+
 #[test]
 fn a_run_starts_at_the_clocks_moment(rt: HostRuntime) {
     let clock = clock_of(&rt, &[7, 1_600_000_000_000_000_000]);

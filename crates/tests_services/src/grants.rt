@@ -8,49 +8,73 @@ use std::alloc::Global;
 use std::process::Abort;
 use std::sync::Wait;
 
-// What is asked of a running provider.
+// Two counters, each with a spare of its own. One recorder alone has a budget, and on the first alone.
+const SPARES: &str = "format = 2
+[[meter]]
+name = 'm'
+instrument = [
+    { name = 'c', kind = 'counter', range = [0, 9], spare = 2 },
+    { name = 'd', kind = 'counter', range = [0, 9], spare = 1 },
+]
+[[recorder]]
+name = 'r'
+budget = [{ instrument = 0, amount = 1 }]
+[[recorder]]
+name = 's'
+";
+
+// What is asked of a running provider, by the numbers of a recorder and an instrument.
 enum Step {
-    // A recording of a recorder with this value.
-    Record(usize, i64),
+    // A recording with this value.
+    Record(usize, u32, i64),
     // A recorder's request for so many recordings.
-    Ask(usize, u64),
-    // The provider's grant of so many to the recorder of a number.
-    Grant(u32, u64),
+    Ask(usize, u32, u64),
+    // The provider's grant of so many.
+    Grant(u32, u32, u64),
 }
 
 // The steps, with what each is answered.
 const STEPS: &[(Step, Result<(), Refusal>)] = &[
-    (Step::Record(0, 4), Ok(())),
-    (Step::Record(0, 5), Err(Refusal::Budget)),
-    (Step::Ask(0, 3), Err(Refusal::NoSpare)),
-    (Step::Ask(0, 1), Ok(())),
-    (Step::Record(0, 5), Ok(())),
-    (Step::Record(0, 5), Err(Refusal::Budget)),
-    (Step::Grant(2, 1), Err(Refusal::UnknownRecorder)),
-    (Step::Record(1, 6), Err(Refusal::Budget)),
-    (Step::Grant(1, 1), Ok(())),
-    (Step::Record(1, 6), Ok(())),
-    (Step::Record(1, 6), Err(Refusal::Budget)),
-    (Step::Ask(1, 1), Err(Refusal::NoSpare)),
-    (Step::Ask(1, 0), Ok(())),
+    (Step::Ask(1, 1, 1), Ok(())),
+    (Step::Record(1, 0, 7), Err(Refusal::Budget)),
+    (Step::Record(0, 1, 7), Err(Refusal::Budget)),
+    (Step::Record(1, 1, 7), Ok(())),
+    (Step::Record(1, 1, 7), Err(Refusal::Budget)),
+    (Step::Grant(0, 1, 1), Err(Refusal::NoSpare)),
+    (Step::Record(0, 0, 4), Ok(())),
+    (Step::Record(0, 0, 5), Err(Refusal::Budget)),
+    (Step::Ask(0, 0, 3), Err(Refusal::NoSpare)),
+    (Step::Ask(0, 0, 1), Ok(())),
+    (Step::Record(0, 0, 5), Ok(())),
+    (Step::Record(0, 0, 5), Err(Refusal::Budget)),
+    (Step::Grant(2, 0, 1), Err(Refusal::UnknownRecorder)),
+    (Step::Record(1, 0, 6), Err(Refusal::Budget)),
+    (Step::Grant(1, 0, 1), Ok(())),
+    (Step::Record(1, 0, 6), Ok(())),
+    (Step::Record(1, 0, 6), Err(Refusal::Budget)),
+    (Step::Ask(1, 0, 1), Err(Refusal::NoSpare)),
+    (Step::Ask(1, 0, 0), Ok(())),
 ];
 
 fn answer<R: Wait>(rt: &R, seats: &mut Seats, step: &Step) -> Result<(), Refusal> {
     let unseated = Refusal::UnknownRecorder;
     match step {
-        Step::Record(recorder, value) => {
+        Step::Record(recorder, instrument, value) => {
             let seat = seats.recorders.get_mut(*recorder).ok_or(unseated)?;
-            seat.record(rt, &seats.provider, 0, &[], *value)
+            seat.record(rt, &seats.provider, *instrument, &[], *value)
         }
-        Step::Ask(recorder, amount) => {
+        Step::Ask(recorder, instrument, amount) => {
             let seat = seats.recorders.get(*recorder).ok_or(unseated)?;
-            seat.ask(rt, &seats.provider, 0, *amount)
+            seat.ask(rt, &seats.provider, *instrument, *amount)
         }
-        Step::Grant(recorder, amount) => seats.provider.grant(rt, *recorder, 0, *amount),
+        Step::Grant(recorder, instrument, amount) => {
+            seats.provider.grant(rt, *recorder, *instrument, *amount)
+        }
     }
 }
 
-const TOTALS: &str = "[Total { count: 3, sum: 15 }], 1 journals, 1 slips\n";
+const TOTALS: &str =
+    "[Total { count: 3, sum: 15 }, Total { count: 1, sum: 7 }], 2 journals, 2 slips\n";
 
 fn totals<R: Abort + Wait>(rt: &R, alloc: Global, seats: Seats) -> String {
     let mut out = String::new(alloc);
@@ -60,7 +84,7 @@ fn totals<R: Abort + Wait>(rt: &R, alloc: Global, seats: Seats) -> String {
 
 #[test]
 fn what_is_spared_is_recorded(rt: HostRuntime) {
-    let mut seats: Seats = seats_of(&rt, rt.alloc(), SPARED, MAIN, 0, 1);
+    let mut seats: Seats = seats_of(&rt, rt.alloc(), SPARES, MAIN, 0, 1);
     for (step, wanted) in STEPS {
         assert_equal(&rt, answer(&rt, &mut seats, step), *wanted);
     }
