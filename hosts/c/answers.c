@@ -101,6 +101,7 @@ static const wormweekly_attribute LONG_TEXT[] = { { 7, WORMWEEKLY_TEXT, SIZE_MAX
 static const wormweekly_attribute NO_KIND[] = { { 7, 4, 2, 0 } };
 static const wormweekly_attribute SERVICE[] = { { 12, WORMWEEKLY_TEXT, 4, 0 } };
 static const wormweekly_attribute SERVICE_TWICE[] = { { 12, WORMWEEKLY_TEXT, 4, 0 }, { 12, WORMWEEKLY_TEXT, 4, 0 } };
+static const wormweekly_attribute ONE_LABEL[] = { { 3, WORMWEEKLY_TEXT, 1, 0 }, { 3, WORMWEEKLY_TEXT, 1, 0 } };
 static const wormweekly_attribute NO_KEY[] = { { 1, WORMWEEKLY_YES, 0, 0 }, { 0, WORMWEEKLY_YES, 0, 0 } };
 /* More than a resource may have. */
 static const wormweekly_attribute MANY[65] = { { 0, WORMWEEKLY_YES, 0, 0 } };
@@ -529,6 +530,11 @@ static const char TARGET[] =
     "# TYPE target_info gauge\n"
     "target_info{service_name=\"shop\"} 1\n";
 
+static const char TWO_LABELS[] =
+    "# HELP target_info Target metadata\n"
+    "# TYPE target_info gauge\n"
+    "target_info{a_b=\"1\",a_c=\"2\"} 1\n";
+
 static const char OPEN_TARGET[] =
     "# HELP target Target metadata\n"
     "# TYPE target info\n"
@@ -763,6 +769,9 @@ static const struct row TARGET_ROWS[] = {
       .answer = WORMWEEKLY_DUPLICATE_KEY },
     { CALL(prometheus_target), .texts = "a", GIVEN(NO_KEY), .answer = WORMWEEKLY_EMPTY_KEY },
     { CALL(prometheus_target), .texts = "a", GIVEN(MANY), .answer = WORMWEEKLY_TOO_MANY },
+    { CALL(prometheus_target), .texts = "a.b1a_b2", GIVEN(ONE_LABEL), .answer = WORMWEEKLY_LABEL_COLLISION },
+    { CALL(prometheus_target), .texts = "...1a_b2", GIVEN(ONE_LABEL), .answer = WORMWEEKLY_BAD_LABEL },
+    { CALL(prometheus_target), .texts = "a.b1a_c2", GIVEN(ONE_LABEL), .text = TWO_LABELS },
 };
 
 /* Where a recorder and a reader were freed. */

@@ -109,7 +109,11 @@ enum wormweekly_answer {
     /* An attribute of a resource has an empty key. */
     WORMWEEKLY_EMPTY_KEY = 108,
     /* A handle that is to be filled holds something. */
-    WORMWEEKLY_OPEN = 109
+    WORMWEEKLY_OPEN = 109,
+    /* The key of an attribute of a resource has no letter and no digit, so that its label in a page says nothing. */
+    WORMWEEKLY_BAD_LABEL = 110,
+    /* Two attributes of a resource have one label in a page, as "a.b" and "a_b" have. */
+    WORMWEEKLY_LABEL_COLLISION = 111
 };
 
 /* What kind of value an attribute has. */
@@ -277,7 +281,9 @@ uint32_t wormweekly_expose(wormweekly_reader *reader, uint8_t *fault, size_t fau
 uint32_t wormweekly_prometheus(wormweekly_reader *reader, uint32_t dialect, uint8_t *out, size_t room,
                                size_t *text_length);
 
-/* The same of a resource, whose attributes are checked as by wormweekly_otlp. One without attributes has no lines. */
+/* The same of a resource, whose attributes are checked as by wormweekly_otlp. One without attributes has no lines. In a page
+ * each key is a label: one that says nothing (WORMWEEKLY_BAD_LABEL) and two that are the same (WORMWEEKLY_LABEL_COLLISION) are
+ * refused. */
 uint32_t wormweekly_prometheus_target(uint32_t dialect, const uint8_t *texts, size_t texts_length,
                                       const wormweekly_attribute *attributes, size_t attributes_length, uint8_t *out,
                                       size_t room, size_t *text_length);

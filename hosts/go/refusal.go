@@ -46,6 +46,8 @@ var (
 	ErrMemory            = &Refusal{Name: "Memory", sentence: "memory was refused"}
 	ErrTooMany           = &Refusal{Name: "TooMany", sentence: "a resource has more than 64 attributes"}
 	ErrEmptyKey          = &Refusal{Name: "EmptyKey", sentence: "an attribute of a resource has an empty key"}
+	ErrBadLabel          = &Refusal{Name: "BadLabel", sentence: "a key of a resource has no letter and no digit, so that its label in a page says nothing"}
+	ErrLabelCollision    = &Refusal{Name: "LabelCollision", sentence: "two keys of a resource have one label in a page"}
 	ErrNoBatch           = &Refusal{Name: "NoBatch", sentence: "nothing was collected yet"}
 )
 
@@ -79,6 +81,8 @@ var byAnswer = map[uint32]*Refusal{
 	106: ErrNoBatch,
 	107: ErrTooMany,
 	108: ErrEmptyKey,
+	110: ErrBadLabel,
+	111: ErrLabelCollision,
 }
 
 // Makes an error of an answer, nil where it is 0.

@@ -46,6 +46,12 @@ pub const EMPTY_KEY: u32 = 108;
 /// A handle that is to be filled holds something.
 pub const OPEN: u32 = 109;
 
+/// The key of an attribute of a resource has no letter and no digit, so that its label says nothing.
+pub const BAD_LABEL: u32 = 110;
+
+/// Two attributes of a resource have one label.
+pub const LABEL_COLLISION: u32 = 111;
+
 // The number of an answer.
 pub(crate) fn code_of(answer: &Result<(), Refusal>) -> u32
     ensures { result ≡ code_of answer.now }

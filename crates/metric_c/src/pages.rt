@@ -1,18 +1,20 @@
 //! Batches and resources as lines of a page for Prometheus.
 ghost use Rattle.std.specs.Prelude.{◌≡◌, ◌≢◌, ◌⊎◌, IfOk};
+ghost use Rattle.metric_base.specs.Steps.{GivesBy};
 ghost use Rattle.std.specs.Option.{MatchOption};
 ghost use Rattle.metric_c.specs.Codes.{WhereHeld};
-ghost use Rattle.metric_c.specs.Pages.{AnswersTarget, dialect_of, page_lines};
+ghost use Rattle.metric_c.specs.Pages.{AnswersLines, AnswersTarget, dialect_of, number_of_target, page_lines};
 ghost use Rattle.metric_c.specs.Resources.{resource_from};
 ghost use Rattle.metric_c.specs.Texts.{AnswersText};
+ghost use Rattle.metric_exposition.specs.TargetFaults.{target_check};
 ghost use Rattle.metric_exposition.specs.Targets.{target_text};
 
 use crate::attributes::Attribute;
-use crate::codes::{MEMORY, NOT_OPEN, UNKNOWN};
+use crate::codes::{BAD_LABEL, LABEL_COLLISION, MEMORY, NOT_OPEN, UNKNOWN};
 use crate::reader_handle::ReaderHandle;
 use crate::resources::{code_of, resource_from};
 use crate::texts::copy_text;
-use metric_exposition::{Dialect, push_exposition, push_target};
+use metric_exposition::{Dialect, TargetFault, push_exposition, push_target};
 use metric_hosted::HostedReader;
 use metric_resource::Resource;
 use std::alloc::{AllocError, Global};
@@ -95,7 +97,8 @@ fn page_lines(alloc: Global, own: &HostedReader, dialect: Dialect) -> Result<Vec
     Ok(out)
 }
 
-/// Writes the lines of a resource in a format of a number, under the same rule. One without attributes has none.
+/// Writes the lines of a resource in a format of a number, under the same rule. One without attributes has none, and one whose
+/// attributes can't be the labels of one line is refused.
 #[unsafe(no_mangle)]
 pub extern "C" fn wormweekly_prometheus_target(
     alloc: Global,
@@ -143,19 +146,31 @@ fn write_target(
     out: &mut [u8],
     text_length: &mut usize,
 ) -> u32
-    ensures answer { let text = target_text dialect resource.now in
-        AnswersText text out.old out.new text_length.new result ⊎ (result ≡ 11) }
+    ensures answer { AnswersLines (target_check resource.now) resource.now out.old out.new
+        text_length.new result dialect ⊎ (result ≡ 11) }
     ensures refused { result ≢ 0 → out.new ≡ out.old }
     ensures length { result ≢ 0 → result ≢ 102 → text_length.new ≡ text_length.old }
 {
     match target_of(alloc, dialect, resource) {
-        Err(_) => MEMORY,
+        Err(fault) => number_of_target(fault),
         Ok(text) => copy_text(text.as_slice(), out, text_length),
     }
 }
 
-fn target_of(alloc: Global, dialect: Dialect, resource: &Resource) -> Result<Vec<u8>, AllocError>
-    ensures { IfOk result (λ text. text.items ≡ target_text dialect resource.now) }
+// The number that tells why a resource has no lines.
+fn number_of_target(fault: TargetFault) -> u32
+    ensures { result ≡ number_of_target fault }
+{
+    match fault {
+        TargetFault::BadLabel { .. } => BAD_LABEL,
+        TargetFault::LabelCollision { .. } => LABEL_COLLISION,
+        TargetFault::Memory => MEMORY,
+    }
+}
+
+fn target_of(alloc: Global, dialect: Dialect, resource: &Resource) -> Result<Vec<u8>, TargetFault>
+    ensures check { GivesBy (λ _. tt) TargetFault.Memory result (target_check resource.now) }
+    ensures text { IfOk result (λ text. text.items ≡ target_text dialect resource.now) }
 {
     let mut out = Vec::new(alloc);
     push_target(alloc, &mut out, dialect, resource)?;

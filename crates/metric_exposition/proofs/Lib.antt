@@ -1,2 +1,3 @@
 pub mod LabelLaws
 pub mod BucketLaws
+pub mod TargetLaws

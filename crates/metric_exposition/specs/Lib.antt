@@ -6,4 +6,6 @@ pub mod Samples
 pub mod Headers
 pub mod Expositions
 pub mod Targets
+pub mod TargetFaults
 pub mod Pages
+pub mod Laws

@@ -11,11 +11,15 @@ mod exposition;
 mod header;
 mod histogram;
 mod label;
+mod laws;
 mod page;
 mod piece;
 mod sample;
 mod seconds;
+mod target;
 
 pub use dialect::Dialect;
 pub use exposition::push_exposition;
+pub use laws::target_labels_are_sound;
 pub use page::{push_end, push_target};
+pub use target::{TargetFault, check_target};

@@ -1,7 +1,9 @@
 //! The lines of a page that are of no batch.
-ghost use Rattle.std.specs.Prelude.{◌≡◌, [], ◌++◌, OnOk, codes};
+ghost use Rattle.std.specs.Prelude.{◌≡◌, ◌⊎◌, [], ◌++◌, IfErr, OnOk, codes};
+ghost use Rattle.metric_base.specs.Steps.{Gives};
 ghost use Rattle.metric_exposition.specs.Pages.{end_text};
 ghost use Rattle.metric_exposition.specs.Samples.{sample};
+ghost use Rattle.metric_exposition.specs.TargetFaults.{target_check};
 ghost use Rattle.metric_exposition.specs.Targets.{resource_labels, target_header, target_text};
 
 use crate::dialect::Dialect;
@@ -9,23 +11,43 @@ use crate::header::{Described, push_described};
 use crate::label::fill_resource_labels;
 use crate::piece::Piece;
 use crate::sample::{Series, push_sample};
+use crate::target::{TargetFault, check_target};
 use metric_contents::OwnedAttr;
 use metric_resource::Resource;
 use metric_text::push_text;
 use std::alloc::{AllocError, Global};
 
 /// Writes what a page begins with: `target_info` with the attributes of the resource as labels (OpenTelemetry,
-/// Prometheus compatibility, resource attributes); nothing where it has none. Fails only where memory is refused, and may
-/// then have written a part.
+/// Prometheus compatibility, resource attributes); nothing where it has none.
+///
+/// # Errors
+///
+/// What [`check_target`](crate::check_target) answers, with nothing written. After `Memory` a part may be written.
 pub fn push_target(
     alloc: Global,
     out: &mut Vec<u8>,
     dialect: Dialect,
     resource: &Resource,
-) -> Result<(), AllocError>
-    ensures { OnOk result (out.new.items ≡ out.old.items ++ target_text dialect resource.now) }
+) -> Result<(), TargetFault>
+    ensures check { Gives TargetFault.Memory result (target_check resource.now) }
+    ensures lines { OnOk result (out.new.items ≡ out.old.items ++ target_text dialect resource.now) }
+    ensures refused { IfErr result (λ fault.
+        (fault ≡ TargetFault.Memory) ⊎ (out.new.items ≡ out.old.items)) }
 {
-    let attributes = resource.as_slice();
+    check_target(alloc, resource)?;
+    push_lines(alloc, out, dialect, resource.as_slice())?;
+    Ok(())
+}
+
+// Writes the lines of attributes, none where there are none.
+fn push_lines(
+    alloc: Global,
+    out: &mut Vec<u8>,
+    dialect: Dialect,
+    attributes: &[OwnedAttr],
+) -> Result<(), AllocError>
+    ensures { OnOk result (out.new.items ≡ out.old.items ++ target_text dialect attributes.now) }
+{
     if attributes.is_empty() {
         return Ok(());
     }

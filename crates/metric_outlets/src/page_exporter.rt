@@ -1,15 +1,17 @@
 //! An exporter that replaces a page after each collection.
 ghost use Rattle.std.specs.Prelude.{◌≡◌, ℕ, ◌⊎◌, [], ◌++◌, IfOk, List, None, OnOk, Result, map, slice_set};
 ghost use Rattle.std.specs.List.{flat_map};
+ghost use Rattle.metric_base.specs.Steps.{GivesBy};
 ghost use Rattle.metric_io.specs.declared.devices.Broken.{Broken};
 ghost use Rattle.metric_exposition.specs.Pages.{end_text};
+ghost use Rattle.metric_exposition.specs.TargetFaults.{target_check};
 ghost use Rattle.metric_exposition.specs.Targets.{target_text};
 ghost use Rattle.metric_outlets.specs.PageCalls.{FlushesPage, HandsOnPage, KeepsLines, KeepsPage, ShutsPageDown};
 
 use metric_base::Items;
 use metric_contents::Instrument;
 use metric_export::{ExportFault, ExporterState, MetricExporter, own_plan};
-use metric_exposition::{Dialect, push_end, push_exposition, push_target};
+use metric_exposition::{Dialect, TargetFault, push_end, push_exposition, push_target};
 use metric_history::Batch;
 use metric_io::Broken;
 use metric_plan::Plan;
@@ -65,15 +67,18 @@ impl<P> Model for PageExporter<P> {
 }
 
 impl<P: Pages + Drop> PageExporter<P> {
-    /// An exporter of pages of this format for the instruments of the plan, with the attributes of this resource.
+    /// An exporter of pages of this format for the instruments of the plan, with the attributes of this resource. The answer
+    /// is a [`TargetFault`] where they can't be the labels of one line, or memory was refused; what takes the pages is dropped
+    /// then.
     pub fn new(
         alloc: Global,
         plan: &Plan,
         dialect: Dialect,
         resource: &Resource,
         pages: P,
-    ) -> Result<PageExporter<P>, AllocError>
-        ensures { IfOk result (λ e. e ≡ record {
+    ) -> Result<PageExporter<P>, TargetFault>
+        ensures check { GivesBy (λ _. tt) TargetFault.Memory result (target_check resource.now) }
+        ensures exporter { IfOk result (λ e. e ≡ record {
           dialect = dialect;
           target = target_text dialect resource.now;
           lines = map (λ _. []) plan.now.facts.contents.instruments;

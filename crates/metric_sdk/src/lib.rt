@@ -36,9 +36,9 @@
 //!    of each [`Stream`], a [`Point`] the [`PointValue`] of one series, whose [`attributes`] the plan knows. By hand: a [`Collector`] collects the [`Batch`] of
 //!    one instrument or of all, up to an [`AllFault`], and [`write_batch`] writes its text, [`write_encoded`] its bytes.
 //!    For Prometheus an [`Exposition`] has the lines of a page in a [`Dialect`], and a [`PageExporter`] hands the whole page to
-//!    [`Pages`] after each collection, as to a file that node_exporter reads. Before anything is recorded, [`expose`] tells
-//!    whether a server would hold each sample of a reader's pages, and [`expose_to_otlp`] whether each boundary leaves as it
-//!    is, or the first [`ExposureFault`].
+//!    [`Pages`] after each collection, as to a file that node_exporter reads; two attributes of a resource of one label are a
+//!    [`TargetFault`]. Before anything is recorded, [`expose`] tells whether a server would hold each sample of a reader's
+//!    pages, and [`expose_to_otlp`] whether each boundary leaves as it is, or the first [`ExposureFault`].
 //! 6. **End.** [`shutdown_all`] lets readers collect a last time, exports what they give, flushes, and finishes the
 //!    provider; an [`EndFault`] has each cause, and hands back what is left, with the plan to export it by.
 //!    `Provider::finish` alone gives the [`Totals`], a [`Total`] for each instrument, exactly what the recorders were
@@ -173,6 +173,7 @@ pub use metric_export::own_plan;
 pub use metric_export::write_batch;
 pub use metric_export::write_encoded;
 pub use metric_exposition::Dialect;
+pub use metric_exposition::TargetFault;
 pub use metric_exposure::ExposureFault;
 pub use metric_exposure::expose;
 pub use metric_exposure::expose_to_otlp;

@@ -82,6 +82,44 @@ target_info 1
     ),
 ];
 
+const DOTTED: Attr<'static> = Attr {
+    key: "service.name",
+    value: ValueRef::Text("shop"),
+};
+
+const LINED: Attr<'static> = Attr {
+    key: "service_name",
+    value: ValueRef::Text(""),
+};
+
+const SPACED: Attr<'static> = Attr {
+    key: "service name",
+    value: ValueRef::Whole(7),
+};
+
+const SIGNS: Attr<'static> = Attr {
+    key: "./-",
+    value: ValueRef::Flag(false),
+};
+
+// Attributes of a resource that can't be the labels of one line, and why.
+const NO_TARGETS: &[(&[Attr<'static>], &str)] = &[
+    (
+        &[DOTTED, PORT, LINED],
+        "2 LabelCollision of attribute 0 and attribute 2",
+    ),
+    (
+        &[PORT, LINED, DOTTED, SPACED],
+        "2 LabelCollision of attribute 1 and attribute 2",
+    ),
+    (
+        &[DOTTED, SIGNS, LINED],
+        "2 LabelCollision of attribute 0 and attribute 2",
+    ),
+    (&[SIGNS, DOTTED, LINED], "1 BadLabel of attribute 0"),
+    (&[PORT, SIGNS], "1 BadLabel of attribute 1"),
+];
+
 fn push_reply<R: Abort>(
     page: &mut Vec<u8>,
     rt: &R,
@@ -171,5 +209,18 @@ fn worked_inputs_have_pages(rt: HostRuntime) {
 fn pages_tell_of_resources(rt: HostRuntime) {
     for (attributes, dialect, written) in TARGETS {
         assert_page(&rt, rt.alloc(), attributes, *dialect, None, written);
+    }
+}
+
+#[test]
+fn attributes_whose_labels_collide_have_no_page(rt: HostRuntime) {
+    let alloc = rt.alloc();
+    for (attributes, told) in NO_TARGETS {
+        let resource = Resource::new(alloc, attributes).or_fail(&rt);
+        let mut page = Vec::new(alloc);
+        let answer = push_target(alloc, &mut page, Dialect::OpenMetrics, &resource);
+        let fault = answer.err().or_fail(&rt);
+        assert_equal(&rt, fault.to_string(alloc).or_fail(&rt).as_str(), told);
+        assert!(&rt; page.is_empty());
     }
 }

@@ -125,4 +125,12 @@ func TestWhatHasNoPage(t *testing.T) {
 	if _, err := Handler(metrics, metrics.Readers[0], nameless); !errors.Is(err, wormweekly.ErrEmptyKey) {
 		t.Error(err)
 	}
+	dotted, lined := wormweekly.String("a.b", "1"), wormweekly.String("a_b", "2")
+	if _, err := Handler(metrics, metrics.Readers[0], dotted, lined); !errors.Is(err, wormweekly.ErrLabelCollision) {
+		t.Error(err)
+	}
+	signs := wormweekly.String("./.", "1")
+	if _, err := Handler(metrics, metrics.Readers[0], signs); !errors.Is(err, wormweekly.ErrBadLabel) {
+		t.Error(err)
+	}
 }

@@ -200,6 +200,10 @@ pub enum ResourceFault {
     EmptyKey,
     /// A key stands twice.
     RepeatedKey,
+    /// A key has no letter and no digit, so that its label in a page says nothing.
+    BadLabel,
+    /// Two keys have one label in a page, as `a.b` and `a_b` have.
+    LabelCollision,
     /// Memory was refused.
     Memory,
     /// The library answered a number that this crate does not know.
@@ -213,6 +217,8 @@ impl ResourceFault {
             11 => ResourceFault::Memory,
             107 => ResourceFault::TooMany,
             108 => ResourceFault::EmptyKey,
+            110 => ResourceFault::BadLabel,
+            111 => ResourceFault::LabelCollision,
             other => ResourceFault::Other(other),
         }
     }
@@ -224,6 +230,8 @@ impl fmt::Display for ResourceFault {
             ResourceFault::TooMany => write!(f, "a resource has more than 64 attributes"),
             ResourceFault::EmptyKey => write!(f, "an attribute of a resource has an empty key"),
             ResourceFault::RepeatedKey => write!(f, "a key of a resource stands twice"),
+            ResourceFault::BadLabel => write!(f, "a key of a resource has no letter and no digit"),
+            ResourceFault::LabelCollision => write!(f, "two keys of a resource have one label"),
             ResourceFault::Memory => write!(f, "memory was refused"),
             ResourceFault::Other(code) => write!(f, "the library answered {code}"),
         }

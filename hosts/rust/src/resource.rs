@@ -25,7 +25,8 @@ impl Resource {
     ///
     /// # Errors
     ///
-    /// The first [`ResourceFault`].
+    /// The first [`ResourceFault`]: [`BadLabel`](ResourceFault::BadLabel) and
+    /// [`LabelCollision`](ResourceFault::LabelCollision) come behind all others.
     pub fn page(&self, dialect: Dialect) -> Result<String, ResourceFault> {
         let Room { texts, attributes } = &self.room;
         // SAFETY: the buffers are borrowed for the call.

@@ -139,6 +139,10 @@ fn pages_have_all_instruments() -> Result<(), Box<dyn std::error::Error>> {
     assert_eq!(Resource::default().page(Dialect::OpenMetrics)?, "");
     let twice = Resource::new(&[("a", 1.into()), ("a", 2.into())]);
     assert_eq!(twice.page(Dialect::Text), Err(ResourceFault::RepeatedKey));
+    let alike = Resource::new(&[("a.b", 1.into()), ("a_b", 2.into())]);
+    assert_eq!(alike.page(Dialect::Text), Err(ResourceFault::LabelCollision));
+    let signs = Resource::new(&[("...", 1.into())]);
+    assert_eq!(signs.page(Dialect::Text), Err(ResourceFault::BadLabel));
     Ok(())
 }
 

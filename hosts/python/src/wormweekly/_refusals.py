@@ -85,6 +85,8 @@ class ResourceRefusal(Refusal, ValueError):
     names = {
         107: ("TooMany", "a resource has more than 64 attributes"),
         108: ("EmptyKey", "an attribute of a resource has an empty key"),
+        110: ("BadLabel", "a key of a resource has no letter and no digit, so that its label in a page says nothing"),
+        111: ("LabelCollision", "two keys of a resource have one label in a page"),
     }
 
 
