@@ -8,3 +8,4 @@ mod Claimed
 mod Ends
 mod KeyTurns
 mod FirstFault
+pub mod PointsApart

@@ -38,7 +38,7 @@ abbrev item : Key → ℕ → Option Label
 item key entry = item_by key (value_at key.values entry)
 
 -- what is shown of the keys
-abbrev shown_keys : List Key → List Bool → List ℕ → List Label
+abbrev pub shown_keys : List Key → List Bool → List ℕ → List Label
 shown_keys keys kept set = shown (map attribute_label (attributes_of keys kept set))
 
 shown_kept : (key : Key) (keys : List Key) (kept : List Bool) (entry : ℕ) (set : List ℕ)
@@ -65,14 +65,14 @@ item_label key (Some value) x e = by (is_some (value_text value)) e
     by false e = absurd cc
 
 -- the keys tell series apart, where these labels are taken before them
-abbrev Tells : List (List ℕ) → List Key → List Bool → Type 0
+abbrev pub Tells : List (List ℕ) → List Key → List Bool → Type 0
 Tells taken [] kept = Unit {0}
 Tells taken (key ∷ keys) [] = Unit {0}
 Tells taken (key ∷ keys) (true ∷ kept) = (is_among taken (label_of key.name) ≡ false) × (are_confused key ≡ false) × Tells (taken ++ label_of key.name ∷ []) keys kept
 Tells taken (key ∷ keys) (false ∷ kept) = Tells taken keys kept
 
 -- the first label that is shown is none of those that are taken
-fresh : (taken : List (List ℕ)) (label : List ℕ) (keys : List Key) (kept : List Bool) (set : List ℕ) (x : Label) (others : List Label) → Tells taken keys kept
+pub fresh : (taken : List (List ℕ)) (label : List ℕ) (keys : List Key) (kept : List Bool) (set : List ℕ) (x : Label) (others : List Label) → Tells taken keys kept
     → is_among taken label ≡ true → shown_keys keys kept set ≡ x ∷ others → x.0 ≡ label → ⊥
 fresh taken label [] kept set x others tells among e is = cc
 fresh taken label (key ∷ keys) [] set x others tells among e is = cc
@@ -329,12 +329,12 @@ apart taken (key ∷ keys) (true ∷ kept) (x ∷ s) (y ∷ t) tells same p q lo
         (among_last taken (label_of key.name)) e (item_label key (value_at key.values y) b h))
 
 -- what holds of each kept key, of these that are taken before it
-abbrev Clear : List (List ℕ) → List Key → List Bool → Type 0
+abbrev pub Clear : List (List ℕ) → List Key → List Bool → Type 0
 Clear taken keys kept =
     (place : ℕ) (key : Key) → slice_get keys place ≡ Some key → slice_get kept place ≡ Some true
     → (is_among (taken ++ map label_of (kept_names (take place keys) (take place kept))) (label_of key.name) ≡ false) × (are_confused key ≡ false)
 
-tells_of : (taken : List (List ℕ)) (keys : List Key) (kept : List Bool) → Clear taken keys kept → Tells taken keys kept
+pub tells_of : (taken : List (List ℕ)) (keys : List Key) (kept : List Bool) → Clear taken keys kept → Tells taken keys kept
 tells_of taken [] kept clear = tt
 tells_of taken (key ∷ keys) [] clear = tt
 tells_of taken (key ∷ keys) (true ∷ kept) clear =

@@ -17,11 +17,12 @@ use Rattle.metric_family.specs.Words.{is_among}
 use Rattle.metric_exposure.specs.declared.fault.ExposureFault.{ExposureFault}
 use Rattle.metric_exposure.specs.declared.fault.ExposureFault.TheVariants as faults
 
--- the labels that each series of a type has beside those of its keys
+-- the labels that a series of a type may have beside those of its keys; the first marks the
+-- overflow series
 abbrev pub own_labels : MetricType → List (List ℕ)
-own_labels Counter = scope_names
-own_labels Gauge = scope_names
-own_labels Histogram = codes "le" ∷ scope_names
+own_labels Counter = codes "otel_metric_overflow" ∷ scope_names
+own_labels Gauge = codes "otel_metric_overflow" ∷ scope_names
+own_labels Histogram = codes "le" ∷ codes "otel_metric_overflow" ∷ scope_names
 
 -- the labels that are taken before a key, of these keys before it
 unfoldable pub taken_labels : MetricType → List Key → List Bool → List (List ℕ)

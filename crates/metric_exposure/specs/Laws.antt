@@ -22,7 +22,7 @@ use Rattle.metric_exposure.specs.Collisions.{is_of_target}
 use Rattle.metric_exposure.specs.Exposures.{exposure_faults, keys_of}
 
 -- # streams that pass (profile) [Passes, NamesAreSound, LabelsAreSound, FamiliesAreApart,
--- NoneClaimsTheTarget, SeriesAreApart]
+-- NoneClaimsTheTarget, SeriesAreApart, PointsAreApart]
 -- What holds of a reader's streams without a fault: sound names and labels, families and series
 -- that are apart.
 pub record Passes (contents : Contents) (streams : List Stream) (reader number : ℕ)
@@ -82,6 +82,28 @@ SeriesAreApart =
     → IsFull contents stream set → IsFull contents stream other → length set ≡ length other
     → shown_of contents stream meter set ≡ shown_of contents stream meter other
     → restricted stream.kept set ≡ restricted stream.kept other
+
+-- The recordings of a window have full set keys of one length.
+pub record AreFull (contents : Contents) (stream : Stream) (window : List Entry) : Type 0 where
+  pub long : ℕ
+  pub each : (i : ℕ) (entry : Entry) → slice_get window i ≡ Some entry
+      → IsFull contents stream entry.set × (length entry.set ≡ long)
+
+-- what is shown of a point
+abbrev pub shown_point : Contents → Stream → Meter → Point → List Label
+shown_point contents stream meter point =
+    shown (point_labels meter (keys_of contents stream) stream.kept point.set)
+
+-- No two points of a window, the overflow point too, are shown with the same labels.
+abbrev pub PointsAreApart : Type 0
+PointsAreApart =
+    (contents : Contents) (streams : List Stream) (reader number : ℕ) (stream : Stream)
+    (meter : Meter) (window : List Entry) (first later : ℕ) (point other : Point)
+    → Passes contents streams reader number stream
+    → length stream.kept ≡ length (keys_of contents stream) → AreFull contents stream window
+    → first < later → slice_get (points stream window) first ≡ Some point
+    → slice_get (points stream window) later ≡ Some other
+    → shown_point contents stream meter point ≢ shown_point contents stream meter other
 
 -- the sums of the first counts, of one more each time
 abbrev pub running : ℕ → List ℕ → List ℕ

@@ -38,7 +38,7 @@ pub enum ExposureFault {
         /// The key.
         key: usize,
     },
-    /// The key's label is that of a kept key before it, of the scope, or `le` in a histogram.
+    /// The key's label is that of a kept key before it, of the scope, `otel_metric_overflow`, or `le` in a histogram.
     LabelCollision {
         /// The stream.
         stream: usize,

@@ -120,14 +120,17 @@ fn has_label(before: &[Text], label: &str) -> bool
     before.iter().any(|other| label == other.as_str())
 }
 
-// Whether each series of a type has the label beside those of its keys.
+// Whether a series of a type may have the label beside those of its keys.
 fn is_own_label(kind: MetricType, label: &str) -> bool
     ensures { result ≡ is_among (own_labels kind) label.now }
 {
     if kind == MetricType::Histogram && label == "le" {
         return true;
     }
-    label == "otel_scope_name" || label == "otel_scope_version" || label == "otel_scope_schema_url"
+    matches!(
+        label,
+        "otel_metric_overflow" | "otel_scope_name" | "otel_scope_version" | "otel_scope_schema_url"
+    )
 }
 
 // Whether two values of a key have one text, or the key may be absent and a value has the empty text.

@@ -1,7 +1,9 @@
 //! What holds of streams that pass the check, as laws of the definitions.
-ghost use Rattle.metric_exposure.specs.Laws.{FamiliesAreApart, LabelsAreSound, NamesAreSound, NoneClaimsTheTarget, ReportedBucketsRise, SeriesAreApart};
+ghost use Rattle.metric_exposure.specs.Laws.{FamiliesAreApart, LabelsAreSound, NamesAreSound, NoneClaimsTheTarget, PointsAreApart, ReportedBucketsRise};
+ghost use Rattle.metric_exposure.specs.Laws.{SeriesAreApart};
 
 use metric_family::{families_are_names, labels_are_labels};
+use metric_history::laws::recordings_are_counted_once;
 
 /// Where a reader's streams pass for pages, each family has a name, each name that it claims and the label of each kept
 /// key are of Prometheus' grammar. Does nothing.
@@ -25,6 +27,15 @@ pub fn families_are_apart()
 pub fn series_are_apart()
     ensures { SeriesAreApart }
 {}
+
+/// Where a reader's streams pass for pages, no two points of a window of recordings are shown with the same labels, nor is the
+/// overflow point shown as a series. Does nothing.
+pub fn points_are_apart()
+    ensures { PointsAreApart }
+{
+    recordings_are_counted_once();
+    series_are_apart();
+}
 
 /// The buckets of each point that is reported of recordings rise up to the point's count. Does nothing.
 pub fn buckets_rise_to_the_count()
