@@ -34,12 +34,16 @@
  * set of attributes often prepares its set key once. Where threads share an instrument, find the attributes before its mutex is
  * taken, by wormweekly_prepare, and make the recording under it, by wormweekly_record_prepared: so the others wait for less.
  *
- * WHAT NOTHING CHECKS
+ * WHAT A HOST OWES, AND NOTHING CHECKS
  *
- * That handles are used as said above; that pointers and lengths are those of memory that the host owns; that malloc,
- * realloc and free are of one allocator and align a block to each power of two up to 16 that divides its size; that no call
- * is made from a signal handler, or from the forked child of a process with threads. The library keeps no state but what
- * handles hold, starts no thread and takes no lock.
+ *   1. A handle is null or as the library left it, never copied or written, and in one call at a time: an instrument under a
+ *      mutex of its own, a recorder or a reader on the thread that has it.
+ *   2. Pointers and lengths are those of memory that the host owns, and buffers do not overlap.
+ *   3. The declarations are those of the header of the library's version.
+ *   4. malloc, realloc and free are of one allocator, which aligns a block to each power of two up to 16 that divides its size.
+ *   5. No call is made from a signal handler, or from the forked child of a process with threads.
+ *
+ * The library keeps no state but what handles hold, starts no thread and takes no lock.
  *
  * LINK
  *

@@ -106,9 +106,15 @@
 //!
 //! # What a host owes, and nothing checks
 //!
-//! `malloc`, `realloc` and `free` are of one allocator, which aligns a block to each power of two up to 16 that divides its
-//! size; no call is made from a signal handler, or from the forked child of a process with threads; the library is that of
-//! this crate's version.
+//! 1. A handle is null or as the library left it, never copied or written, and in one call at a time: an instrument under a
+//!    mutex of its own, a recorder or a reader on the thread that has it.
+//! 2. Pointers and lengths are those of memory that the host owns, and buffers do not overlap.
+//! 3. The declarations are those of the header of the library's version.
+//! 4. `malloc`, `realloc` and `free` are of one allocator, which aligns a block to each power of two up to 16 that divides its
+//!    size.
+//! 5. No call is made from a signal handler, or from the forked child of a process with threads.
+//!
+//! The types of this crate keep the first two.
 #![warn(missing_docs)]
 
 mod batch;
