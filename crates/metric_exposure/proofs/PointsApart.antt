@@ -8,7 +8,6 @@ use Rattle.std.proofs.lemmas.List.Elements.{filter-append}
 use Rattle.std.proofs.lemmas.List.Sums.{sum_by-cons}
 use Rattle.std.proofs.lemmas.Option.{get_or_from_slice_get, slice_get_within}
 use Rattle.std.proofs.lemmas.Slice.Eq.{bytes_eq-Decides}
-use Rattle.metric_combinations.specs.Restrictions.{restricted}
 use Rattle.metric_contents.specs.declared.contents.Contents.{Contents}
 use Rattle.metric_contents.specs.declared.contents.Meter.{Meter}
 use Rattle.metric_views.specs.declared.stream.Stream.{Stream}
@@ -26,7 +25,7 @@ use Rattle.metric_family.specs.Labels.{Label, attribute_label, point_labels, sco
 use Rattle.metric_family.specs.Words.{is_among, is_some}
 use Rattle.metric_exposure.specs.Exposures.{keys_of}
 use Rattle.metric_exposure.specs.KeyFaults.{own_labels}
-use Rattle.metric_exposure.specs.Laws.{AreFull, Passes, PointsAreApart, SeriesAreApart, shown_of, shown_point}
+use Rattle.metric_exposure.specs.Laws.{AreFull, Passes, PointsAreApart, SeriesAreApart, shown_of}
 use Rattle.metric_exposure.proofs.Passing.{key_passes}
 use Rattle.metric_exposure.proofs.Series.{fresh, shown_keys, tells_of}
 
@@ -93,23 +92,23 @@ module _ (s : Stream) (window : List Entry) where
 
 -- two that pass are counted twice
 once : (test : Point → Bool) (ps : List Point) (j : ℕ) (q : Point) → slice_get ps j ≡ Some q → test q ≡ true → 1 ≤ count_by test ps
-once test [] j q at yes = absurd cc
-once test (x ∷ ps) zero q at yes =
+once test [] j q at passes = absurd cc
+once test (x ∷ ps) zero q at passes =
     let same : x ≡ q = cc in
-    let here : cond (test x) 1 0 ≡ 1 = ap {B = ℕ} (λ (b : Bool). cond b 1 0) (ap test same ∙ yes) in
+    let here : cond (test x) 1 0 ≡ 1 = ap {B = ℕ} (λ (b : Bool). cond b 1 0) (ap test same ∙ passes) in
     omega (arith, sum_by-cons (λ (y : Point). cond (test y) 1 0) x ps, here)
-once test (x ∷ ps) (suc j) q at yes = omega (arith, sum_by-cons (λ (y : Point). cond (test y) 1 0) x ps, once test ps j q at yes)
+once test (x ∷ ps) (suc j) q at passes = omega (arith, sum_by-cons (λ (y : Point). cond (test y) 1 0) x ps, once test ps j q at passes)
 
 twice : (test : Point → Bool) (ps : List Point) (i j : ℕ) (p q : Point) → i < j → slice_get ps i ≡ Some p → slice_get ps j ≡ Some q → test p ≡ true → test q ≡ true
     → 2 ≤ count_by test ps
-twice test [] i j p q less at also yes too = absurd cc
-twice test (x ∷ ps) i zero p q less at also yes too = absurd (omega arith)
-twice test (x ∷ ps) zero (suc j) p q less at also yes too =
+twice test [] i j p q less at also passes too = absurd cc
+twice test (x ∷ ps) i zero p q less at also passes too = absurd (omega arith)
+twice test (x ∷ ps) zero (suc j) p q less at also passes too =
     let same : x ≡ p = cc in
-    let here : cond (test x) 1 0 ≡ 1 = ap {B = ℕ} (λ (b : Bool). cond b 1 0) (ap test same ∙ yes) in
+    let here : cond (test x) 1 0 ≡ 1 = ap {B = ℕ} (λ (b : Bool). cond b 1 0) (ap test same ∙ passes) in
     omega (arith, sum_by-cons (λ (y : Point). cond (test y) 1 0) x ps, here, once test ps j q also too)
-twice test (x ∷ ps) (suc i) (suc j) p q less at also yes too =
-    omega (arith, sum_by-cons (λ (y : Point). cond (test y) 1 0) x ps, twice test ps i j p q (omega arith) at also yes too)
+twice test (x ∷ ps) (suc i) (suc j) p q less at also passes too =
+    omega (arith, sum_by-cons (λ (y : Point). cond (test y) 1 0) x ps, twice test ps i j p q (omega arith) at also passes too)
 
 -- the mark of the overflow series is taken
 or_true : (b : Bool) → (b || true) ≡ true
