@@ -5,6 +5,9 @@ pub mod Limits
 pub mod Positions
 pub mod When
 pub mod Values
+pub mod Said
+pub mod Unused
+pub mod Collected
 pub mod Remarks
 pub mod UnsafeParts
 pub mod Kinds

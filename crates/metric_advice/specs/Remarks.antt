@@ -12,8 +12,6 @@ use Rattle.metric_views.specs.declared.config.Config.{Config}
 use Rattle.metric_views.specs.declared.config.Settings.{Settings}
 use Rattle.metric_views.specs.declared.config.View.{View}
 use Rattle.metric_views.specs.declared.stream.Stream.{Stream}
-use Rattle.metric_views.specs.declared.stream.StreamAggregation.{StreamAggregation}
-use Rattle.metric_views.specs.declared.stream.StreamAggregation.TheVariants as aggregations
 use Rattle.metric_resolve.specs.declared.warning.Warning.{Warning}
 use Rattle.metric_resolve.specs.declared.warning.Warning.TheVariants as warnings
 use Rattle.metric_resolve.specs.Applying.{all_instruments, all_views, is_selected}
@@ -25,6 +23,9 @@ use Rattle.metric_advice.specs.declared.remark.KeyList.TheVariants.{Keep, Exclud
 use Rattle.metric_advice.specs.declared.remark.Remark.{Remark}
 use Rattle.metric_advice.specs.declared.remark.Remark.TheVariants as remarks
 use Rattle.metric_advice.specs.Headrooms.{IsHeadroom}
+use Rattle.metric_advice.specs.Collected.{collected_remarks, is_histogram}
+use Rattle.metric_advice.specs.Said.{said_remarks}
+use Rattle.metric_advice.specs.Unused.{unused_remarks}
 use Rattle.metric_advice.specs.Values.{stream_remarks, value_remarks}
 use Rattle.metric_advice.specs.When.{when}
 
@@ -79,11 +80,6 @@ settings_remarks contents selection settings view =
     selection_remarks selection view ++ (list_remarks contents selection view Keep settings.keep
     ++ list_remarks contents selection view Exclude settings.exclude)
 
-abbrev pub is_histogram : StreamAggregation → Bool
-is_histogram (aggregations.Histogram boundaries) = true
-is_histogram aggregations.Sum = false
-is_histogram aggregations.LastValue = false
-
 abbrev pub is_view : ℕ → Option ℕ → Bool
 is_view view None = false
 is_view view (Some own) = own == view
@@ -106,7 +102,7 @@ abbrev pub view_remarks_with : Contents → Config → Bool → Option View → 
 view_remarks_with contents config histogram None view = []
 view_remarks_with contents config histogram (Some own) view =
     settings_remarks contents (selection_of contents config view) own.settings view
-    ++ boundaries_remarks config own.settings histogram view
+    ++ boundaries_remarks config own.settings histogram view ++ said_remarks own view
 
 -- the view of a number, where it is known of each view whether it makes a histogram
 unfoldable pub view_remarks : Contents → Config → List Bool → ℕ → List Remark
@@ -120,12 +116,12 @@ is_unrecorded recorders spare instrument =
     spare == 0 && (not (length recorders == 0)
     && list_all (λ recorder. amount_of recorder instrument == 0) recorders)
 
--- nobody can record on the instrument of a number; and its values
+-- nobody can record on the instrument of a number; its values, and those in no combination
 abbrev pub own_remarks : List Recorder → Option Instrument → ℕ → List Remark
 own_remarks recorders None instrument = []
 own_remarks recorders (Some own) instrument =
     when (is_unrecorded recorders own.spare instrument) (remarks.Unrecorded instrument)
-    ++ value_remarks own instrument
+    ++ (value_remarks own instrument ++ unused_remarks own instrument)
 
 -- the budgets and the spare are above the headroom
 abbrev pub room_remarks : Option Headroom → ℕ → List Remark
@@ -155,10 +151,12 @@ all_recorder_remarks recorders =
     recorder_remarks recorders ++ when (length recorders == 0) remarks.NoRecorder
 
 -- # remark (profile) [remarks_of, AreRemarks]
--- A view that does not fit or selects nothing, two streams of one identity, a listed key that no
--- selected instrument declares, boundaries without a histogram or of which one bucket takes each
--- value, an instrument that nobody can record on, that lists no combination or has one value that
--- tells nothing, a recorder without any budget, no recorder, budgets above the headroom, no reader.
+-- A view that does not fit, selects nothing or says nothing, two streams of one identity, a listed
+-- key that no selected instrument declares or that is kept and excluded, boundaries without a
+-- histogram or of which one bucket takes each value, an instrument that nobody can record on, that
+-- lists no combination or has one value that tells nothing, a value in no combination, a recorder
+-- without any budget, no recorder, budgets above the headroom, a reader without a stream or with
+-- delta streams of what has a level, no reader.
 abbrev pub remarks_of : Contents → Config → List Headroom → List Remark
 remarks_of contents config rooms =
     map remark_of (warnings_of contents config)
@@ -167,7 +165,7 @@ remarks_of contents config rooms =
     ++ flat_map (instrument_remarks contents rooms) (all_instruments contents)
     ++ stream_remarks contents (streams_of contents config)
     ++ all_recorder_remarks contents.recorders
-    ++ when (length config.readers == 0) remarks.NoReader
+    ++ collected_remarks contents config (streams_of contents config)
 
 -- They are exactly the remarks that hold, in order.
 pub record AreRemarks (contents : Contents) (config : Config) (all : List Remark) : Type 0 where

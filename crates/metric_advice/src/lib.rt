@@ -5,6 +5,7 @@
 //! `specs/UnsafeParts.antt` which part of safety fails first, and `specs/Explanations.antt` what a refusal is about.
 #![tactic(auto)]
 
+mod collected;
 mod explanation;
 mod headroom;
 mod histograms;
@@ -12,8 +13,10 @@ mod limit;
 mod linting;
 mod position;
 mod remark;
+mod said;
 mod selected;
 mod unsafe_part;
+mod unused;
 mod values;
 
 pub use explanation::{Explanation, Mistake, explain_refusal};

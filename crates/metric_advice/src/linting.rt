@@ -8,10 +8,13 @@ ghost use Rattle.metric_advice.specs.Remarks.{selection_remarks, own_remarks, se
 ghost use Rattle.metric_advice.specs.Values.{stream_remarks};
 ghost use Rattle.metric_advice.specs.When.{when};
 
+use crate::collected::add_collected;
 use crate::headroom::{Headroom, headrooms_of};
 use crate::histograms::histogram_views;
 use crate::remark::{KeyList, Remark};
+use crate::said::add_said;
 use crate::selected::{is_declared_by, selected_by};
+use crate::unused::add_unused;
 use crate::values::{add_streams, add_values};
 use metric_base::{Few, Items, Text};
 use metric_catalogue::Catalogue;
@@ -22,9 +25,11 @@ use std::alloc::{AllocError, Global};
 
 /// Everything that looks like a mistake in a catalogue and a config, in this order: unfit views and collisions, as `resolve` tells
 /// them; then of each view whether it selects nothing, each key of `keep` and of `exclude` that no selected instrument declares,
-/// and boundaries without effect; then of each instrument whether nobody can record on it, whether it allows nothing or one value
-/// alone, and budgets and spare together above its headroom; then each stream of which one bucket takes all; then of each recorder whether it has no budget; then that there is no recorder, and that there is no reader. Fails only
-/// where memory is refused.
+/// boundaries without effect, whether it says nothing, and each key that it keeps and excludes; then of each instrument whether
+/// nobody can record on it, whether it allows nothing or one value alone, each value that no allowed combination has, and budgets and
+/// spare together above its headroom; then each stream of which one bucket takes all; then of each recorder whether it has no budget,
+/// and that there is no recorder; then of each reader whether it has no stream, and delta streams of up-down counters and of gauges,
+/// and that there is no reader. Fails only where memory is refused.
 pub fn lint(
     alloc: Global,
     catalogue: &Catalogue,
@@ -43,11 +48,10 @@ pub fn lint(
         config,
         histograms.as_slice(),
     )?;
-    add_instruments(&mut remarks, catalogue, rooms.as_slice())?;
+    add_instruments(alloc, &mut remarks, catalogue, rooms.as_slice())?;
     add_streams(&mut remarks, catalogue, streams.list())?;
     add_recorders(&mut remarks, catalogue.recorders())?;
-    let is_unread = config.readers().is_empty();
-    add_when(&mut remarks, is_unread, Remark::NoReader)?;
+    add_collected(&mut remarks, catalogue, config, streams.list())?;
     Ok(remarks)
 }
 
@@ -105,10 +109,12 @@ fn add_view(
         ++ view_remarks catalogue.now config.now histograms.now view) }
 {
     let selected = selected_by(alloc, catalogue, config, view)?;
-    let settings = &config.views()[view as usize].settings;
+    let own = &config.views()[view as usize];
+    let settings = &own.settings;
     add_settings(remarks, catalogue, selected.as_slice(), settings, view)?;
     let is_unused = has_unused_boundaries(config, settings, histograms[view as usize]);
-    add_when(remarks, is_unused, Remark::UnusedBoundaries { view })
+    add_when(remarks, is_unused, Remark::UnusedBoundaries { view })?;
+    add_said(remarks, own, view)
 }
 
 // Whether a view gives boundaries that no histogram has for the readers that there are.
@@ -231,6 +237,7 @@ fn add_keys(
 
 // Puts the remarks on all instruments last.
 fn add_instruments(
+    alloc: Global,
     remarks: &mut Items<Remark>,
     catalogue: &Catalogue,
     rooms: &[Headroom],
@@ -241,14 +248,21 @@ fn add_instruments(
 {
     let (recorders, instruments) = (catalogue.recorders(), catalogue.instruments());
     for number in 0..instruments.len() as u32 {
-        add_own(remarks, recorders, &instruments[number as usize], number)?;
+        add_own(
+            alloc,
+            remarks,
+            recorders,
+            &instruments[number as usize],
+            number,
+        )?;
         add_room(remarks, &rooms[number as usize], number)?;
     }
     Ok(())
 }
 
-// Puts the remarks on an instrument alone last: that nobody can record on it, and those on its values.
+// Puts the remarks on an instrument alone last: that nobody can record on it, and those on its values and combinations.
 fn add_own(
+    alloc: Global,
     remarks: &mut Items<Remark>,
     recorders: &[Recorder],
     instrument: &Instrument,
@@ -260,7 +274,8 @@ fn add_own(
     let is_unrecorded = is_unrecorded(recorders, instrument.spare, number);
     let remark = Remark::Unrecorded { instrument: number };
     add_when(remarks, is_unrecorded, remark)?;
-    add_values(remarks, instrument, number)
+    add_values(remarks, instrument, number)?;
+    add_unused(alloc, remarks, instrument, number)
 }
 
 // Whether there are recorders, and none may record on an instrument that has so much to spare.

@@ -3,6 +3,7 @@ ghost use Rattle.std.specs.Prelude.{◌≡◌};
 ghost use Rattle.metric_advice.specs.Kinds.{is_kind, kind_of};
 
 use crate::limit::Limit;
+use metric_contents::Kind;
 use std::fmt;
 
 /// What looks like a mistake in a catalogue and a config that are read. Views, instruments, streams, readers and recorders have
@@ -42,6 +43,18 @@ pub enum Remark {
         /// The number of the view.
         view: u32,
     },
+    /// The view has no criterion and no setting, so that each instrument gets a stream by it and nothing else is changed.
+    SaysNothing {
+        /// The number of the view.
+        view: u32,
+    },
+    /// The view excludes the key at this place of its list of kept keys too, so that it is left out.
+    KeptAndExcluded {
+        /// The number of the view.
+        view: u32,
+        /// The place in the list of kept keys, counted from 0.
+        place: u32,
+    },
     /// No recorder has a budget for the instrument, and it has no spare, so nobody can record on it.
     Unrecorded {
         /// The number of the instrument.
@@ -56,6 +69,15 @@ pub enum Remark {
     OneValue {
         /// The number of the instrument.
         instrument: u32,
+    },
+    /// The instrument lists the combinations that it allows, and none of them has the value, so that no recording can.
+    UnusedValue {
+        /// The number of the instrument.
+        instrument: u32,
+        /// The number of the key.
+        key: u32,
+        /// The place of the value in the list of the key, counted from 0.
+        value: u32,
     },
     /// Each boundary of the stream is outside the range of its instrument, so that one bucket takes each value.
     OneBucket {
@@ -76,6 +98,19 @@ pub enum Remark {
     },
     /// The catalogue has no recorder, so nothing can be recorded.
     NoRecorder,
+    /// There are instruments, and the reader has no stream: each is dropped.
+    NoStream {
+        /// The number of the reader.
+        reader: u32,
+    },
+    /// The reader has delta streams of instruments of a kind that has a level: up-down counters, of which it tells by how much they
+    /// rose or fell and never where they stand, or gauges, of which it tells nothing that was not recorded anew.
+    LevelDelta {
+        /// The number of the reader.
+        reader: u32,
+        /// The kind, which is `UpDownCounter` or `Gauge`.
+        kind: Kind,
+    },
     /// The config has no reader, so nothing is collected.
     NoReader,
 }
@@ -110,13 +145,18 @@ impl Remark {
             Remark::SelectsNothing { .. } => "selects-nothing",
             Remark::UnknownKey { .. } => "unknown-key",
             Remark::UnusedBoundaries { .. } => "unused-boundaries",
+            Remark::SaysNothing { .. } => "says-nothing",
+            Remark::KeptAndExcluded { .. } => "kept-and-excluded",
             Remark::Unrecorded { .. } => "unrecorded",
             Remark::NothingAllowed { .. } => "nothing-allowed",
             Remark::OneValue { .. } => "one-value",
+            Remark::UnusedValue { .. } => "unused-value",
             Remark::OneBucket { .. } => "one-bucket",
             Remark::OverBudget { .. } => "over-budget",
             Remark::NoBudget { .. } => "no-budget",
             Remark::NoRecorder => "no-recorder",
+            Remark::NoStream { .. } => "no-stream",
+            Remark::LevelDelta { .. } => "level-delta",
             Remark::NoReader => "no-reader",
         }
     }
@@ -133,13 +173,18 @@ pub fn is_kind(name: &str) -> bool
             | "selects-nothing"
             | "unknown-key"
             | "unused-boundaries"
+            | "says-nothing"
+            | "kept-and-excluded"
             | "unrecorded"
             | "nothing-allowed"
             | "one-value"
+            | "unused-value"
             | "one-bucket"
             | "over-budget"
             | "no-budget"
             | "no-recorder"
+            | "no-stream"
+            | "level-delta"
             | "no-reader"
     )
 }
@@ -159,6 +204,10 @@ impl fmt::Display for Remark {
                     "view {view} gives boundaries, but no stream of it is a histogram"
                 )
             }
+            Remark::SaysNothing { view } => write!(f, "view {view} says nothing"),
+            Remark::KeptAndExcluded { view, place } => {
+                write!(f, "view {view} excludes the key keep[{place}]")
+            }
             Remark::Unrecorded { instrument } => {
                 write!(f, "instrument {instrument} has no budget and no spare")
             }
@@ -168,6 +217,11 @@ impl fmt::Display for Remark {
             Remark::OneValue { instrument } => {
                 write!(f, "instrument {instrument} has one value alone")
             }
+            Remark::UnusedValue {
+                instrument,
+                key,
+                value,
+            } => write_unused(f, instrument, key, value),
             Remark::OneBucket { stream } => {
                 write!(f, "one bucket of stream {stream} takes each value")
             }
@@ -176,6 +230,10 @@ impl fmt::Display for Remark {
             }
             Remark::NoBudget { recorder } => write!(f, "recorder {recorder} has no budget"),
             Remark::NoRecorder => f.write_str("there is no recorder"),
+            Remark::NoStream { reader } => write!(f, "reader {reader} has no stream"),
+            Remark::LevelDelta { reader, kind } => {
+                write!(f, "reader {reader} has delta streams of {kind:?}")
+            }
             Remark::NoReader => f.write_str("there is no reader"),
         }
     }
@@ -202,5 +260,17 @@ fn write_unknown<W: fmt::Write>(
     write!(
         f,
         "view {view}: no selected instrument declares the key {list}[{place}]"
+    )
+}
+
+fn write_unused<W: fmt::Write>(
+    f: &mut fmt::Formatter<W>,
+    instrument: u32,
+    key: u32,
+    value: u32,
+) -> fmt::Result {
+    write!(
+        f,
+        "instrument {instrument} allows no combination with value {value} of key {key}"
     )
 }

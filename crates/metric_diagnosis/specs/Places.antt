@@ -2,7 +2,7 @@
 use Rattle.std.specs.Prelude.{◌≡◌, ℕ, List, Option}
 use Rattle.metric_catalogue.specs.declared.fault.CataloguePlace.TheVariants.{Instrument, Recorder}
 use Rattle.metric_catalogue.specs.declared.fault.CataloguePlace.TheVariants as tops
-use Rattle.metric_views.specs.declared.fault.ConfigPlace.TheVariants.{Top, View}
+use Rattle.metric_views.specs.declared.fault.ConfigPlace.TheVariants.{Top, View, Reader}
 use Rattle.metric_advice.specs.declared.limit.Limit.TheVariants.{Count, Amount, SumLow, SumHigh}
 use Rattle.metric_advice.specs.declared.limit.Limit.TheVariants.{Series}
 use Rattle.metric_advice.specs.declared.position.Position.{Position}
@@ -36,14 +36,20 @@ IsAbout (remarks.Collision first later) place = Unit {0}
 IsAbout (remarks.SelectsNothing view) place = place ≡ Config (View view)
 IsAbout (remarks.UnknownKey view list at) place = place ≡ Config (View view)
 IsAbout (remarks.UnusedBoundaries view) place = place ≡ Config (View view)
+IsAbout (remarks.SaysNothing view) place = place ≡ Config (View view)
+IsAbout (remarks.KeptAndExcluded view at) place = place ≡ Config (View view)
 IsAbout (remarks.Unrecorded instrument) place = place ≡ Catalogue (Instrument instrument)
 IsAbout (remarks.NothingAllowed instrument) place = place ≡ Catalogue (Instrument instrument)
 IsAbout (remarks.OneValue instrument) place = place ≡ Catalogue (Instrument instrument)
+IsAbout (remarks.UnusedValue instrument key value) place =
+    place ≡ Catalogue (Instrument instrument)
 IsAbout (remarks.OneBucket stream) place = Unit {0}
 IsAbout (remarks.OverBudget instrument limit) place =
     IsAboutPart (TooOften instrument limit) place
 IsAbout (remarks.NoBudget recorder) place = place ≡ Catalogue (Recorder recorder)
 IsAbout remarks.NoRecorder place = place ≡ Catalogue tops.Top
+IsAbout (remarks.NoStream reader) place = place ≡ Config (Reader reader)
+IsAbout (remarks.LevelDelta reader kind) place = place ≡ Config (Reader reader)
 IsAbout remarks.NoReader place = place ≡ Config Top
 
 -- # where a remark stands (profile)

@@ -27,6 +27,7 @@ mod catalogue;
 mod catalogue_cause;
 mod cause;
 mod certificate;
+mod collected;
 mod config;
 mod config_cause;
 mod diagnosis;
@@ -51,6 +52,7 @@ mod tables;
 mod told;
 mod toml_fault;
 mod unsafe_parts;
+mod unused;
 mod way;
 
 pub use catalogue::diagnose_catalogue;

@@ -3,19 +3,22 @@ ghost use Rattle.std.specs.Prelude.{◌≡◌, IfOk};
 ghost use Rattle.metric_diagnosis.specs.Places.{IsAbout, RemarkStands};
 
 use crate::buckets::told_bucket;
+use crate::collected::{words_of_idle_reader, words_of_level};
 use crate::diagnosis::Diagnosis;
 use crate::missed::words_of_nothing;
 use crate::places::{Place, position_of, source_of, told};
 use crate::sources::Pair;
 use crate::told::{instrument_of, recorder_of};
 use crate::unsafe_parts::{told_collision, told_limit};
+use crate::unused::words_of_unused;
 use metric_advice::{KeyList, Remark};
 use metric_catalogue::{Catalogue, CataloguePlace};
 use metric_views::{ConfigPlace, View};
 use std::alloc::{AllocError, Global};
 
 /// What a person is told of a remark of `lint`: the place of the view, the recorder or the instrument that it is about, and what
-/// looks like a mistake. The file is the catalogue for recorders and for budgets, else the config. Two streams of one identity stand
+/// looks like a mistake. The file is the catalogue for recorders, budgets and values, else the config. A reader that has no stream, or
+/// delta streams of what has a level, has its own place. Two streams of one identity stand
 /// at the view of the later one, else of the first; budgets that give a stream more series than its limit, at its view, else at its
 /// reader; buckets that tell nothing, at the view or the instrument; that there is no recorder or no reader, at the top. Of a remark that `lint` does not give on this pair the words may
 /// be less exact. Fails only where memory is refused.
@@ -53,6 +56,16 @@ fn told_of(alloc: Global, pair: Pair<'_>, remark: Remark) -> Result<(Place, Stri
         Remark::UnusedBoundaries { view } => {
             told(place_of_view(view), words_of_view(alloc, view, UNUSED))
         }
+        Remark::SaysNothing { view } => {
+            told(
+                place_of_view(view),
+                words_of_view(alloc, view, SAYS_NOTHING),
+            )
+        }
+        Remark::KeptAndExcluded { view, place } => told(
+            place_of_view(view),
+            words_of_both(alloc, pair, view, place),
+        ),
         Remark::Unrecorded { instrument } => told(
             Place::Catalogue(CataloguePlace::Instrument(instrument)),
             words_of_instrument(alloc, pair, instrument, UNRECORDED),
@@ -65,6 +78,14 @@ fn told_of(alloc: Global, pair: Pair<'_>, remark: Remark) -> Result<(Place, Stri
             Place::Catalogue(CataloguePlace::Instrument(instrument)),
             words_of_instrument(alloc, pair, instrument, ONE_VALUE),
         ),
+        Remark::UnusedValue {
+            instrument,
+            key,
+            value,
+        } => told(
+            Place::Catalogue(CataloguePlace::Instrument(instrument)),
+            words_of_unused(alloc, pair, instrument, key, value),
+        ),
         Remark::OneBucket { stream } => told_bucket(alloc, pair, stream),
         Remark::OverBudget { instrument, limit } => told_limit(alloc, pair, instrument, limit),
         Remark::NoBudget { recorder } => told(
@@ -75,6 +96,14 @@ fn told_of(alloc: Global, pair: Pair<'_>, remark: Remark) -> Result<(Place, Stri
             Place::Catalogue(CataloguePlace::Top),
             String::from_str(alloc, NO_RECORDER),
         ),
+        Remark::NoStream { reader } => told(
+            Place::Config(ConfigPlace::Reader(reader)),
+            words_of_idle_reader(alloc, pair, reader),
+        ),
+        Remark::LevelDelta { reader, kind } => told(
+            Place::Config(ConfigPlace::Reader(reader)),
+            words_of_level(alloc, pair, reader, kind),
+        ),
         Remark::NoReader => told(
             Place::Config(ConfigPlace::Top),
             String::from_str(alloc, NO_READER),
@@ -83,6 +112,9 @@ fn told_of(alloc: Global, pair: Pair<'_>, remark: Remark) -> Result<(Place, Stri
 }
 
 const UNUSED: &str = "gives boundaries, and no stream of it is a histogram";
+
+const SAYS_NOTHING: &str =
+    "has no criterion and no setting: it selects each instrument and changes nothing";
 
 const NO_RECORDER: &str = "there is no recorder, so nothing can be recorded";
 
@@ -125,6 +157,22 @@ fn words_of_key(
     };
     format!(in alloc;
         "view {view}: field {field:?}: no selected instrument declares the key {key:?}"
+    )
+}
+
+// A key that a view keeps and excludes.
+fn words_of_both(
+    alloc: Global,
+    pair: Pair<'_>,
+    view: u32,
+    place: u32,
+) -> Result<String, AllocError> {
+    let key = match pair.config.views().get(view as usize) {
+        Some(view) => key_at(view, KeyList::Keep, place),
+        None => "",
+    };
+    format!(in alloc;
+        "view {view}: the key {key:?} is in \"keep\" and in \"exclude\" too, so it is left out"
     )
 }
 

@@ -29,7 +29,7 @@ pub(crate) fn recorder_of(catalogue: &Catalogue, number: u32) -> Named<'_> {
 }
 
 // The reader of a number, with its name.
-fn reader_of(config: &Config, number: u32) -> Named<'_> {
+pub(crate) fn reader_of(config: &Config, number: u32) -> Named<'_> {
     let name = match config.readers().get(number as usize) {
         Some(reader) => Some(reader.name.as_str()),
         None => None,

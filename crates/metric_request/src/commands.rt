@@ -31,13 +31,18 @@ const LINTS: &str = "Kinds, each to be named as often as wanted:
   selects-nothing    a view that selects no instrument
   unknown-key        a key of a view that no selected instrument declares
   unused-boundaries  boundaries of a view that makes no histogram
+  says-nothing       a view without a criterion and a setting
+  kept-and-excluded  a key that a view both keeps and excludes
   unrecorded         an instrument that nobody can record on
   nothing-allowed    an instrument that lists no combination
   one-value          an instrument of one value, which tells nothing
+  unused-value       a value that no allowed combination has
   one-bucket         boundaries of which one bucket takes each value
   over-budget        budgets above what is safe
   no-budget          a recorder without any budget
   no-recorder        a catalogue without a recorder
+  no-stream          a reader of which each stream is dropped
+  level-delta        a delta reader of up-down counters or gauges
   no-reader          a config without a reader
   exposure           what a way out would lose
 

@@ -131,6 +131,7 @@ view 1: no selected instrument declares the key keep[0]
 view 2: no selected instrument declares the key keep[2]
 view 2: no selected instrument declares the key exclude[1]
 view 2 gives boundaries, but no stream of it is a histogram
+view 2 excludes the key keep[1]
 ",
     ),
     (

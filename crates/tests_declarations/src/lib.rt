@@ -36,6 +36,8 @@ mod patterns;
 #[cfg(test)]
 mod pictures;
 #[cfg(test)]
+mod remarks;
+#[cfg(test)]
 mod spares;
 #[cfg(test)]
 mod streams;

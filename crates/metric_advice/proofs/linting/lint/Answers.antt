@@ -1,21 +1,19 @@
 -- all remarks, one kind after the other
-use Rattle.std.proofs.Common.{◌≡◌, ℕ, Bool, ◌++◌, ◌==◌, List, length, map, ap, subst, ◌∙◌, arith}
+use Rattle.std.proofs.Common.{Bool, ◌≡◌, ℕ, ◌++◌, List, length, map, ap, subst, ◌∙◌, arith}
 use Rattle.std.specs.List.{AllZip, flat_map, range_with_len}
 use Rattle.std.proofs.lemmas.List.FromFn.{length-map-range_with_len, length-range_with_len}
 use Rattle.std.proofs.lemmas.Slice.Zip.{AllZip-long}
 use Rattle.metric_contents.specs.declared.contents.Recorder.{Recorder}
-use Rattle.metric_views.specs.declared.config.Reader.{Reader}
 use Rattle.metric_views.specs.declared.stream.Stream.{Stream}
 use Rattle.metric_resolve.specs.Applying.{all_instruments, all_views}
 use Rattle.metric_resolve.specs.Resolved.{streams_of}
 use Rattle.metric_resolve.specs.Warnings.{warnings_of}
 use Rattle.metric_advice.specs.declared.headroom.Headroom.{Headroom}
 use Rattle.metric_advice.specs.declared.remark.Remark.{Remark}
-use Rattle.metric_advice.specs.declared.remark.Remark.TheVariants.{NoReader}
 use Rattle.metric_advice.specs.Headrooms.{IsHeadroom}
 use Rattle.metric_advice.specs.Remarks.{all_recorder_remarks, instrument_remarks, makes_histogram, remark_of, view_remarks}
 use Rattle.metric_advice.specs.Values.{stream_remarks}
-use Rattle.metric_advice.specs.When.{when}
+use Rattle.metric_advice.specs.Collected.{collected_remarks}
 use Rattle.metric_advice.proofs.linting.lint.Goals as goal
 
 pub add_views-requires : goal.add_views-requires
@@ -42,19 +40,19 @@ returns c =
     let listed : c.list.result.now ≡ streams = c.list.ensures.list ∙ c.in_ok-streams.ensures.list in
     let again : c.list-2.result.now ≡ streams = c.list-2.ensures.list ∙ c.in_ok-streams.ensures.list in
     let third : c.list-3.result.now ≡ streams = c.list-3.ensures.list ∙ c.in_ok-streams.ensures.list in
+    let fourth : c.list-4.result.now ≡ streams = c.list-4.ensures.list ∙ c.in_ok-streams.ensures.list in
     let flags : c.as_slice.result.now ≡ map (makes_histogram streams) (all_views config) =
     c.as_slice.ensures ∙ c.in_ok-histograms.ensures ∙ ap (λ (s : List Stream). map (makes_histogram s) (range_with_len 0 (length c.views.result.now))) again
     ∙ ap (λ (n : ℕ). map (makes_histogram streams) (range_with_len 0 n)) (ap length c.views.ensures.views) in
     let warned : c.in_ok-remarks.remarks ≡ map remark_of (warnings_of contents config) =
     c.in_ok-remarks.ensures ∙ ap (map remark_of) (c.warnings.ensures ∙ c.in_ok-streams.ensures.warnings) in
-    let unread = c.is_empty-is_unread.ensures ∙ ap (λ (rs : List Reader). length rs == 0) c.readers.ensures.readers in
     record {
       rooms = rooms;
       are_rooms = subst (λ (s : List Stream). AllZip (IsHeadroom contents s) (all_instruments contents) rooms) listed c.in_ok-rooms.ensures;
       are =
-          c.in_ok-add_when.ensures
-          ∙ ap (λ (b : Bool). c.add_recorders.new.remarks ++ when b NoReader) unread
-          ∙ ap (λ (rs : List Remark). rs ++ when (length config.readers == 0) NoReader)
+          c.in_ok-add_collected.ensures
+          ∙ ap (λ (s : List Stream). c.add_recorders.new.remarks ++ collected_remarks contents config s) fourth
+          ∙ ap (λ (rs : List Remark). rs ++ collected_remarks contents config streams)
           (c.in_ok-add_recorders.ensures
           ∙ ap (λ (rs : List Recorder). c.add_streams.new.remarks ++ all_recorder_remarks rs) c.recorders.ensures.recorders
           ∙ ap (λ (rs : List Remark). rs ++ all_recorder_remarks contents.recorders)
