@@ -6,7 +6,7 @@ use Rattle.metric_facts.specs.declared.facts.Facts.{Facts}
 use Rattle.metric_history.specs.declared.batch.Batch.{Batch}
 use Rattle.metric_lines.specs.Batches.{batch_text}
 use Rattle.metric_marked.specs.Marks.{StandsMarked}
-use Rattle.metric_provider.specs.Collections.{with_seen}
+use Rattle.metric_seat.specs.Collections.{with_seen}
 use Rattle.metric_hosted.specs.declared.planned.HostedReader.{HostedReader}
 use Rattle.metric_hosted.specs.Collections.{AnswersReading, allowance_of, with_collected}
 use Rattle.metric_hosted.specs.Hosts.{HostedValue, number_of}

@@ -6,7 +6,7 @@ use Rattle.std.specs.Option.{is_some}
 use Rattle.metric_core.specs.Cells.{CellStands, new_cell}
 use Rattle.metric_marked.specs.Marks.{StandsMarked}
 use Rattle.metric_plan.specs.Plans.{PlanValue}
-use Rattle.metric_provider.specs.Seats.{new_collector, new_recorder}
+use Rattle.metric_seat.specs.Seats.{new_collector, new_recorder}
 use Rattle.metric_setup.specs.Setups.{IsFirstFault}
 use Rattle.metric_setup.specs.declared.fault.SetupFault.{SetupFault}
 use Rattle.metric_setup.specs.declared.fault.SetupFault.TheVariants.{Memory}

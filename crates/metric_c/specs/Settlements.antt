@@ -5,10 +5,10 @@ use Rattle.metric_hosted.specs.declared.planned.HostedRecorder.{HostedRecorder}
 use Rattle.metric_hosted.specs.declared.settling.SeatTold.{SeatTold}
 use Rattle.metric_hosted.specs.Hosts.{HostedValue}
 use Rattle.metric_hosted.specs.Settlements.{IsSeatOf, Settles, TellsOf, seated}
-use Rattle.metric_provider.specs.declared.fault.FinishFault.{FinishFault}
-use Rattle.metric_provider.specs.declared.fault.FinishFault.TheVariants.{RecorderMissing, Stranger}
-use Rattle.metric_provider.specs.declared.fault.FinishFault.TheVariants.{AuditMismatch, Memory}
-use Rattle.metric_provider.specs.declared.totals.Total.{Total}
+use Rattle.metric_seat.specs.declared.fault.FinishFault.{FinishFault}
+use Rattle.metric_seat.specs.declared.fault.FinishFault.TheVariants.{RecorderMissing, Stranger}
+use Rattle.metric_seat.specs.declared.fault.FinishFault.TheVariants.{AuditMismatch, Memory}
+use Rattle.metric_seat.specs.declared.total.Total.{Total}
 use Rattle.metric_c.specs.declared.settlements.TotalOut.{TotalOut}
 
 -- the number of a fault

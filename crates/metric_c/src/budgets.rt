@@ -42,7 +42,7 @@ fn write_budget(held: &Hosted, own: &HostedRecorder, out: &mut Budget) -> u32
     ensures answer { AnswersBudget held.now own.now out.new result }
     ensures refused { result ≢ 0 → out.new ≡ out.old }
 {
-    match own.seat.budget_of(own.plan.get(), held) {
+    match held.budget_of(own.plan.get(), &own.seat) {
         Ok(budget) => {
             *out = budget;
             DONE
@@ -106,6 +106,6 @@ fn ask_one(held: &mut Hosted, own: &HostedRecorder, amount: u64) -> u32
     ensures done { result ≡ 0 → Grants held.old held.new own.now.seat.number amount }
     ensures refused { result ≢ 0 → held.new ≡ held.old }
 {
-    let answer = own.seat.ask(own.plan.get(), held, amount);
+    let answer = held.ask(own.plan.get(), &own.seat, amount);
     code_of(&answer)
 }

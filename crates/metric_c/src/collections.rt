@@ -63,7 +63,7 @@ fn collect_kept(
     ensures reader { OnErr result (own.new ≡ own.old) }
 {
     let HostedReader { plan, seat, last } = own;
-    let batch = seat.collect(alloc, plan.get(), held, now)?;
+    let batch = held.collect(alloc, plan.get(), seat, now)?;
     *last = Some(batch);
     Ok(())
 }

@@ -275,7 +275,7 @@ fn new_recorders(
     let count = plan.get().catalogue().recorders().len() as u32;
     let mut all = Vec::new(alloc);
     for number in 0..count {
-        let seat = RecorderSeat::new(alloc, run, number, instruments)?;
+        let seat = RecorderSeat::new(alloc, run, number, instruments, false)?;
         let plan = plan.copy(alloc)?;
         let held = Box::new(alloc, HostedRecorder { plan, seat })?;
         all.push(RecorderHandle::of(held))?;

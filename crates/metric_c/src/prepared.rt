@@ -12,7 +12,7 @@ use crate::codes::{DONE, MEMORY, NO_TEXT, NOT_OPEN, code_of};
 use crate::instrument_handle::InstrumentHandle;
 use crate::recorder_handle::RecorderHandle;
 use metric_contents::Attr;
-use metric_hosted::{Hosted, HostedRecorder, Prepared};
+use metric_hosted::{Hosted, HostedRecorder, Measurement};
 use std::alloc::Global;
 
 /// Finds the set key of attributes for the instrument of a number, and writes it; the value stays. Nothing else changes.
@@ -23,7 +23,7 @@ pub extern "C" fn wormweekly_prepare(
     instrument: u32,
     texts: &[u8],
     given: &[Attribute],
-    prepared: &mut Prepared,
+    prepared: &mut Measurement,
 ) -> u32
     ensures answer { let read = attributes_from given.now texts.now in
         WhereHeld recorder.old.value (result ≡ 100) (λ own.
@@ -47,7 +47,7 @@ fn prepare_given(
     instrument: u32,
     texts: &[u8],
     given: &[Attribute],
-    prepared: &mut Prepared,
+    prepared: &mut Measurement,
 ) -> u32
     ensures answer { let read = attributes_from given.now texts.now in
         IsPrepared own.now.plan instrument (length given.now) read result prepared.new.set }
@@ -73,7 +73,7 @@ fn prepare_attributes(
     own: &HostedRecorder,
     instrument: u32,
     attrs: &[Attr<'_>],
-    prepared: &mut Prepared,
+    prepared: &mut Measurement,
 ) -> u32
     ensures answer { let attrs = map given_by attrs.now in
         IsEncoded (encode_of own.now.plan.facts.contents.instruments instrument attrs)
@@ -96,7 +96,7 @@ pub extern "C" fn wormweekly_record_prepared(
     alloc: Global,
     instrument: &mut InstrumentHandle,
     recorder: &mut RecorderHandle,
-    prepared: &Prepared,
+    prepared: &Measurement,
 ) -> u32
     ensures answer { let set = prepared.now.set in let value = prepared.now.value in
         WhereBoth instrument.old.value recorder.old.value (result ≡ 100) (λ h own.
@@ -120,7 +120,7 @@ pub extern "C" fn wormweekly_record_prepared(
     code
 }
 
-fn record_one(held: &mut Hosted, own: &mut HostedRecorder, prepared: &Prepared) -> u32
+fn record_one(held: &mut Hosted, own: &mut HostedRecorder, prepared: &Measurement) -> u32
     ensures answer { let set = prepared.now.set in let value = prepared.now.value in
         IsCodeOf (AnswersKey set value held.old own.old) result }
     ensures done { let set = prepared.now.set in let value = prepared.now.value in
@@ -129,7 +129,7 @@ fn record_one(held: &mut Hosted, own: &mut HostedRecorder, prepared: &Prepared) 
     ensures recorder { result ≢ 0 → own.new ≡ own.old }
 {
     let HostedRecorder { plan, seat } = own;
-    let answer = seat.record_set(plan.get(), held, prepared.set, prepared.value);
+    let answer = held.record_set(plan.get(), seat, prepared.set, prepared.value);
     code_of(&answer)
 }
 
@@ -139,7 +139,7 @@ pub extern "C" fn wormweekly_record_list(
     alloc: Global,
     instrument: &mut InstrumentHandle,
     recorder: &mut RecorderHandle,
-    list: &[Prepared],
+    list: &[Measurement],
     made: &mut usize,
 ) -> u32
     ensures { let count = made.new in
@@ -166,19 +166,19 @@ pub extern "C" fn wormweekly_record_list(
 fn record_all(
     held: &mut Hosted,
     own: &mut HostedRecorder,
-    list: &[Prepared],
+    list: &[Measurement],
     made: &mut usize,
 ) -> u32
     ensures { RecordsList list.now made.new result held.old held.new own.old own.new }
 {
     let HostedRecorder { plan, seat } = own;
-    match seat.record_sets(plan.get(), held, list) {
+    match held.record_sets(plan.get(), seat, list) {
         Ok(()) => {
             *made = list.len();
             DONE
         }
         Err(stop) => {
-            *made = stop.done;
+            *made = stop.place;
             u32::from(stop.refusal.number())
         }
     }

@@ -90,6 +90,6 @@ fn record_attributes(
     ensures recorder { result ≢ 0 → own.new ≡ own.old }
 {
     let HostedRecorder { plan, seat } = own;
-    let answer = seat.record(plan.get(), held, attrs, value);
+    let answer = held.record(plan.get(), seat, attrs, value);
     code_of(&answer)
 }

@@ -7,8 +7,7 @@ ghost use Rattle.metric_hosted.specs.Settlements.{TellsOf};
 use crate::codes::{AUDIT_MISMATCH, DONE, MEMORY, NOT_OPEN, RECORDER_MISSING, STRANGER};
 use crate::instrument_handle::InstrumentHandle;
 use crate::recorder_handle::RecorderHandle;
-use metric_hosted::{Hosted, HostedRecorder, SeatTold};
-use metric_provider::{FinishFault, Total};
+use metric_hosted::{FinishFault, Hosted, HostedRecorder, SeatTold, Total};
 use std::alloc::Global;
 
 /// What an instrument comes to: how many recordings, and the sum of their values, as 128 bits without the sign, and 1 where
@@ -143,7 +142,7 @@ fn told_by(alloc: Global, held: &Hosted, recorder: &mut RecorderHandle) -> Resul
     let Some(own) = recorder.take(alloc) else {
         return Err(NOT_OPEN);
     };
-    let told = own.seat.told_of(own.plan.get(), held);
+    let told = held.told_of(own.plan.get(), &own.seat);
     recorder.put(own);
     match told {
         Ok(told) => Ok(told),

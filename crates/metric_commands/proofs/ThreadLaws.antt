@@ -2,9 +2,9 @@
 use Rattle.std.proofs.Common.{◌≡◌, ◌+◌, ℕ, List, [], ◌∷◌, IsTrue, length, ap, refl, suc}
 use Rattle.metric_facts.specs.declared.facts.Facts.{Facts}
 use Rattle.metric_plan.specs.Plans.{PlanValue}
-use Rattle.metric_provider.specs.Seats.{RecorderValue}
+use Rattle.metric_seat.specs.Seats.{RecorderValue}
 use Rattle.metric_provider.specs.Totals.{told_totals}
-use Rattle.metric_provider.specs.declared.totals.Total.{Total}
+use Rattle.metric_seat.specs.declared.total.Total.{Total}
 use Rattle.metric_commands.specs.declared.fault.KitFault.{KitFault}
 use Rattle.metric_commands.specs.declared.fault.KitFault.TheVariants.{Read, Input, Catalogue, Config, Certificate, Check, Make, Audit, Finish, Write, Memory}
 use Rattle.metric_commands.specs.Checking.{IsCertifiedInput, IsFirstCheckFault, check_needs}

@@ -3,9 +3,9 @@ use Rattle.std.specs.Prelude.{◌≡◌, ◌≢◌, ◌++◌, ℕ, ℤ, List, co
 use Rattle.std.specs.Fmt.{signed_decimal}
 use Rattle.metric_text.specs.Lists.{numbered}
 use Rattle.metric_plan.specs.Plans.{PlanValue}
-use Rattle.metric_provider.specs.declared.fault.FinishFault.{FinishFault}
-use Rattle.metric_provider.specs.declared.fault.FinishFault.TheVariants as finish
-use Rattle.metric_provider.specs.declared.totals.Total.{Total}
+use Rattle.metric_seat.specs.declared.fault.FinishFault.{FinishFault}
+use Rattle.metric_seat.specs.declared.fault.FinishFault.TheVariants as finish
+use Rattle.metric_seat.specs.declared.total.Total.{Total}
 use Rattle.metric_commands.specs.declared.fault.KitFault.{KitFault}
 use Rattle.metric_commands.specs.declared.fault.KitFault.TheVariants.{Finish, Memory}
 use Rattle.metric_commands.specs.Checking.{IsCertifiedInput, IsFirstCheckFault}

@@ -20,8 +20,8 @@ use Rattle.metric_contents.specs.KeyNames.{is_key}
 use Rattle.metric_facts.specs.declared.facts.Facts.{Facts}
 use Rattle.metric_facts.specs.Facts.{in_bounds}
 use Rattle.metric_plan.specs.Plans.{PlanValue, print_of}
-use Rattle.metric_provider.specs.Recordings.{AnswersSeat, RefusesRecording, SeatSpares, told_at}
-use Rattle.metric_provider.specs.Seats.{RecorderValue, is_recorder_of}
+use Rattle.metric_seat.specs.Recordings.{AnswersSeat, RefusesRecording, SeatSpares, told_at}
+use Rattle.metric_seat.specs.Seats.{RecorderValue, is_recorder_of}
 use Rattle.metric_views.specs.Selection.{is_kind}
 use Rattle.metric_handles.specs.Bounds.{BoundValue, HandleValue, bound_of}
 use Rattle.metric_handles.specs.declared.fault.HandleFault.TheVariants as faults

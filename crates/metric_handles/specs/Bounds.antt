@@ -5,7 +5,7 @@ use Rattle.metric_contents.specs.declared.refusal.Refusal.{Refusal}
 use Rattle.metric_contents.specs.declared.refusal.Refusal.TheVariants.{Stranger}
 use Rattle.metric_contents.specs.Encoding.{Given, encode_of}
 use Rattle.metric_plan.specs.Plans.{PlanValue, print_of}
-use Rattle.metric_provider.specs.declared.keys.Measurement.{Measurement}
+use Rattle.metric_seat.specs.declared.keys.Measurement.{Measurement}
 
 -- the number of an instrument, in a plan of this fingerprint
 pub record HandleValue : Type 0 where

@@ -4,11 +4,11 @@ use Rattle.std.specs.Prelude.{drop, length, take}
 use Rattle.metric_contents.specs.declared.refusal.Refusal.{Refusal}
 use Rattle.metric_contents.specs.declared.refusal.Refusal.TheVariants.{Stranger}
 use Rattle.metric_facts.specs.declared.facts.Facts.{Facts}
-use Rattle.metric_provider.specs.declared.fault.SetsFault.{SetsFault}
-use Rattle.metric_provider.specs.declared.keys.Measurement.{Measurement}
-use Rattle.metric_provider.specs.KeyRecordings.{AreAccepted, IsRefusedAfter, noted_of_all}
-use Rattle.metric_provider.specs.Recordings.{AnswersSeat, IsToldOf, SeatSpares}
-use Rattle.metric_provider.specs.Seats.{ProviderValue, RecorderValue}
+use Rattle.metric_seat.specs.declared.fault.SetsFault.{SetsFault}
+use Rattle.metric_seat.specs.declared.keys.Measurement.{Measurement}
+use Rattle.metric_seat.specs.KeyRecordings.{AreAccepted, IsRefusedAfter, noted_of_all}
+use Rattle.metric_seat.specs.Recordings.{AnswersSeat, IsToldOf, SeatSpares}
+use Rattle.metric_seat.specs.Seats.{ProviderValue, RecorderValue}
 
 -- # makes a recording, recordings (API, Add, Record) [MakesRecording, MakesRecordings]
 -- What the seat's call is answered and told, as one fact.

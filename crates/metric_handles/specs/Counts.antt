@@ -5,7 +5,7 @@ use Rattle.metric_contents.specs.declared.refusal.Refusal.{Refusal}
 use Rattle.metric_contents.specs.Refusals.{number_of}
 use Rattle.metric_handles.specs.Replaced.{one_more}
 use Rattle.metric_plan.specs.Plans.{PlanValue}
-use Rattle.metric_provider.specs.Seats.{RecorderValue}
+use Rattle.metric_seat.specs.Seats.{RecorderValue}
 
 -- how often each refusal came, by its number, and how many recordings of lists were not tried
 pub record CountsValue : Type 0 where

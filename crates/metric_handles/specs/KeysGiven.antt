@@ -16,8 +16,8 @@ use Rattle.metric_handles.specs.Bounds.{HandleValue, bound_of}
 use Rattle.metric_handles.specs.Calls.{MakesRecording}
 use Rattle.metric_handles.specs.Named.{handle_in, handle_of}
 use Rattle.metric_plan.specs.Plans.{PlanValue}
-use Rattle.metric_provider.specs.Recordings.{admitted}
-use Rattle.metric_provider.specs.Seats.{ProviderValue, RecorderValue}
+use Rattle.metric_seat.specs.Recordings.{admitted}
+use Rattle.metric_seat.specs.Seats.{ProviderValue, RecorderValue}
 
 -- # refused for values, not for keys (profile) [IsOfValues, IsNotOfKeys]
 -- A value is not declared, or the combination is not allowed; no key stands twice, is undeclared or

@@ -3,7 +3,7 @@ use Rattle.std.specs.Prelude.{ℕ, ◌-◌, Option, slice_get}
 use Rattle.std.specs.Option.{option_map}
 use Rattle.metric_contents.specs.Budgets.{budget_at}
 use Rattle.metric_plan.specs.Plans.{PlanValue}
-use Rattle.metric_provider.specs.Seats.{RecorderValue}
+use Rattle.metric_seat.specs.Seats.{RecorderValue}
 use Rattle.metric_slot.specs.declared.told.Told.{Told}
 
 -- # left of a budget (profile)

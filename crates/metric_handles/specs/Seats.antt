@@ -6,7 +6,7 @@ use Rattle.std.specs.Str.{bytes_eq}
 use Rattle.metric_contents.specs.declared.contents.Recorder.{Recorder}
 use Rattle.metric_views.specs.declared.config.Reader.{Reader}
 use Rattle.metric_plan.specs.Plans.{PlanValue}
-use Rattle.metric_provider.specs.Seats.{CollectorValue, RecorderValue}
+use Rattle.metric_seat.specs.Seats.{CollectorValue, RecorderValue}
 
 -- the recorder of a number has this name
 abbrev pub is_recorder_named : PlanValue → List ℕ → ℕ → Bool

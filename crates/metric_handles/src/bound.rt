@@ -1,7 +1,7 @@
 //! Attributes that are bound to an instrument.
 ghost use Rattle.std.specs.Prelude.{◌≡◌, ◌≢◌};
 ghost use Rattle.metric_plan.specs.Plans.{print_of};
-ghost use Rattle.metric_provider.specs.KeyRecordings.{admitted_key, measurement_of};
+ghost use Rattle.metric_seat.specs.KeyRecordings.{admitted_key, measurement_of};
 ghost use Rattle.metric_handles.specs.Calls.{IsStrange, MakesRecording};
 
 use crate::kinds::{Adds, IsCounter, IsGauge, IsHistogram, IsUpDownCounter, Records};

@@ -1,7 +1,7 @@
 //! Lists of bound recordings.
 ghost use Rattle.std.specs.Prelude.{◌≡◌, ◌≢◌, ◌↔◌, ◌⊎◌, ◌≤◌, [], ◌∷◌, ◌++◌, drop, length, IfErr, IsErrOf, OnErr, OnOk};
 ghost use Rattle.metric_plan.specs.Plans.{print_of};
-ghost use Rattle.metric_provider.specs.KeyRecordings.{measurement_of};
+ghost use Rattle.metric_seat.specs.KeyRecordings.{measurement_of};
 ghost use Rattle.metric_handles.specs.Calls.{IsStrangeList, MakesRecordings, answer_of, left_of, untried_of};
 
 use crate::bound::Bound;

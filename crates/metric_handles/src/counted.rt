@@ -2,8 +2,8 @@
 ghost use Rattle.std.specs.Prelude.{◌≡◌, ◌<◌, ◌≤◌, ◌+◌, IfErr, IfOk, length, map, replicate, slice_index_or, slice_set};
 ghost use Rattle.metric_contents.specs.Attributes.{given_by};
 ghost use Rattle.metric_contents.specs.Refusals.{number_of};
-ghost use Rattle.metric_provider.specs.KeyRecordings.{admitted_key};
-ghost use Rattle.metric_provider.specs.Recordings.{admitted};
+ghost use Rattle.metric_seat.specs.KeyRecordings.{admitted_key};
+ghost use Rattle.metric_seat.specs.Recordings.{admitted};
 ghost use Rattle.metric_handles.specs.Calls.{MakesRecording, MakesRecordings, answer_of, untried_of};
 ghost use Rattle.metric_handles.specs.Counts.{count_in, counted_of, counts_after, counts_of, no_counts, place_of, refused_before};
 

@@ -2,7 +2,7 @@
 ghost use Rattle.std.specs.Prelude.{◌≡◌, ◌≢◌, [], map};
 ghost use Rattle.metric_contents.specs.Attributes.{given_by};
 ghost use Rattle.metric_plan.specs.Plans.{print_of};
-ghost use Rattle.metric_provider.specs.Recordings.{admitted};
+ghost use Rattle.metric_seat.specs.Recordings.{admitted};
 ghost use Rattle.metric_handles.specs.Bounds.{bound_of, number_in};
 ghost use Rattle.metric_handles.specs.Calls.{IsStrange, MakesRecording};
 

@@ -2,9 +2,9 @@
 ghost use Rattle.std.specs.Prelude.{ℕ, Result, map};
 ghost use Rattle.metric_contents.specs.Attributes.{given_by};
 ghost use Rattle.metric_contents.specs.declared.refusal.Refusal.{Refusal as refusals};
-ghost use Rattle.metric_provider.specs.KeyRecordings.{admitted_key};
-ghost use Rattle.metric_provider.specs.Recordings.{admitted};
-ghost use Rattle.metric_provider.specs.Seats.{RecorderValue};
+ghost use Rattle.metric_seat.specs.KeyRecordings.{admitted_key};
+ghost use Rattle.metric_seat.specs.Recordings.{admitted};
+ghost use Rattle.metric_seat.specs.Seats.{RecorderValue};
 ghost use Rattle.metric_handles.specs.Calls.{MakesRecording, MakesRecordings, answer_of, untried_of};
 
 use metric_book::Book;

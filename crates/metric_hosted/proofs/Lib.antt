@@ -1,2 +1,3 @@
 pub mod ListLaws
+pub mod ReadLaws
 pub mod SettleLaws

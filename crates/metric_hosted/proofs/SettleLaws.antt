@@ -1,7 +1,7 @@
 -- The total of what seats were told.
 use Rattle.std.proofs.Common.{◌≡◌, ℕ, ℤ, List, pos, ◌+ℤ◌, ◌*ℤ◌, ap, ◌∙◌}
 use Rattle.metric_facts.specs.declared.facts.Facts.{Facts}
-use Rattle.metric_provider.specs.declared.totals.Total.{Total}
+use Rattle.metric_seat.specs.declared.total.Total.{Total}
 use Rattle.metric_hosted.specs.declared.settling.SeatTold.{SeatTold}
 use Rattle.metric_hosted.specs.Settlements.{told_amount, told_count, told_sum, told_total}
 

@@ -6,8 +6,8 @@ use Rattle.metric_facts.specs.declared.facts.Facts.{Facts}
 use Rattle.metric_history.specs.declared.batch.Batch.{Batch}
 use Rattle.metric_marked.specs.Marks.{MarkedValue}
 use Rattle.metric_plan.specs.Plans.{PlanValue}
-use Rattle.metric_provider.specs.Collections.{IsNextBatch, collectable}
-use Rattle.metric_provider.specs.Seats.{CollectorValue}
+use Rattle.metric_seat.specs.Collections.{IsNextBatch, collectable}
+use Rattle.metric_seat.specs.Seats.{CollectorValue}
 use Rattle.metric_slot.specs.SlotAnswers.{RefusesReader}
 use Rattle.metric_hosted.specs.Hosts.{HostedValue, number_of, run_of}
 use Rattle.std.specs.Prelude.{slice_index}

@@ -3,7 +3,7 @@ use Rattle.std.specs.Prelude.{ℕ}
 use Rattle.metric_core.specs.Cells.{CellValue}
 use Rattle.metric_marked.specs.Marks.{MarkedValue}
 use Rattle.metric_plan.specs.Plans.{PlanValue}
-use Rattle.metric_provider.specs.Seats.{ProviderValue, provider_of}
+use Rattle.metric_seat.specs.Seats.{ProviderValue, provider_of}
 
 -- # hosted instrument (profile) [HostedValue, run_of]
 -- The state of an instrument and the number of its run; what a seat with a plan takes that run for.

@@ -1,17 +1,15 @@
 -- What recordings on an instrument that a host holds are answered.
-use Rattle.std.specs.Prelude.{◌≡◌, ◌≢◌, ℕ, ℤ, IfSome, List, Result, Ok, Err, slice_get}
+use Rattle.std.specs.Prelude.{◌≡◌, ℕ, ℤ, IfSome, List, Result, Ok, Err, slice_get}
 use Rattle.metric_contents.specs.Encoding.{Given}
 use Rattle.metric_contents.specs.declared.refusal.Refusal.{Refusal}
-use Rattle.metric_contents.specs.declared.refusal.Refusal.TheVariants.{Memory}
 use Rattle.metric_core.specs.CellAnswers.{GainsEntry, entry_of, with_entry}
-use Rattle.metric_facts.specs.declared.facts.Facts.{Facts}
 use Rattle.metric_facts.specs.Products.{AreAllByProduct}
 use Rattle.metric_marked.specs.Marks.{MarkedValue, StandsMarked}
 use Rattle.metric_plan.specs.Plans.{PlanValue}
-use Rattle.metric_provider.specs.KeyRecordings.{admitted_key}
-use Rattle.metric_provider.specs.Recordings.{admitted, told_at, with_recording}
-use Rattle.metric_provider.specs.Seats.{RecorderValue}
-use Rattle.metric_slot.specs.SlotAnswers.{AnswersRecorder}
+use Rattle.metric_seat.specs.KeyRecordings.{admitted_key}
+use Rattle.metric_seat.specs.Recordings.{admitted, with_recording}
+use Rattle.metric_seat.specs.Seats.{RecorderValue}
+use Rattle.metric_seat.specs.OneSlot.{AnswersSlot}
 use Rattle.metric_hosted.specs.Hosts.{HostedValue, number_of, run_of}
 
 -- # admission (profile) [admission_of, admission_of_key]
@@ -26,15 +24,7 @@ abbrev pub admission_of_key : PlanValue → HostedValue → RecorderValue → Li
     → Result (List ℕ) Refusal
 admission_of_key plan h seat set value = admitted_key (run_of plan h) seat (number_of h) set value
 
--- What a recording of a set key is answered by an instrument whose facts the plan has like this:
--- what its slot answers, never `Memory` where all its streams are by product.
-pub record AnswersKnown (h : HostedValue) (seat : RecorderValue) (set : List ℕ) (value : ℤ)
-    (result : Result (Unit {0}) Refusal) (own : Facts) : Type 0 where
-  pub answer : AnswersRecorder StandsMarked h.cell own (told_at seat (number_of h))
-      (entry_of seat.number set value) result
-  pub memory : AreAllByProduct own → result ≢ Err Memory
-
--- # answer to a hosted seat (Metrics API, synchronous instruments) [AnswersHosted, AnswersKnown]
+-- # answer to a hosted seat (Metrics API, synchronous instruments)
 -- What refuses its admission, else what the slot answers, never `Memory` where all streams are by
 -- product.
 abbrev pub AnswersHosted : Result (List ℕ) Refusal → PlanValue → HostedValue → RecorderValue → ℤ
@@ -42,7 +32,7 @@ abbrev pub AnswersHosted : Result (List ℕ) Refusal → PlanValue → HostedVal
 AnswersHosted (Err first) plan h seat value (Err refusal) = refusal ≡ first
 AnswersHosted (Err first) plan h seat value (Ok done) = ⊥
 AnswersHosted (Ok set) plan h seat value result =
-    IfSome (slice_get plan.facts.instruments (number_of h)) (AnswersKnown h seat set value result)
+    AnswersSlot StandsMarked AreAllByProduct plan h.cell seat (number_of h) set value result
 
 -- the instrument with a recording of a recorder, which this book has
 abbrev pub with_recorded : HostedValue → ℕ → List ℕ → ℤ → MarkedValue → HostedValue

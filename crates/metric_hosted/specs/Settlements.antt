@@ -7,12 +7,12 @@ use Rattle.metric_core.specs.Cells.{CellValue}
 use Rattle.metric_facts.specs.declared.facts.Facts.{Facts}
 use Rattle.metric_marked.specs.Marks.{MarkedValue}
 use Rattle.metric_plan.specs.Plans.{PlanValue}
-use Rattle.metric_provider.specs.Recordings.{told_at}
-use Rattle.metric_provider.specs.Seats.{RecorderValue, is_recorder_of}
-use Rattle.metric_provider.specs.declared.fault.FinishFault.{FinishFault}
-use Rattle.metric_provider.specs.declared.fault.FinishFault.TheVariants.{RecorderMissing, Stranger}
-use Rattle.metric_provider.specs.declared.fault.FinishFault.TheVariants.{AuditMismatch}
-use Rattle.metric_provider.specs.declared.totals.Total.{Total}
+use Rattle.metric_seat.specs.Recordings.{told_at}
+use Rattle.metric_seat.specs.Seats.{RecorderValue, is_recorder_of}
+use Rattle.metric_seat.specs.declared.fault.FinishFault.{FinishFault}
+use Rattle.metric_seat.specs.declared.fault.FinishFault.TheVariants.{RecorderMissing, Stranger}
+use Rattle.metric_seat.specs.declared.fault.FinishFault.TheVariants.{AuditMismatch}
+use Rattle.metric_seat.specs.declared.total.Total.{Total}
 use Rattle.metric_hosted.specs.declared.settling.SeatTold.{SeatTold}
 use Rattle.metric_hosted.specs.Hosts.{HostedValue, number_of, run_of}
 

@@ -6,9 +6,9 @@ ghost use Rattle.metric_hosted.specs.Grants.{with_granted};
 ghost use Rattle.metric_marked.specs.Marks.{StandsMarked};
 
 use crate::instrument::Hosted;
-use crate::recorder::RecorderSeat;
 use metric_contents::Refusal;
 use metric_plan::Plan;
+use metric_seat::RecorderSeat;
 
 /// The recordings that a recorder may make on an instrument, and those that it has made.
 #[repr(C)]
@@ -73,40 +73,38 @@ impl Hosted {
         let budgets = self.cell().facts().budgets.as_slice();
         budgets.get(recorder as usize).copied().unwrap_or(0)
     }
-}
 
-impl RecorderSeat {
-    /// What the recorder may record on an instrument, and has recorded there. The plan is that of the seat.
+    /// What the recorder of a seat may record, and has recorded. The plan is that of the seat.
     ///
     /// # Errors
     ///
     /// `Stranger` where the seat is of another run, or of a plan that does not have the instrument's facts.
-    pub fn budget_of(&self, plan: &Plan, instrument: &Hosted) -> Result<Budget, Refusal>
-        ensures { TellsBudget plan.now instrument.now self.now result }
+    pub fn budget_of(&self, plan: &Plan, seat: &RecorderSeat) -> Result<Budget, Refusal>
+        ensures { TellsBudget plan.now self.now seat.now result }
     {
-        match self.told_of(plan, instrument) {
-            Ok(_) => Ok(instrument.budget_at(self.number())),
+        match self.told_of(plan, seat) {
+            Ok(_) => Ok(self.budget_at(seat.number())),
             Err(_) => Err(Refusal::Stranger),
         }
     }
 
-    /// Asks for so many recordings on an instrument beside the budget, of what is left of the instrument's spare budget.
-    /// The plan is that of the seat. Takes no memory.
+    /// Asks for so many recordings of the recorder of a seat beside its budget, of what is left of the instrument's spare
+    /// budget. The plan is that of the seat. Takes no memory.
     ///
     /// # Errors
     ///
     /// `Stranger` where the seat is of another run, or of a plan that does not have the instrument's facts; else those of
     /// [`Hosted::grant`].
-    pub fn ask(&self, plan: &Plan, instrument: &mut Hosted, amount: u64) -> Result<(), Refusal>
-        ensures answer { AnswersAsking plan.now instrument.old self.now amount result }
-        ensures new { let recorder = self.now.number in
-            OnOk result (instrument.new ≡ with_granted instrument.old recorder amount) }
+    pub fn ask(&mut self, plan: &Plan, seat: &RecorderSeat, amount: u64) -> Result<(), Refusal>
+        ensures answer { AnswersAsking plan.now self.old seat.now amount result }
+        ensures new { let recorder = seat.now.number in
+            OnOk result (self.new ≡ with_granted self.old recorder amount) }
         ensures stands { OnOk result (
-            KeepsJournal StandsMarked instrument.old.cell instrument.new.cell) }
-        ensures err { OnErr result (instrument.new ≡ instrument.old) }
+            KeepsJournal StandsMarked self.old.cell self.new.cell) }
+        ensures err { OnErr result (self.new ≡ self.old) }
     {
-        match self.told_of(plan, instrument) {
-            Ok(_) => instrument.grant(self.number(), amount),
+        match self.told_of(plan, seat) {
+            Ok(_) => self.grant(seat.number(), amount),
             Err(_) => Err(Refusal::Stranger),
         }
     }

@@ -1,28 +1,24 @@
 //! One instrument as a host holds it.
-ghost use Rattle.std.specs.Prelude.{◌≡◌, ◌≢◌, ◌<◌, Some, IsTrue, [], true, length, slice_get, IfOk, IfErr, OnOk, OnErr};
-ghost use Rattle.metric_core.specs.CellAnswers.{AnswersClose, GainsEntry, KeepsJournal, ReportsBatch, entry_of, with_batch, with_entry};
+ghost use Rattle.std.specs.Prelude.{◌≡◌, ◌<◌, Some, IsTrue, [], true, length, slice_get, IfOk, Ok, OnOk, OnErr};
+ghost use Rattle.metric_core.specs.CellAnswers.{AnswersClose, KeepsJournal, ReportsBatch};
 ghost use Rattle.metric_core.specs.Cells.{CellStands, new_cell};
-ghost use Rattle.metric_facts.specs.Facts.{in_bounds, is_allowed_set};
-ghost use Rattle.metric_facts.specs.Products.{AreAllByProduct};
-ghost use Rattle.metric_hosted.specs.Collections.{with_collected};
+ghost use Rattle.metric_hosted.specs.Collections.{AnswersReading, allowance_of, with_collected};
 ghost use Rattle.metric_hosted.specs.Grants.{AnswersGranting, with_granted};
 ghost use Rattle.metric_hosted.specs.Hosts.{number_of};
-ghost use Rattle.metric_hosted.specs.Recordings.{with_recorded};
+ghost use Rattle.metric_hosted.specs.Recordings.{AnswersHosted, IsRecorded};
 ghost use Rattle.metric_hosted.specs.Settlements.{Settles, seated};
 ghost use Rattle.metric_marked.specs.Marks.{StandsMarked};
-ghost use Rattle.metric_provider.specs.Collections.{IsNextBatch};
-ghost use Rattle.metric_slot.specs.SlotAnswers.{AnswersRecorder, RefusesReader};
-ghost use Rattle.metric_slot.specs.Tellings.{told_more};
+ghost use Rattle.metric_seat.specs.Collections.{with_seen};
+ghost use Rattle.metric_seat.specs.Recordings.{KnowsRecording};
 
 use crate::settling::{SeatTold, seated, total_as_told};
 use metric_contents::{Refusal, SetKey};
 use metric_core::Cell;
-use metric_facts::Facts;
 use metric_history::Batch;
 use metric_marked::Marked;
 use metric_plan::Plan;
-use metric_provider::{FinishFault, Total};
-use metric_slot::{Slot, Told};
+use metric_seat::{FinishFault, ReaderSeat, RecorderSeat, Total};
+use metric_slot::Slot;
 use std::alloc::{AllocError, Global};
 use std::marker::Model;
 
@@ -138,55 +134,59 @@ impl Hosted {
         self.slot.cell()
     }
 
-    // Makes a recording for a seat that brings the facts and what it was told.
-    pub(crate) fn record_inside(
+    // Makes a recording that the seat may make, and tells it of that.
+    pub(crate) fn record_known(
         &mut self,
-        facts: &Facts,
-        told: &mut Told,
-        recorder: u32,
+        plan: &Plan,
+        seat: &mut RecorderSeat,
         set: SetKey,
         value: &i64,
     ) -> Result<(), Refusal>
-        requires recorder { recorder < length facts.now.budgets }
-        requires set { is_allowed_set facts.now set ≡ true }
-        requires value { in_bounds facts.now value.now ≡ true }
-        ensures answer { let entry = entry_of recorder set value.now in
-            AnswersRecorder StandsMarked self.old.cell facts.now told.old entry result }
-        ensures memory { AreAllByProduct facts.now → result ≢ Err Refusal.Memory }
+        requires known { let by = seat.old.number in
+            KnowsRecording plan.now (number_of self.old) by set value.now }
+        requires long { number_of self.old < length seat.old.told }
+        ensures answer { AnswersHosted (Ok set) plan.now self.old seat.old value.now result }
         ensures new { OnOk result (
-            self.new ≡ with_recorded self.old recorder set value.now self.new.cell.book) }
-        ensures stands { let entry = entry_of recorder set value.now in
-            OnOk result (GainsEntry StandsMarked self.old.cell self.new.cell entry) }
-        ensures told { OnOk result (told.new ≡ told_more told.old facts.now.lo value.now) }
+            IsRecorded plan.now self.old self.new seat.old seat.new set value.now) }
+        ensures seat_err { OnErr result (seat.new ≡ seat.old) }
         ensures err { OnErr result (self.new ≡ self.old) }
-        ensures told_err { OnErr result (told.new ≡ told.old) }
     {
-        let is_own = self.slot.is_of(facts);
-        self.slot.record(is_own, facts, told, recorder, set, *value)
+        let number = self.number();
+        seat.record_on(&mut self.slot, plan, number, set, value)
     }
 
-    // Makes a collection for a seat that brings the facts and what it has seen.
-    pub(crate) fn collect_inside(
+    /// What the reader of a seat is told of the instrument at a time in nanoseconds: its points since its last batch (delta) or since
+    /// the start (cumulative) (Metrics SDK, collect). Where the reader's last batch has a later time, this one has that too.
+    /// The plan is that of the seat.
+    ///
+    /// # Errors
+    ///
+    /// The first of these: `Stranger` where the instrument's run is of another number, the seat was made for another number
+    /// of instruments, or the plan has no reader of its number; `UnknownInstrument`; `Stranger` where the instrument's facts
+    /// or its count of the reader's last batch are not the seat's; `Memory`.
+    pub fn collect(
         &mut self,
         alloc: Global,
-        facts: &Facts,
-        seen: &mut u64,
-        reader: u32,
+        plan: &Plan,
+        seat: &mut ReaderSeat,
         now: u64,
     ) -> Result<Batch, Refusal>
-        requires { reader < length facts.now.delta }
-        ensures next { IfOk result (λ batch. IsNextBatch facts.now reader seen.old now batch) }
+        ensures answer { let allowed = allowance_of plan.now self.old seat.old in
+            AnswersReading allowed self.old seat.old now result }
         ensures batch { IfOk result (λ batch.
-            ReportsBatch StandsMarked self.old.cell reader now batch) }
-        ensures new { IfOk result (λ batch.
-            self.new ≡ with_collected self.old reader batch.time self.new.cell.book) }
-        ensures stands { OnOk result (KeepsJournal StandsMarked self.old.cell self.new.cell) }
-        ensures seen { IfOk result (λ batch. seen.new ≡ batch.mark) }
-        ensures refused { IfErr result (RefusesReader self.old.cell facts.now seen.old reader) }
+            ReportsBatch StandsMarked self.old.cell seat.old.number now batch) }
+        ensures new { IfOk result (λ batch. let book = self.new.cell.book in
+            self.new ≡ with_collected self.old seat.old.number batch.time book) }
+        ensures stands { OnOk result (
+            KeepsJournal StandsMarked self.old.cell self.new.cell) }
+        ensures seen { IfOk result (λ batch.
+            seat.new ≡ with_seen seat.old (number_of self.old) batch.mark) }
+        ensures seat_err { OnErr result (seat.new ≡ seat.old) }
         ensures err { OnErr result (self.new ≡ self.old) }
-        ensures seen_err { OnErr result (seen.new ≡ seen.old) }
     {
-        self.slot.collect(alloc, facts, seen, reader, now)
+        let number = self.number();
+        let run = self.run;
+        seat.collect(&mut self.slot, alloc, plan, run, number, now)
     }
 }
 

@@ -1,4 +1,4 @@
-//! One instrument of a certified plan as a host holds it that keeps the locks itself, with the seats of its recorders and
+//! One instrument of a certified plan as a host holds it that keeps the locks itself, for the seats of its recorders and
 //! readers.
 //!
 //! A host that is not written in Rattle, as a service in C or Rust, keeps a mutex for each instrument and makes each call
@@ -9,16 +9,12 @@
 
 mod budget;
 mod instrument;
-mod listing;
 mod planned;
-mod reader;
-mod recorder;
+mod recordings;
 mod settling;
 
 pub use budget::{Budget, Spare};
 pub use instrument::Hosted;
-pub use listing::{ListRefusal, Prepared};
+pub use metric_seat::{FinishFault, Measurement, ReaderSeat, RecorderSeat, SetsFault, Total};
 pub use planned::{HostedReader, HostedRecorder};
-pub use reader::ReaderSeat;
-pub use recorder::RecorderSeat;
 pub use settling::SeatTold;

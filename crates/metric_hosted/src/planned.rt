@@ -1,9 +1,8 @@
 //! Seats with the plan that they are of, which several owners share.
-use crate::reader::ReaderSeat;
-use crate::recorder::RecorderSeat;
 use metric_base::Shared;
 use metric_history::Batch;
 use metric_plan::Plan;
+use metric_seat::{ReaderSeat, RecorderSeat};
 
 /// The seat of a recorder with its plan.
 #[derive(Drop)]

@@ -4,7 +4,7 @@ ghost use Rattle.metric_hosted.specs.Settlements.{IsAsTold, are_distinct, are_kn
 
 use metric_core::Cell;
 use metric_marked::Marked;
-use metric_provider::{FinishFault, Total};
+use metric_seat::{FinishFault, Total};
 use metric_slot::{Told, is_above, least_sum};
 
 /// What the seat of a recorder was told of one instrument.

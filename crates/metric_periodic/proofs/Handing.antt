@@ -6,7 +6,7 @@ use Rattle.metric_export.specs.Exports.{Exports}
 use Rattle.metric_export.specs.declared.fault.ExportFault.{ExportFault}
 use Rattle.metric_export.specs.declared.tick.StopCause.{StopCause}
 use Rattle.metric_history.specs.declared.batch.Batch.{Batch}
-use Rattle.metric_provider.specs.Seats.{CollectorValue, ProviderValue}
+use Rattle.metric_seat.specs.Seats.{CollectorValue, ProviderValue}
 use Rattle.metric_periodic.specs.Collections.{Collected, Collecting, CollectingLast, CollectsLast}
 use Rattle.metric_periodic.specs.Counts.{AreCalls, Handed, HandsOn, HandsOnNothing, HandsOnToEnd, handed}
 use Rattle.metric_periodic.specs.Exported.{Answering, Exporting, ExportsCollected, ExportsEach, HandsOnCollected, IsFlushed, IsRetried, Tally, failed_after}

@@ -5,8 +5,8 @@ use Rattle.metric_contents.specs.declared.refusal.Refusal.{Refusal}
 use Rattle.metric_history.specs.declared.batch.Batch.{Batch}
 use Rattle.metric_periodic.specs.Each.{CollectsFirst, CollectsNext, CollectsOne}
 use Rattle.metric_periodic.specs.declared.each.RefusedInstrument.{RefusedInstrument}
-use Rattle.metric_provider.specs.Collections.{AnswersCollector, collectable, with_seen}
-use Rattle.metric_provider.specs.Seats.{CollectorValue, ProviderValue}
+use Rattle.metric_seat.specs.Collections.{AnswersCollector, collectable, with_seen}
+use Rattle.metric_seat.specs.Seats.{CollectorValue, ProviderValue}
 
 -- one collection, by what it ensures
 pub collected_one : (p : ProviderValue) (now instrument : ℕ) (old new : CollectorValue) (answer : Result Batch Refusal)

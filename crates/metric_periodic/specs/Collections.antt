@@ -3,8 +3,8 @@ use Rattle.std.specs.Prelude.{◌≡◌, ℕ, List, Option, Some, None, Vec, Res
 use Rattle.std.specs.Global.{Global}
 use Rattle.metric_history.specs.declared.batch.Batch.{Batch}
 use Rattle.metric_provider.specs.declared.fault.AllFault.{AllFault}
-use Rattle.metric_provider.specs.Collections.{AllRefused, AnswersEach, with_all_seen}
-use Rattle.metric_provider.specs.Seats.{CollectorValue, ProviderValue, is_collector_of}
+use Rattle.metric_seat.specs.Collections.{AllRefused, AnswersEach, with_all_seen}
+use Rattle.metric_seat.specs.Seats.{CollectorValue, ProviderValue, is_collector_of}
 
 -- what a collection of all instruments answers
 abbrev pub Collected : Type 0

@@ -6,8 +6,8 @@ use Rattle.metric_export.specs.Handings.{has_points}
 use Rattle.metric_history.specs.declared.batch.Batch.{Batch}
 use Rattle.metric_periodic.specs.Collections.{Collected, Collecting}
 use Rattle.metric_periodic.specs.declared.each.RefusedInstrument.{RefusedInstrument}
-use Rattle.metric_provider.specs.Collections.{AnswersCollector, collectable, with_seen}
-use Rattle.metric_provider.specs.Seats.{CollectorValue, ProviderValue}
+use Rattle.metric_seat.specs.Collections.{AnswersCollector, collectable, with_seen}
+use Rattle.metric_seat.specs.Seats.{CollectorValue, ProviderValue}
 
 -- what a collection of an instrument is answered, and the seat after it: one that was refused
 -- has seen nothing new

@@ -10,7 +10,7 @@ use Rattle.metric_history.specs.declared.batch.Batch.{Batch}
 use Rattle.metric_history.specs.declared.entry.Entry.{Entry}
 use Rattle.metric_history.specs.Windows.{window}
 use Rattle.metric_provider.specs.BatchBounds.{IsBatchBounded}
-use Rattle.metric_provider.specs.Collections.{IsNextBatch}
+use Rattle.metric_seat.specs.Collections.{IsNextBatch}
 use Rattle.metric_safety.specs.SafeFacts.{IsSafeFacts}
 use Rattle.metric_safety.specs.WindowBounds.{BoundsJournals, IsBounded}
 

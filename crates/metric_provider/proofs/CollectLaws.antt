@@ -9,8 +9,8 @@ use Rattle.metric_contents.specs.declared.refusal.Refusal.TheVariants.{Stranger,
 use Rattle.metric_contents.specs.declared.refusal.Refusal.{Refusal}
 use Rattle.metric_history.specs.declared.batch.Batch.{Batch}
 use Rattle.metric_facts.specs.declared.facts.Facts.{Facts}
-use Rattle.metric_provider.specs.Collections.{AnswersCollector, AnswersEach, IsNextBatch, IsRefusedAt, collectable, with_all_seen, with_seen}
-use Rattle.metric_provider.specs.Seats.{CollectorValue, ProviderValue, is_collector_of}
+use Rattle.metric_seat.specs.Collections.{AnswersCollector, AnswersEach, IsNextBatch, IsRefusedAt, collectable, with_all_seen, with_seen}
+use Rattle.metric_seat.specs.Seats.{CollectorValue, ProviderValue, is_collector_of}
 
 -- what an answered collection tells of its seat and its instrument
 pub record IsCollected (p : ProviderValue) (seat : CollectorValue) (instrument now : ℕ) (batch : Batch) : Type 0 where

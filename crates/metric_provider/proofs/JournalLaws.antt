@@ -13,8 +13,8 @@ use Rattle.metric_facts.specs.declared.facts.Facts.{Facts}
 use Rattle.metric_history.specs.declared.entry.Entry.{Entry}
 use Rattle.metric_plan.specs.Plans.{PlanValue}
 use Rattle.metric_safety.specs.SafeFacts.{are_admitted}
-use Rattle.metric_provider.specs.declared.totals.Total.{Total}
-use Rattle.metric_provider.specs.Seats.{RecorderValue, slips_at}
+use Rattle.metric_seat.specs.declared.total.Total.{Total}
+use Rattle.metric_seat.specs.Seats.{RecorderValue, slips_at}
 use Rattle.metric_provider.specs.Totals.{AreAllSeats, AreAsTold, AreNoted, Finishes, IsToldJournal, KeepToldJournals, entries_by, has_seat, slips_by, slips_of_seats, slips_on, told_count, told_sum, told_totals}
 use Rattle.metric_provider.proofs.SeatSums.{seat_of}
 

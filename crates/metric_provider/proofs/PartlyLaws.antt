@@ -5,10 +5,10 @@ use Rattle.metric_base.specs.Steps.{◌>>=◌, require}
 use Rattle.metric_core.specs.Cells.{CellValue}
 use Rattle.metric_facts.specs.declared.facts.Facts.{Facts}
 use Rattle.metric_history.specs.declared.entry.Entry.{Entry}
-use Rattle.metric_provider.specs.declared.fault.FinishFault.{FinishFault}
-use Rattle.metric_provider.specs.declared.fault.FinishFault.TheVariants.{RecorderMissing, Stranger, AuditMismatch, Memory}
+use Rattle.metric_seat.specs.declared.fault.FinishFault.{FinishFault}
+use Rattle.metric_seat.specs.declared.fault.FinishFault.TheVariants.{RecorderMissing, Stranger, AuditMismatch, Memory}
 use Rattle.metric_provider.specs.Partly.{RefusesPartly, partly_seated}
-use Rattle.metric_provider.specs.Seats.{ProviderValue, RecorderValue, is_recorder_of}
+use Rattle.metric_seat.specs.Seats.{ProviderValue, RecorderValue, is_recorder_of}
 use Rattle.metric_provider.specs.Totals.{RefusesFinish, are_distinct}
 
 -- what refuses the totals refuses to finish

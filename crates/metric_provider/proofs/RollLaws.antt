@@ -10,7 +10,7 @@ use Rattle.metric_book.specs.Journals.{Standing}
 use Rattle.metric_core.specs.Cells.{CellKept, CellValue, latest}
 use Rattle.metric_provider.specs.Locked.{AreLocked}
 use Rattle.metric_provider.specs.Rolling.{IsLatest, IsTimeBehind, RefusesNext, RefusesRoll, TellsLatest}
-use Rattle.metric_provider.specs.declared.fault.FinishFault.{FinishFault}
+use Rattle.metric_seat.specs.declared.fault.FinishFault.{FinishFault}
 use Rattle.metric_provider.specs.declared.fault.RollFault.{RollFault}
 use Rattle.metric_provider.specs.declared.fault.RollFault.TheVariants.{SameRun, Early, Finish}
 

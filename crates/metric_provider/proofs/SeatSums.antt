@@ -8,7 +8,7 @@ use Rattle.std.proofs.lemmas.List.{length-set, get_or-set_other}
 use Rattle.std.proofs.lemmas.List.Folds.{list_all_at}
 use Rattle.std.proofs.lemmas.List.FromFn.{get_or-range_with_len, length-range_with_len}
 use Rattle.std.proofs.lemmas.List.Sums.{sum_by-cons, sum_by-set}
-use Rattle.metric_provider.specs.Seats.{RecorderValue}
+use Rattle.metric_seat.specs.Seats.{RecorderValue}
 use Rattle.metric_provider.specs.Totals.{are_distinct, has_each, has_seat, AreOneEach}
 
 -- what is left where the numbers of the seats are taken out

@@ -11,11 +11,11 @@ use Rattle.metric_base.specs.Steps.{◌>>=◌, require}
 use Rattle.metric_core.specs.Cells.{CellValue}
 use Rattle.metric_facts.specs.declared.facts.Facts.{Facts}
 use Rattle.metric_history.specs.declared.entry.Entry.{Entry}
-use Rattle.metric_provider.specs.declared.fault.FinishFault.{FinishFault}
-use Rattle.metric_provider.specs.declared.fault.FinishFault.TheVariants.{RecorderMissing, Stranger, AuditMismatch, Memory}
-use Rattle.metric_provider.specs.declared.totals.Total.{Total}
-use Rattle.metric_provider.specs.Recordings.{told_at}
-use Rattle.metric_provider.specs.Seats.{ProviderValue, RecorderValue, is_recorder_of}
+use Rattle.metric_seat.specs.declared.fault.FinishFault.{FinishFault}
+use Rattle.metric_seat.specs.declared.fault.FinishFault.TheVariants.{RecorderMissing, Stranger, AuditMismatch, Memory}
+use Rattle.metric_seat.specs.declared.total.Total.{Total}
+use Rattle.metric_seat.specs.Recordings.{told_at}
+use Rattle.metric_seat.specs.Seats.{ProviderValue, RecorderValue, is_recorder_of}
 use Rattle.metric_provider.specs.Totals.{AreAllSeats, AreOneEach, RefusesFinish, RefusesTotals, are_distinct, has_each, seated, told_amount, told_count, told_sum, told_total, told_totals}
 use Rattle.metric_provider.proofs.SeatSums.{sum_by_seats}
 

@@ -5,8 +5,8 @@ use Rattle.metric_facts.specs.declared.facts.NumberedStream.{NumberedStream}
 use Rattle.metric_history.specs.declared.batch.Batch.{Batch}
 use Rattle.metric_history.specs.declared.entry.Entry.{Entry}
 use Rattle.metric_history.specs.Points.{reported}
-use Rattle.metric_provider.specs.Collections.{IsNextBatch}
-use Rattle.metric_provider.specs.Seats.{ProviderValue}
+use Rattle.metric_seat.specs.Collections.{IsNextBatch}
+use Rattle.metric_seat.specs.Seats.{ProviderValue}
 use Rattle.metric_safety.specs.WindowBounds.{IsBounded}
 
 -- # bounded batch (SDK, cardinality limits) [IsBatchBounded, AreBatchesBounded]

@@ -10,3 +10,10 @@ AnswersClosing None (Ok done) = ⊥
 AnswersClosing None (Err refusal) = refusal ≡ UnknownInstrument
 AnswersClosing (Some own) (Ok done) = Unit {0}
 AnswersClosing (Some own) (Err refusal) = refusal ≡ Closed
+
+-- # end handed on (profile)
+-- The end of an instrument that the plan has was handed on to what holds it.
+abbrev pub HandsClosing : {H : Type 0} → (H → H → Result (Unit {0}) Refusal → Type 0)
+    → Option Facts → H → H → Result (Unit {0}) Refusal → Type 0
+HandsClosing {H} closes None old new result = new ≡ old
+HandsClosing {H} closes (Some own) old new result = closes old new result

@@ -4,8 +4,8 @@ use Rattle.metric_book.specs.Journals.{Standing}
 use Rattle.metric_core.specs.Cells.{CellStands, CellValue}
 use Rattle.metric_core.specs.CellAnswers.{entry_of}
 use Rattle.metric_history.specs.declared.entry.Entry.{Entry}
-use Rattle.metric_provider.specs.declared.fault.SetsFault.{SetsFault}
-use Rattle.metric_provider.specs.declared.keys.Measurement.{Measurement}
+use Rattle.metric_seat.specs.declared.fault.SetsFault.{SetsFault}
+use Rattle.metric_seat.specs.declared.keys.Measurement.{Measurement}
 
 -- the recording of a recorder
 abbrev pub entry_by : ℕ → Measurement → Entry

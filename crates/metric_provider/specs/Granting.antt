@@ -6,7 +6,7 @@ use Rattle.metric_contents.specs.declared.refusal.Refusal.TheVariants.{Stranger,
 use Rattle.metric_contents.specs.declared.refusal.Refusal.TheVariants.{UnknownRecorder, Closed}
 use Rattle.metric_contents.specs.declared.refusal.Refusal.TheVariants.{NoSpare}
 use Rattle.metric_facts.specs.declared.facts.Facts.{Facts}
-use Rattle.metric_provider.specs.Seats.{ProviderValue, RecorderValue, is_recorder_of}
+use Rattle.metric_seat.specs.Seats.{ProviderValue, RecorderValue, is_recorder_of}
 
 -- A recorder of the instrument was granted so many recordings, which are no more than its spare.
 pub record IsGranted (own : Facts) (recorder amount : ℕ) : Type 0 where
@@ -39,3 +39,12 @@ AnswersAsking p seat instrument amount (Err Stranger) = is_recorder_of p seat �
 AnswersAsking p seat instrument amount result =
     (is_recorder_of p seat ≡ true)
     × AnswersGrant (slice_get p.plan.facts.instruments instrument) seat.number amount result
+
+-- # grant handed on (profile)
+-- A grant to a recorder of an instrument that the plan has was handed on to what holds it.
+abbrev pub HandsGrant : {H : Type 0} → (H → H → Facts → ℕ → ℕ → Result (Unit {0}) Refusal → Type 0)
+    → Option Facts → ℕ → ℕ → H → H → Result (Unit {0}) Refusal → Type 0
+HandsGrant {H} grants None recorder amount old new result = new ≡ old
+HandsGrant {H} grants (Some own) recorder amount old new (Err UnknownRecorder) = new ≡ old
+HandsGrant {H} grants (Some own) recorder amount old new result =
+    grants old new own recorder amount result

@@ -1,12 +1,5 @@
-pub mod Seats
 pub mod Providers
 pub mod NewSlots
-pub mod Recordings
-pub mod KeyRecordings
-pub mod PlanFacts
-pub mod AdmitLaws
-pub mod Collections
-pub mod Handing
 pub mod Gains
 pub mod Closing
 pub mod Granting

@@ -4,7 +4,7 @@ use Rattle.metric_book.specs.Journals.{Standing}
 use Rattle.metric_core.specs.Cells.{CellKept, CellValue}
 use Rattle.metric_facts.specs.declared.facts.Facts.{Facts}
 use Rattle.metric_history.specs.declared.entry.Entry.{Entry}
-use Rattle.metric_provider.specs.Seats.{RecorderValue}
+use Rattle.metric_seat.specs.Seats.{RecorderValue}
 use Rattle.metric_provider.specs.Totals.{AreAsTold}
 
 -- # instruments behind the locks (profile)

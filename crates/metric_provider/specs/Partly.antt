@@ -10,13 +10,13 @@ use Rattle.metric_core.specs.Cells.{CellValue}
 use Rattle.metric_facts.specs.declared.facts.Facts.{Facts}
 use Rattle.metric_history.specs.declared.entry.Entry.{Entry}
 use Rattle.metric_plan.specs.Plans.{PlanValue}
-use Rattle.metric_provider.specs.declared.fault.FinishFault.{FinishFault}
-use Rattle.metric_provider.specs.declared.fault.FinishFault.TheVariants.{Stranger, AuditMismatch}
-use Rattle.metric_provider.specs.declared.fault.FinishFault.TheVariants.{Memory}
-use Rattle.metric_provider.specs.declared.totals.Total.{Total}
+use Rattle.metric_seat.specs.declared.fault.FinishFault.{FinishFault}
+use Rattle.metric_seat.specs.declared.fault.FinishFault.TheVariants.{Stranger, AuditMismatch}
+use Rattle.metric_seat.specs.declared.fault.FinishFault.TheVariants.{Memory}
+use Rattle.metric_seat.specs.declared.total.Total.{Total}
 use Rattle.metric_provider.specs.Locked.{AreLocked, AreLockedJournals}
-use Rattle.metric_provider.specs.Recordings.{told_at}
-use Rattle.metric_provider.specs.Seats.{ProviderValue, RecorderValue, is_recorder_of}
+use Rattle.metric_seat.specs.Recordings.{told_at}
+use Rattle.metric_seat.specs.Seats.{ProviderValue, RecorderValue, is_recorder_of}
 use Rattle.metric_provider.specs.Totals.{AreNoted, Finishes, are_distinct, has_seat}
 use Rattle.metric_provider.specs.Totals.{slips_of_seats, told_amount, told_count, told_sum}
 use Rattle.metric_provider.specs.Totals.{told_totals}

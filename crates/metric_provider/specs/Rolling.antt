@@ -5,12 +5,12 @@ use Rattle.std.specs.List.{AllZip, range_with_len}
 use Rattle.metric_book.specs.Journals.{Standing}
 use Rattle.metric_core.specs.Cells.{CellKept, CellValue, latest}
 use Rattle.metric_plan.specs.Plans.{PlanValue}
-use Rattle.metric_provider.specs.declared.fault.FinishFault.{FinishFault}
+use Rattle.metric_seat.specs.declared.fault.FinishFault.{FinishFault}
 use Rattle.metric_provider.specs.declared.fault.RollFault.{RollFault}
 use Rattle.metric_provider.specs.declared.fault.RollFault.TheVariants.{SameRun, Early}
 use Rattle.metric_provider.specs.declared.fault.RollFault.TheVariants.{Finish}
 use Rattle.metric_provider.specs.Locked.{AreLocked}
-use Rattle.metric_provider.specs.Seats.{CollectorValue, RecorderValue, new_collector, new_recorder}
+use Rattle.metric_seat.specs.Seats.{CollectorValue, RecorderValue, new_collector, new_recorder}
 use Rattle.metric_provider.specs.Totals.{RefusesFinish}
 
 -- # new seats of a run (profile) [new_recorders, new_collectors]

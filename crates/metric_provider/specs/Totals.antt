@@ -14,12 +14,12 @@ use Rattle.metric_history.specs.Points.{values}
 use Rattle.metric_history.specs.declared.entry.Entry.{Entry}
 use Rattle.metric_plan.specs.Plans.{PlanValue}
 use Rattle.metric_safety.specs.SafeFacts.{are_admitted}
-use Rattle.metric_provider.specs.declared.fault.FinishFault.{FinishFault}
-use Rattle.metric_provider.specs.declared.fault.FinishFault.TheVariants.{RecorderMissing, Stranger}
-use Rattle.metric_provider.specs.declared.fault.FinishFault.TheVariants.{AuditMismatch, Memory}
-use Rattle.metric_provider.specs.declared.totals.Total.{Total}
-use Rattle.metric_provider.specs.Recordings.{told_at}
-use Rattle.metric_provider.specs.Seats.{ProviderValue, RecorderValue, is_recorder_of, slips_at}
+use Rattle.metric_seat.specs.declared.fault.FinishFault.{FinishFault}
+use Rattle.metric_seat.specs.declared.fault.FinishFault.TheVariants.{RecorderMissing, Stranger}
+use Rattle.metric_seat.specs.declared.fault.FinishFault.TheVariants.{AuditMismatch, Memory}
+use Rattle.metric_seat.specs.declared.total.Total.{Total}
+use Rattle.metric_seat.specs.Recordings.{told_at}
+use Rattle.metric_seat.specs.Seats.{ProviderValue, RecorderValue, is_recorder_of, slips_at}
 
 -- how many recordings the recorders were told of on the instrument of a number
 abbrev pub told_count : List RecorderValue → ℕ → ℕ

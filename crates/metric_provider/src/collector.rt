@@ -1,17 +1,16 @@
-//! The seat of a reader.
-ghost use Rattle.std.specs.Prelude.{◌≡◌, [], true, length, slice_get, slice_index, IfOk, IfErr, OnErr, OnOk};
-ghost use Rattle.metric_provider.specs.Collections.{AllRefused, AnswersCollector, AnswersEach, collectable, with_all_seen, with_seen};
-ghost use Rattle.metric_provider.specs.Handing.{HandsReading};
-ghost use Rattle.metric_provider.specs.Seats.{is_collector_of, new_collector, provider_of};
+//! The seat of a reader with a provider.
+ghost use Rattle.std.specs.Prelude.{◌≡◌, [], true, length, slice_get, IfOk, IfErr, OnErr, OnOk};
+ghost use Rattle.metric_seat.specs.Collections.{AllRefused, AnswersCollector, AnswersEach, collectable, with_all_seen, with_seen};
+ghost use Rattle.metric_seat.specs.Seats.{is_collector_of, new_collector, provider_of};
 
 use crate::fault::AllFault;
 use crate::gate::Gate;
-use crate::held::Held;
 use crate::provider::Provider;
 use metric_book::Book;
 use metric_contents::Refusal;
 use metric_history::Batch;
 use metric_plan::Plan;
+use metric_seat::ReaderSeat;
 use std::alloc::{AllocError, Global};
 use std::marker::Model;
 use std::sync::Wait;
@@ -20,18 +19,15 @@ use std::sync::Wait;
 /// instrument the reader's last batch counted, so that the windows of a delta reader leave no gap and no overlap.
 #[derive(Drop)]
 pub struct Collector {
-    run: u64,
-    number: u32,
-    seen: Vec<u64>,
+    seat: ReaderSeat,
 }
 
 impl Model for Collector {
-    ghost use Rattle.metric_provider.specs.Handing.{HandsReading};
-    ghost use Rattle.metric_provider.specs.Seats.{CollectorValue};
+    ghost use Rattle.metric_seat.specs.Seats.{CollectorValue};
 
     ghost Value = { CollectorValue };
 
-    ghost view = { λ c. record { run = c.run; number = c.number; seen = c.seen.items } };
+    ghost view = { λ c. c.seat };
 }
 
 impl Collector {
@@ -44,15 +40,15 @@ impl Collector {
     ) -> Result<Collector, AllocError>
         ensures { IfOk result (λ seat. seat ≡ new_collector run instruments number) }
     {
-        let seen = vec![in alloc; 0; instruments]?;
-        Ok(Collector { run, number, seen })
+        let seat = ReaderSeat::new(alloc, run, number, instruments)?;
+        Ok(Collector { seat })
     }
 
     /// The number of the reader.
     pub fn number(&self) -> u32
         ensures { result ≡ self.now.number }
     {
-        self.number
+        self.seat.number()
     }
 
     /// How many recordings of an instrument the reader's last batch counted, 0 before one; nothing for an unknown
@@ -60,7 +56,7 @@ impl Collector {
     pub fn seen(&self, instrument: u32) -> Option<u64>
         ensures { result ≡ slice_get self.now.seen instrument }
     {
-        self.seen.get(instrument as usize).copied()
+        self.seat.seen(instrument)
     }
 
     /// What the reader is told of an instrument at a time in nanoseconds: its points since its last batch (delta) or since
@@ -87,37 +83,8 @@ impl Collector {
         let plan = provider.plan();
         let run = provider.run();
         let mut held = provider.inside(rt, instrument);
-        self.collect_held(&mut held, alloc, plan, run, instrument, now)
-    }
-
-    // The same of what holds the instrument.
-    fn collect_held<B: Book, H: Held<B>>(
-        &mut self,
-        held: &mut H,
-        alloc: Global,
-        plan: &Plan,
-        run: u64,
-        instrument: u32,
-        now: u64,
-    ) -> Result<Batch, Refusal>
-        ensures answer { let allowed = collectable (provider_of plan.now run) self.old instrument in
-            AnswersCollector allowed self.old instrument now result }
-        ensures seen { IfOk result (λ batch. self.new ≡ with_seen self.old instrument batch.mark) }
-        ensures err { OnErr result (self.new ≡ self.old) }
-        ensures handed { let allowed = collectable (provider_of plan.now run) self.old instrument in
-            HandsReading H.collects allowed self.old instrument held.old held.new now result }
-    {
-        if !self.is_of(plan, run) {
-            return Err(Refusal::Stranger);
-        }
-        let at = instrument as usize;
-        if at >= self.seen.len() {
-            return Err(Refusal::UnknownInstrument);
-        }
-        let facts = plan.facts(instrument);
-        let number = self.number;
-        let seen = &mut self.seen[at];
-        held.collect(alloc, facts, seen, number, now)
+        self.seat
+            .collect(&mut held, alloc, plan, run, instrument, now)
     }
 
     /// A batch of each instrument, in order. What was collected before a refusal is handed over with it.
@@ -209,8 +176,6 @@ impl Collector {
     fn is_of(&self, plan: &Plan, run: u64) -> bool
         ensures { result ≡ is_collector_of (provider_of plan.now run) self.now }
     {
-        self.run == run
-            && (self.number as usize) < plan.config().readers().len()
-            && self.seen.len() == plan.all_facts().len()
+        self.seat.is_of(plan, run)
     }
 }

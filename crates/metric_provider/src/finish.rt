@@ -3,10 +3,9 @@ ghost use Rattle.std.specs.Prelude.{◌≡◌, ◌≤◌, ◌+◌, IsTrue, Ok, t
 ghost use Rattle.std.specs.List.{list_all};
 ghost use Rattle.metric_provider.specs.Locked.{AreLockedJournals};
 ghost use Rattle.metric_provider.specs.Providers.{IsProvider};
-ghost use Rattle.metric_provider.specs.Seats.{is_recorder_of, provider_of};
+ghost use Rattle.metric_seat.specs.Seats.{is_recorder_of, provider_of};
 ghost use Rattle.metric_provider.specs.Totals.{AreAllSeats, AreToldJournals, Finishes, RefusesFinish, are_distinct, entries_by, has_each, has_seat, seated, slips_of_seats, told_totals};
 
-use crate::fault::FinishFault;
 use crate::gate::Gate;
 use crate::journals::{journals_of, slips_of_seats};
 use crate::provider::{Locked, Provider};
@@ -16,6 +15,7 @@ use crate::totals::{Finished, Totals};
 use crossbeam_utils::CachePadded;
 use metric_book::Book;
 use metric_plan::Plan;
+use metric_seat::FinishFault;
 use metric_slot::Slot;
 use std::alloc::Global;
 use std::sync::{Mutex, Wait};

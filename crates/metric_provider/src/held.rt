@@ -1,81 +1,33 @@
 //! An instrument behind its lock.
-ghost use Rattle.std.specs.Prelude.{◌≡◌, ◌↔◌, ◌<◌, ℕ, All, IsTrue, List, Result, Some, length, IfErr, IfOk, OnErr, OnOk};
+ghost use Rattle.std.specs.Prelude.{◌≡◌, ◌↔◌, ◌<◌, ℕ, All, IsTrue, Result, Some, length, IfErr, OnErr, OnOk};
 ghost use Rattle.metric_contents.specs.declared.refusal.Refusal.{Refusal as refusals};
-ghost use Rattle.metric_core.specs.CellAnswers.{GainsEntry, with_grant};
 ghost use Rattle.metric_facts.specs.declared.facts.Facts.{Facts as declared_facts};
-ghost use Rattle.metric_history.specs.declared.batch.Batch.{Batch as batches};
-ghost use Rattle.metric_provider.specs.Collections.{IsNextBatch, RefusesCollection};
-ghost use Rattle.metric_provider.specs.Granting.{AnswersGrant};
+ghost use Rattle.metric_core.specs.CellAnswers.{GainsEntry, with_grant};
 ghost use Rattle.metric_provider.specs.Gains.{GainsAll, entry_by, made_of};
-ghost use Rattle.metric_provider.specs.KeyRecordings.{IsRecordable, IsRefusedUnder, told_each};
-ghost use Rattle.metric_provider.specs.Recordings.{RefusesRecording};
-ghost use Rattle.metric_provider.specs.declared.fault.SetsFault.{SetsFault as faults};
-ghost use Rattle.metric_provider.specs.declared.keys.Measurement.{Measurement as measurements};
-ghost use Rattle.metric_slot.specs.declared.told.Told.{Told as tellings};
+ghost use Rattle.metric_provider.specs.Granting.{AnswersGrant};
+ghost use Rattle.metric_seat.specs.KeyRecordings.{IsRecordable, IsRefusedUnder, told_each};
+ghost use Rattle.metric_seat.specs.Recordings.{RefusesRecording};
 ghost use Rattle.metric_slot.specs.Tellings.{told_more};
 
-use crate::fault::SetsFault;
 use crate::gate::Gate;
-use crate::keys::Measurement;
 use crate::provider::Locked;
 use metric_book::Book;
 use metric_contents::Refusal;
 use metric_facts::Facts;
 use metric_history::Batch;
+use metric_seat::{Collected, Held, Measurement, SetsFault};
 use metric_slot::{Slot, Told};
 use std::alloc::Global;
 use std::sync::{Mutex, Wait};
 
-/// An instrument with a book of type `B` as a lock holds it. As a trait, so that a seat cannot but call it: what recordings
-/// came to is known by the call alone, and so are the recorder, the set keys and the values that they were made of.
-pub(crate) trait Held<B: Book> {
-    // What recordings in a row come to: the instrument before and after them, the facts and what the recorder was told, which
-    // are brought, the recorder's number, the recordings, and their answer.
-    ghost records: { Self → Self → declared_facts → tellings → ℕ → List measurements
-        → Result (Unit {0}) faults → Type 0 };
-
-    // What a collection comes to: the instrument before and after it, the facts and what the reader has seen, which are
-    // brought, the reader's number, the time, and its answer.
-    ghost collects: { Self → Self → declared_facts → ℕ → ℕ → ℕ → Result batches refusals → Type 0 };
-
+/// An instrument whose budgets and end a provider has in hand. As a trait, so that a provider cannot but call it.
+pub(crate) trait Governed {
     // What a grant comes to: the instrument before and after it, the facts that are brought, the recorder's number, the
     // amount, and its answer.
     ghost grants: { Self → Self → declared_facts → ℕ → ℕ → Result (Unit {0}) refusals → Type 0 };
 
     // What the end comes to: the instrument before and after it, and its answer.
     ghost closes: { Self → Self → Result (Unit {0}) refusals → Type 0 };
-
-    /// Makes recordings, one after the other, and tells their recorder of each, up to the first that is refused.
-    fn record_each(
-        &mut self,
-        facts: &Facts,
-        told: &mut Told,
-        recorder: u32,
-        all: &[Measurement],
-    ) -> Result<(), SetsFault>
-        requires some { 0 < length all.now }
-        requires recorder { recorder < length facts.now.budgets }
-        requires each { All (IsRecordable facts.now) all.now }
-        ensures told { OnOk result (told.new ≡ told_each told.old facts.now.lo all.now) }
-        ensures refused { IfErr result (λ fault.
-            IsRefusedUnder B.spares_memory facts.now recorder told.old told.new all.now fault) }
-        ensures made { records self.old self.new facts.now told.old recorder all.now result };
-
-    /// Makes a collection at a time in nanoseconds, which the reader has then seen.
-    fn collect(
-        &mut self,
-        alloc: Global,
-        facts: &Facts,
-        seen: &mut u64,
-        reader: u32,
-        now: u64,
-    ) -> Result<Batch, Refusal>
-        requires { reader < length facts.now.delta }
-        ensures batch { IfOk result (λ batch. IsNextBatch facts.now reader seen.old now batch) }
-        ensures seen { IfOk result (λ batch. seen.new ≡ batch.mark) }
-        ensures refused { IfErr result (λ refusal. RefusesCollection refusal) }
-        ensures seen_err { OnErr result (seen.new ≡ seen.old) }
-        ensures made { collects self.old self.new facts.now seen.old reader now result };
 
     /// Grants a recorder recordings beside its budget.
     fn grant(&mut self, facts: &Facts, recorder: u32, amount: u64) -> Result<(), Refusal>
@@ -103,12 +55,6 @@ pub(crate) struct Inside<'a, R, B: Book, G> {
 impl<R: Wait, B: Book, G: Gate> Held<B> for Inside<'_, R, B, G> {
     ghost records = { λ _ _ _ _ _ _ _. Unit {0} };
 
-    ghost collects = { λ _ _ _ _ _ _ _. Unit {0} };
-
-    ghost grants = { λ _ _ _ _ _ _. Unit {0} };
-
-    ghost closes = { λ _ _ _. Unit {0} };
-
     // Inlined down to the slot, as are the calls of a seat that lead here: a list of one is then no loop.
     #[inline(always)]
     fn record_each(
@@ -128,24 +74,12 @@ impl<R: Wait, B: Book, G: Gate> Held<B> for Inside<'_, R, B, G> {
         let mut guard = slot.lock(self.rt);
         record_each(self.rt, self.gate, &mut guard, facts, told, recorder, all)
     }
+}
 
-    fn collect(
-        &mut self,
-        alloc: Global,
-        facts: &Facts,
-        seen: &mut u64,
-        reader: u32,
-        now: u64,
-    ) -> Result<Batch, Refusal> {
-        let Some(locked) = self.slot else {
-            return Err(Refusal::Stranger);
-        };
-        let slot: &Mutex<Slot<B>> = locked;
-        let mut guard = slot.lock(self.rt);
-        let answer = guard.collect(alloc, facts, seen, reader, now);
-        self.gate.inside(self.rt, self.instrument);
-        answer
-    }
+impl<R: Wait, B: Book, G: Gate> Governed for Inside<'_, R, B, G> {
+    ghost grants = { λ _ _ _ _ _ _. Unit {0} };
+
+    ghost closes = { λ _ _ _. Unit {0} };
 
     fn grant(&mut self, facts: &Facts, recorder: u32, amount: u64) -> Result<(), Refusal> {
         let Some(locked) = self.slot else {
@@ -165,6 +99,28 @@ impl<R: Wait, B: Book, G: Gate> Held<B> for Inside<'_, R, B, G> {
         let slot: &Mutex<Slot<B>> = locked;
         let mut guard = slot.lock(self.rt);
         let answer = guard.close();
+        self.gate.inside(self.rt, self.instrument);
+        answer
+    }
+}
+
+impl<R: Wait, B: Book, G: Gate> Collected for Inside<'_, R, B, G> {
+    ghost collects = { λ _ _ _ _ _ _ _. Unit {0} };
+
+    fn collect(
+        &mut self,
+        alloc: Global,
+        facts: &Facts,
+        seen: &mut u64,
+        reader: u32,
+        now: u64,
+    ) -> Result<Batch, Refusal> {
+        let Some(locked) = self.slot else {
+            return Err(Refusal::Stranger);
+        };
+        let slot: &Mutex<Slot<B>> = locked;
+        let mut guard = slot.lock(self.rt);
+        let answer = guard.collect(alloc, facts, seen, reader, now);
         self.gate.inside(self.rt, self.instrument);
         answer
     }

@@ -5,7 +5,6 @@
 //! was told and what the instruments have counted can't part unseen.
 #![tactic(auto)]
 
-mod admission;
 mod bounds;
 mod collector;
 mod fault;
@@ -13,8 +12,6 @@ mod finish;
 mod gate;
 mod held;
 mod journals;
-mod keys;
-mod notes;
 mod partly;
 mod provider;
 mod recorder;
@@ -24,16 +21,15 @@ mod starting;
 mod timed;
 mod totals;
 
-pub use admission::{declared_key, declared_set};
 pub use bounds::batches_are_bounded;
 pub use collector::Collector;
-pub use fault::{AllFault, FinishFault, RollFault, SetsFault};
+pub use fault::{AllFault, RollFault};
 pub use gate::{Gate, NoGate};
-pub use keys::Measurement;
 pub use metric_book::Slip;
+pub use metric_seat::{FinishFault, Measurement, SetsFault, Total};
 pub use metric_slot::{Slot, Told};
 pub use provider::Provider;
 pub use recorder::Recorder;
 pub use settling::settle;
 pub use starting::start;
-pub use totals::{Finished, Partly, Rolled, Total, Totals};
+pub use totals::{Finished, Partly, Rolled, Totals};

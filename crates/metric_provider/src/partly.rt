@@ -1,21 +1,21 @@
 //! The end of a provider without the seats of some of its recorders.
 ghost use Rattle.std.specs.Prelude.{◌≡◌, ◌<◌, ◌^◌, ◌≤◌, IfErr, IfNone, IfOk, IfSome, Ok, OnErr, OnOk, OnSome, SomeIff, length, true, vec_len};
 ghost use Rattle.metric_provider.specs.Partly.{ArePartlyTold, ComesTo, FinishesPartly, IsPartlyTold, IsTellable, RefusesPartly, missing_of, partly_seated};
-ghost use Rattle.metric_provider.specs.Seats.{provider_of};
+ghost use Rattle.metric_seat.specs.Seats.{provider_of};
 ghost use Rattle.metric_provider.specs.Totals.{AreAllSeats, RefusesFinish, has_each, told_total, told_totals};
 
-use crate::fault::FinishFault;
 use crate::finish::{are_distinct, are_of, has_all, has_seat, put_back, settle_locked, take_out};
 use crate::gate::Gate;
 use crate::journals::{journals_of, slips_of_seats};
 use crate::provider::{Locked, Provider};
 use crate::recorder::Recorder;
 use crate::settling::{amount_of, are_noted, are_spent, count_of};
-use crate::totals::{Partly, Total, Totals};
+use crate::totals::{Partly, Totals};
 use metric_book::Book;
 use metric_core::Cell;
 use metric_facts::{Facts, same_facts};
 use metric_plan::Plan;
+use metric_seat::{FinishFault, Total};
 use metric_slot::{Slot, least_sum};
 use std::alloc::{AllocError, Global};
 use std::sync::Wait;

@@ -1,14 +1,13 @@
 //! The instruments of a plan behind their locks.
 ghost use Rattle.std.specs.Prelude.{◌≡◌, IsTrue, length, slice_get, vec_len};
-ghost use Rattle.metric_provider.specs.Closing.{AnswersClosing};
-ghost use Rattle.metric_provider.specs.Granting.{AnswersGrant};
-ghost use Rattle.metric_provider.specs.Handing.{HandsClosing, HandsGrant};
+ghost use Rattle.metric_provider.specs.Closing.{AnswersClosing, HandsClosing};
+ghost use Rattle.metric_provider.specs.Granting.{AnswersGrant, HandsGrant};
 ghost use Rattle.metric_provider.specs.Providers.{IsProvider};
-ghost use Rattle.metric_provider.specs.Seats.{provider_of};
+ghost use Rattle.metric_seat.specs.Seats.{provider_of};
 ghost use Rattle.metric_slot.specs.Slots.{AreCertified};
 
 use crate::gate::Gate;
-use crate::held::{Held, Inside};
+use crate::held::{Governed, Inside};
 use crossbeam_utils::CachePadded;
 use metric_book::Book;
 use metric_contents::Refusal;
@@ -48,7 +47,7 @@ impl<B: Book, G: Gate> Drop for Provider<B, G> {
 impl<B: Book, G: Gate> Model for Provider<B, G> {
     ghost use Rattle.std.specs.Prelude.{vec_len};
     ghost use Rattle.metric_provider.specs.Providers.{IsProvider};
-    ghost use Rattle.metric_provider.specs.Seats.{ProviderValue};
+    ghost use Rattle.metric_seat.specs.Seats.{ProviderValue};
 
     ghost Value = { ProviderValue };
 
@@ -156,11 +155,7 @@ impl<B: Book, G: Gate> Provider<B, G> {
 }
 
 // Ends the recordings of the plan's instrument of a number, which is held like this.
-fn close_held<B: Book, H: Held<B>>(
-    held: &mut H,
-    plan: &Plan,
-    instrument: u32,
-) -> Result<(), Refusal>
+fn close_held<H: Governed>(held: &mut H, plan: &Plan, instrument: u32) -> Result<(), Refusal>
     ensures answer { let known = slice_get plan.now.facts.instruments instrument in
         AnswersClosing known result }
     ensures made { let known = slice_get plan.now.facts.instruments instrument in
@@ -173,7 +168,7 @@ fn close_held<B: Book, H: Held<B>>(
 }
 
 // Grants a recorder recordings on the plan's instrument of a number, which is held like this.
-fn grant_held<B: Book, H: Held<B>>(
+fn grant_held<H: Governed>(
     held: &mut H,
     plan: &Plan,
     recorder: u32,

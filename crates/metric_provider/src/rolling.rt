@@ -3,11 +3,11 @@ ghost use Rattle.std.specs.Prelude.{◌≡◌, ◌==◌, IsTrue, false, IfErr, I
 ghost use Rattle.std.specs.List.{range_with_len};
 ghost use Rattle.metric_provider.specs.Locked.{AreLockedJournals};
 ghost use Rattle.metric_provider.specs.Rolling.{IsInTime, IsLatest, RefusesNext, RefusesRoll, new_collectors, new_recorders};
-ghost use Rattle.metric_provider.specs.Seats.{provider_of};
+ghost use Rattle.metric_seat.specs.Seats.{provider_of};
 ghost use Rattle.metric_provider.specs.Totals.{AreAllSeats, Finishes, RefusesFinish, seated};
 
 use crate::collector::Collector;
-use crate::fault::{FinishFault, RollFault};
+use crate::fault::RollFault;
 use crate::finish::{seated, settle_locked};
 use crate::gate::Gate;
 use crate::provider::{Locked, Provider};
@@ -17,6 +17,7 @@ use crate::timed::latest_of;
 use crate::totals::{Rolled, Totals};
 use metric_book::Book;
 use metric_plan::Plan;
+use metric_seat::FinishFault;
 use std::alloc::Global;
 use std::sync::Wait;
 

@@ -2,17 +2,16 @@
 ghost use Rattle.std.specs.Prelude.{◌≡◌, ◌↔◌, ◌<◌, ◌+ℤ◌, ◌*ℤ◌, pos, IsTrue, IfNone, IfOk, IfErr, IfSome, OnOk, OnSome, Some, length, slice_get, slice_index, sum, ◌==◌};
 ghost use Rattle.std.specs.List.{list_all};
 ghost use Rattle.metric_book.specs.Slips.{slip_of, slips_of};
-ghost use Rattle.metric_provider.specs.Recordings.{told_at};
+ghost use Rattle.metric_seat.specs.Recordings.{told_at};
 ghost use Rattle.metric_provider.specs.Totals.{AreAllSeats, AreOneEach, AreAsTold, AreNoted, IsAsTold, IsToldJournal, KeepToldJournals, RefusesTotals, told_amount, told_count, told_sum, told_total, told_totals};
 
-use crate::fault::FinishFault;
 use crate::recorder::Recorder;
-use crate::totals::Total;
 use metric_book::{Book, Slip};
 use metric_core::Cell;
 use metric_facts::{Facts, same_facts};
 use metric_history::Entry;
 use metric_plan::Plan;
+use metric_seat::{FinishFault, Total};
 use metric_slot::{Slot, is_above, least_sum};
 use std::alloc::Global;
 

@@ -2,7 +2,7 @@
 ghost use Rattle.std.specs.Prelude.{◌≡◌, IsTrue, length, map, vec_len, IfOk, IfErr};
 ghost use Rattle.std.specs.List.{range_with_len};
 ghost use Rattle.metric_provider.specs.NewSlots.{AreNewSlots};
-ghost use Rattle.metric_provider.specs.Seats.{new_collector, new_recorder, provider_of};
+ghost use Rattle.metric_seat.specs.Seats.{new_collector, new_recorder, provider_of};
 
 use crate::collector::Collector;
 use crate::finish::put_back;

@@ -7,15 +7,7 @@ use metric_base::Items;
 use metric_book::{Book, Slip};
 use metric_history::Entry;
 use metric_plan::Plan;
-
-/// What the recordings of one instrument come to.
-#[derive(Clone, Copy, Debug, PartialEq, Eq, Drop)]
-pub struct Total {
-    /// How many were accepted.
-    pub count: u64,
-    /// The sum of their values.
-    pub sum: i128,
-}
+use metric_seat::Total;
 
 /// What a provider comes to when it is finished.
 #[derive(Drop)]

@@ -7,7 +7,7 @@ use Rattle.metric_history.specs.declared.batch.Batch.{Batch}
 use Rattle.metric_periodic.specs.Each.{CollectsEach}
 use Rattle.metric_periodic.specs.Exported.{Answering}
 use Rattle.metric_periodic.specs.declared.each.RefusedInstrument.{RefusedInstrument}
-use Rattle.metric_provider.specs.Seats.{CollectorValue, ProviderValue}
+use Rattle.metric_seat.specs.Seats.{CollectorValue, ProviderValue}
 use Rattle.metric_sdk.specs.Endings.{AreRefused, CollectsToEnd, EndsAll, EndsClean, EndsEach, EndsReader, EndsSome, are_clean}
 use Rattle.metric_sdk.specs.declared.ended.ReaderEnd.{ReaderEnd}
 use Rattle.metric_sdk.specs.declared.ended.Uncollected.{Uncollected}

@@ -10,10 +10,10 @@ use Rattle.metric_periodic.specs.Each.{CollectsEach}
 use Rattle.metric_periodic.specs.Exported.{Answering}
 use Rattle.metric_periodic.specs.declared.each.RefusedInstrument.{RefusedInstrument}
 use Rattle.metric_plan.specs.Plans.{PlanValue}
-use Rattle.metric_provider.specs.Seats.{CollectorValue, ProviderValue, RecorderValue}
+use Rattle.metric_seat.specs.Seats.{CollectorValue, ProviderValue, RecorderValue}
 use Rattle.metric_provider.specs.Totals.{Finishes, RefusesFinish}
-use Rattle.metric_provider.specs.declared.fault.FinishFault.{FinishFault}
-use Rattle.metric_provider.specs.declared.fault.FinishFault.TheVariants.{Memory}
+use Rattle.metric_seat.specs.declared.fault.FinishFault.{FinishFault}
+use Rattle.metric_seat.specs.declared.fault.FinishFault.TheVariants.{Memory}
 use Rattle.metric_provider.specs.declared.totals.Totals.{Totals}
 use Rattle.metric_sdk.specs.declared.ended.ReaderEnd.{ReaderEnd}
 use Rattle.metric_sdk.specs.declared.ended.Uncollected.{Uncollected}

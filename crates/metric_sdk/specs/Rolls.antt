@@ -1,7 +1,7 @@
 -- How a run of a service ends and the next one begins.
 use Rattle.std.specs.Prelude.{◌≡◌, ◌==◌, ℕ, Bool, true, false, List}
 use Rattle.metric_provider.specs.Rolling.{new_collectors, new_recorders}
-use Rattle.metric_provider.specs.Seats.{CollectorValue, ProviderValue, RecorderValue, provider_of}
+use Rattle.metric_seat.specs.Seats.{CollectorValue, ProviderValue, RecorderValue, provider_of}
 use Rattle.metric_provider.specs.declared.fault.RollFault.{RollFault}
 use Rattle.metric_provider.specs.declared.totals.Totals.{Totals}
 use Rattle.metric_sdk.specs.Endings.{IsTotal}

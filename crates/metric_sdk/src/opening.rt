@@ -2,7 +2,7 @@
 ghost use Rattle.std.specs.Prelude.{◌≡◌, IfErr, IfOk, IsTrue, OnErr, OnOk, false};
 ghost use Rattle.metric_io.specs.Counts.{next_count};
 ghost use Rattle.metric_provider.specs.Rolling.{new_collectors, new_recorders};
-ghost use Rattle.metric_provider.specs.Seats.{provider_of};
+ghost use Rattle.metric_seat.specs.Seats.{provider_of};
 ghost use Rattle.metric_setup.specs.Setups.{IsCertifiedPlan, IsFirstClaimFault, IsFirstFault, IsVouchedPlan};
 
 use crate::provider::MeterProvider;

@@ -5,7 +5,7 @@ use Rattle.std.specs.List.{list_all, range_with_len}
 use Rattle.std.proofs.lemmas.Bool.{and_from}
 use Rattle.std.proofs.lemmas.List.{length-replicate}
 use Rattle.metric_plan.specs.Plans.{PlanValue}
-use Rattle.metric_provider.specs.Seats.{RecorderValue, new_recorder, nothing_told}
+use Rattle.metric_seat.specs.Seats.{RecorderValue, new_recorder, nothing_told}
 use Rattle.metric_provider.specs.Totals.{AreAllSeats, AreOneEach}
 
 -- the seats of so many recorders, told of nothing

@@ -6,7 +6,7 @@ use crate::samples::{MAIN, ROUTES};
 use crate::texts::{write_batch, write_refusal, write_reply};
 use metric_contents::{Attr, Refusal, SetKey};
 use metric_history::Reply;
-use metric_hosted::{Hosted, Prepared, ReaderSeat, RecorderSeat};
+use metric_hosted::{Hosted, Measurement, ReaderSeat, RecorderSeat};
 use metric_plan::Plan;
 use metric_sdk::{ValueRef, certified_plan};
 use std::alloc::Global;
@@ -112,7 +112,7 @@ fn held_of<'a, R: Abort>(rt: &R, alloc: Global, plan: &'a Plan, run: u64) -> Hel
     Held {
         plan,
         instrument: Hosted::new(alloc, plan, 0, 7, 1).or_fail(rt),
-        recorder: RecorderSeat::new(alloc, run, 0, instruments).or_fail(rt),
+        recorder: RecorderSeat::new(alloc, run, 0, instruments, false).or_fail(rt),
         reader: ReaderSeat::new(alloc, run, 0, instruments).or_fail(rt),
     }
 }
@@ -128,10 +128,10 @@ fn reply_of(answer: Result<(), Refusal>, done: Reply) -> Reply {
     }
 }
 
-fn prepared<R: Abort>(rt: &R, alloc: Global, list: &[(u16, i64)]) -> Vec<Prepared> {
+fn prepared<R: Abort>(rt: &R, alloc: Global, list: &[(u16, i64)]) -> Vec<Measurement> {
     let mut all = Vec::new(alloc);
     for (entry, value) in list {
-        let prepared = Prepared {
+        let prepared = Measurement {
             set: key_of(*entry),
             value: *value,
         };
@@ -149,12 +149,12 @@ fn write_list<R: Abort>(
 ) {
     let all = prepared(rt, alloc, list);
     let answer = held
-        .recorder
-        .record_sets(held.plan, &mut held.instrument, all.as_slice());
+        .instrument
+        .record_sets(held.plan, &mut held.recorder, all.as_slice());
     match answer {
         Ok(()) => out.push_str("made\n").or_fail(rt),
         Err(ended) => {
-            write!(out, "{} made, then ", ended.done).or_fail(rt);
+            write!(out, "{} made, then ", ended.place).or_fail(rt);
             write_refusal(out, rt, ended.refusal)
         }
     }
@@ -168,8 +168,8 @@ fn write_collected<R: Abort>(
     now: u64,
 ) {
     let answer = held
-        .reader
-        .collect(alloc, held.plan, &mut held.instrument, now);
+        .instrument
+        .collect(alloc, held.plan, &mut held.reader, now);
     match answer {
         Ok(batch) => write_batch(out, rt, &batch),
         Err(refusal) => write_refusal(out, rt, refusal),
@@ -177,7 +177,7 @@ fn write_collected<R: Abort>(
 }
 
 fn write_settled<R: Abort>(out: &mut String, rt: &R, held: &Held<'_>) {
-    let Ok(told) = held.recorder.told_of(held.plan, &held.instrument) else {
+    let Ok(told) = held.instrument.told_of(held.plan, &held.recorder) else {
         return out.push_str("a stranger's\n").or_fail(rt);
     };
     match held.instrument.settle(&[told]) {
@@ -194,15 +194,15 @@ fn write_step<R: Abort>(out: &mut String, rt: &R, alloc: Global, held: &mut Held
                 value: ValueRef::Text(route),
             };
             let answer = held
-                .recorder
-                .record(held.plan, &mut held.instrument, &[route], *value);
+                .instrument
+                .record(held.plan, &mut held.recorder, &[route], *value);
             write_reply(out, rt, &reply_of(answer, Reply::Accepted))
         }
         Step::RecordSet(entry, value) => {
             let set = key_of(*entry);
             let answer = held
-                .recorder
-                .record_set(held.plan, &mut held.instrument, set, *value);
+                .instrument
+                .record_set(held.plan, &mut held.recorder, set, *value);
             write_reply(out, rt, &reply_of(answer, Reply::Accepted))
         }
         Step::RecordSets(list) => write_list(out, rt, alloc, held, list),

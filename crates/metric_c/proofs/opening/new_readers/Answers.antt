@@ -3,7 +3,7 @@ use Rattle.std.proofs.Common.{rules, ◌≡◌, ◌++◌, [], ◌∷◌, List, O
 use Rattle.std.specs.List.{range_with_len}
 use Rattle.std.proofs.lemmas.List.{map-append}
 use Rattle.std.proofs.lemmas.List.FromFn.{map-range_with_len_more}
-use Rattle.metric_provider.specs.Seats.{new_collector}
+use Rattle.metric_seat.specs.Seats.{new_collector}
 use Rattle.metric_hosted.specs.declared.planned.HostedReader.{HostedReader}
 use Rattle.metric_c.specs.declared.reader_handle.ReaderHandle.{ReaderHandle}
 use Rattle.metric_c.specs.Opening.{new_reader_of, readers_in}

@@ -3,7 +3,7 @@ use Rattle.std.proofs.Common.{rules, false, ◌≡◌, ◌++◌, [], ◌∷◌, 
 use Rattle.std.specs.List.{range_with_len}
 use Rattle.std.proofs.lemmas.List.{map-append}
 use Rattle.std.proofs.lemmas.List.FromFn.{map-range_with_len_more}
-use Rattle.metric_provider.specs.Seats.{new_recorder}
+use Rattle.metric_seat.specs.Seats.{new_recorder}
 use Rattle.metric_hosted.specs.declared.planned.HostedRecorder.{HostedRecorder}
 use Rattle.metric_c.specs.declared.recorder_handle.RecorderHandle.{RecorderHandle}
 use Rattle.metric_c.specs.Opening.{new_recorder_of, recorders_in}

@@ -1,6 +1,6 @@
 use Rattle.std.proofs.Common.{List, Err, ap, subst, sym}
 use Rattle.std.proofs.KnownBytes.{Keeps-refl}
-use Rattle.metric_provider.specs.declared.totals.Total.{Total}
+use Rattle.metric_seat.specs.declared.total.Total.{Total}
 use Rattle.metric_commands.proofs.RunLaws.{answered, refused, unread}
 use Rattle.metric_commands.specs.Threading.{IsCounted, totals_text}
 use Rattle.metric_commands.proofs.threads.threads_run.Goals as goal

@@ -1,8 +1,8 @@
 -- the seats of all recorders
 use Rattle.std.proofs.Common.{Bool, sym, ap, ◌∙◌}
 use Rattle.metric_base.specs.Steps.{require}
-use Rattle.metric_provider.specs.declared.fault.FinishFault.TheVariants.{RecorderMissing}
-use Rattle.metric_provider.specs.Seats.{ProviderValue, provider_of}
+use Rattle.metric_seat.specs.declared.fault.FinishFault.TheVariants.{RecorderMissing}
+use Rattle.metric_seat.specs.Seats.{ProviderValue, provider_of}
 use Rattle.metric_provider.proofs.SettleLaws.{seated_all, seated_when}
 use Rattle.metric_provider.proofs.finish.seated.Goals as goal
 

@@ -1,7 +1,6 @@
 -- one recording more
 use Rattle.std.proofs.Common.{refl, sym, ◌∙◌}
-use Rattle.metric_provider.proofs.GainLaws.{gained_as, gained_end, gained_more, gained_none}
-use Rattle.metric_provider.proofs.KeyLaws.{told_end, told_step}
+use Rattle.metric_provider.proofs.GainLaws.{gained_as, gained_end, gained_more, gained_none, told_end, told_step}
 use Rattle.metric_provider.proofs.held.record_each.Goals as goal
 
 pub record_one-answer-requires-clause-own : goal.record_one-answer-requires-clause-own

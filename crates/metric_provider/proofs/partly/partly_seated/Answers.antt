@@ -1,6 +1,6 @@
 -- seats of different recorders
 use Rattle.std.proofs.Common.{true, sym}
-use Rattle.metric_provider.specs.Seats.{ProviderValue, provider_of}
+use Rattle.metric_seat.specs.Seats.{ProviderValue, provider_of}
 use Rattle.metric_provider.proofs.PartlyLaws.{partly_when}
 use Rattle.metric_provider.proofs.SettleLaws.{seated_all, seated_when}
 use Rattle.metric_provider.proofs.partly.partly_seated.Goals as goal

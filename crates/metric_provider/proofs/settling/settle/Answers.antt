@@ -4,9 +4,9 @@ use Rattle.std.specs.Prelude.{slice_get}
 use Rattle.std.proofs.lemmas.Option.{slice_get-get_or, slice_get_within}
 use Rattle.metric_core.specs.Cells.{CellValue}
 use Rattle.metric_facts.specs.declared.facts.Facts.{Facts}
-use Rattle.metric_provider.specs.declared.totals.Total.{Total}
+use Rattle.metric_seat.specs.declared.total.Total.{Total}
 use Rattle.metric_provider.specs.Totals.{AreOneEach, IsAsTold, IsToldJournal, told_totals}
-use Rattle.metric_provider.specs.PlanFacts.{budgets_each}
+use Rattle.metric_seat.specs.PlanFacts.{budgets_each}
 use Rattle.metric_provider.proofs.SettleLaws.{told_more_cells, totals_end, totals_more}
 use Rattle.metric_provider.proofs.settling.settle.Goals as goal
 

@@ -3,8 +3,8 @@ use Rattle.std.proofs.Common.{◌≡◌, true, false, List, sym, subst, ◌∙�
 use Rattle.std.specs.Prelude.{◌==◌, slice_index, sum}
 use Rattle.std.specs.List.{list_all}
 use Rattle.metric_history.specs.declared.entry.Entry.{Entry}
-use Rattle.metric_provider.specs.Recordings.{told_at}
-use Rattle.metric_provider.specs.Seats.{RecorderValue}
+use Rattle.metric_seat.specs.Recordings.{told_at}
+use Rattle.metric_seat.specs.Seats.{RecorderValue}
 use Rattle.metric_provider.specs.Totals.{AreNoted, told_count}
 use Rattle.metric_provider.proofs.JournalLaws.{told_journal}
 use Rattle.metric_provider.proofs.SettleLaws.{count_is, sum_with, total_is}

@@ -3,7 +3,7 @@ use Rattle.std.proofs.Common.{◌++◌, [], ◌∷◌, List, length, map, sym, a
 use Rattle.std.specs.List.{range_with_len}
 use Rattle.std.proofs.lemmas.List.FromFn.{map-range_with_len_more}
 use Rattle.metric_facts.specs.declared.facts.Facts.{Facts}
-use Rattle.metric_provider.specs.Seats.{RecorderValue, new_recorder}
+use Rattle.metric_seat.specs.Seats.{RecorderValue, new_recorder}
 use Rattle.metric_provider.proofs.starting.new_recorders.Goals as goal
 
 pub loop-number-preserved : goal.loop-number-preserved

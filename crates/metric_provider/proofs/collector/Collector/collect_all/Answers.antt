@@ -2,8 +2,8 @@
 use Rattle.std.proofs.Common.{◌≡◌, ◌<◌, inl, false, List, Err, length, rules, sym, ap, subst, ◌∙◌, arith}
 use Rattle.std.proofs.lemmas.List.{length_push}
 use Rattle.metric_history.specs.declared.batch.Batch.{Batch}
-use Rattle.metric_provider.specs.Collections.{AnswersEach}
-use Rattle.metric_provider.specs.Seats.{ProviderValue, is_collector_of, provider_of}
+use Rattle.metric_seat.specs.Collections.{AnswersEach}
+use Rattle.metric_seat.specs.Seats.{ProviderValue, is_collector_of, provider_of}
 use Rattle.metric_provider.proofs.CollectLaws.{as_first, one_more, stranger}
 use Rattle.metric_provider.proofs.collector.Collector.collect_all.Goals as goal
 

@@ -1,6 +1,6 @@
 -- the batches so far
 use Rattle.std.proofs.Common.{◌≡◌, ◌≤◌, length, vec_capacity}
-use Rattle.metric_provider.specs.Collections.{AnswersEach, with_all_seen}
+use Rattle.metric_seat.specs.Collections.{AnswersEach, with_all_seen}
 use Rattle.metric_provider.proofs.collector.Collector.collect_all.Given as goal
 
 abbrev pub invariant-loop-instrument : goal.invariant-loop-instrument

@@ -2,7 +2,7 @@
 use Rattle.std.proofs.Common.{◌≡◌, List, length, refl, sym, ap, subst, ◌∙◌}
 use Rattle.metric_plan.specs.Plans.{PlanValue}
 use Rattle.metric_provider.specs.Partly.{ComesTo, missing_of, partly_seated}
-use Rattle.metric_provider.specs.Seats.{ProviderValue, RecorderValue, provider_of}
+use Rattle.metric_seat.specs.Seats.{ProviderValue, RecorderValue, provider_of}
 use Rattle.metric_provider.specs.Totals.{RefusesFinish, has_each}
 use Rattle.metric_provider.proofs.provider.Provider.finish_partly.Goals as goal
 

@@ -3,7 +3,7 @@ use Rattle.std.proofs.Common.{◌≡◌, List, refl, sym, ap, subst, ◌∙◌}
 use Rattle.metric_plan.specs.Plans.{PlanValue}
 use Rattle.metric_provider.specs.Locked.{AreLockedJournals}
 use Rattle.metric_provider.specs.Rolling.{new_collectors, new_recorders}
-use Rattle.metric_provider.specs.Seats.{ProviderValue, RecorderValue, provider_of}
+use Rattle.metric_seat.specs.Seats.{ProviderValue, RecorderValue, provider_of}
 use Rattle.metric_provider.specs.Totals.{Finishes, RefusesFinish, seated}
 use Rattle.metric_provider.proofs.provider.Provider.rolled.Goals as goal
 

@@ -1,5 +1,0 @@
-use Rattle.std.proofs.Common.{rules}
-use Rattle.metric_hosted.proofs.recorder.RecorderSeat.is_of.Goals as goal
-
-pub returns-then-self-recorders : goal.returns-then-self-recorders
-returns-then-self-recorders c = search rules

@@ -1,0 +1,3 @@
+pub mod AdmitLaws
+pub mod KeyLaws
+pub mod NotingLaws

@@ -1,0 +1,110 @@
+//! The seat of a reader.
+ghost use Rattle.std.specs.Prelude.{◌≡◌, slice_get, IfOk, OnErr};
+ghost use Rattle.metric_seat.specs.Collections.{AnswersCollector, collectable, with_seen};
+ghost use Rattle.metric_seat.specs.Handing.{HandsReading};
+ghost use Rattle.metric_seat.specs.Seats.{is_collector_of, new_collector, provider_of};
+
+use crate::held::Collected;
+use metric_contents::Refusal;
+use metric_history::Batch;
+use metric_plan::Plan;
+use std::alloc::{AllocError, Global};
+use std::marker::Model;
+
+/// The seat of one reader in one run of a plan: with it a thread collects (Metrics SDK, collect). It keeps how many
+/// recordings of each instrument the reader's last batch counted, so that the windows of a delta reader leave no gap and
+/// no overlap.
+///
+/// A call that takes a plan and a run takes those of the instrument that is collected.
+#[derive(Drop)]
+pub struct ReaderSeat {
+    run: u64,
+    number: u32,
+    seen: Vec<u64>,
+}
+
+impl Model for ReaderSeat {
+    ghost use Rattle.metric_seat.specs.Seats.{CollectorValue};
+
+    ghost Value = { CollectorValue };
+
+    ghost view = { λ c. record { run = c.run; number = c.number; seen = c.seen.items } };
+}
+
+impl ReaderSeat {
+    /// The seat of the reader of this number in the run of this number, which has seen nothing, for so many instruments.
+    /// Fails only where memory is refused.
+    pub fn new(
+        alloc: Global,
+        run: u64,
+        number: u32,
+        instruments: usize,
+    ) -> Result<ReaderSeat, AllocError>
+        ensures { IfOk result (λ seat. seat ≡ new_collector run instruments number) }
+    {
+        let seen = vec![in alloc; 0; instruments]?;
+        Ok(ReaderSeat { run, number, seen })
+    }
+
+    /// The number of the reader.
+    pub fn number(&self) -> u32
+        ensures { result ≡ self.now.number }
+    {
+        self.number
+    }
+
+    /// How many recordings of an instrument the reader's last batch counted, 0 before one; nothing for an unknown
+    /// instrument.
+    pub fn seen(&self, instrument: u32) -> Option<u64>
+        ensures { result ≡ slice_get self.now.seen instrument }
+    {
+        self.seen.get(instrument as usize).copied()
+    }
+
+    /// What the reader is told of an instrument at a time in nanoseconds, in one call of what holds it: its points since its
+    /// last batch (delta) or since the start (cumulative) (Metrics SDK, collect). Where the reader's last batch has a later
+    /// time, this one has that too.
+    ///
+    /// # Errors
+    ///
+    /// `Stranger` where the run is of another number, the seat was made for another number of instruments, or the plan has
+    /// no reader of its number; `UnknownInstrument`. Then `Stranger` where what is found is not what the seat has seen, and
+    /// `Memory`.
+    pub fn collect<H: Collected>(
+        &mut self,
+        held: &mut H,
+        alloc: Global,
+        plan: &Plan,
+        run: u64,
+        instrument: u32,
+        now: u64,
+    ) -> Result<Batch, Refusal>
+        ensures answer { let allowed = collectable (provider_of plan.now run) self.old instrument in
+            AnswersCollector allowed self.old instrument now result }
+        ensures seen { IfOk result (λ batch. self.new ≡ with_seen self.old instrument batch.mark) }
+        ensures err { OnErr result (self.new ≡ self.old) }
+        ensures handed { let allowed = collectable (provider_of plan.now run) self.old instrument in
+            HandsReading H.collects allowed self.old instrument held.old held.new now result }
+    {
+        if !self.is_of(plan, run) {
+            return Err(Refusal::Stranger);
+        }
+        let at = instrument as usize;
+        if at >= self.seen.len() {
+            return Err(Refusal::UnknownInstrument);
+        }
+        let facts = plan.facts(instrument);
+        let number = self.number;
+        let seen = &mut self.seen[at];
+        held.collect(alloc, facts, seen, number, now)
+    }
+
+    /// Whether the seat is of this run of the plan: of its number, made for as many instruments, and of one of its readers.
+    pub fn is_of(&self, plan: &Plan, run: u64) -> bool
+        ensures { result ≡ is_collector_of (provider_of plan.now run) self.now }
+    {
+        self.run == run
+            && (self.number as usize) < plan.config().readers().len()
+            && self.seen.len() == plan.all_facts().len()
+    }
+}
