@@ -175,8 +175,7 @@ impl Recorder {
         let plan = provider.plan();
         let run = provider.run();
         let mut held = provider.inside(rt, instrument);
-        self.seat
-            .record_sets(&mut held, plan, run, instrument, all)
+        self.seat.record_sets(&mut held, plan, run, instrument, all)
     }
 
     /// The slips of the recorder's accepted recordings on an instrument, in order; none where its provider's books keep

@@ -10,8 +10,8 @@ use Rattle.metric_sdk.proofs.headline.certified_runs_are_exact.Goals as goal
 pub returns : goal.returns
 returns g c contents config certificate core runs sound valid of fit stands are =
     let safe : IsSafePlan core.plan = subst (λ (q : PlanValue). IsSafePlan q) (sym of)
-        (c.safe_configs_give_safe_plans.ensures true (by_product_of certificate) contents config sound (c.valid_is_safe.ensures contents config certificate sound valid)
-        (subst (λ (q : PlanValue). RangesFit q.facts.instruments) of fit)) in
+    (c.safe_configs_give_safe_plans.ensures true (by_product_of certificate) contents config sound (c.valid_is_safe.ensures contents config certificate sound valid)
+    (subst (λ (q : PlanValue). RangesFit q.facts.instruments) of fit)) in
     let legal = legal_after g.B.Book.stands c.runs_keep_histories_legal.ensures core.plan core.start core [] runs refl refl stands tt are in
     record {
       legal = legal;
