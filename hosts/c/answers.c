@@ -333,6 +333,27 @@ static struct told expose(const struct row *row) {
     return told;
 }
 
+/* The remarks on two texts, or their fault. */
+static struct told lint(const struct row *row) {
+    size_t length = 9, room = room_for(row, ROOM);
+    uint32_t answer = wormweekly_lint(bytes(row->catalogue), strlen(row->catalogue), bytes(row->config), strlen(row->config),
+                                      clear_buffer(), room, &length);
+    if (answer != WORMWEEKLY_FAULT) {
+        return told_text(answer, length);
+    }
+    struct told told = { .answer = answer, .text = written(WORMWEEKLY_DONE, length < room ? length : room) };
+    told.numbers[0] = (int64_t)length;
+    return told;
+}
+
+static struct told explain(const struct row *row) {
+    size_t length = 9;
+    uint32_t answer =
+        wormweekly_explain(&recorders[row->recorder], row->number, bytes(row->texts), strlen(row->texts), row->given,
+                           row->given_length, row->value, clear_buffer(), room_for(row, ROOM), &length);
+    return told_text(answer, length);
+}
+
 static struct told warnings(const struct row *row) {
     size_t length = 0;
     uint32_t answer = wormweekly_warnings(&recorders[row->recorder], clear_buffer(), room_for(row, ROOM), &length);
@@ -540,14 +561,83 @@ static const char OPEN_TARGET[] =
     "# TYPE target info\n"
     "target_info{service_name=\"shop\"} 1\n";
 
+/* Texts with one fault each. */
+static const char MISSPELLED[] = "format = 1\n"
+                                 "[[meter]]\n"
+                                 "name = 'shop'\n"
+                                 "[[meter.instrument]]\n"
+                                 "name = 'queue'\n"
+                                 "kind = 'guage'\n"
+                                 "range = [0, 9]\n";
+
+static const char TWO_VIEWS[] = "format = 1\n"
+                                "[[reader]]\n"
+                                "name = 'console'\n"
+                                "[[view]]\n"
+                                "instrument_name = 'orders'\n"
+                                "[[view]]\n"
+                                "meter_name = 'shop'\n";
+
+static const char LOW_LIMIT[] = "format = 1\n"
+                                "[[reader]]\n"
+                                "name = 'console'\n"
+                                "[[view]]\n"
+                                "instrument_name = 'orders'\n"
+                                "limit = 3\n";
+
+/* One recording more than is safe. */
+static const char RICH_TILL[] = "format = 1\n"
+                                "[[meter]]\n"
+                                "name = 'shop'\n"
+                                "[[meter.instrument]]\n"
+                                "name = 'orders'\n"
+                                "kind = 'up_down_counter'\n"
+                                "range = [-100, 100]\n"
+                                "[[recorder]]\n"
+                                "name = 'till'\n"
+                                "budget = [{ instrument = 0, amount = 92233720368547759 }]\n";
+
+static const char BAD_FORMAT[] = "catalogue:1:1: catalogue format 3 is not supported (only 1 and 2)";
+static const char BAD_KIND[] = "catalogue:6:1: instrument 0 \"queue\": unknown kind \"guage\"; expected counter, up_down_counter, "
+                               "histogram or gauge; did you mean gauge?";
+static const char NO_NAME[] = "config:2:1: reader 0: missing field \"name\"";
+static const char COLLISION[] =
+    "config:6:1: stream 0 \"orders\" of reader 0 \"console\" (instrument 0 \"orders\", view 0 at config:4:1) and "
+    "stream 1 \"orders\" of reader 0 \"console\" (instrument 0 \"orders\", view 1 at config:6:1) have one identity: "
+    "the same name in one meter";
+#define FEW_SETS \
+    "config:4:1: stream 0 \"orders\" of reader 0 \"console\" (instrument 0 \"orders\", view 0 at config:4:1) may have " \
+    "4 sets of attributes, and its limit is 3: raise it, keep fewer keys, or lower the budgets and the spare of " \
+    "instrument 0 \"orders\" to 3 recordings together"
+static const char LIMIT[] = FEW_SETS;
+static const char TOO_OFTEN[] =
+    "catalogue:4:1: instrument 0 \"orders\": its budgets and its spare are 92233720368547759 recordings together, and at "
+    "most 92233720368547758 are safe: how far two sums are apart may be 18446744073709551800, above 18446744073709551615";
+static const char NO_CERTIFICATE[] =
+    "certificate: the tables are not those of a certificate: it was altered, or is of another format; make it anew";
+static const char OTHER_CERTIFICATE[] =
+    "certificate: the certificate is of other files, or was altered: the budgets and the spare of an instrument are another "
+    "number than it says, or too many; make it anew";
+
+/* Remarks: a view that does not fit, and, of a smaller pair, what keeps it from being opened. */
+static const char REMARKS[] =
+    "config:7:1: view 0 selects instrument 2 \"queue\" and names an aggregation that does not fit it: a gauge has no sum\n";
+static const char LIMIT_REMARK[] = FEW_SETS "\n";
+
+#define FAULT_TEXT(told) .answer = WORMWEEKLY_FAULT, .numbers = { 0, 0, 0, sizeof(told) - 1 }, .text = (told)
+
 /* Texts that open nothing, too few handles, and handles that are opened anew. */
 static const struct row OPENING_ROWS[] = {
     { CALL(open), .catalogue = "format = \xff", .config = CONFIG, ALL_HANDLES, .answer = WORMWEEKLY_NO_TEXT },
     { CALL(open), .catalogue = CATALOGUE, .config = "\xff", ALL_HANDLES, .answer = WORMWEEKLY_NO_TEXT },
-    { CALL(open), .catalogue = "format = 3\n", .config = CONFIG, ALL_HANDLES, .answer = WORMWEEKLY_FAULT,
-      .numbers = { 0, 0, 0, 28 }, .text = "catalogue 3 WrongKind at top" },
+    { CALL(open), .catalogue = "format = 3\n", .config = CONFIG, ALL_HANDLES, FAULT_TEXT(BAD_FORMAT) },
     { CALL(open), .catalogue = "format = 3\n", .config = CONFIG, .is_short = 1, .answer = WORMWEEKLY_FAULT,
-      .numbers = { 0, 0, 0, 28 }, .text = "c" },
+      .numbers = { 0, 0, 0, sizeof BAD_FORMAT - 1 }, .text = "c" },
+    { CALL(open), .catalogue = MISSPELLED, .config = "format = 1\n[[reader]]\n", ALL_HANDLES, FAULT_TEXT(BAD_KIND) },
+    { CALL(open), .catalogue = TILL, .config = "format = 1\n[[reader]]\n", ALL_HANDLES, FAULT_TEXT(NO_NAME) },
+    { CALL(open), .catalogue = TILL, .config = TWO_VIEWS, ALL_HANDLES, FAULT_TEXT(COLLISION) },
+    { CALL(open), .catalogue = TILL, .config = LOW_LIMIT, ALL_HANDLES, FAULT_TEXT(LIMIT) },
+    { CALL(open), .catalogue = RICH_TILL, .config = TILL_CONFIG, ALL_HANDLES, FAULT_TEXT(TOO_OFTEN) },
     { CALL(open), .catalogue = CATALOGUE, .config = CONFIG, .answer = WORMWEEKLY_TOO_SHORT,
       .numbers = { INSTRUMENTS, RECORDERS, READERS } },
     { CALL(open), .catalogue = CATALOGUE, .config = CONFIG, .handles = { INSTRUMENTS - 1, RECORDERS, READERS },
@@ -560,9 +650,22 @@ static const struct row OPENING_ROWS[] = {
     { CALL(open_certified), .catalogue = TILL, .config = TILL_CONFIG, .certificate = "format = \xff", ALL_HANDLES,
       .answer = WORMWEEKLY_NO_TEXT },
     { CALL(open_certified), .catalogue = TILL, .config = TILL_CONFIG, .certificate = "format = 3\n", ALL_HANDLES,
-      .answer = WORMWEEKLY_FAULT, .numbers = { 0, 0, 0, 19 }, .text = "certificate 2 Shape" },
+      FAULT_TEXT(NO_CERTIFICATE) },
     { CALL(open_certified), .catalogue = TILL, .config = TILL_CONFIG, .certificate = WRONG_CERTIFICATE, ALL_HANDLES,
-      .answer = WORMWEEKLY_FAULT, .numbers = { 0, 0, 0, 19 }, .text = "check 12 CountRange" },
+      FAULT_TEXT(OTHER_CERTIFICATE) },
+    { CALL(open_certified), .catalogue = TILL, .config = "format = 1\n[[reader]]\n", .certificate = CERTIFICATE, ALL_HANDLES,
+      FAULT_TEXT(NO_NAME) },
+    { CALL(lint), .catalogue = CATALOGUE, .config = CONFIG, .text = REMARKS },
+    { CALL(lint), .catalogue = CATALOGUE, .config = CONFIG, .is_short = 1, .answer = WORMWEEKLY_TOO_SHORT,
+      .numbers = { sizeof REMARKS - 1 } },
+    { CALL(lint), .catalogue = TILL, .config = TILL_CONFIG, .text = "" },
+    { CALL(lint), .catalogue = TILL, .config = LOW_LIMIT, .text = LIMIT_REMARK },
+    { CALL(lint), .catalogue = MISSPELLED, .config = CONFIG, .answer = WORMWEEKLY_FAULT,
+      .numbers = { sizeof BAD_KIND - 1 }, .text = BAD_KIND },
+    { CALL(lint), .catalogue = TILL, .config = "format = 1\n[[reader]]\n", .is_short = 1, .answer = WORMWEEKLY_FAULT,
+      .numbers = { sizeof NO_NAME - 1 }, .text = "c" },
+    { CALL(lint), .catalogue = "\xff", .config = CONFIG, .answer = WORMWEEKLY_NO_TEXT, .numbers = { 9 } },
+    { CALL(lint), .catalogue = TILL, .config = "\xff", .answer = WORMWEEKLY_NO_TEXT, .numbers = { 9 } },
     { CALL(open_certified), .catalogue = TILL, .config = TILL_CONFIG, .certificate = CERTIFICATE,
       .answer = WORMWEEKLY_TOO_SHORT, .numbers = { 1, 1, 1 } },
     { CALL(open_certified), .catalogue = TILL, .config = TILL_CONFIG, .certificate = CERTIFICATE,
@@ -614,6 +717,23 @@ static const struct row ORDERS_ROWS[] = {
     { CALL(record), .texts = "countrydepaid", GIVEN(PAID_7), .answer = WORMWEEKLY_COMBINATION },
     { CALL(record), .texts = "countrydepaid", GIVEN(PAID), .value = 101, .answer = WORMWEEKLY_VALUE_RANGE },
     { CALL(record), .recorder = RECORDERS, .texts = "countrydepaid", GIVEN(PAID), .answer = WORMWEEKLY_STRANGER },
+    { CALL(explain), .texts = "countrydecountryfr", GIVEN(TWICE), .text = "orders: key \"country\" stands twice" },
+    { CALL(explain), .texts = "countrydepait", GIVEN(PAID), .text = "orders: key \"pait\" is not declared" },
+    { CALL(explain), .texts = "abcdefghi", GIVEN(NINE), .text = "orders: key \"a\" is not declared" },
+    { CALL(explain), .texts = "countryukpaid", GIVEN(PAID), .text = "orders: key \"country\" has no value \"uk\"" },
+    { CALL(explain), .texts = "country\x1b[paid", GIVEN(PAID), .text = "orders: key \"country\" has no value \"\\u{1b}[\"" },
+    { CALL(explain), .texts = "countrydepaid", GIVEN(UNPAID), .text = "orders: key \"paid\" has no value false" },
+    { CALL(explain), .texts = "countryde", GIVEN(COUNTRY), .text = "orders: key \"paid\" is missing" },
+    { CALL(explain), .texts = "countrydepaid", GIVEN(PAID_7), .text = "orders: the values are not allowed together" },
+    { CALL(explain), .texts = "countrydepaid", GIVEN(PAID), .value = 101,
+      .text = "orders: value 101 is not in the range from -100 to 100" },
+    { CALL(explain), .texts = "countrydepaid", GIVEN(PAID), .value = 101, .is_short = 1,
+      .answer = WORMWEEKLY_TOO_SHORT, .numbers = { 54 } },
+    { CALL(explain), .texts = "countrydepaid", GIVEN(PAID), .value = -100, .text = "" },
+    { CALL(explain), .number = QUEUE, .texts = "countrydepaid", GIVEN(PAID), .text = "queue: key \"country\" is not declared" },
+    { CALL(explain), .number = INSTRUMENTS, .texts = "countrydepaid", GIVEN(PAID), .text = "there is no instrument 3" },
+    { CALL(explain), .texts = "country", GIVEN(PAID), .answer = WORMWEEKLY_NO_TEXT, .numbers = { 9 } },
+    { CALL(explain), .texts = "countryde", GIVEN(NO_KIND), .answer = WORMWEEKLY_NO_TEXT, .numbers = { 9 } },
     { CALL(prepare), .texts = "countryfrpaid", GIVEN(PAID_7), .numbers = { 2, 2 } },
     { CALL(prepare), .texts = "countryfrpaid", GIVEN(PAID), .numbers = { 2, 1 } },
     { CALL(prepare), .texts = "country", GIVEN(PAID), .answer = WORMWEEKLY_NO_TEXT, .numbers = { 2, 1 } },
@@ -783,6 +903,7 @@ static const struct row FREED_ROWS[] = {
     { CALL(otlp), .reader = CHANGES, .texts = "service.nameshop", GIVEN(SERVICE) },
     { CALL(reader_name), .reader = CHANGES },
     { CALL(ask), .recorder = NIGHT },
+    { CALL(explain), .recorder = NIGHT, .texts = "countrydepaid", GIVEN(PAID) },
     { CALL(budget), .recorder = NIGHT },
     { CALL(headrooms), .recorder = NIGHT },
     { CALL(settle), ALL_RECORDERS },

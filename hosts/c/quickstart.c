@@ -48,6 +48,9 @@ int main(void) {
     printf("de: %u\n", wormweekly_record(&orders, &till, TEXT("countryde"), &country, 1, 2));
     printf("fr: %u\n", wormweekly_record(&orders, &till, TEXT("countryfr"), &country, 1, 1));
     printf("uk: %u\n", wormweekly_record(&orders, &till, TEXT("countryuk"), &country, 1, 1));
+    wormweekly_explain(&till, 0, TEXT("countryuk"), &country, 1, 1, text, sizeof text, &length);
+    print(text, sizeof text, length);
+    printf("\n");
 
     wormweekly_collect(&orders, &console, 1000);
     wormweekly_text(&console, text, sizeof text, &length);

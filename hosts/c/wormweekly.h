@@ -213,7 +213,13 @@ typedef struct {
 /* Opens a run since `start`, in nanoseconds. Runs of one process do not mix, whatever their start. Writes how many handles of
  * each kind there are to be; where a list has fewer (WORMWEEKLY_TOO_SHORT), nothing is opened, so ask with empty lists first.
  * The handles have to be null: where one of the lists holds something, nothing is opened or freed (WORMWEEKLY_OPEN). A fault
- * (WORMWEEKLY_FAULT) is told in `fault`, as far as there is room, with its whole length. */
+ * (WORMWEEKLY_FAULT) is told in `fault`, as far as there is room, with its whole length: one line without an end, as `wormweekly lint`
+ * prints it,
+ *
+ *     catalogue:7:1: instrument 0 "orders": unknown kind "guage"; expected counter, up_down_counter, histogram or gauge; ..
+ *
+ * It begins with `catalogue`, `config` or `certificate`, then the line and the column of the field where they are known, each
+ * behind a colon, then a colon and a blank. So much stays; the words after it may change with each version. */
 uint32_t wormweekly_open(const uint8_t *catalogue, size_t catalogue_length, const uint8_t *config, size_t config_length,
                          uint64_t start, wormweekly_instrument *instruments, size_t instruments_length,
                          wormweekly_recorder *recorders, size_t recorders_length, wormweekly_reader *readers,
@@ -235,6 +241,13 @@ uint32_t wormweekly_next(wormweekly_recorder *recorder, uint64_t start, wormweek
                          size_t instruments_length, wormweekly_recorder *recorders, size_t recorders_length,
                          wormweekly_reader *readers, size_t readers_length, wormweekly_counts *counts);
 
+/* Writes a line for each remark that `wormweekly lint` has on a catalogue and a config, as a key that nothing declares, or budgets that
+ * are not safe; nothing where there is none. At most a hundred are written, and then how many more there are. Each begins as a
+ * fault does. Where there is too little room, only the length is written. A fault of the texts (WORMWEEKLY_FAULT) is written in
+ * their place, as far as there is room, with its whole length. Needs no handle. */
+uint32_t wormweekly_lint(const uint8_t *catalogue, size_t catalogue_length, const uint8_t *config, size_t config_length,
+                         uint8_t *out, size_t room, size_t *text_length);
+
 /* Makes a recording (under the instrument's mutex). */
 uint32_t wormweekly_record(wormweekly_instrument *instrument, wormweekly_recorder *recorder, const uint8_t *texts,
                            size_t texts_length, const wormweekly_attribute *attributes, size_t attributes_length,
@@ -244,6 +257,14 @@ uint32_t wormweekly_record(wormweekly_instrument *instrument, wormweekly_recorde
 uint32_t wormweekly_prepare(wormweekly_recorder *recorder, uint32_t instrument, const uint8_t *texts, size_t texts_length,
                             const wormweekly_attribute *attributes, size_t attributes_length,
                             wormweekly_prepared *prepared);
+
+/* Writes what such a recording of a value is refused for, of what it says, as `orders: key "country" has no value "uk"`: the name
+ * of the instrument, and the key, the value or the range of its first mistake. The words may change with each version, and are
+ * cut after 400 characters. The text is empty where all that it says is in order, so that it is refused for something else, if
+ * at all. Where there is too little room, only the length is written. Nothing is recorded. Needs no mutex. It compares each key with all after it, so give it few attributes. */
+uint32_t wormweekly_explain(wormweekly_recorder *recorder, uint32_t instrument, const uint8_t *texts, size_t texts_length,
+                            const wormweekly_attribute *attributes, size_t attributes_length, int64_t value, uint8_t *out,
+                            size_t room, size_t *text_length);
 
 /* Makes the recording of a prepared set key (under the instrument's mutex). */
 uint32_t wormweekly_record_prepared(wormweekly_instrument *instrument, wormweekly_recorder *recorder,

@@ -47,6 +47,6 @@ func Example() {
 	check(err)
 	fmt.Println(totals[0].Sum, "in", totals[0].Count, "recordings")
 	// Output:
-	// true wormweekly: a key does not declare its value (instrument "orders")
+	// true wormweekly: a key does not declare its value: orders: key "country" has no value "uk"
 	// 6 in 4 recordings
 }

@@ -280,6 +280,33 @@ func prepare(own *handles, instrument, recorder int, attributes []Attr) (setKey,
 	return (*prepared)(unsafe.Pointer(&out)).set, uint32(answer)
 }
 
+// What a recording is refused for, of what it says, "" where that is in order. Needs the recorder alone.
+func explain(own *handles, instrument, recorder int, attributes []Attr, value int64) string {
+	made := own.give(recorder, attributes)
+	defer made.free()
+	text, _ := askText(func(out *C.uint8_t, room C.size_t, length *C.size_t) C.uint32_t {
+		return C.wormweekly_explain(own.recorder(recorder), C.uint32_t(instrument), made.texts, C.size_t(made.length),
+			made.attributes, C.size_t(made.count), C.int64_t(value), out, room, length)
+	})
+	return text
+}
+
+// Writes the remarks on two texts, or their fault.
+func lint(catalogue, config string) (string, uint32) {
+	first, firstLength := bytesOf(catalogue)
+	second, secondLength := bytesOf(config)
+	out := make([]byte, 4096)
+	for {
+		var length C.size_t
+		answer := C.wormweekly_lint(first, firstLength, second, secondLength, (*C.uint8_t)(unsafe.Pointer(&out[0])),
+			C.size_t(len(out)), &length)
+		if int(length) <= len(out) {
+			return string(out[:length]), uint32(answer)
+		}
+		out = make([]byte, length)
+	}
+}
+
 func grant(own *handles, instrument, recorder int, amount uint64) uint32 {
 	return uint32(C.wormweekly_grant(own.instrument(instrument), C.uint32_t(recorder), C.uint64_t(amount)))
 }

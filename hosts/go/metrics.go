@@ -2,6 +2,7 @@ package wormweekly
 
 import (
 	"fmt"
+	"strings"
 	"sync"
 	"time"
 )
@@ -61,6 +62,20 @@ func Open(catalogue, config string, options ...Option) (*Metrics, error) {
 		return nil, errorOf(answer)
 	}
 	return newMetrics(&run{handles: own}), nil
+}
+
+// Lint answers the remarks that "wormweekly lint" has on a catalogue and a config, a line each with its place: what looks like
+// a mistake, also that the two are not safe together. At most a hundred are told, and in one more line how many there are
+// beside these. Where the texts are at fault, the error wraps ErrFault and tells the first fault.
+func Lint(catalogue, config string) ([]string, error) {
+	text, answer := lint(catalogue, config)
+	switch {
+	case answer == answerFault:
+		return nil, fmt.Errorf("%w: %s", ErrFault, text)
+	case answer != answerDone:
+		return nil, errorOf(answer)
+	}
+	return strings.FieldsFunc(text, func(one rune) bool { return one == '\n' }), nil
 }
 
 func newMetrics(own *run) *Metrics {
@@ -211,7 +226,7 @@ func (instrument *Instrument) Bind(attributes ...Attr) (Bound, error) {
 	first.keep()
 	defer first.state.Store(free)
 	set, answer := prepare(own.handles, instrument.number, first.number, attributes)
-	return Bound{instrument, set}, errorOn(instrument, answer)
+	return Bound{instrument, set}, errorSaid(instrument, answer, first.number, attributes, 0)
 }
 
 // Grant gives a recorder so many recordings beside its budget, of what is left of the spare budget.

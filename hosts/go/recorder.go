@@ -35,11 +35,12 @@ func (recorder *Recorder) Record(on *Instrument, value int64, attributes ...Attr
 	on.mutex.Lock()
 	answer := record(recorder.run.handles, on.number, recorder.number, attributes, value)
 	on.mutex.Unlock()
-	recorder.state.Store(free)
 	if answer == answerDone {
+		recorder.state.Store(free)
 		return nil
 	}
-	return errorOn(on, answer)
+	defer recorder.state.Store(free)
+	return errorSaid(on, answer, recorder.number, attributes, value)
 }
 
 // Add makes a recording with a bound set of attributes. Where it is refused, nothing is counted.

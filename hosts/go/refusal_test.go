@@ -47,6 +47,45 @@ func TestRecordingsAreRefusedByName(t *testing.T) {
 	}
 }
 
+func TestRefusalsTellWhatTheyAreAbout(t *testing.T) {
+	_, first, _, requests := opened(t)
+	cases := []struct {
+		attributes []Attr
+		value      int64
+		want       string
+	}{
+		{[]Attr{String("colour", "red")}, 1, `requests: key "colour" is not declared`},
+		{[]Attr{String("route", "/admin"), Int("status", 200)}, 1, `requests: key "route" has no value "/admin"`},
+		{[]Attr{String("route", "\x1b[2J"), Int("status", 200)}, 1, `requests: key "route" has no value "\u{1b}[2J"`},
+		{home[:1], 1, `requests: key "status" is missing`},
+		{home, 0, "requests: value 0 is not in the range from 1 to 100"},
+	}
+	for _, one := range cases {
+		err := first.Record(requests, one.value, one.attributes...)
+		if err == nil || !strings.HasSuffix(err.Error(), ": "+one.want) {
+			t.Errorf("%v, and not %s", err, one.want)
+		}
+	}
+	if _, err := requests.Bind(home[0]); err == nil || !strings.HasSuffix(err.Error(), cases[3].want) {
+		t.Errorf("%v, and not %s", err, cases[3].want)
+	}
+}
+
+func TestRemarksAndFaultsHavePlaces(t *testing.T) {
+	remarks, err := Lint(testCatalogue, "format = 1\n")
+	if err != nil || len(remarks) != 1 || remarks[0] != "config:1:1: there is no reader, so nothing is collected" {
+		t.Errorf("%q, %v", remarks, err)
+	}
+	_, linted := Lint("format = 3\n", testConfig)
+	_, opened := Open("format = 3\n", testConfig)
+	for _, err := range []error{linted, opened} {
+		const want = ": catalogue:1:1: catalogue format 3 is not supported (only 1 and 2)"
+		if !errors.Is(err, ErrFault) || !strings.HasSuffix(err.Error(), want) {
+			t.Errorf("%v, and not %s", err, want)
+		}
+	}
+}
+
 // Each misuse with the refusal that tells it.
 func TestMisuseIsRefusedByName(t *testing.T) {
 	cases := map[string]struct {

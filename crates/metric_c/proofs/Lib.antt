@@ -10,3 +10,4 @@ pub mod Utf8Laws
 pub mod HeldLaws
 pub mod RoomLaws
 pub mod NullLaws
+pub mod LintLaws

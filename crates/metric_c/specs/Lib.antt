@@ -7,6 +7,10 @@ pub mod Codes
 pub mod Texts
 pub mod Names
 pub mod Refusing
+pub mod Pairs
+pub mod Telling
+pub mod Linting
+pub mod Explaining
 pub mod Opening
 pub mod Vouching
 pub mod Recordings

@@ -14,6 +14,7 @@ use Rattle.metric_hosted.specs.Hosts.{HostedValue}
 use Rattle.metric_hosted.specs.declared.planned.HostedReader.{HostedReader}
 use Rattle.metric_hosted.specs.declared.planned.HostedRecorder.{HostedRecorder}
 use Rattle.metric_c.specs.Texts.{AreFirst}
+use Rattle.metric_c.specs.Telling.{TellsFault}
 use Rattle.metric_c.specs.declared.opening.Counts.{Counts}
 use Rattle.metric_c.specs.declared.instrument_handle.InstrumentHandle.{InstrumentHandle}
 use Rattle.metric_c.specs.declared.reader_handle.ReaderHandle.{ReaderHandle}
@@ -142,8 +143,9 @@ pub record Counted (IsPlan : PlanValue → Type 0) (counts : Counts) : Type 0 wh
   pub is : IsPlan plan
   pub counts_are : counts ≡ counts_of plan
 
--- Two texts have this first fault.
-pub record HasFault (catalogue config : List ℕ) : Type 0 where
+-- Two texts have a first fault, which a text tells.
+pub record HasFault (catalogue config text : List ℕ) : Type 0 where
   pub fault : SetupFault
-  pub told : fault ≢ Memory
+  pub known : fault ≢ Memory
   pub first : IsFirstFault fault catalogue config
+  pub tells : TellsFault catalogue config fault text

@@ -20,8 +20,3 @@ AnswersText text before after count code = (count ≡ length text) × AnswersAll
 abbrev pub IsFront : List ℕ → List ℕ → List ℕ → ℕ → Type 0
 IsFront text before after count =
     (count ≡ length text) × AreFirst (take (length before) text) before after
-
--- Some text does.
-pub record HasFront (before after : List ℕ) (count : ℕ) : Type 0 where
-  pub text : List ℕ
-  pub is : IsFront text before after count

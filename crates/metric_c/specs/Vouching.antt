@@ -3,10 +3,13 @@ use Rattle.std.specs.Prelude.{◌≢◌, ℕ, List}
 use Rattle.metric_setup.specs.Setups.{IsFirstClaimFault}
 use Rattle.metric_setup.specs.declared.fault.SetupFault.{SetupFault}
 use Rattle.metric_setup.specs.declared.fault.SetupFault.TheVariants.{Memory}
+use Rattle.metric_c.specs.Telling.{TellsFault}
 
 -- # fault of three texts (profile)
--- The first fault of a catalogue, a config and a certificate, other than want of memory.
-pub record HasVouchFault (catalogue config certificate : List ℕ) : Type 0 where
+-- The first fault of a catalogue, a config and a certificate, other than want of memory, which a text
+-- tells.
+pub record HasVouchFault (catalogue config certificate text : List ℕ) : Type 0 where
   pub fault : SetupFault
-  pub told : fault ≢ Memory
+  pub known : fault ≢ Memory
   pub first : IsFirstClaimFault fault catalogue config certificate
+  pub tells : TellsFault catalogue config fault text

@@ -3,19 +3,20 @@ ghost use Rattle.std.specs.Prelude.{◌≡◌, ◌≢◌, ◌⊎◌, ◌↔◌, 
 ghost use Rattle.std.specs.Str.{is_utf8};
 ghost use Rattle.metric_c.specs.Opening.{Counted, IsOpenCode, Opens, held_by, holds_something, instruments_in, lacks_handles, readers_in, recorders_in};
 ghost use Rattle.metric_c.specs.Refusing.{IsWhy};
-ghost use Rattle.metric_c.specs.Texts.{HasFront};
+ghost use Rattle.metric_c.specs.Telling.{HasFront};
 ghost use Rattle.metric_c.specs.Vouching.{HasVouchFault};
 ghost use Rattle.metric_setup.specs.Setups.{IsVouchedPlan};
 
-use crate::codes::OPEN;
+use crate::codes::{MEMORY, NO_TEXT, OPEN};
 use crate::empty::holds_something;
 use crate::instrument_handle::InstrumentHandle;
-use crate::no_plan::{NoPlan, tell, told};
+use crate::no_plan::{NoPlan, tell};
 use crate::opening::{Counts, open_plan};
 use crate::reader_handle::ReaderHandle;
 use crate::recorder_handle::RecorderHandle;
+use crate::telling::told_fault;
 use metric_plan::Plan;
-use metric_setup::{SetupFault, vouched_plan};
+use metric_setup::vouched_plan;
 use std::alloc::Global;
 use std::str::from_utf8;
 
@@ -50,11 +51,11 @@ pub extern "C" fn wormweekly_open_certified_run(
     ensures uncounted { (result ≡ 101) ⊎ ((result ≡ 103) ⊎ (result ≡ 109)) → counts.new ≡ counts.old }
     ensures no_text { result ≡ 101
         → (is_utf8 catalogue.now && (is_utf8 config.now && is_utf8 certificate.now)) ≡ false }
-    ensures faulty { result ≡ 103 → HasVouchFault catalogue.now config.now certificate.now }
     ensures texts { result ≡ 103
         → (is_utf8 catalogue.now && (is_utf8 config.now && is_utf8 certificate.now)) ≡ true }
     ensures fault { result ≢ 103 → (fault.new ≡ fault.old) × (fault_length.new ≡ 0) }
-    ensures told { result ≡ 103 → HasFront fault.old fault.new fault_length.new }
+    ensures told { let HasFault = HasVouchFault catalogue.now config.now certificate.now in
+        result ≡ 103 → HasFront HasFault fault.old fault.new fault_length.new }
     ensures instruments { result ≢ 0 → instruments_in instruments.new ≡ instruments_in instruments.old }
     ensures recorders { result ≢ 0 → recorders_in recorders.new ≡ recorders_in recorders.old }
     ensures readers { result ≢ 0 → readers_in readers.new ≡ readers_in readers.old }
@@ -64,7 +65,9 @@ pub extern "C" fn wormweekly_open_certified_run(
         return OPEN;
     }
     match plan_for(alloc, catalogue, config, certificate) {
-        Err(why) => tell(&why, fault, fault_length),
+        Err(NoPlan::NoText) => NO_TEXT,
+        Err(NoPlan::Memory) => MEMORY,
+        Err(NoPlan::Fault(text)) => tell(text.as_slice(), fault, fault_length),
         Ok(plan) => open_plan(
             alloc,
             plan,
@@ -111,7 +114,9 @@ fn plan_of(alloc: Global, catalogue: &str, config: &str, certificate: &str) -> R
 {
     match vouched_plan(alloc, catalogue, config, certificate) {
         Ok(plan) => Ok(plan),
-        Err(SetupFault::Memory) => Err(NoPlan::Memory),
-        Err(found) => Err(told(format!(in alloc; "{found}"), alloc)),
+        Err(fault) => match told_fault(alloc, catalogue, config, certificate, fault) {
+            Ok(text) => Err(NoPlan::Fault(text)),
+            Err(_) => Err(NoPlan::Memory),
+        },
     }
 }

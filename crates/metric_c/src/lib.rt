@@ -31,16 +31,19 @@ mod codes;
 mod collections;
 mod empty;
 mod ending;
+mod explaining;
 mod exposed;
 mod grants;
 mod headrooms;
 mod instrument_handle;
+mod linting;
 mod names;
 mod next;
 mod no_plan;
 mod opening;
 mod otlp;
 mod pages;
+mod pairs;
 mod parts;
 mod prepared;
 mod reader_handle;
@@ -48,6 +51,7 @@ mod recorder_handle;
 mod recordings;
 mod resources;
 mod settlements;
+mod telling;
 mod texts;
 mod warnings;
 
@@ -64,10 +68,12 @@ pub use ending::{
     may_be_sent, wormweekly_close, wormweekly_free_instrument, wormweekly_free_reader,
     wormweekly_free_recorder,
 };
+pub use explaining::wormweekly_explain;
 pub use exposed::wormweekly_expose;
 pub use grants::wormweekly_grant;
 pub use headrooms::{HeadroomOut, wormweekly_headrooms};
 pub use instrument_handle::InstrumentHandle;
+pub use linting::wormweekly_lint;
 pub use names::{wormweekly_name, wormweekly_reader_name};
 pub use next::wormweekly_next_run;
 pub use opening::{Counts, wormweekly_open_run};

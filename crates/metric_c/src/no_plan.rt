@@ -1,11 +1,9 @@
 //! Why there is no plan.
-ghost use Rattle.std.specs.Prelude.{◌≡◌, ◌≢◌};
-ghost use Rattle.metric_c.specs.Refusing.{code_of_no_plan, is_fault};
-ghost use Rattle.metric_c.specs.Texts.{HasFront};
+ghost use Rattle.std.specs.Prelude.{◌≡◌};
+ghost use Rattle.metric_c.specs.Texts.{IsFront};
 
-use crate::codes::{FAULT, MEMORY, NO_TEXT};
+use crate::codes::FAULT;
 use crate::texts::copy_front;
-use std::alloc::{AllocError, Global};
 
 /// Why texts come to no certified plan.
 #[derive(Drop)]
@@ -14,32 +12,15 @@ pub(crate) enum NoPlan {
     NoText,
     /// Memory was refused.
     Memory,
-    /// This fault, as it is told; empty where there was no memory for its text.
-    Fault(String),
+    /// They have a fault, which is told so.
+    Fault(Vec<u8>),
 }
 
-// A fault with its text.
-pub(crate) fn told(text: Result<String, AllocError>, alloc: Global) -> NoPlan
-    ensures { is_fault result }
+// Writes the text of a fault as far as there is room, with its whole length, and answers the number.
+pub(crate) fn tell(text: &[u8], out: &mut [u8], text_length: &mut usize) -> u32
+    ensures code { result ≡ 103 }
+    ensures told { IsFront text.now out.old out.new text_length.new }
 {
-    match text {
-        Ok(text) => NoPlan::Fault(text),
-        Err(_) => NoPlan::Fault(String::new(alloc)),
-    }
-}
-
-// Writes a fault as far as there is room, with its whole length, and answers the number.
-pub(crate) fn tell(why: &NoPlan, out: &mut [u8], text_length: &mut usize) -> u32
-    ensures code { result ≡ code_of_no_plan why.now }
-    ensures out { result ≢ 103 → (out.new ≡ out.old) × (text_length.new ≡ text_length.old) }
-    ensures told { result ≡ 103 → HasFront out.old out.new text_length.new }
-{
-    match why {
-        NoPlan::NoText => NO_TEXT,
-        NoPlan::Memory => MEMORY,
-        NoPlan::Fault(text) => {
-            *text_length = copy_front(text.as_bytes(), out);
-            FAULT
-        }
-    }
+    *text_length = copy_front(text, out);
+    FAULT
 }

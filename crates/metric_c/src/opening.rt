@@ -3,19 +3,21 @@ ghost use Rattle.std.specs.Prelude.{◌≡◌, ◌≢◌, ◌≤◌, ◌⊎◌, 
 ghost use Rattle.std.specs.Str.{is_utf8};
 ghost use Rattle.metric_c.specs.Opening.{AreNewInstruments, Begins, Counted, HasFault, IsOpenCode, Opens, counts_of, held_by, holds_something, instruments_in, lacks_handles, new_readers, new_recorders, readers_in, recorders_in};
 ghost use Rattle.metric_c.specs.Refusing.{IsWhy};
-ghost use Rattle.metric_c.specs.Texts.{AreFirst, HasFront};
+ghost use Rattle.metric_c.specs.Telling.{HasFront};
+ghost use Rattle.metric_c.specs.Texts.{AreFirst};
 ghost use Rattle.metric_setup.specs.Setups.{IsCertifiedPlan};
 
-use crate::codes::{DONE, MEMORY, OPEN, TOO_SHORT};
+use crate::codes::{DONE, MEMORY, NO_TEXT, OPEN, TOO_SHORT};
 use crate::empty::holds_something;
 use crate::instrument_handle::InstrumentHandle;
-use crate::no_plan::{NoPlan, tell, told};
+use crate::no_plan::{NoPlan, tell};
 use crate::reader_handle::ReaderHandle;
 use crate::recorder_handle::RecorderHandle;
+use crate::telling::told_fault;
 use metric_base::{Copied, Shared};
 use metric_hosted::{Hosted, HostedReader, HostedRecorder, ReaderSeat, RecorderSeat};
 use metric_plan::Plan;
-use metric_setup::{SetupFault, certified_plan};
+use metric_setup::certified_plan;
 use std::alloc::{AllocError, Global};
 use std::str::from_utf8;
 
@@ -30,7 +32,8 @@ pub struct Counts {
 
 /// Opens the instruments of the certified plan of a catalogue and a config, since a start in nanoseconds, in the run of a
 /// number, with a seat for each recorder and each reader, and writes how many there are. Where there are too few handles, one
-/// that holds something, or a fault, nothing is opened. A fault is written as far as there is room, with its whole length.
+/// that holds something, or a fault, nothing is opened. A fault is told as in `wormweekly lint`, with its file and its place, as far as
+/// there is room, with its whole length.
 #[unsafe(no_mangle)]
 pub extern "C" fn wormweekly_open_run(
     alloc: Global,
@@ -56,10 +59,10 @@ pub extern "C" fn wormweekly_open_run(
         (length instruments.old) (length recorders.old) (length readers.old) ≡ true }
     ensures uncounted { (result ≡ 101) ⊎ ((result ≡ 103) ⊎ (result ≡ 109)) → counts.new ≡ counts.old }
     ensures no_text { result ≡ 101 → (is_utf8 catalogue.now && is_utf8 config.now) ≡ false }
-    ensures faulty { result ≡ 103 → HasFault catalogue.now config.now }
     ensures texts { result ≡ 103 → (is_utf8 catalogue.now && is_utf8 config.now) ≡ true }
     ensures fault { result ≢ 103 → (fault.new ≡ fault.old) × (fault_length.new ≡ 0) }
-    ensures told { result ≡ 103 → HasFront fault.old fault.new fault_length.new }
+    ensures told { let HasFault = HasFault catalogue.now config.now in
+        result ≡ 103 → HasFront HasFault fault.old fault.new fault_length.new }
     ensures instruments { result ≢ 0 → instruments_in instruments.new ≡ instruments_in instruments.old }
     ensures recorders { result ≢ 0 → recorders_in recorders.new ≡ recorders_in recorders.old }
     ensures readers { result ≢ 0 → readers_in readers.new ≡ readers_in readers.old }
@@ -69,7 +72,9 @@ pub extern "C" fn wormweekly_open_run(
         return OPEN;
     }
     match plan_for(alloc, catalogue, config) {
-        Err(why) => tell(&why, fault, fault_length),
+        Err(NoPlan::NoText) => NO_TEXT,
+        Err(NoPlan::Memory) => MEMORY,
+        Err(NoPlan::Fault(text)) => tell(text.as_slice(), fault, fault_length),
         Ok(plan) => open_plan(
             alloc,
             plan,
@@ -106,8 +111,10 @@ fn plan_of(alloc: Global, catalogue: &str, config: &str) -> Result<Plan, NoPlan>
 {
     match certified_plan(alloc, catalogue, config) {
         Ok(plan) => Ok(plan),
-        Err(SetupFault::Memory) => Err(NoPlan::Memory),
-        Err(found) => Err(told(format!(in alloc; "{found}"), alloc)),
+        Err(fault) => match told_fault(alloc, catalogue, config, "", fault) {
+            Ok(text) => Err(NoPlan::Fault(text)),
+            Err(_) => Err(NoPlan::Memory),
+        },
     }
 }
 

@@ -21,7 +21,8 @@ static PyObject *bind(Seat *self, PyObject *attributes) {
     }
     if (read_attributes(run, attributes, &given)) {
         uint32_t answer = handles_prepare(&run->handles, self->number, &given.own, &prepared);
-        made = answer == WORMWEEKLY_DONE ? new_bound(run, self->number, &prepared) : refuse(run, answer);
+        made = answer == WORMWEEKLY_DONE ? new_bound(run, self->number, &prepared)
+                                         : refuse_said(run, answer, 0, self->number, &given.own, 0);
     }
     free_given(&given);
     return made;

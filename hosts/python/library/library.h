@@ -49,6 +49,10 @@ PyObject *refuse(Run *run, uint32_t answer);
 PyObject *refuse_with(Run *run, uint32_t answer, PyObject *told);
 PyObject *refuse_type(Run *run, const char *wanted, PyObject *given);
 PyObject *done(Run *run, uint32_t answer);
+
+/* The same with what attributes and a value are refused for, where that is it. No mutex is held. */
+PyObject *refuse_said(Run *run, uint32_t answer, size_t recorder, size_t instrument, const Attributes *given,
+                      int64_t value);
 int is_whole(Run *run);
 
 /* Arguments: each answers 0 or NULL with an exception where it is not what is wanted. */

@@ -42,7 +42,9 @@ static PyObject *record(Seat *self, PyObject *const *args, Py_ssize_t count) {
     }
     if (read_attributes(run, args[1], &given)) {
         Work work = work_on(self, on->run, on->number);
-        made = done(run, handles_record(&work, &given.own, value));
+        uint32_t answer = handles_record(&work, &given.own, value);
+        made = answer == WORMWEEKLY_DONE ? done(run, answer)
+                                         : refuse_said(run, answer, self->number, on->number, &given.own, value);
     }
     free_given(&given);
     return made;

@@ -22,6 +22,56 @@ PyObject *refuse_told(Run *run, uint32_t answer, const uint8_t *text, size_t len
     return refuse_with(run, answer, PyUnicode_DecodeUTF8((const char *)text, (Py_ssize_t)length, "replace"));
 }
 
+/* A recording with more attributes is refused without words: each key is compared with all after it. */
+enum { MOST_EXPLAINED = 128 };
+
+/* Attributes and a value, as a recorder on an instrument has them. */
+typedef struct {
+    wormweekly_recorder *recorder;
+    size_t instrument;
+    const Attributes *given;
+    int64_t value;
+} Said;
+
+static uint32_t explain(void *handle, size_t at, size_t number, uint8_t *out, size_t room, size_t *length) {
+    const Said *said = handle;
+    (void)at;
+    (void)number;
+    return wormweekly_explain(said->recorder, (uint32_t)said->instrument, said->given->bytes, said->given->length,
+                              said->given->all, said->given->count, said->value, out, room, length);
+}
+
+/* Whether a refusal is for what a recording says. */
+static int is_of_said(uint32_t answer) {
+    switch (answer) {
+    case WORMWEEKLY_DUPLICATE_KEY:
+    case WORMWEEKLY_UNKNOWN_KEY:
+    case WORMWEEKLY_UNKNOWN_VALUE:
+    case WORMWEEKLY_MISSING_KEY:
+    case WORMWEEKLY_COMBINATION:
+    case WORMWEEKLY_VALUE_RANGE:
+        return 1;
+    default:
+        return 0;
+    }
+}
+
+PyObject *refuse_said(Run *run, uint32_t answer, size_t recorder, size_t instrument, const Attributes *given,
+                      int64_t value) {
+    PyObject *told = NULL;
+    if (is_of_said(answer) && given->count <= MOST_EXPLAINED) {
+        Said said = { handles_lend_recorder(&run->handles, recorder), instrument, given, value };
+        told = ask_text(run, explain, &said, 0, 0);
+        handles_take_recorder(&run->handles, recorder);
+        PyErr_Clear();
+    }
+    if (told != NULL && PyUnicode_GetLength(told) > 0) {
+        return refuse_with(run, answer, told);
+    }
+    Py_XDECREF(told);
+    return refuse(run, answer);
+}
+
 PyObject *refuse_type(Run *run, const char *wanted, PyObject *given) {
     PyObject *name = PyObject_GetAttrString((PyObject *)Py_TYPE(given), "__name__");
     PyObject *told = name == NULL ? NULL : PyUnicode_FromFormat("%s, not %U", wanted, name);

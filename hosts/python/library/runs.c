@@ -13,18 +13,30 @@ static PyObject *opened(Run *run, const Texts *texts) {
     return answer == WORMWEEKLY_FAULT ? refuse_told(run, answer, fault, length, sizeof fault) : done(run, answer);
 }
 
-/* Run(catalogue, config, certificate or None, start) */
-static PyObject *run_new(PyTypeObject *type, PyObject *args, PyObject *keywords) {
-    PyObject *catalogue, *config, *certificate, *start, *made = NULL;
-    Texts texts = { 0 };
+/* A run that has nothing yet, NULL with an exception. */
+static Run *empty_run(PyTypeObject *type) {
     Run *run = (Run *)PyType_GenericAlloc(type, 0);
-    (void)keywords;
     if (run == NULL) {
         return NULL;
     }
     run->module = Py_XNewRef(PyType_GetModule(type));
     run->state = run->module == NULL ? NULL : PyModule_GetState(run->module);
-    if (run->state != NULL && PyArg_ParseTuple(args, "OOOO", &catalogue, &config, &certificate, &start) &&
+    if (run->state == NULL) {
+        Py_CLEAR(run);
+    }
+    return run;
+}
+
+/* Run(catalogue, config, certificate or None, start) */
+static PyObject *run_new(PyTypeObject *type, PyObject *args, PyObject *keywords) {
+    PyObject *catalogue, *config, *certificate, *start, *made = NULL;
+    Texts texts = { 0 };
+    Run *run = empty_run(type);
+    (void)keywords;
+    if (run == NULL) {
+        return NULL;
+    }
+    if (PyArg_ParseTuple(args, "OOOO", &catalogue, &config, &certificate, &start) &&
         read_text(run, catalogue, &texts.catalogue) && read_text(run, config, &texts.config) &&
         (certificate == Py_None || read_text(run, certificate, &texts.certificate)) &&
         read_unsigned(run, start, &texts.start, WRONG_CLOCK)) {
@@ -36,6 +48,46 @@ static PyObject *run_new(PyTypeObject *type, PyObject *args, PyObject *keywords)
     }
     Py_DECREF(made);
     return (PyObject *)run;
+}
+
+/* What is asked of two texts, and the answer. */
+typedef struct {
+    const Texts *texts;
+    uint32_t answer;
+} Linted;
+
+/* Remarks or, in their place, a fault: either is asked for until there is room for all of it. */
+static uint32_t remarks_of(void *handle, size_t at, size_t number, uint8_t *out, size_t room, size_t *length) {
+    Linted *own = handle;
+    const Text *catalogue = &own->texts->catalogue, *config = &own->texts->config;
+    (void)at;
+    (void)number;
+    own->answer = wormweekly_lint((const uint8_t *)catalogue->bytes, (size_t)catalogue->length,
+                                  (const uint8_t *)config->bytes, (size_t)config->length, out, room, length);
+    if (own->answer != WORMWEEKLY_FAULT) {
+        return own->answer;
+    }
+    return *length > room ? WORMWEEKLY_TOO_SHORT : WORMWEEKLY_DONE;
+}
+
+/* Run.lint(catalogue, config): a line for each remark */
+static PyObject *lint(PyTypeObject *type, PyObject *args) {
+    PyObject *catalogue, *config, *told = NULL;
+    Texts texts = { 0 };
+    Linted own = { &texts, WORMWEEKLY_DONE };
+    Run *run = empty_run(type);
+    if (run == NULL) {
+        return NULL;
+    }
+    if (PyArg_ParseTuple(args, "OO", &catalogue, &config) && read_text(run, catalogue, &texts.catalogue) &&
+        read_text(run, config, &texts.config)) {
+        told = ask_long_text(run, remarks_of, &own);
+    }
+    if (told != NULL && own.answer == WORMWEEKLY_FAULT) {
+        told = refuse_with(run, own.answer, told);
+    }
+    Py_DECREF(run);
+    return told;
 }
 
 static void run_free(Run *run) {
@@ -185,6 +237,7 @@ static PyObject *roll_over(Run *self, PyObject *start) {
 }
 
 static PyMethodDef methods[] = {
+    { "lint", (PyCFunction)lint, METH_VARARGS | METH_CLASS, NULL },
     { "counts", (PyCFunction)counts, METH_NOARGS, NULL },
     { "name", (PyCFunction)name, METH_VARARGS, NULL },
     { "warnings", (PyCFunction)warnings, METH_NOARGS, NULL },

@@ -52,6 +52,15 @@ REFUSED: list[tuple[Any, Any, type[Refusal], str]] = [
     (None, 1, TypeRefusal, "WrongType"),
 ]
 
+# What a refusal is about.
+TOLD: list[tuple[Any, Any, str]] = [
+    ({**HOME, "colour": "red"}, 1, 'requests: key "colour" is not declared'),
+    ({"route": "/admin", "status": 200}, 1, 'requests: key "route" has no value "/admin"'),
+    ({"route": "\x1b[2J", "status": 200}, 1, 'requests: key "route" has no value "\\u{1b}[2J"'),
+    ({"route": "/"}, 1, 'requests: key "status" is missing'),
+    (HOME, 0, "requests: value 0 is not in the range from 1 to 100"),
+]
+
 FAULTS: list[tuple[Any, Any, type[Refusal]]] = [
     ("format = 3\n", CONFIG, OpenFault),
     (CATALOGUE, "format = 9\n", OpenFault),
@@ -208,8 +217,25 @@ class Refusals(unittest.TestCase):
         for catalogue, config, family in FAULTS:
             with self.subTest(catalogue=catalogue, config=config), self.assertRaises(family):
                 Metrics.open(catalogue, config)
-        with self.assertRaisesRegex(OpenFault, "certificate"):
+        with self.assertRaisesRegex(OpenFault, "^certificate: the tables are not those"):
             Metrics.open(CATALOGUE, CONFIG, certificate="format = 9\n")
+        for ask in (Metrics.open, wormweekly.lint):
+            with self.assertRaisesRegex(OpenFault, "^catalogue:1:1: catalogue format 3 is not supported"):
+                ask("format = 3\n", CONFIG)
+
+    def test_refusals_tell_what_they_are_about(self) -> None:
+        for attributes, value, words in TOLD:
+            with self.subTest(words=words), self.assertRaises(Refusal) as told:
+                self.first.record(self.requests, attributes, value)
+            self.assertEqual(str(told.exception), words)
+        with self.assertRaisesRegex(AttributeRefusal, 'requests: key "status" is missing'):
+            self.requests.bind({"route": "/"})
+        self.assertEqual(self.metrics.settle()[0].count, 0)
+
+    def test_remarks(self) -> None:
+        self.assertEqual(wormweekly.lint(CATALOGUE, CONFIG), [])
+        unread = wormweekly.lint(CATALOGUE, "format = 1\n")
+        self.assertEqual(unread, ["config:1:1: there is no reader, so nothing is collected"])
 
     def test_names(self) -> None:
         finds: list[Callable[[str], object]] = [self.metrics.instrument, self.metrics.recorder, self.metrics.reader]

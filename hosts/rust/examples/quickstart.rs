@@ -26,7 +26,7 @@ fn main() -> Result<(), Box<dyn Error>> {
     till.record(orders, &[("country", "de".into())], 2)?;
     till.record(orders, &[("country", "fr".into())], 1)?;
     if let Err(refusal) = till.record(orders, &[("country", "uk".into())], 1) {
-        println!("uk: {refusal}");
+        println!("not recorded: {refusal}");
     }
     print!("{}", opened.readers[0].collect(orders, 1_000)?);
     for total in opened.metrics.settle(&mut opened.recorders)? {

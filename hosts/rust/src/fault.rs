@@ -1,8 +1,33 @@
 //! Why calls are refused.
 use std::fmt;
 
+/// What a refusal is about, as it prints: the instrument, and the key, the value or the range of the first mistake. A recording of
+/// attributes that were prepared tells none. Two are equal whatever they tell, so that refusals are compared by their kind alone.
+#[derive(Clone, Debug, Default)]
+pub struct About(Option<Box<str>>);
+
+impl PartialEq for About {
+    fn eq(&self, _other: &About) -> bool {
+        true
+    }
+}
+
+impl Eq for About {}
+
+impl About {
+    /// What is told, as `orders: key "country" has no value "uk"`. The words may change with each version.
+    pub fn text(&self) -> Option<&str> {
+        self.0.as_deref()
+    }
+
+    // The same, or these words where nothing is told.
+    fn or<'a>(&'a self, words: &'a str) -> &'a str {
+        self.text().unwrap_or(words)
+    }
+}
+
 /// Why a recording, a collection, a grant or a close is refused. What is refused has changed nothing.
-#[derive(Clone, Copy, Debug, PartialEq, Eq)]
+#[derive(Clone, Debug, PartialEq, Eq)]
 #[non_exhaustive]
 pub enum Refusal {
     /// The instrument is none of the recorder's or reader's plan.
@@ -10,17 +35,17 @@ pub enum Refusal {
     /// The instrument has no recorder of this number.
     UnknownRecorder,
     /// A key stands twice among the attributes.
-    DuplicateKey,
+    DuplicateKey(About),
     /// The instrument does not declare a key.
-    UnknownKey,
+    UnknownKey(About),
     /// A key does not declare its value.
-    UnknownValue,
+    UnknownValue(About),
     /// A required key is missing.
-    MissingKey,
+    MissingKey(About),
     /// The instrument does not allow this combination of values.
-    Combination,
+    Combination(About),
     /// The value is outside the instrument's range.
-    ValueRange,
+    ValueRange(About),
     /// The instrument is closed.
     Closed,
     /// The recorder's budget for the instrument is spent, and what it was granted.
@@ -40,12 +65,12 @@ impl Refusal {
         match code {
             1 => Refusal::UnknownInstrument,
             2 => Refusal::UnknownRecorder,
-            3 => Refusal::DuplicateKey,
-            4 => Refusal::UnknownKey,
-            5 => Refusal::UnknownValue,
-            6 => Refusal::MissingKey,
-            13 => Refusal::Combination,
-            7 => Refusal::ValueRange,
+            3 => Refusal::DuplicateKey(About::default()),
+            4 => Refusal::UnknownKey(About::default()),
+            5 => Refusal::UnknownValue(About::default()),
+            6 => Refusal::MissingKey(About::default()),
+            13 => Refusal::Combination(About::default()),
+            7 => Refusal::ValueRange(About::default()),
             8 => Refusal::Closed,
             9 => Refusal::Budget,
             14 => Refusal::NoSpare,
@@ -54,6 +79,27 @@ impl Refusal {
             other => Refusal::Other(other),
         }
     }
+
+    // What the refusal tells of what a recording says, where it is refused for that.
+    fn about(&mut self) -> Option<&mut About> {
+        match self {
+            Refusal::DuplicateKey(about)
+            | Refusal::UnknownKey(about)
+            | Refusal::UnknownValue(about)
+            | Refusal::MissingKey(about)
+            | Refusal::Combination(about)
+            | Refusal::ValueRange(about) => Some(about),
+            _ => None,
+        }
+    }
+
+    // The same refusal, with what is told of it where a recording is refused for what it says. Only then is it asked for.
+    pub(crate) fn told(mut self, tell: impl FnOnce() -> Option<String>) -> Refusal {
+        if let Some(about) = self.about() {
+            about.0 = tell().map(String::into_boxed_str);
+        }
+        self
+    }
 }
 
 impl fmt::Display for Refusal {
@@ -61,15 +107,22 @@ impl fmt::Display for Refusal {
         match self {
             Refusal::UnknownInstrument => write!(f, "the plan has no such instrument"),
             Refusal::UnknownRecorder => write!(f, "the instrument has no such recorder"),
-            Refusal::DuplicateKey => write!(f, "a key stands twice among the attributes"),
-            Refusal::UnknownKey => write!(f, "the instrument does not declare a key"),
-            Refusal::UnknownValue => write!(f, "a key does not declare its value"),
-            Refusal::MissingKey => write!(f, "a required key is missing"),
-            Refusal::Combination => write!(
-                f,
-                "the instrument does not allow this combination of values"
-            ),
-            Refusal::ValueRange => write!(f, "the value is outside the instrument's range"),
+            Refusal::DuplicateKey(about) => {
+                f.write_str(about.or("a key stands twice among the attributes"))
+            }
+            Refusal::UnknownKey(about) => {
+                f.write_str(about.or("the instrument does not declare a key"))
+            }
+            Refusal::UnknownValue(about) => {
+                f.write_str(about.or("a key does not declare its value"))
+            }
+            Refusal::MissingKey(about) => f.write_str(about.or("a required key is missing")),
+            Refusal::Combination(about) => {
+                f.write_str(about.or("the instrument does not allow this combination of values"))
+            }
+            Refusal::ValueRange(about) => {
+                f.write_str(about.or("the value is outside the instrument's range"))
+            }
             Refusal::Closed => write!(f, "the instrument is closed"),
             Refusal::Budget => write!(f, "the recorder's budget is spent"),
             Refusal::NoSpare => write!(f, "less is left of the spare budget than is asked for"),
@@ -83,7 +136,7 @@ impl fmt::Display for Refusal {
 impl std::error::Error for Refusal {}
 
 /// Where a list of recordings ended, and why. Those before it are made.
-#[derive(Clone, Copy, Debug, PartialEq, Eq)]
+#[derive(Clone, Debug, PartialEq, Eq)]
 pub struct ListRefusal {
     /// How many were made.
     pub made: usize,
@@ -103,7 +156,8 @@ impl std::error::Error for ListRefusal {}
 #[derive(Clone, Debug, PartialEq, Eq)]
 #[non_exhaustive]
 pub enum OpenFault {
-    /// The catalogue or the config is at fault, or the two are not safe together: the first fault, with its place.
+    /// The catalogue or the config is at fault, or the two are not safe together: the first fault, with its place, as
+    /// `catalogue:7:1: instrument 0 "orders": unknown kind "guage"; ..`.
     Fault(String),
     /// Memory was refused.
     Memory,

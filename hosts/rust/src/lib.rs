@@ -68,6 +68,12 @@
 //! [`Reader::expose`] says before anything is recorded whether a server would hold each sample of a page. The examples
 //! `otlp_push` and `metrics_http` do both with the standard library alone.
 //!
+//! # What is told
+//!
+//! An opening that fails tells the first fault with its place, as `catalogue:7:1: instrument 0 "orders": unknown kind "guage"; ..`, and [`lint`]
+//! tells what else looks like a mistake before anything is opened. A recording that is refused for what it says prints that, as
+//! `orders: key "country" has no value "uk"`. The words may change from version to version; the variants do not change their meaning.
+//!
 //! # What a service lives on
 //!
 //! [`Recorder::left`] tells what a recorder has left, [`Recorder::ask`] gets more of what an instrument has to spare
@@ -136,14 +142,14 @@ mod value;
 pub use batch::{Batch, Kind, OwnedValue, Point, PointValue, Stream};
 pub use dialect::Dialect;
 pub use fault::{
-    ExposureFault, ListRefusal, OpenFault, Refusal, ResourceFault, RollFault, SettleFault,
+    About, ExposureFault, ListRefusal, OpenFault, Refusal, ResourceFault, RollFault, SettleFault,
     UnknownName,
 };
 pub use headroom::{Headroom, Limit};
 pub use key::Key;
 pub use measured::TimeUnit;
 pub use metrics::{Instrument, Metrics, Rolled, Spare, Total};
-pub use opening::{Opened, open, open_certified};
+pub use opening::{Opened, lint, open, open_certified};
 pub use reader::Reader;
 pub use recorder::{Budget, Prepared, Recorder};
 pub use resource::Resource;

@@ -10,6 +10,9 @@ const MEMORY: u32 = 11;
 const TOO_SHORT: u32 = 102;
 const FAULT: u32 = 103;
 
+// How much room there is for a fault at first.
+const FAULT_ROOM: usize = 512;
+
 // The kinds of names.
 const INSTRUMENT_NAME: u32 = 0;
 const METER_NAME: u32 = 1;
@@ -27,7 +30,8 @@ pub struct Opened {
     pub recorders: Vec<Recorder>,
     /// A seat for each reader.
     pub readers: Vec<Reader>,
-    /// A line for each view that does not fit an instrument. Streams that collide are a fault of the opening.
+    /// A line for each view that does not fit an instrument, in fixed words; [`lint`] tells the same in sentences. Streams that
+    /// collide are a fault of the opening.
     pub warnings: String,
 }
 
@@ -67,6 +71,45 @@ pub fn open_certified(
     texts.open(start)
 }
 
+/// The remarks that `wormweekly lint` has on a catalogue and a config, a line each, with the place: what looks like a mistake and is
+/// none that keeps them from being opened, and what does, as budgets that are not safe. At most a hundred are told, and in one more
+/// line how many there are beside these.
+///
+/// # Errors
+///
+/// [`OpenFault::Fault`] with the first fault of the catalogue, else of the config; [`OpenFault::Memory`].
+pub fn lint(catalogue: &str, config: &str) -> Result<Vec<String>, OpenFault> {
+    let mut out = vec![0u8; 1024];
+    loop {
+        let mut length = 0;
+        // SAFETY: the texts and the buffer are borrowed for the call and apart from each other.
+        let code = unsafe {
+            raw::wormweekly_lint(
+                catalogue.as_ptr(),
+                catalogue.len(),
+                config.as_ptr(),
+                config.len(),
+                out.as_mut_ptr(),
+                out.len(),
+                &mut length,
+            )
+        };
+        let is_cut = length > out.len();
+        out.resize(length, 0);
+        match code {
+            TOO_SHORT => {}
+            FAULT if is_cut => {}
+            0 => return Ok(lossy(&out).lines().map(str::to_owned).collect()),
+            FAULT => return Err(OpenFault::Fault(lossy(&out))),
+            code => return Err(refused(code)),
+        }
+    }
+}
+
+fn lossy(bytes: &[u8]) -> String {
+    String::from_utf8_lossy(bytes).into_owned()
+}
+
 struct Texts<'a> {
     catalogue: &'a str,
     config: &'a str,
@@ -97,23 +140,23 @@ impl Texts<'_> {
     fn open(&self, start: u64) -> Result<Opened, OpenFault> {
         let run = NEXT_RUN.fetch_add(1, Ordering::Relaxed);
         let mut counts = Counts::default();
-        let mut fault = vec![0u8; 512];
+        let mut fault = vec![0u8; FAULT_ROOM];
         let mut handles = Handles::nothing(&counts);
         let mut code = self.call(start, &mut handles, &mut counts, &mut fault);
         if code == TOO_SHORT {
             handles = Handles::nothing(&counts);
             code = self.call(start, &mut handles, &mut counts, &mut fault);
+        } else if code == FAULT && fault.len() > FAULT_ROOM {
+            code = self.call(start, &mut handles, &mut counts, &mut fault);
         }
         match code {
             0 => named(handles, run).map_err(refused),
-            FAULT => Err(OpenFault::Fault(
-                String::from_utf8_lossy(&fault).into_owned(),
-            )),
+            FAULT => Err(OpenFault::Fault(lossy(&fault))),
             code => Err(refused(code)),
         }
     }
 
-    // Opens what there are handles for. The fault is cut to its length.
+    // Opens what there are handles for. The fault gets its length, also where there was no room for all of it.
     fn call(
         &self,
         start: u64,
@@ -172,7 +215,7 @@ impl Texts<'_> {
             },
         };
         if code == FAULT {
-            fault.truncate(fault_length);
+            fault.resize(fault_length, 0);
         }
         code
     }

@@ -108,6 +108,27 @@ pub struct Point {
 }
 
 unsafe extern "C" {
+    pub fn wormweekly_lint(
+        catalogue: *const u8,
+        catalogue_length: usize,
+        config: *const u8,
+        config_length: usize,
+        out: *mut u8,
+        room: usize,
+        text_length: *mut usize,
+    ) -> u32;
+    pub fn wormweekly_explain(
+        recorder: *mut Handle,
+        instrument: u32,
+        texts: *const u8,
+        texts_length: usize,
+        attributes: *const Attribute,
+        attributes_length: usize,
+        value: i64,
+        out: *mut u8,
+        room: usize,
+        text_length: *mut usize,
+    ) -> u32;
     pub fn wormweekly_open(
         catalogue: *const u8,
         catalogue_length: usize,

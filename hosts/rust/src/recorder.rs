@@ -5,6 +5,9 @@ use crate::raw::{self, Handle};
 use crate::texts::told;
 use crate::value::{Room, Value};
 
+// A recording with more attributes is refused without words: each key is compared with all after it.
+const MOST_EXPLAINED: usize = 128;
+
 /// The seat of one recorder, with which a thread records. It keeps what it was told of its recordings, and goes from thread
 /// to thread, but is never shared or copied.
 pub struct Recorder {
@@ -129,16 +132,43 @@ impl Recorder {
     ///
     /// # Errors
     ///
-    /// The first [`Refusal`]; nothing is counted then.
+    /// The first [`Refusal`]; nothing is counted then. It prints what it is about, as `orders: key "country" has no value "uk"`.
     pub fn record(
         &mut self,
         instrument: &Instrument,
         attributes: &[(&str, Value<'_>)],
         value: i64,
     ) -> Result<(), Refusal> {
-        let mut own = self.found(instrument, attributes)?;
-        own.value = value;
-        self.record_found(instrument, &own)
+        let recorded = match self.found(instrument, attributes) {
+            Ok(own) => self.record_found(instrument, &raw::Prepared { value, ..own }),
+            Err(refusal) => Err(refusal),
+        };
+        recorded.map_err(|refusal| refusal.told(|| self.explained(instrument, value)))
+    }
+
+    // What a recording of a value is refused for, whose attributes the room still has. No lock is taken.
+    fn explained(&mut self, instrument: &Instrument, value: i64) -> Option<String> {
+        let Recorder { handle, room, .. } = self;
+        let Room { texts, attributes } = room;
+        if attributes.len() > MOST_EXPLAINED {
+            return None;
+        }
+        // SAFETY: as in `found`.
+        let text = told(|out, length| unsafe {
+            raw::wormweekly_explain(
+                handle,
+                instrument.number(),
+                texts.as_ptr(),
+                texts.len(),
+                attributes.as_ptr(),
+                attributes.len(),
+                value,
+                out.as_mut_ptr(),
+                out.len(),
+                length,
+            )
+        });
+        text.ok().filter(|text| !text.is_empty())
     }
 
     /// Finds what a set of attributes comes to, for recordings on an instrument. Takes no lock.
@@ -151,7 +181,9 @@ impl Recorder {
         instrument: &Instrument,
         attributes: &[(&str, Value<'_>)],
     ) -> Result<Prepared, Refusal> {
-        let own = self.found(instrument, attributes)?;
+        let found = self.found(instrument, attributes);
+        // Any value would do, since the attributes are told of first.
+        let own = found.map_err(|refusal| refusal.told(|| self.explained(instrument, 0)))?;
         let instrument = instrument.clone();
         Ok(Prepared { instrument, own })
     }

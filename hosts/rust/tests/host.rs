@@ -1,12 +1,14 @@
 //! What a host sees of the library.
 use std::thread;
 use wormweekly::{
-    Kind, ListRefusal, OpenFault, Opened, OwnedValue, Point, PointValue, Refusal, Resource,
-    ResourceFault, SettleFault, Total, Value, open, open_certified,
+    About, Kind, ListRefusal, OpenFault, Opened, OwnedValue, Point, PointValue, Refusal, Resource,
+    ResourceFault, SettleFault, Total, Value, lint, open, open_certified,
 };
 
 /// Attributes with a value, and what recording them is refused for.
-type Refused<'a> = (&'a [(&'a str, Value<'a>)], i64, Refusal);
+type Attributes<'a> = &'a [(&'a str, Value<'a>)];
+
+type Refused<'a> = (Attributes<'a>, i64, Refusal);
 
 const CATALOGUE: &str = "format = 1
 [[meter]]
@@ -39,13 +41,69 @@ fn opened() -> Opened {
 
 #[test]
 fn faults_are_told() {
-    let fault = |catalogue, config| open(catalogue, config, 0).err();
-    assert!(
-        matches!(fault("format = 3\n", CONFIG), Some(OpenFault::Fault(text)) if text.starts_with("catalogue "))
+    let told = |catalogue: &str, config: &str| match open(catalogue, config, 0).err() {
+        Some(OpenFault::Fault(text)) => text,
+        other => panic!("{other:?}"),
+    };
+    let cases = [
+        (
+            "format = 3\n",
+            CONFIG,
+            "catalogue:1:1: catalogue format 3 is not supported (only 1 and 2)",
+        ),
+        (
+            &CATALOGUE.replace("'up_down_counter'", "'up_down_countre'"),
+            CONFIG,
+            "catalogue:11:1: instrument 1 \"balance\": unknown kind \"up_down_countre\"; expected counter, up_down_counter, histogram or gauge; did you mean up_down_counter?",
+        ),
+        (
+            CATALOGUE,
+            "format = 2\n",
+            "config:1:1: config format 2 is not supported (only 1)",
+        ),
+    ];
+    for (catalogue, config, text) in cases {
+        assert_eq!(told(catalogue, config), text);
+        let linted = lint(catalogue, config);
+        assert_eq!(linted, Err(OpenFault::Fault(text.to_owned())));
+    }
+    // More words than there is room for at first.
+    let reader = "é".repeat(120);
+    let views = "[[view]]\ninstrument_name = 'balance'\n".repeat(2);
+    let text = told(
+        CATALOGUE,
+        &format!("format = 1\n[[reader]]\nname = '{reader}'\n{views}"),
     );
     assert!(
-        matches!(fault(CATALOGUE, "format = 2\n"), Some(OpenFault::Fault(text)) if text.starts_with("config "))
+        text.starts_with("config:6:1: ") && text.len() > 512,
+        "{text}"
     );
+    assert!(text.ends_with("have one identity: the same name in one meter"));
+}
+
+#[test]
+fn remarks_are_told() -> Result<(), Box<dyn std::error::Error>> {
+    assert_eq!(lint(CATALOGUE, CONFIG)?, [""; 0]);
+    let unread = lint(CATALOGUE, "format = 1\n")?;
+    assert_eq!(
+        unread,
+        ["config:1:1: there is no reader, so nothing is collected"]
+    );
+    let mut views = String::from(CONFIG);
+    for number in 0..150 {
+        views += &format!("[[view]]\ninstrument_name = 'none {number}'\n");
+    }
+    let many = lint(CATALOGUE, &views)?;
+    assert_eq!(
+        (many.len(), many[100].as_str()),
+        (101, "and 50 more remarks")
+    );
+    assert!(
+        many[99].starts_with("config:202:1: view 99 "),
+        "{}",
+        many[99]
+    );
+    Ok(())
 }
 
 #[test]
@@ -84,29 +142,95 @@ fn refusals_come_first_and_change_nothing() -> Result<(), Box<dyn std::error::Er
         (
             &[("route", "/".into()), ("route", "/".into())],
             1,
-            Refusal::DuplicateKey,
+            Refusal::DuplicateKey(About::default()),
         ),
         (
             &[("route", "/".into()), ("colour", "red".into())],
             1,
-            Refusal::UnknownKey,
+            Refusal::UnknownKey(About::default()),
         ),
         (
             &[("route", "/admin".into()), ("status", 200.into())],
             1,
-            Refusal::UnknownValue,
+            Refusal::UnknownValue(About::default()),
         ),
-        (&[("route", "/".into())], 1, Refusal::MissingKey),
+        (
+            &[("route", "/".into())],
+            1,
+            Refusal::MissingKey(About::default()),
+        ),
         (
             &[("route", "/".into()), ("status", 200.into())],
             0,
-            Refusal::ValueRange,
+            Refusal::ValueRange(About::default()),
         ),
-        (&[("a", "".into()); 9], 1, Refusal::DuplicateKey),
+        (
+            &[("a", "".into()); 9],
+            1,
+            Refusal::DuplicateKey(About::default()),
+        ),
     ];
     for (attributes, value, refusal) in cases {
         assert_eq!(first.record(requests, attributes, value), Err(refusal));
     }
+    let told: [(Attributes<'_>, i64, &str); 7] = [
+        (
+            &[("route", "/".into()), ("route", "/".into())],
+            1,
+            "requests: key \"route\" stands twice",
+        ),
+        (
+            &[("colour", "red".into()), ("route", "/".into())],
+            1,
+            "requests: key \"colour\" is not declared",
+        ),
+        (
+            &[("route", "/admin".into()), ("status", 200.into())],
+            1,
+            "requests: key \"route\" has no value \"/admin\"",
+        ),
+        (
+            &[("route", "/".into()), ("status", 201.into())],
+            1,
+            "requests: key \"status\" has no value 201",
+        ),
+        (
+            &[("route", "/".into())],
+            1,
+            "requests: key \"status\" is missing",
+        ),
+        (
+            &[("route", "\u{1b}[2J".into()), ("status", 200.into())],
+            1,
+            "requests: key \"route\" has no value \"\\u{1b}[2J\"",
+        ),
+        (
+            &[("route", "/".into()), ("status", 200.into())],
+            0,
+            "requests: value 0 is not in the range from 1 to 100",
+        ),
+    ];
+    for (attributes, value, words) in told {
+        let refusal = first.record(requests, attributes, value).unwrap_err();
+        assert_eq!(refusal.to_string(), words);
+    }
+    let long = "x".repeat(100_000);
+    let refusal = first
+        .record(requests, &[(&long, "".into())], 1)
+        .unwrap_err()
+        .to_string();
+    assert!(refusal.starts_with("requests: key \"xxx") && refusal.ends_with("x.."));
+    assert_eq!(refusal.len(), "requests: ".len() + 402);
+    // Who gives many attributes is told less: to tell it would take long.
+    let names: Vec<String> = (0..10_000).map(|number| number.to_string()).collect();
+    let many: Vec<_> = names.iter().map(|name| (name.as_str(), 1.into())).collect();
+    let refusal = first.record(requests, &many, 1).unwrap_err();
+    assert_eq!(refusal.to_string(), "the instrument does not declare a key");
+    let unbound = first.prepare(requests, &[("route", "/".into())]);
+    assert_eq!(
+        unbound.map(|_| ()).unwrap_err().to_string(),
+        "requests: key \"status\" is missing"
+    );
     assert_eq!(readers[0].collect(requests, 10)?, "collected 10 0\n");
     for value in 1..=5 {
         first.record(
@@ -173,7 +297,7 @@ fn prepared_recordings_go_one_by_one_and_in_lists() -> Result<(), Box<dyn std::e
         stopped,
         Err(ListRefusal {
             made: 1,
-            refusal: Refusal::ValueRange
+            refusal: Refusal::ValueRange(About::default())
         })
     );
     let stopped = second.record_list(&[(&front, 1), (&bare, 1), (&front, 3)]);
@@ -323,10 +447,13 @@ order = [{ reader = 0, streams = [0] }]
 ";
     let fault = |certificate: &str| open_certified(catalogue, CONFIG, certificate, 0).err();
     let starts = |fault: Option<OpenFault>, front| matches!(fault, Some(OpenFault::Fault(text)) if text.starts_with(front));
-    assert!(starts(fault("format = 2\n"), "certificate "));
+    assert!(starts(
+        fault("format = 2\n"),
+        "certificate: the tables are not those of a certificate"
+    ));
     assert!(starts(
         fault(&certificate.replace("sets = 1", "sets = 2")),
-        "check "
+        "certificate: the certificate is of other files, or was altered: a stream may have another number of series"
     ));
     let mut opened = open_certified(catalogue, CONFIG, certificate, 0)?;
     let hits = opened.metrics.instrument("hits")?;

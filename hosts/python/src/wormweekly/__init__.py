@@ -15,7 +15,8 @@ instruments, with a `Recorder` for each recorder and a `Reader` for each reader.
 
 Instruments and readers are shared by threads. A recorder belongs to one thread at a time: to the first one that records
 with it, until another calls `take_over`; a `Pool` lends them to threads that come and go. What is not counted is told
-by a `Refusal`, with the reason as its `name`. After a fork, a run is refused in the child.
+by a `Refusal`, with the reason as its `name` and in words with the key and the value. `lint` tells what looks like a
+mistake in a catalogue and a config. After a fork, a run is refused in the child.
 """
 
 from wormweekly._batches import Batch, Buckets, Kind, Last, Point, Stream, Sum, Value
@@ -31,6 +32,7 @@ from wormweekly._metrics import (
     Spare,
     Total,
     UnknownName,
+    lint,
 )
 from wormweekly._pool import Pool
 from wormweekly._refusals import (
@@ -92,4 +94,5 @@ __all__ = [
     "TypeRefusal",
     "UnknownName",
     "Value",
+    "lint",
 ]

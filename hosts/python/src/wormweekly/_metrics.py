@@ -38,6 +38,13 @@ class Dialect(IntEnum):
         return cls.OPEN_METRICS if "application/openmetrics-text" in accept else cls.TEXT
 
 
+def lint(catalogue: str, config: str) -> list[str]:
+    """The remarks that `wormweekly lint` has on a catalogue and a config, a line each with its place: what looks like a mistake,
+    also that the two are not safe together. At most a hundred are told, and in one more line how many there are beside these.
+    A fault of the texts is raised as an `OpenFault`."""
+    return _library.Run.lint(catalogue, config).split("\n")[:-1]
+
+
 class UnknownName(LookupError):
     """There is nothing of this name, or more than one."""
 
