@@ -5,6 +5,7 @@ mod AuditLaws
 mod AuditedRuns
 mod FormLaws
 mod OutputLaws
+mod PageRuns
 mod PartLaws
 mod PieceLaws
 mod PlanLaws

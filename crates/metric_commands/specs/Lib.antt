@@ -12,6 +12,7 @@ pub mod WrittenRuns
 pub mod DueRuns
 pub mod Declarations
 pub mod Replaying
+pub mod Pages
 pub mod Showing
 pub mod Threading
 pub mod Programs

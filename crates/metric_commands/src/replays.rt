@@ -160,8 +160,8 @@ struct AuditedReplay {
     trial: bool,
 }
 
-// A replay without an audit.
-fn plain_options(trial: bool) -> ReplayOptions
+/// A replay without an audit.
+pub(crate) fn plain_options(trial: bool) -> ReplayOptions
     ensures { result ≡ plain_options trial }
 {
     ReplayOptions {

@@ -6,7 +6,7 @@ use Rattle.metric_request.specs.declared.request.Files.{Files}
 use Rattle.metric_console.specs.Faults.{IsDeliveryFault, IsDeviceFault, IsRefusal, IsRefused, IsUnread}
 use Rattle.metric_console.specs.Runs.{IsUnstarted}
 use Rattle.metric_console.specs.declared.fault.ConsoleFault.{ConsoleFault}
-use Rattle.metric_console.specs.declared.fault.ConsoleFault.TheVariants.{Kit, Header, Overwrites}
+use Rattle.metric_console.specs.declared.fault.ConsoleFault.TheVariants.{Kit, Header, Overwrites, Page}
 use Rattle.metric_console.specs.declared.fault.ConsoleFault.TheVariants as faults
 
 device_is_not_refused : (fault : KitFault) → IsDeviceFault fault → IsRefused fault → ⊥
@@ -28,6 +28,7 @@ delivery_is_no_refusal (faults.Unread role cause) delivery refused = delivery
 delivery_is_no_refusal (Overwrites role) delivery refused = delivery
 delivery_is_no_refusal (faults.Unwritten cause) delivery refused = refused
 delivery_is_no_refusal (Header role) delivery refused = delivery
+delivery_is_no_refusal (Page fault) delivery refused = delivery
 delivery_is_no_refusal (Kit fault) delivery refused = device_is_not_refused fault delivery refused
 
 -- a file that cannot be read does not let a command start
@@ -36,4 +37,5 @@ unread_is_unstarted same files (faults.Unread role cause) unread = tt
 unread_is_unstarted same files (Overwrites role) unread = absurd unread
 unread_is_unstarted same files (faults.Unwritten cause) unread = unread
 unread_is_unstarted same files (Header role) unread = unread
+unread_is_unstarted same files (Page fault) unread = unread
 unread_is_unstarted same files (Kit fault) unread = unread

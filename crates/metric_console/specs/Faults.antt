@@ -6,13 +6,21 @@ use Rattle.metric_commands.specs.declared.fault.KitFault.TheVariants as kit
 use Rattle.metric_console.specs.declared.folder.Unread.{Unread}
 use Rattle.metric_console.specs.declared.folder.Unread.TheVariants as unread
 use Rattle.metric_console.specs.declared.fault.ConsoleFault.{ConsoleFault}
-use Rattle.metric_console.specs.declared.fault.ConsoleFault.TheVariants.{Kit, Header, Overwrites}
+use Rattle.metric_console.specs.declared.fault.ConsoleFault.TheVariants.{Kit, Header, Overwrites, Page}
 use Rattle.metric_console.specs.declared.fault.ConsoleFault.TheVariants as faults
+use Rattle.metric_console.specs.declared.fault.PageFault.{PageFault}
+use Rattle.metric_console.specs.declared.fault.PageFault.TheVariants as pages
 
 -- 4 without memory, else 3
 abbrev pub unread_status : Unread → ℕ
 unread_status unread.Memory = 4
 unread_status _ = 3
+
+-- 1 where the files have no reader for a page, 2 where the words are wrong
+abbrev pub page_status : PageFault → ℕ
+page_status pages.NoneServed = 1
+page_status (pages.Exposure fault) = 1
+page_status _ = 2
 
 -- The status of a fault of `metric_kit` is that of `metric_kit`.
 abbrev pub status_of : ConsoleFault → ℕ
@@ -20,6 +28,7 @@ status_of (faults.Unread role cause) = unread_status cause
 status_of (Overwrites role) = 2
 status_of (faults.Unwritten cause) = 5
 status_of (Header role) = 3
+status_of (Page fault) = page_status fault
 status_of (Kit fault) = kit_status fault
 
 abbrev pub IsUnread : ConsoleFault → Type 0
@@ -38,6 +47,7 @@ IsDeliveryFault (faults.Unread role cause) = ⊥
 IsDeliveryFault (Overwrites role) = ⊥
 IsDeliveryFault (faults.Unwritten cause) = Unit {0}
 IsDeliveryFault (Header role) = ⊥
+IsDeliveryFault (Page fault) = ⊥
 IsDeliveryFault (Kit fault) = IsDeviceFault fault
 
 -- The fault is not of a device: what was asked for is refused.
@@ -51,4 +61,5 @@ IsRefusal (faults.Unread role cause) = Unit {0}
 IsRefusal (Overwrites role) = Unit {0}
 IsRefusal (faults.Unwritten cause) = ⊥
 IsRefusal (Header role) = Unit {0}
+IsRefusal (Page fault) = Unit {0}
 IsRefusal (Kit fault) = IsRefused fault

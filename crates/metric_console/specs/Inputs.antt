@@ -54,10 +54,11 @@ otlp_line resource plan batch = line resource plan.facts.contents plan.streams b
 abbrev pub otlp_request : List OwnedAttr → PlanValue → Batch → List ℕ
 otlp_request resource plan batch = request resource plan.facts.contents plan.streams batch
 
--- The replay in a form, where batches in OTLP have the attributes of a resource. Only replies are
--- audited.
+-- The replay in a form other than a page, where batches in OTLP have the attributes of a resource.
+-- Only replies are audited.
 abbrev pub IsReplayIn : Form → List OwnedAttr → Bool → Bool → List ℕ → SinkRun
     → Result (Unit {0}) KitFault → Type 0
 IsReplayIn Replies resource trial audit = IsReplay trial audit
 IsReplayIn OtlpLines resource trial audit = IsEncodedReplay (otlp_line resource) trial
 IsReplayIn OtlpBytes resource trial audit = IsEncodedReplay (otlp_request resource) trial
+IsReplayIn _ resource trial audit = λ input sink result. ⊥

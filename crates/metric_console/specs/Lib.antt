@@ -8,6 +8,9 @@ pub mod Delivered
 pub mod Fleets
 pub mod Inputs
 pub mod Encodings
+pub mod PageReaders
+pub mod PageLines
+pub mod Paging
 pub mod Tables
 pub mod Runs
 pub mod Told

@@ -6,6 +6,7 @@ use Rattle.metric_request.specs.declared.request.Files.{Files}
 use Rattle.metric_request.specs.declared.request.Request.{Request}
 use Rattle.metric_request.specs.declared.request.Task.{Task}
 use Rattle.metric_request.specs.declared.request.Task.TheVariants.{Replay}
+use Rattle.metric_exposition.specs.declared.dialect.Dialect.{Dialect}
 use Rattle.metric_commands.specs.Commands.{SinkRun}
 use Rattle.metric_commands.specs.declared.fault.KitFault.{KitFault}
 use Rattle.metric_commands.specs.declared.fault.KitFault.TheVariants.{Memory}
@@ -14,10 +15,11 @@ use Rattle.metric_console.specs.Delivered.{IsDeliveredAnswer, answer_status}
 use Rattle.metric_console.specs.Faults.{IsDeviceFault, IsRefusal, status_of}
 use Rattle.metric_console.specs.Folders.{MadeFile}
 use Rattle.metric_console.specs.Inputs.{IsReplayIn, input_of}
+use Rattle.metric_console.specs.Paging.{ReplaysPage, dialect_of}
 use Rattle.metric_console.specs.Readings.{AreTexts}
 use Rattle.metric_console.specs.declared.answer.Answer.{Answer}
 use Rattle.metric_console.specs.declared.fault.ConsoleFault.{ConsoleFault}
-use Rattle.metric_console.specs.declared.fault.ConsoleFault.TheVariants.{Unread, Header, Kit}
+use Rattle.metric_console.specs.declared.fault.ConsoleFault.TheVariants.{Unread, Header, Kit, Page}
 use Rattle.metric_console.specs.declared.fault.ConsoleFault.TheVariants.{Overwrites, Unwritten}
 use Rattle.metric_console.specs.declared.fault.Role.{Role}
 use Rattle.metric_console.specs.declared.fault.Role.TheVariants.{Catalogue}
@@ -56,25 +58,43 @@ RefusesFor task parts (Unread role cause) = parts.certificate ≡ None
 RefusesFor task parts (Overwrites role) = ⊥
 RefusesFor task parts (Unwritten cause) = Unit {0}
 RefusesFor task parts (Header role) = ⊥
+RefusesFor task parts (Page fault) = ⊥
 RefusesFor task parts (Kit fault) = IsDeviceFault fault ⊎ IsAnswerFault task fault parts
 
--- The replay of a script that is there, in the form that is asked for.
+-- The replay of an input in the form that is asked for, which is no page.
 abbrev pub IsReplayed : Request → Parts → List ℕ → SinkRun → Result (Unit {0}) KitFault → Type 0
-IsReplayed request parts script sink result =
+IsReplayed request parts input sink result =
     IsReplayIn request.options.form request.resource (not (is_some parts.certificate))
-    request.options.audit
+    request.options.audit input sink result
+
+-- What a replay of an input of parts comes to: of a page, and of any other form.
+abbrev pub EndsAs : Option Dialect → Request → Parts → List ℕ → SinkRun
+    → Result (Unit {0}) ConsoleFault → Type 0
+EndsAs (Some dialect) request parts input sink result =
+    ReplaysPage request parts dialect (not (is_some parts.certificate)) input sink result
+EndsAs None request parts input sink (Ok done) = IsReplayed request parts input sink (Ok tt)
+EndsAs None request parts input sink (Err (Kit fault)) =
+    IsReplayed request parts input sink (Err fault)
+EndsAs None request parts input sink (Err _) = ⊥
+
+-- The same of a script that is there.
+abbrev pub IsScriptEnd : Request → Parts → List ℕ → SinkRun → Result (Unit {0}) ConsoleFault
+    → Type 0
+IsScriptEnd request parts script sink result =
+    EndsAs (dialect_of request.options.form) request parts
     (input_of parts.catalogue parts.config parts.certificate script) sink result
 
--- What that comes to.
+-- With its status; or memory was refused, or a file has the header of a part.
 abbrev pub ReplaysScript : Request → Parts → List ℕ → SinkRun → Result ℕ ConsoleFault → Type 0
 ReplaysScript request parts script sink (Ok status) =
-    (status ≡ 0) × IsReplayed request parts script sink (Ok tt)
+    (status ≡ 0) × IsScriptEnd request parts script sink (Ok tt)
 ReplaysScript request parts script sink (Err (Kit fault)) =
     ((fault ≡ Memory) × (sink.contents_after ≡ sink.contents))
-    ⊎ IsReplayed request parts script sink (Err fault)
+    ⊎ IsScriptEnd request parts script sink (Err (Kit fault))
 ReplaysScript request parts script sink (Err (Header role)) =
     sink.contents_after ≡ sink.contents
-ReplaysScript request parts script sink (Err _) = ⊥
+ReplaysScript request parts script sink (Err fault) =
+    IsScriptEnd request parts script sink (Err fault)
 
 -- Nothing is written where there is no script.
 abbrev pub ReplaysText : Request → Parts → Option (List ℕ) → SinkRun → Result ℕ ConsoleFault

@@ -96,8 +96,8 @@ fn serves_some(streams: &[Stream], outlet: Outlet) -> bool
     streams.iter().any(|stream| serves(outlet, stream))
 }
 
-// Whether a way out can serve some stream of a reader.
-fn serves_reader(streams: &[Stream], outlet: Outlet, reader: u32) -> bool
+/// Whether a way out can serve some stream of a reader.
+pub(crate) fn serves_reader(streams: &[Stream], outlet: Outlet, reader: u32) -> bool
     ensures { result ≡ has_served outlet streams.now reader }
 {
     streams

@@ -1,9 +1,10 @@
 //! Why a command stops.
 ghost use Rattle.std.specs.Prelude.{◌≡◌};
-ghost use Rattle.metric_console.specs.Faults.{IsDeviceFault, status_of, unread_status};
+ghost use Rattle.metric_console.specs.Faults.{IsDeviceFault, page_status, status_of, unread_status};
 
 use crate::folder::{Unread, Unwritten};
 use metric_commands::KitFault;
+use metric_exposure::ExposureFault;
 use metric_io::Broken;
 use metric_sheet::SheetFault;
 use std::alloc::AllocError;
@@ -19,6 +20,31 @@ pub enum Role {
     Certificate,
     /// The script.
     Script,
+}
+
+/// Why a replay prints no page.
+#[derive(Clone, Copy, Debug, PartialEq, Eq, Drop)]
+pub enum PageFault {
+    /// The key of an attribute of the resource has no letter and no digit.
+    BadLabel {
+        /// The attribute.
+        attribute: usize,
+    },
+    /// Two attributes of the resource have one label.
+    LabelCollision {
+        /// The attribute.
+        attribute: usize,
+        /// The first later one of the same label.
+        other: usize,
+    },
+    /// The config has no reader of the name.
+    NoReader,
+    /// No reader is named, and none has a cumulative stream.
+    NoneServed,
+    /// No reader is named, and more than one has a cumulative stream.
+    SeveralReaders,
+    /// A server would not hold each sample of the reader.
+    Exposure(ExposureFault),
 }
 
 /// Why a command stops.
@@ -46,6 +72,8 @@ pub enum ConsoleFault {
         /// Which file.
         role: Role,
     },
+    /// The replay has no page.
+    Page(PageFault),
     /// The fault that `metric_kit` has of the same parts.
     Kit(KitFault),
 }
@@ -60,8 +88,22 @@ impl ConsoleFault {
             ConsoleFault::Overwrites { .. } => 2,
             ConsoleFault::Unwritten { .. } => 5,
             ConsoleFault::Header { .. } => 3,
+            ConsoleFault::Page(fault) => page_status(*fault),
             ConsoleFault::Kit(fault) => fault.status(),
         }
+    }
+}
+
+// A page that the files have no reader for is refused as they are; else the words are wrong.
+fn page_status(fault: PageFault) -> u8
+    ensures { result ≡ page_status fault }
+{
+    match fault {
+        PageFault::NoneServed | PageFault::Exposure(_) => 1,
+        PageFault::BadLabel { .. }
+        | PageFault::LabelCollision { .. }
+        | PageFault::NoReader
+        | PageFault::SeveralReaders => 2,
     }
 }
 

@@ -17,6 +17,9 @@ mod marks;
 mod note_sheet;
 mod notes;
 mod noting;
+mod page_readers;
+mod page_words;
+mod paging;
 mod parts;
 mod program;
 mod replaying;
@@ -25,6 +28,6 @@ mod rows;
 mod telling;
 mod time;
 
-pub use fault::ConsoleFault;
+pub use fault::{ConsoleFault, PageFault};
 pub use folder::{Folder, Unread, Unwritten};
 pub use program::run_request;

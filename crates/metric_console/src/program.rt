@@ -2,13 +2,15 @@
 ghost use Rattle.std.specs.Prelude.{◌≡◌, ◌≢◌, IfErr, IfOk, MatchOption, OnErr};
 ghost use Rattle.metric_console.specs.Faults.{IsRefusal};
 ghost use Rattle.metric_commands.specs.Commands.{sink_run};
-ghost use Rattle.metric_console.specs.Runs.{Answers, IsOverwriting, NamesInput, RefusesFor, Replays, RunsRequest, RunsTexts, known_by, writing};
+ghost use Rattle.metric_console.specs.Paging.{dialect_of};
+ghost use Rattle.metric_console.specs.Runs.{Answers, EndsAs, IsOverwriting, NamesInput, RefusesFor, Replays, RunsRequest, RunsTexts, known_by, writing};
 ghost use Rattle.metric_console.specs.Told.{IsLineEnd};
 
 use crate::answer::answer_of;
 use crate::delivering::deliver;
 use crate::fault::{ConsoleFault, Role};
 use crate::folder::{Folder, Unread};
+use crate::paging::{dialect_of, replay_as_page};
 use crate::parts::{Texts, texts_of};
 use crate::replaying::{has_header, input_of, replay_in_form};
 use crate::telling::{stop, tell_line, warn};
@@ -167,9 +169,29 @@ fn run_replay<W: Sink>(
         return Err(ConsoleFault::Header { role });
     }
     let input = input_of(alloc, &texts.parts, script)?;
-    let trial = texts.parts.certificate.is_none();
-    replay_in_form(alloc, request, trial, &input, sink)?;
+    replay_script(alloc, request, &texts.parts, &input, sink)?;
     Ok(0)
+}
+
+// Replays an input of parts, which these are, in the form that is asked for.
+fn replay_script<W: Sink>(
+    alloc: Global,
+    request: &Request,
+    parts: &Parts<'_>,
+    input: &[u8],
+    sink: &mut W,
+) -> Result<(), ConsoleFault>
+    ensures { EndsAs (dialect_of request.now.options.form) request.now parts.now input.now
+        (sink_run W.contents W.failures sink.old sink.new) result }
+{
+    let trial = parts.certificate.is_none();
+    match dialect_of(request.options.form) {
+        Some(dialect) => replay_as_page(alloc, request, dialect, parts, trial, input, sink),
+        None => {
+            replay_in_form(alloc, request, trial, input, sink)?;
+            Ok(())
+        }
+    }
 }
 
 // The first file of which a line looks like the header of a part.

@@ -1,7 +1,8 @@
 //! A script replayed.
-ghost use Rattle.std.specs.Prelude.{◌≡◌, ◌++◌, IfOk, OnOk};
+ghost use Rattle.std.specs.Prelude.{◌≡◌, ◌++◌, IfOk, None, OnOk};
 ghost use Rattle.metric_commands.specs.Commands.{sink_run};
 ghost use Rattle.metric_console.specs.Inputs.{IsEncodedReplay, IsReplay, IsReplayIn, input_of, optional_text, part_text};
+ghost use Rattle.metric_console.specs.Paging.{dialect_of};
 
 use metric_base::Text;
 use metric_commands::{KitFault, ReplayOptions, replay, replay_encoded};
@@ -45,7 +46,7 @@ impl Encoding for Otlp<'_> {
     }
 }
 
-/// Replays an input of parts in the form that is asked for. A refused replay writes nothing.
+/// Replays an input of parts in the form that is asked for, which is no page. A refused replay writes nothing.
 pub(crate) fn replay_in_form<W: Sink>(
     alloc: Global,
     request: &Request,
@@ -53,6 +54,7 @@ pub(crate) fn replay_in_form<W: Sink>(
     input: &[u8],
     sink: &mut W,
 ) -> Result<(), KitFault>
+    requires { dialect_of request.now.options.form ≡ None }
     ensures { IsReplayIn request.now.options.form request.now.resource trial
         request.now.options.audit input.now
         (sink_run W.contents W.failures sink.old sink.new) result }
@@ -63,6 +65,7 @@ pub(crate) fn replay_in_form<W: Sink>(
         Form::Replies => replay_input(alloc, ReplayOptions { trial, audit }, input, sink),
         Form::OtlpLines => encode_input(alloc, trial, &Otlp::Line(resource), input, sink),
         Form::OtlpBytes => encode_input(alloc, trial, &Otlp::Request(resource), input, sink),
+        Form::Prometheus | Form::OpenMetrics | Form::OpenMetricsCreated => unreachable!(),
     }
 }
 

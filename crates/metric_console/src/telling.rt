@@ -10,6 +10,7 @@ use crate::fault::{ConsoleFault, Role};
 use crate::folder::{Unread, Unwritten};
 use crate::listing::Listing;
 use crate::notes::Notes;
+use crate::page_words::told_page;
 use crate::parts::Texts;
 use crate::replaying::lines_before;
 use metric_advice::{Remark, remark_of};
@@ -59,9 +60,10 @@ fn words_of(misuse: Misuse) -> &'static str {
         Misuse::Allow =>
             "error: '--allow' knows the kinds of remarks alone; try 'wormweekly lint --help'\n",
         Misuse::Outlet => "error: '--for' knows 'prometheus' and 'otlp' alone\n",
-        Misuse::Form => "error: '--as' knows 'otlp-json' and 'otlp-bytes' alone\n",
+        Misuse::Form => "error: '--as' knows no such form; try 'wormweekly replay --help'\n",
         Misuse::Audit => "error: '--audit' audits replies, and with '--as' none are printed\n",
         Misuse::Resource => "error: '--resource' belongs to '--as'\n",
+        Misuse::Reader => "error: '--reader' belongs to '--as prometheus' and the other pages\n",
         Misuse::NoEquals => "error: '--resource' takes KEY=VALUE, and a word has no '='\n",
         Misuse::TooMany => "error: '--resource' is given more than 64 times\n",
         Misuse::EmptyKey => "error: '--resource' has an attribute without a key\n",
@@ -143,6 +145,7 @@ fn told(
         ConsoleFault::Overwrites { role } => told_overwritten(alloc, &request.files, role),
         ConsoleFault::Unwritten { cause } => told_unwritten(alloc, &request.files, cause),
         ConsoleFault::Header { role } => told_header(alloc, &request.files, role),
+        ConsoleFault::Page(fault) => told_page(alloc, request, texts, fault),
         ConsoleFault::Kit(fault) => match texts {
             Some(texts) => told_kit(alloc, &request.files, texts, fault),
             None => told_plain(alloc, fault),
@@ -284,8 +287,8 @@ pub(crate) fn pair_of<'t>(files: &'t Files, texts: &'t Texts, declared: &'t Decl
     }
 }
 
-// What is told of a fault, with the line that it is in, where both could be made.
-fn spelled<F: Drop>(
+/// What is told of a fault, with the line that it is in, where both could be made.
+pub(crate) fn spelled<F: Drop>(
     alloc: Global,
     told: Result<Diagnosis<'_, F>, AllocError>,
 ) -> Result<String, AllocError> {
@@ -306,8 +309,8 @@ fn told_script(
     format!(in alloc; "{path}:{line}:1: this line is no event, or none that may stand here\n")
 }
 
-// A fault as `metric_kit` tells it.
-fn told_plain(alloc: Global, fault: KitFault) -> Result<String, AllocError> {
+/// A fault as `metric_kit` tells it.
+pub(crate) fn told_plain(alloc: Global, fault: KitFault) -> Result<String, AllocError> {
     format!(in alloc; "{fault}\n")
 }
 

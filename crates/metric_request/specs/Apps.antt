@@ -85,11 +85,13 @@ abbrev pub replay_app : App
 replay_app = with_rule
     (with_rule
     (with_rule
+    (with_rule
     (with_rule (with_rule (pair_app (codes "replay")) (file_rule (codes "third") true))
     (file_rule (codes "fourth") false))
     (flag_rule (codes "audit")))
     (text_rule (codes "as")))
-    (texts_rule (codes "resource"))
+    (texts_rule (codes "resource")))
+    (text_rule (codes "reader"))
 
 abbrev pub draw_app : App
 draw_app = with_rule (pair_app (codes "draw")) output_rule

@@ -18,6 +18,9 @@ use Rattle.metric_request.specs.declared.request.Concerns.{Concerns}
 use Rattle.metric_request.specs.declared.request.Files.{Files}
 use Rattle.metric_request.specs.declared.request.Form.{Form}
 use Rattle.metric_request.specs.declared.request.Form.TheVariants.{Replies, OtlpLines, OtlpBytes}
+use Rattle.metric_request.specs.declared.request.Form.TheVariants.{Prometheus, OpenMetrics}
+use Rattle.metric_request.specs.declared.request.Form.TheVariants.{OpenMetricsCreated}
+use Rattle.metric_request.specs.Forms.{is_page}
 use Rattle.metric_request.specs.declared.request.Options.{Options}
 use Rattle.metric_request.specs.declared.request.Outlets.{Outlets}
 use Rattle.metric_request.specs.declared.request.Request.{Request}
@@ -45,6 +48,9 @@ abbrev pub form_of : Text → Option Form
 form_of word =
     if bytes_eq word (codes "otlp-json") then Some OtlpLines
     else if bytes_eq word (codes "otlp-bytes") then Some OtlpBytes
+    else if bytes_eq word (codes "prometheus") then Some Prometheus
+    else if bytes_eq word (codes "openmetrics") then Some OpenMetrics
+    else if bytes_eq word (codes "openmetrics-created") then Some OpenMetricsCreated
     else None
 
 -- the form that a replay has; without `--as` it prints the replies
@@ -55,6 +61,10 @@ form_in rows = unwrap_or (option_and_then form_of (first_of (codes "as") rows)) 
 abbrev pub forms_else : List Row → Bool
 forms_else rows =
     option_map_or (λ word. not (is_some (form_of word))) (first_of (codes "as") rows) false
+
+-- a reader is named where no page is printed
+abbrev pub reads_else : List Row → Bool
+reads_else rows = is_some (first_of (codes "reader") rows) && not (is_page (form_in rows))
 
 -- the words of all uses of an option
 abbrev pub words_in : Text → List Row → List Text
@@ -145,6 +155,7 @@ resource_asked rows = do
       && has_word (codes "audit") (codes "true") rows)) Audit
   _ ← require (is_some (first_of (codes "as") rows)
       || not (is_some (first_of (codes "resource") rows))) Resource
+  _ ← require (not (reads_else rows)) misuses.Reader
   resource_in (words_in (codes "resource") rows)
 
 -- the request of a command by its name, with its arguments
@@ -156,4 +167,5 @@ request_in named =
       options = options_in named.1;
       concerns = concerns_in named.1;
       resource = result_unwrap_or (resource_asked named.1) [];
+      reader = first_of (codes "reader") named.1;
     }

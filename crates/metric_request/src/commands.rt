@@ -25,6 +25,10 @@ const EXAMPLE: &str = "Example:
 
 Status: 0 done, 1 refused, 2 usage, 3 unreadable input, 4 no memory, 5 a write failed.";
 
+const FORMS: &str =
+    "Print batches alone, `otlp-json` or `otlp-bytes`, or the page of the last of them, \
+    `prometheus`, `openmetrics` or `openmetrics-created`";
+
 const LINTS: &str = "Kinds, each to be named as often as wanted:
   unfit              a view that names an aggregation that does not fit
   collision          two streams of one identity
@@ -244,10 +248,11 @@ fn replay<'a>(alloc: Global) -> Result<Command<'a>, AllocError>
     let command = with_argument(command, file(alloc, "fourth", "SCRIPT", help, false));
     let help = "Audit the replies before they are printed";
     let command = with_argument(command, flag(alloc, "audit", help));
-    let help = "Print batches alone: `otlp-json` or `otlp-bytes`";
-    let command = with_argument(command, text(alloc, "as", "FORM", help));
+    let command = with_argument(command, text(alloc, "as", "FORM", FORMS));
     let help = "An attribute of what produces them, as often as wanted";
-    with_argument(command, texts(alloc, "resource", "KEY=VALUE", help))
+    let command = with_argument(command, texts(alloc, "resource", "KEY=VALUE", help));
+    let help = "The reader of a page, where the config has several";
+    with_argument(command, text(alloc, "reader", "NAME", help))
 }
 
 fn draw<'a>(alloc: Global) -> Result<Command<'a>, AllocError>

@@ -22,6 +22,8 @@ pub enum Misuse {
     Audit,
     /// `--resource` stands without `--as`.
     Resource,
+    /// `--reader` stands without a page to print.
+    Reader,
     /// A word of `--resource` has no `=`.
     NoEquals,
     /// There are more attributes than a resource has.

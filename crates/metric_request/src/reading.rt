@@ -8,7 +8,7 @@ ghost use Rattle.metric_request.specs.Attributes.{resource_in};
 ghost use Rattle.metric_request.specs.Faults.{IsAllowed, IsMisuse, IsNoRequest, IsNotAsked, IsOwn};
 ghost use Rattle.metric_request.specs.Numbers.{number_in, number_of};
 ghost use Rattle.metric_request.specs.Requests.{certificate_in, denies_else, files_in, form_in, form_of, forms_else, has_word, options_in, request_in, resource_asked, script_in, task_of, text_in};
-ghost use Rattle.metric_request.specs.Requests.{allows_else, concerns_in, is_concern, is_denied, is_for, is_outlet, outlets_else, outlets_in, words_in};
+ghost use Rattle.metric_request.specs.Requests.{allows_else, concerns_in, is_concern, is_denied, is_for, is_outlet, outlets_else, outlets_in, reads_else, words_in};
 
 use crate::attributes::resource_of;
 use crate::commands::program;
@@ -77,12 +77,14 @@ fn named_request(
     let resource = resource_asked(alloc, arguments)?;
     let files = files_of(alloc, arguments)?;
     let concerns = concerns_in(alloc, arguments)?;
+    let reader = optional(alloc, arguments, "reader")?;
     Ok(Request {
         task: task_of(command),
         files,
         options: options_of(arguments),
         concerns,
         resource,
+        reader,
     })
 }
 
@@ -113,7 +115,17 @@ fn resource_asked(alloc: Global, arguments: &ArgMatches<'_>) -> Result<Resource,
     if !has_form && has_text(arguments, "resource") {
         return Err(LineFault::Misused(Misuse::Resource));
     }
+    if reads_else(arguments) {
+        return Err(LineFault::Misused(Misuse::Reader));
+    }
     resource_given(alloc, arguments)
+}
+
+// Whether a reader is named where no page is printed.
+fn reads_else(arguments: &ArgMatches<'_>) -> bool
+    ensures { result ≡ reads_else (rows_of (found_of arguments.now)) }
+{
+    has_text(arguments, "reader") && !form_in(arguments).is_page()
 }
 
 // The resource that the words of all uses of `--resource` give.
@@ -153,6 +165,9 @@ fn form_of(word: &str) -> Option<Form>
     match word {
         "otlp-json" => Some(Form::OtlpLines),
         "otlp-bytes" => Some(Form::OtlpBytes),
+        "prometheus" => Some(Form::Prometheus),
+        "openmetrics" => Some(Form::OpenMetrics),
+        "openmetrics-created" => Some(Form::OpenMetricsCreated),
         _ => None,
     }
 }

@@ -1,4 +1,7 @@
 //! What a command line asks for.
+ghost use Rattle.std.specs.Prelude.{◌≡◌};
+ghost use Rattle.metric_request.specs.Forms.{is_page};
+
 use metric_base::{Items, Text};
 use metric_resource::Resource;
 
@@ -45,6 +48,24 @@ pub enum Form {
     OtlpLines,
     /// Each batch as the bytes of an OTLP request.
     OtlpBytes,
+    /// The last batches of a reader as a page of the text format 0.0.4 of Prometheus.
+    Prometheus,
+    /// The same as a page of OpenMetrics 1.0.
+    OpenMetrics,
+    /// The same with the lines `_created`.
+    OpenMetricsCreated,
+}
+
+impl Form {
+    /// Whether it is a page, which has the batches of one reader.
+    pub fn is_page(self) -> bool
+        ensures { result ≡ is_page self }
+    {
+        match self {
+            Form::Replies | Form::OtlpLines | Form::OtlpBytes => false,
+            Form::Prometheus | Form::OpenMetrics | Form::OpenMetricsCreated => true,
+        }
+    }
 }
 
 /// The ways out of the points that a command asks about.
@@ -97,4 +118,6 @@ pub struct Request {
     pub concerns: Concerns,
     /// The attributes of what produces the batches that a replay prints.
     pub resource: Resource,
+    /// The name of the reader whose page is printed, where it is said.
+    pub reader: Option<Text>,
 }

@@ -3,6 +3,7 @@ mod combinations;
 mod devices;
 mod grants;
 mod hostile;
+mod last_batches;
 
 use crate::asserted::{OrFail, assert_equal};
 use crate::inputs::{

@@ -1,0 +1,10 @@
+-- What the target is, or why there is none.
+use Rattle.std.proofs.Common.{refl}
+use Rattle.metric_commands.specs.Commands.{sink_run}
+use Rattle.metric_console.proofs.PageEnds.{of_head}
+use Rattle.metric_console.proofs.paging.replay_as_page.Goals as goal
+
+pub returns-in-Err : goal.returns-in-Err
+returns-in-Err g c =
+    of_head c.args.request.now c.args.parts.now c.args.dialect c.args.trial c.args.input.now
+    (sink_run g.W.Sink.contents g.W.Sink.failures c.args.sink.now c.args.sink.now) c.in-Err.fault c.in-Err.ensures refl
