@@ -14,6 +14,8 @@ mod catalogue;
 #[cfg(test)]
 mod certificates;
 #[cfg(test)]
+mod changes;
+#[cfg(test)]
 mod combinations;
 #[cfg(test)]
 mod config;

@@ -1,0 +1,3 @@
+mod Claims
+mod Lists
+mod Told

@@ -1,0 +1,4 @@
+pub mod Known
+pub mod Parts
+pub mod Changes
+pub mod Breaking

@@ -1,0 +1,20 @@
+//! What a change of a catalogue or a config does: streams and instruments that come, go or differ, keys that go, and budgets
+//! that differ; and which of that breaks what is built on the streams.
+//!
+//! `specs/Known.antt` says what a stream is known by in both, and `specs/Changes.antt` what the changes are.
+#![tactic(auto)]
+
+mod change;
+mod compared;
+mod instruments;
+mod keys;
+mod names;
+mod numbers;
+mod parts;
+mod places;
+mod side;
+mod streams;
+
+pub use change::{Change, StreamPart};
+pub use compared::changes;
+pub use side::Side;

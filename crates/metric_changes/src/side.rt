@@ -1,0 +1,17 @@
+//! What is compared.
+use metric_advice::Headroom;
+use metric_catalogue::Catalogue;
+use metric_views::{Config, Stream};
+
+/// A catalogue and a config, with what they give.
+#[derive(Clone, Copy)]
+pub struct Side<'s> {
+    /// The catalogue.
+    pub catalogue: &'s Catalogue,
+    /// The config.
+    pub config: &'s Config,
+    /// The streams that they give.
+    pub streams: &'s [Stream],
+    /// How often each instrument may be recorded.
+    pub rooms: &'s [Headroom],
+}
