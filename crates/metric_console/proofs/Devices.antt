@@ -9,7 +9,7 @@ use Rattle.metric_console.specs.declared.fault.ConsoleFault.{ConsoleFault}
 use Rattle.metric_console.specs.declared.fault.ConsoleFault.TheVariants.{Kit, Header, Overwrites, Page}
 use Rattle.metric_console.specs.declared.fault.ConsoleFault.TheVariants as faults
 
-device_is_not_refused : (fault : KitFault) → IsDeviceFault fault → IsRefused fault → ⊥
+pub device_is_not_refused : (fault : KitFault) → IsDeviceFault fault → IsRefused fault → ⊥
 device_is_not_refused Read device refused = device
 device_is_not_refused (Input line) device refused = device
 device_is_not_refused (Catalogue fault) device refused = device
@@ -29,6 +29,7 @@ delivery_is_no_refusal (Overwrites role) delivery refused = delivery
 delivery_is_no_refusal (faults.Unwritten cause) delivery refused = refused
 delivery_is_no_refusal (Header role) delivery refused = delivery
 delivery_is_no_refusal (Page fault) delivery refused = delivery
+delivery_is_no_refusal (faults.Old fault) delivery refused = delivery
 delivery_is_no_refusal (Kit fault) delivery refused = device_is_not_refused fault delivery refused
 
 -- a file that cannot be read does not let a command start
@@ -38,4 +39,5 @@ unread_is_unstarted same files (Overwrites role) unread = absurd unread
 unread_is_unstarted same files (faults.Unwritten cause) unread = unread
 unread_is_unstarted same files (Header role) unread = unread
 unread_is_unstarted same files (Page fault) unread = unread
+unread_is_unstarted same files (faults.Old fault) unread = unread
 unread_is_unstarted same files (Kit fault) unread = unread

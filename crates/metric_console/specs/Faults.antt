@@ -29,6 +29,7 @@ status_of (Overwrites role) = 2
 status_of (faults.Unwritten cause) = 5
 status_of (Header role) = 3
 status_of (Page fault) = page_status fault
+status_of (faults.Old fault) = kit_status fault
 status_of (Kit fault) = kit_status fault
 
 abbrev pub IsUnread : ConsoleFault → Type 0
@@ -48,6 +49,7 @@ IsDeliveryFault (Overwrites role) = ⊥
 IsDeliveryFault (faults.Unwritten cause) = Unit {0}
 IsDeliveryFault (Header role) = ⊥
 IsDeliveryFault (Page fault) = ⊥
+IsDeliveryFault (faults.Old fault) = ⊥
 IsDeliveryFault (Kit fault) = IsDeviceFault fault
 
 -- The fault is not of a device: what was asked for is refused.
@@ -62,4 +64,5 @@ IsRefusal (Overwrites role) = Unit {0}
 IsRefusal (faults.Unwritten cause) = ⊥
 IsRefusal (Header role) = Unit {0}
 IsRefusal (Page fault) = Unit {0}
+IsRefusal (faults.Old fault) = Unit {0}
 IsRefusal (Kit fault) = IsRefused fault

@@ -12,5 +12,6 @@ pub mod PageReaders
 pub mod PageLines
 pub mod Paging
 pub mod Tables
+pub mod Comparing
 pub mod Runs
 pub mod Told

@@ -1,5 +1,6 @@
 -- What is read of the files of a request.
 use Rattle.std.specs.Prelude.{◌≡◌, ℕ, List, Option, Some, None, IfSome, IsSomeAnd}
+use Rattle.metric_parts.specs.declared.parts.Parts.{Parts}
 use Rattle.metric_request.specs.declared.request.Files.{Files}
 use Rattle.metric_console.specs.declared.parts.Texts.{Texts}
 
@@ -12,9 +13,22 @@ abbrev pub MayBeHeld : (List ℕ → Option (List ℕ)) → Option (List ℕ) �
 MayBeHeld held None text = text ≡ None
 MayBeHeld held (Some path) text = IsSomeAnd text (IsHeld held path)
 
+-- The parts are the texts of two files.
+pub record ArePair (held : List ℕ → Option (List ℕ)) (catalogue config : List ℕ) (parts : Parts)
+    : Type 0 where
+  pub catalogue_is : IsHeld held catalogue parts.catalogue
+  pub config_is : IsHeld held config parts.config
+
+-- The old parts are the texts of the two old files, where the request has both.
+abbrev pub AreOld : (List ℕ → Option (List ℕ)) → Option (List ℕ) → Option (List ℕ)
+    → Option Parts → Type 0
+AreOld held (Some catalogue) (Some config) old = IsSomeAnd old (ArePair held catalogue config)
+AreOld held catalogue config old = old ≡ None
+
 -- # the texts of a request's files (profile)
--- They are the texts of the files, and no part but those three is read yet.
+-- They are the texts of the files, and no part but those is read yet.
 pub record AreTexts (held : List ℕ → Option (List ℕ)) (files : Files) (texts : Texts) : Type 0 where
+  pub old : AreOld held files.old_catalogue files.old_config texts.old
   pub catalogue : IsHeld held files.catalogue texts.parts.catalogue
   pub config : IsHeld held files.config texts.parts.config
   pub certificate : MayBeHeld held files.certificate texts.parts.certificate

@@ -5,12 +5,13 @@ use Rattle.metric_parts.specs.declared.parts.Parts.{Parts}
 use Rattle.metric_request.specs.declared.request.Files.{Files}
 use Rattle.metric_request.specs.declared.request.Request.{Request}
 use Rattle.metric_request.specs.declared.request.Task.{Task}
-use Rattle.metric_request.specs.declared.request.Task.TheVariants.{Replay}
+use Rattle.metric_request.specs.declared.request.Task.TheVariants.{Replay, Diff}
 use Rattle.metric_exposition.specs.declared.dialect.Dialect.{Dialect}
 use Rattle.metric_commands.specs.Commands.{SinkRun}
 use Rattle.metric_commands.specs.declared.fault.KitFault.{KitFault}
 use Rattle.metric_commands.specs.declared.fault.KitFault.TheVariants.{Memory}
 use Rattle.metric_console.specs.Answers.{IsAnswer, IsAnswerFault}
+use Rattle.metric_console.specs.Comparing.{RunsDiff}
 use Rattle.metric_console.specs.Delivered.{IsDeliveredAnswer, answer_status}
 use Rattle.metric_console.specs.Faults.{IsDeviceFault, IsRefusal, status_of}
 use Rattle.metric_console.specs.Folders.{MadeFile}
@@ -21,6 +22,7 @@ use Rattle.metric_console.specs.declared.answer.Answer.{Answer}
 use Rattle.metric_console.specs.declared.fault.ConsoleFault.{ConsoleFault}
 use Rattle.metric_console.specs.declared.fault.ConsoleFault.TheVariants.{Unread, Header, Kit, Page}
 use Rattle.metric_console.specs.declared.fault.ConsoleFault.TheVariants.{Overwrites, Unwritten}
+use Rattle.metric_console.specs.declared.fault.ConsoleFault.TheVariants as faults
 use Rattle.metric_console.specs.declared.fault.Role.{Role}
 use Rattle.metric_console.specs.declared.fault.Role.TheVariants.{Catalogue}
 use Rattle.metric_console.specs.declared.parts.Texts.{Texts}
@@ -59,6 +61,7 @@ RefusesFor task parts (Overwrites role) = ⊥
 RefusesFor task parts (Unwritten cause) = Unit {0}
 RefusesFor task parts (Header role) = ⊥
 RefusesFor task parts (Page fault) = ⊥
+RefusesFor task parts (faults.Old fault) = ⊥
 RefusesFor task parts (Kit fault) = IsDeviceFault fault ⊎ IsAnswerFault task fault parts
 
 -- The replay of an input in the form that is asked for, which is no page.
@@ -120,12 +123,16 @@ pub record RunsAnswer (request : Request) (parts : Parts) (writing : Writing)
   pub untouched : IfErr end (λ fault. IsRefusal fault → IsUntouched writing)
   pub unmade : OnErr end (writing.made_after ≡ writing.made)
 
--- A replay is run, and each other command answered.
+-- A replay is run, a comparison made, and each other command answered.
 pub record RunsTexts (request : Request) (texts : Texts) (writing : Writing) (sink : SinkRun)
     (end : Result ℕ ConsoleFault) : Type 0 where
   pub replayed : request.task ≡ Replay
       → Replays request texts sink end × (writing.made_after ≡ writing.made)
-  pub answered : request.task ≢ Replay → RunsAnswer request texts.parts writing end
+  pub compared : request.task ≡ Diff
+      → RunsDiff request texts writing.contents writing.contents_after end
+      × (writing.made_after ≡ writing.made)
+  pub answered : request.task ≢ Replay → request.task ≢ Diff
+      → RunsAnswer request texts.parts writing end
 
 -- The texts of the files, with what running the command on them comes to.
 pub record RunsRead (held : List ℕ → Option (List ℕ)) (request : Request) (writing : Writing)

@@ -40,6 +40,7 @@ pub(crate) fn answer_of(
     parts: &Parts<'_>,
 ) -> Result<Answer, KitFault>
     requires other { task ≢ Task.Replay }
+    requires single { task ≢ Task.Diff }
     requires certificate { task ≡ Task.Check → IsSome parts.now.certificate }
     ensures ok { IfOk result (IsAnswer task request.now parts.now) }
     ensures first { IfErr result (λ fault. IsAnswerFault task fault parts.now) }
@@ -51,7 +52,7 @@ pub(crate) fn answer_of(
         Task::Headroom => roomed(alloc, parts),
         Task::Lint => noted(alloc, request, parts),
         Task::Draw => drawn(alloc, parts),
-        Task::Replay => unreachable!(),
+        Task::Replay | Task::Diff => unreachable!(),
     }
 }
 

@@ -143,7 +143,7 @@ fn print_text<W: Sink>(sink: &mut W, text: &str) -> Result<(), Broken>
 }
 
 // Writes a table, or lines of JSON. A table is as wide as the request says, or else as the terminal is.
-fn print_sheet<S: Sheet, W: Sink>(
+pub(crate) fn print_sheet<S: Sheet, W: Sink>(
     alloc: Global,
     sink: &mut W,
     sheet: &S,

@@ -12,6 +12,10 @@ use std::alloc::AllocError;
 /// Which of its files a fault of a command is in.
 #[derive(Clone, Copy, Debug, PartialEq, Eq, Drop)]
 pub enum Role {
+    /// The old catalogue of a comparison.
+    OldCatalogue,
+    /// The old config of a comparison.
+    OldConfig,
     /// The catalogue.
     Catalogue,
     /// The config.
@@ -74,6 +78,8 @@ pub enum ConsoleFault {
     },
     /// The replay has no page.
     Page(PageFault),
+    /// The fault that `metric_kit` has of the old files of a comparison.
+    Old(KitFault),
     /// The fault that `metric_kit` has of the same parts.
     Kit(KitFault),
 }
@@ -89,6 +95,7 @@ impl ConsoleFault {
             ConsoleFault::Unwritten { .. } => 5,
             ConsoleFault::Header { .. } => 3,
             ConsoleFault::Page(fault) => page_status(*fault),
+            ConsoleFault::Old(fault) => fault.status(),
             ConsoleFault::Kit(fault) => fault.status(),
         }
     }

@@ -6,6 +6,9 @@
 #![tactic(auto)]
 
 mod answer;
+mod change_cells;
+mod change_sheet;
+mod comparing;
 mod concerns;
 mod delivering;
 mod exposures;
@@ -26,6 +29,7 @@ mod replaying;
 mod rooms;
 mod rows;
 mod telling;
+mod telling_old;
 mod time;
 
 pub use fault::{ConsoleFault, PageFault};

@@ -1,6 +1,6 @@
 //! The texts of a request's files.
 ghost use Rattle.std.specs.Prelude.{◌≡◌, IfOk, IfErr};
-ghost use Rattle.metric_console.specs.Readings.{AreTexts, IsHeld, MayBeHeld};
+ghost use Rattle.metric_console.specs.Readings.{AreOld, ArePair, AreTexts, IsHeld, MayBeHeld};
 ghost use Rattle.metric_console.specs.Faults.{IsUnread};
 
 use crate::fault::{ConsoleFault, Role};
@@ -10,8 +10,9 @@ use metric_parts::Parts;
 use metric_request::Files;
 use std::alloc::Global;
 
-/// The texts of a request's files: the parts that a command reads, and the script.
+/// The texts of a request's files: the old parts of a comparison, the parts that a command reads, and the script.
 pub(crate) struct Texts {
+    pub old: Option<Parts<'static>>,
     pub parts: Parts<'static>,
     pub script: Option<Text>,
 }
@@ -19,6 +20,7 @@ pub(crate) struct Texts {
 impl Drop for Texts {
     fn drop(self) {
         let Texts {
+            old: _old,
             parts: _parts,
             script: _script,
         } = self;
@@ -34,6 +36,7 @@ pub(crate) fn texts_of<F: Folder>(
     ensures texts { IfOk result (AreTexts (F.held folder.now) files.now) }
     ensures unread { IfErr result IsUnread }
 {
+    let old = old_parts(alloc, folder, files)?;
     let catalogue = text_at(alloc, folder, &files.catalogue, Role::Catalogue)?;
     let config = text_at(alloc, folder, &files.config, Role::Config)?;
     let certificate = optional_text(alloc, folder, &files.certificate, Role::Certificate)?;
@@ -44,7 +47,43 @@ pub(crate) fn texts_of<F: Folder>(
         certificate,
         script: None,
     };
-    Ok(Texts { parts, script })
+    Ok(Texts { old, parts, script })
+}
+
+// The old parts of a comparison.
+fn old_parts<F: Folder>(
+    alloc: Global,
+    folder: &F,
+    files: &Files,
+) -> Result<Option<Parts<'static>>, ConsoleFault>
+    ensures read { IfOk result (AreOld (F.held folder.now) files.now.old_catalogue
+        files.now.old_config) }
+    ensures unread { IfErr result IsUnread }
+{
+    match (&files.old_catalogue, &files.old_config) {
+        (Some(catalogue), Some(config)) => { Ok(Some(parts_at(alloc, folder, catalogue, config)?)) }
+        _ => Ok(None),
+    }
+}
+
+// The parts that two old files are.
+fn parts_at<F: Folder>(
+    alloc: Global,
+    folder: &F,
+    catalogue: &Text,
+    config: &Text,
+) -> Result<Parts<'static>, ConsoleFault>
+    ensures read { IfOk result (ArePair (F.held folder.now) catalogue.now config.now) }
+    ensures unread { IfErr result IsUnread }
+{
+    let catalogue = text_at(alloc, folder, catalogue, Role::OldCatalogue)?;
+    let config = text_at(alloc, folder, config, Role::OldConfig)?;
+    Ok(Parts {
+        catalogue,
+        config,
+        certificate: None,
+        script: None,
+    })
 }
 
 // The text of a file that the request may lack.

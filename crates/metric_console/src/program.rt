@@ -1,22 +1,27 @@
 //! A request, run.
 ghost use Rattle.std.specs.Prelude.{◌≡◌, ◌≢◌, IfErr, IfOk, MatchOption, OnErr};
-ghost use Rattle.metric_console.specs.Faults.{IsRefusal};
+ghost use Rattle.metric_console.specs.Comparing.{Compares, RefusesDiff};
+ghost use Rattle.metric_console.specs.Faults.{IsDeviceFault, IsRefusal};
 ghost use Rattle.metric_commands.specs.Commands.{sink_run};
 ghost use Rattle.metric_console.specs.Paging.{dialect_of};
 ghost use Rattle.metric_console.specs.Runs.{Answers, EndsAs, IsOverwriting, NamesInput, RefusesFor, Replays, RunsRequest, RunsTexts, known_by, writing};
 ghost use Rattle.metric_console.specs.Told.{IsLineEnd};
 
 use crate::answer::answer_of;
-use crate::delivering::deliver;
+use crate::change_sheet::ChangeSheet;
+use crate::comparing::{Comparison, comparison_of, diff_status};
+use crate::delivering::{deliver, print, print_sheet};
 use crate::fault::{ConsoleFault, Role};
 use crate::folder::{Folder, Unread};
 use crate::paging::{dialect_of, replay_as_page};
 use crate::parts::{Texts, texts_of};
 use crate::replaying::{has_header, input_of, replay_in_form};
 use crate::telling::{stop, tell_line, warn};
+use metric_commands::KitFault;
 use metric_io::Sink;
 use metric_parts::Parts;
 use metric_request::{Files, LineFault, Request, Task};
+use metric_sheet::Sheet;
 use std::alloc::Global;
 
 /// Runs what a command line asks for, in a folder and into a sink, tells on `errors` why it stops, and gives the program's exit
@@ -109,6 +114,8 @@ fn run_texts<F: Folder, W: Sink, E: Sink>(
 {
     if request.task == Task::Replay {
         run_replay(alloc, request, texts, sink)
+    } else if request.task == Task::Diff {
+        run_diff(alloc, request, texts, columns, sink)
     } else {
         run_answer(alloc, request, texts, columns, folder, sink, errors)
     }
@@ -125,7 +132,8 @@ fn run_answer<F: Folder, W: Sink, E: Sink>(
     sink: &mut W,
     errors: &mut E,
 ) -> Result<u8, ConsoleFault>
-    requires { request.now.task ≢ Task.Replay }
+    requires other { request.now.task ≢ Task.Replay }
+    requires single { request.now.task ≢ Task.Diff }
     ensures ok { IfOk result (Answers request.now texts.now.parts
         (writing F.made W.contents folder.old folder.new sink.old sink.new)) }
     ensures first { IfErr result (RefusesFor request.now.task texts.now.parts) }
@@ -140,6 +148,43 @@ fn run_answer<F: Folder, W: Sink, E: Sink>(
     let status = deliver(alloc, request, texts, &answer, columns, folder, sink)?;
     warn(alloc, request, texts, &answer, errors);
     Ok(status)
+}
+
+// Compares old files with new ones, and writes what differs. The exit status.
+#[tactic(auto, using(crate::proofs::Devices::device_is_not_refused))]
+fn run_diff<W: Sink>(
+    alloc: Global,
+    request: &Request,
+    texts: &Texts,
+    columns: u32,
+    sink: &mut W,
+) -> Result<u8, ConsoleFault>
+    ensures ok { IfOk result (Compares request.now texts.now) }
+    ensures first { IfErr result (RefusesDiff texts.now) }
+    ensures untouched { IfErr result (λ fault. IsRefusal fault
+        → W.contents sink.new ≡ W.contents sink.old) }
+{
+    let comparison = comparison_of(alloc, texts)?;
+    print_comparison(alloc, request, &comparison, columns, sink)?;
+    let changes = comparison.changes.as_slice();
+    Ok(diff_status(request.options.deny_breaking, changes))
+}
+
+// Writes what differs, as a table or as lines of JSON.
+fn print_comparison<W: Sink>(
+    alloc: Global,
+    request: &Request,
+    comparison: &Comparison,
+    columns: u32,
+    sink: &mut W,
+) -> Result<(), KitFault>
+    ensures { IfErr result IsDeviceFault }
+{
+    let sheet = ChangeSheet { comparison };
+    if sheet.rows() == 0 && !request.options.json {
+        return print(sink, "nothing differs\n");
+    }
+    print_sheet(alloc, sink, &sheet, request.options, columns)
 }
 
 // The fault that a request has no such file.

@@ -13,6 +13,7 @@ use crate::notes::Notes;
 use crate::page_words::told_page;
 use crate::parts::Texts;
 use crate::replaying::lines_before;
+use crate::telling_old::told_old;
 use metric_advice::{Remark, remark_of};
 use metric_base::Text;
 use metric_commands::{Declared, KitFault, declared_of};
@@ -57,6 +58,7 @@ fn words_of(misuse: Misuse) -> &'static str {
     match misuse {
         Misuse::Deny =>
             "error: '--deny' knows 'remarks' and their kinds alone; try 'wormweekly lint --help'\n",
+        Misuse::Change => "error: '--deny' of 'diff' knows 'breaking' alone\n",
         Misuse::Allow =>
             "error: '--allow' knows the kinds of remarks alone; try 'wormweekly lint --help'\n",
         Misuse::Outlet => "error: '--for' knows 'prometheus' and 'otlp' alone\n",
@@ -146,6 +148,7 @@ fn told(
         ConsoleFault::Unwritten { cause } => told_unwritten(alloc, &request.files, cause),
         ConsoleFault::Header { role } => told_header(alloc, &request.files, role),
         ConsoleFault::Page(fault) => told_page(alloc, request, texts, fault),
+        ConsoleFault::Old(fault) => told_old(alloc, &request.files, texts, fault),
         ConsoleFault::Kit(fault) => match texts {
             Some(texts) => told_kit(alloc, &request.files, texts, fault),
             None => told_plain(alloc, fault),
@@ -192,6 +195,14 @@ fn told_header(alloc: Global, files: &Files, role: Role) -> Result<String, Alloc
 // The path of a file, or what it is where the words have none.
 fn path_of(files: &Files, role: Role) -> &str {
     match role {
+        Role::OldCatalogue => match &files.old_catalogue {
+            Some(path) => path.as_str(),
+            None => "old catalogue",
+        },
+        Role::OldConfig => match &files.old_config {
+            Some(path) => path.as_str(),
+            None => "old config",
+        },
         Role::Catalogue => files.catalogue.as_str(),
         Role::Config => files.config.as_str(),
         Role::Certificate => match &files.certificate {
@@ -270,7 +281,7 @@ fn told_make(
     }
 }
 
-fn source_of<'t>(path: &'t Text, text: &'t Text) -> NamedText<'t> {
+pub(crate) fn source_of<'t>(path: &'t Text, text: &'t Text) -> NamedText<'t> {
     NamedText {
         name: path.as_str(),
         text: text.as_str(),

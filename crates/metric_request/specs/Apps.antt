@@ -96,6 +96,27 @@ replay_app = with_rule
 abbrev pub draw_app : App
 draw_app = with_rule (pair_app (codes "draw")) output_rule
 
+-- a command over two old files, and over these and two new ones
+abbrev pub old_app : App
+old_app =
+    with_rule (with_rule (new_app (codes "diff")) (file_rule (codes "old_catalogue") true))
+    (file_rule (codes "old_config") true)
+
+abbrev pub compared_app : App
+compared_app =
+    with_rule (with_rule old_app (file_rule (codes "catalogue") true))
+    (file_rule (codes "config") true)
+
+-- the option of what is denied of a change
+abbrev pub denied_rule : Rule
+denied_rule = record (text_rule (codes "denied")) { long = Some (codes "deny") }
+
+abbrev pub diff_app : App
+diff_app =
+    with_rule
+    (with_rule (with_rule compared_app (text_rule (codes "certificate"))) denied_rule)
+    (flag_rule (codes "json"))
+
 -- the program, with its version and without a command
 abbrev pub bare_app : App
 bare_app =
@@ -114,4 +135,6 @@ second_app = with_subcommand (with_subcommand first_app make_app.top) check_app.
 -- # what the words of a command line ask for (profile) [program_app, request_in]
 -- What the words of a command line ask for.
 abbrev pub program_app : App
-program_app = with_subcommand (with_subcommand second_app replay_app.top) draw_app.top
+program_app =
+    with_subcommand (with_subcommand (with_subcommand second_app replay_app.top) draw_app.top)
+    diff_app.top

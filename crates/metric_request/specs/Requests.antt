@@ -26,7 +26,7 @@ use Rattle.metric_request.specs.declared.request.Outlets.{Outlets}
 use Rattle.metric_request.specs.declared.request.Request.{Request}
 use Rattle.metric_request.specs.declared.request.Task.{Task}
 use Rattle.metric_request.specs.declared.request.Task.TheVariants.{Lint, Show, Make, Check}
-use Rattle.metric_request.specs.declared.request.Task.TheVariants.{Headroom, Replay, Draw}
+use Rattle.metric_request.specs.declared.request.Task.TheVariants.{Headroom, Replay, Draw, Diff}
 
 -- the command by its name
 abbrev pub task_of : Text → Task
@@ -37,6 +37,7 @@ task_of name =
     else if bytes_eq name (codes "check") then Check
     else if bytes_eq name (codes "headroom") then Headroom
     else if bytes_eq name (codes "replay") then Replay
+    else if bytes_eq name (codes "diff") then Diff
     else Draw
 
 -- an argument was given this word
@@ -126,6 +127,8 @@ script_in rows =
 
 abbrev pub files_in : List Row → Files
 files_in rows = record {
+  old_catalogue = first_of (codes "old_catalogue") rows;
+  old_config = first_of (codes "old_config") rows;
   catalogue = text_in (codes "catalogue") rows;
   config = text_in (codes "config") rows;
   certificate = certificate_in rows;
@@ -142,12 +145,15 @@ options_in rows = record {
   width = number_in (first_of (codes "width") rows);
   rate = number_in (first_of (codes "rate") rows);
   instances = number_in (first_of (codes "instances") rows);
+  deny_breaking = has_word (codes "denied") (codes "breaking") rows;
 }
 
 -- the resource that is asked for, or the first misuse of an option
 unfoldable pub resource_asked : List Row → Result (List OwnedAttr) Misuse
 resource_asked rows = do
   _ ← require (not (denies_else rows)) Deny
+  _ ← require (not (is_some (first_of (codes "denied") rows)
+      && not (has_word (codes "denied") (codes "breaking") rows))) misuses.Change
   _ ← require (not (allows_else rows)) Allow
   _ ← require (not (outlets_else rows)) Outlet
   _ ← require (not (forms_else rows)) misuses.Form

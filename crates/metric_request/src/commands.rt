@@ -6,6 +6,7 @@ ghost use Rattle.metric_request.specs.Apps.{bare_app, check_app, draw_app, first
 ghost use Rattle.metric_request.specs.Apps.{replay_app, second_app, show_app, table_app};
 
 use crate::arguments::{file, flag, number, output, text, texts};
+use crate::diff_command::diff;
 use clap::{Arg, Command};
 use std::alloc::{AllocError, Global};
 
@@ -58,7 +59,8 @@ pub(crate) fn program<'a>(alloc: Global) -> Result<Command<'a>, AllocError>
     ensures { IfOk result (λ command. app_of command ≡ program_app) }
 {
     let program = with_command(second(alloc), replay(alloc));
-    with_command(program, draw(alloc))
+    let program = with_command(program, draw(alloc));
+    with_command(program, diff(alloc))
 }
 
 fn second<'a>(alloc: Global) -> Result<Command<'a>, AllocError>
@@ -90,7 +92,7 @@ fn with_command<'a>(
 }
 
 // A command with one more argument, where it could be made. The argument is dropped nowhere else.
-fn with_argument<'a>(
+pub(crate) fn with_argument<'a>(
     command: Result<Command<'a>, AllocError>,
     argument: Arg<'a>,
 ) -> Result<Command<'a>, AllocError>
@@ -113,7 +115,12 @@ fn bare<'a>(alloc: Global) -> Command<'a>
 }
 
 // A command, with what it does and an example.
-fn named<'a>(alloc: Global, name: &'a str, about: &'a str, example: &'a str) -> Command<'a>
+pub(crate) fn named<'a>(
+    alloc: Global,
+    name: &'a str,
+    about: &'a str,
+    example: &'a str,
+) -> Command<'a>
     ensures app { app_of result ≡ new_app name.entry.now }
     ensures local { (fields_of result).has_globals ≡ false }
 {

@@ -12,6 +12,8 @@ use std::alloc::{AllocError, Global};
 pub enum Misuse {
     /// `--deny` was given something else than `remarks` or a kind of them.
     Deny,
+    /// `--deny` of `diff` was given something else than `breaking`.
+    Change,
     /// `--allow` was given no kind of remark that there is.
     Allow,
     /// `--for` was given no way out that there is.

@@ -4,6 +4,7 @@
 mod arguments;
 mod attributes;
 mod commands;
+mod diff_command;
 mod fault;
 mod reading;
 mod request;

@@ -100,6 +100,9 @@ fn resource_asked(alloc: Global, arguments: &ArgMatches<'_>) -> Result<Resource,
     if denies_else(arguments) {
         return Err(LineFault::Misused(Misuse::Deny));
     }
+    if has_text(arguments, "denied") && !has_word(arguments, "denied", "breaking") {
+        return Err(LineFault::Misused(Misuse::Change));
+    }
     if allows_else(arguments) {
         return Err(LineFault::Misused(Misuse::Allow));
     }
@@ -193,6 +196,7 @@ fn task_of(command: &str) -> Task
         "check" => Task::Check,
         "headroom" => Task::Headroom,
         "replay" => Task::Replay,
+        "diff" => Task::Diff,
         _ => Task::Draw,
     }
 }
@@ -200,12 +204,16 @@ fn task_of(command: &str) -> Task
 fn files_of(alloc: Global, arguments: &ArgMatches<'_>) -> Result<Files, AllocError>
     ensures { IfOk result (λ files. files ≡ files_in (rows_of (found_of arguments.now))) }
 {
+    let old_catalogue = optional(alloc, arguments, "old_catalogue")?;
+    let old_config = optional(alloc, arguments, "old_config")?;
     let catalogue = text_of(alloc, arguments, "catalogue")?;
     let config = text_of(alloc, arguments, "config")?;
     let certificate = certificate_of(alloc, arguments)?;
     let script = script_of(alloc, arguments)?;
     let output = optional(alloc, arguments, "output")?;
     Ok(Files {
+        old_catalogue,
+        old_config,
         catalogue,
         config,
         certificate,
@@ -244,6 +252,7 @@ fn options_of(arguments: &ArgMatches<'_>) -> Options
         width: number_of(arguments, "width"),
         rate: number_of(arguments, "rate"),
         instances: number_of(arguments, "instances"),
+        deny_breaking: has_word(arguments, "denied", "breaking"),
     }
 }
 

@@ -22,11 +22,17 @@ pub enum Task {
     Replay,
     /// Draw the streams of a config.
     Draw,
+    /// Print what a change of a catalogue or a config does.
+    Diff,
 }
 
 /// The paths of the files that a command reads and writes.
 #[derive(Debug, Drop)]
 pub struct Files {
+    /// Where the old catalogue is, where the command compares two.
+    pub old_catalogue: Option<Text>,
+    /// Where the old config is, where the command compares two.
+    pub old_config: Option<Text>,
     /// Where the catalogue is.
     pub catalogue: Text,
     /// Where the config is.
@@ -94,6 +100,8 @@ pub struct Options {
     pub rate: u32,
     /// How many processes a backend adds up.
     pub instances: u32,
+    /// Whether a change that breaks something is an error.
+    pub deny_breaking: bool,
 }
 
 /// Which remarks count.

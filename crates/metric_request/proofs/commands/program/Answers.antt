@@ -4,4 +4,5 @@ use Rattle.metric_request.proofs.commands.program.Goals as goal
 pub returns : goal.returns
 returns c =
     let replay = c.with_command-program.ensures _ _ c.second.ensures c.replay.ensures.app c.replay.ensures.local in
-    c.with_command.ensures _ _ replay c.draw.ensures.app c.draw.ensures.local
+    let draw = c.with_command-program-2.ensures _ _ replay c.draw.ensures.app c.draw.ensures.local in
+    c.with_command.ensures _ _ draw c.diff.ensures.app c.diff.ensures.local
