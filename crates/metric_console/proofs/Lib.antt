@@ -1,3 +1,4 @@
 pub mod Devices
 pub mod OnlyReaders
 pub mod PageEnds
+pub mod Sides

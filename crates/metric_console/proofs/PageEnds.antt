@@ -25,6 +25,7 @@ of_head request parts dialect trial input sink (Kit fault) head same = inl (of_m
 of_head request parts dialect trial input sink (Page fault) head same = (inl head, same)
 of_head request parts dialect trial input sink (Header role) head same = head
 of_head request parts dialect trial input sink (Overwrites role) head same = head
+of_head request parts dialect trial input sink (faults.Old fault) head same = head
 of_head request parts dialect trial input sink (faults.Unread role cause) head same = head
 of_head request parts dialect trial input sink (faults.Unwritten cause) head same = head
 
@@ -35,6 +36,7 @@ of_reader request parts dialect trial input sink (Kit fault) passes read same = 
 of_reader request parts dialect trial input sink (Page fault) passes read same = (inr (passes, read), same)
 of_reader request parts dialect trial input sink (Header role) passes read same = read
 of_reader request parts dialect trial input sink (Overwrites role) passes read same = read
+of_reader request parts dialect trial input sink (faults.Old fault) passes read same = read
 of_reader request parts dialect trial input sink (faults.Unread role cause) passes read same = read
 of_reader request parts dialect trial input sink (faults.Unwritten cause) passes read same = read
 
@@ -57,5 +59,6 @@ of_end request parts dialect reader head trial input sink (Err (Kit fault)) pass
 of_end request parts dialect reader head trial input sink (Err (Page fault)) passes is asked end = absurd end
 of_end request parts dialect reader head trial input sink (Err (Header role)) passes is asked end = end
 of_end request parts dialect reader head trial input sink (Err (Overwrites role)) passes is asked end = end
+of_end request parts dialect reader head trial input sink (Err (faults.Old fault)) passes is asked end = end
 of_end request parts dialect reader head trial input sink (Err (faults.Unread role cause)) passes is asked end = end
 of_end request parts dialect reader head trial input sink (Err (faults.Unwritten cause)) passes is asked end = end

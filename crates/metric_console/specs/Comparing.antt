@@ -49,6 +49,12 @@ abbrev pub IsOldFault : Parts → ConsoleFault → Type 0
 IsOldFault parts (faults.Old fault) = IsDeclaredFault fault parts
 IsOldFault parts fault = ⊥
 
+-- The fault is the first of the old parts, or of the new ones; or memory was refused.
+abbrev pub RefusesPair : Parts → Parts → ConsoleFault → Type 0
+RefusesPair old_parts parts (faults.Old fault) = IsDeclaredFault fault old_parts
+RefusesPair old_parts parts (faults.Kit fault) = IsDeviceFault fault ⊎ IsDeclaredFault fault parts
+RefusesPair old_parts parts fault = ⊥
+
 -- There are no old files; or it is the first fault of the old ones, or of the new ones; or memory was
 -- refused.
 abbrev pub RefusesDiff : Texts → ConsoleFault → Type 0

@@ -5,7 +5,7 @@ ghost use Rattle.metric_commands.specs.Declarations.{IsDeclaredFault};
 ghost use Rattle.metric_changes.specs.Breaking.{is_breaking};
 ghost use Rattle.metric_changes.specs.Changes.{plan};
 ghost use Rattle.metric_console.specs.Answers.{AreRooms};
-ghost use Rattle.metric_console.specs.Comparing.{IsClaim, IsCompared, IsOldFault, RefusesDiff, diff_status};
+ghost use Rattle.metric_console.specs.Comparing.{IsClaim, IsCompared, IsComparison, IsOldFault, RefusesDiff, RefusesPair, diff_status};
 ghost use Rattle.metric_console.specs.Faults.{IsDeviceFault};
 ghost use Rattle.std.specs.List.{list_any};
 
@@ -60,19 +60,32 @@ impl Drop for Comparison {
 ///
 /// The first fault of the old files, as [`ConsoleFault::Old`], or of the new ones; [`ConsoleFault::Unread`] where the request names no
 /// old files; and [`KitFault::Memory`].
+#[tactic(auto, using(crate::proofs::Sides::pair_refused))]
 pub(crate) fn comparison_of(alloc: Global, texts: &Texts) -> Result<Comparison, ConsoleFault>
     ensures ok { IfOk result (IsCompared texts.now) }
     ensures first { IfErr result (RefusesDiff texts.now) }
 {
-    let Some(old_parts) = &texts.old else {
-        return Err(ConsoleFault::Unread {
+    match &texts.old {
+        Some(old) => compared(alloc, old, &texts.parts),
+        None => Err(ConsoleFault::Unread {
             role: Role::OldCatalogue,
             cause: Unread::Missing,
-        });
-    };
+        }),
+    }
+}
+
+// What differs between old parts and new ones.
+fn compared(
+    alloc: Global,
+    old_parts: &Parts<'_>,
+    parts: &Parts<'_>,
+) -> Result<Comparison, ConsoleFault>
+    ensures ok { IfOk result (IsComparison old_parts.now parts.now) }
+    ensures first { IfErr result (RefusesPair old_parts.now parts.now) }
+{
     let old = old_rooms(alloc, old_parts)?;
-    let new = rooms_of(alloc, &texts.parts)?;
-    let claim = claim_of(alloc, &texts.parts)?;
+    let new = rooms_of(alloc, parts)?;
+    let claim = claim_of(alloc, parts)?;
     let old_streams = resolve_streams(alloc, &old.declared.catalogue, &old.declared.config)?;
     let new_streams = resolve_streams(alloc, &new.declared.catalogue, &new.declared.config)?;
     let old_side = side_of(&old, &old_streams);
