@@ -1,3 +1,4 @@
 mod Claims
+mod Got
 mod Lists
 mod Told

@@ -91,9 +91,12 @@ fn add_rooms(
         old: number,
         new: other,
     };
-    match (old.get(number), new.get(other)) {
-        (Some(one), Some(another)) => add_room(changes, of, one, another),
-        _ => Ok(()),
+    match old.get(number) {
+        None => Ok(()),
+        Some(one) => match new.get(other) {
+            None => Ok(()),
+            Some(another) => add_room(changes, of, one, another),
+        },
     }
 }
 

@@ -95,9 +95,12 @@ fn add_differences(
         old: number,
         new: other,
     };
-    match (old.streams.get(number), new.streams.get(other)) {
-        (Some(one), Some(another)) => add_of_streams(changes, old, new, of, one, another),
-        _ => Ok(()),
+    match old.streams.get(number) {
+        None => Ok(()),
+        Some(one) => match new.streams.get(other) {
+            None => Ok(()),
+            Some(another) => add_of_streams(changes, old, new, of, one, another),
+        },
     }
 }
 

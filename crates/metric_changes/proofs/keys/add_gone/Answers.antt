@@ -12,7 +12,7 @@ loop-key-preserved c =
     let of = c.args.of in
     let n = c.loop-key.key in
     let before = c.loop-key.changes in
-    numbered_turn (key_gone of.old of.new c.args.new.keys.now c.args.old.stream.now c.args.new.stream.now) c.args.old.keys.now n c.index-keys-key.result c.args.changes.now before c.add_when.new.changes (omega arith) c.index-keys-key.is
+    numbered_turn (key_gone of.old of.new c.args.new.keys.now c.args.old.stream.now c.args.new.stream.now) c.args.old.keys.now n c.own-item.result c.args.changes.now before c.add_when.new.changes (omega arith) c.own-item.is
     c.loop-key.invariant
     (c.in_ok-add_when.ensures ∙ ap (λ (b : Bool). before ++ when b (KeyGone of.old of.new n)) c.is_lost.ensures)
 

@@ -1,6 +1,5 @@
 -- one name more
 use Rattle.std.proofs.Common.{◌≡◌, ℕ, List, Option, Some, None, cond, string_bytes, take, take_all, sym, ap, ◌∙◌, arith, rules}
-use Rattle.std.specs.BTreeMap.{get_by_text}
 use Rattle.std.specs.Str.{bytes_eq}
 use Rattle.metric_contents.specs.PlaceLaws.{or_else}
 use Rattle.metric_changes.specs.Known.{place_of}
@@ -15,7 +14,7 @@ loop-place-preserved c =
     let names = c.args.names.now in
     let n = c.loop-place.place in
     let own = c.index-names-place.result in
-    let told : string_bytes c.in_ok-own.own ≡ own = c.in_ok-own.ensures ∙ c.as_str.ensures in
+    let told : string_bytes c.in_ok-own.own ≡ own = c.in_ok-own.ensures.ok ∙ c.as_str.ensures in
     λ name.
     c.in_ok-add_place.ensures name
     ∙ ap (λ (o : Option ℕ). or_else o (cond (bytes_eq name (string_bytes c.in_ok-own.own)) (Some n) None)) (c.loop-place.invariant name)
