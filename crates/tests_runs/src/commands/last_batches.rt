@@ -87,10 +87,10 @@ fn wanted<R: Abort>(rt: &R, alloc: Global, script: &str) -> String {
 
 fn page_of<R: Abort>(rt: &R, alloc: Global, reader: u32) -> String {
     let form = PageForm {
-        head: b"head\n",
+        head: "head\n".as_bytes(),
         reader,
         encoding: &Plain,
-        tail: b"tail\n",
+        tail: "tail\n".as_bytes(),
     };
     let input = input_of(rt, alloc, SCRIPT);
     let mut source = CutSource::new(input.as_bytes(), None);
