@@ -1,6 +1,7 @@
 pub mod InstrumentHandles
 pub mod RecorderHandles
 pub mod ReaderHandles
+pub mod TellingLaws
 pub mod ToldLaws
 pub mod PlaceLaws
 pub mod EachLaws

@@ -1,6 +1,7 @@
 -- Lines of remarks, one after the other.
-use Rattle.std.proofs.Common.{◌≡◌, ℕ, List, [], ◌∷◌, ◌++◌, append-nil, append_assoc, sym, ap, ◌∙◌}
+use Rattle.std.proofs.Common.{◌≡◌, ℕ, List, [], ◌∷◌, ◌++◌, ◌+◌, ◌<◌, append-nil, append_assoc, get_or, length, take, sym, ap, subst, ◌∙◌}
 use Rattle.std.specs.List.{AllZip, concat}
+use Rattle.std.proofs.lemmas.List.{take_more}
 use Rattle.metric_advice.specs.declared.remark.Remark.{Remark}
 use Rattle.metric_diagnosis.specs.declared.sources.Pair.{Pair}
 use Rattle.metric_c.specs.Linting.{IsRemarkLine, PushesLine, PushesLines}
@@ -21,7 +22,7 @@ pub no_line : (pair : Pair) (text : List ℕ) → PushesLines pair [] text text
 no_line pair text = record { lines = []; each = tt; is = sym (append-nil text) }
 
 -- one more
-pub line_more : (pair : Pair) (remarks : List Remark) (remark : Remark) (before between after : List ℕ) → PushesLines pair remarks before between
+line_more : (pair : Pair) (remarks : List Remark) (remark : Remark) (before between after : List ℕ) → PushesLines pair remarks before between
     → PushesLine pair remark between after → PushesLines pair (remarks ++ remark ∷ []) before after
 line_more pair remarks remark before between after so_far one = record {
   lines = so_far.lines ++ one.line ∷ [];
@@ -31,3 +32,10 @@ line_more pair remarks remark before between after so_far one = record {
       ∙ append_assoc before (concat so_far.lines) one.line
       ∙ ap (λ (text : List ℕ). before ++ text) (sym (concat_more so_far.lines one.line));
 }
+
+-- one more of a list
+pub line_at : (pair : Pair) (all : List Remark) (i : ℕ) (d : Remark) (before between after : List ℕ) → i < length all → PushesLines pair (take i all) before between
+    → PushesLine pair (get_or all i d) between after → PushesLines pair (take (i + 1) all) before after
+line_at pair all i d before between after within so_far one =
+    subst (λ (told : List Remark). PushesLines pair told before after) (sym (take_more all i d within))
+    (line_more pair (take i all) (get_or all i d) before between after so_far one)

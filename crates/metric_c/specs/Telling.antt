@@ -47,7 +47,7 @@ TellsFault catalogue config (faults.Config fault) text =
     Tells (InFile (codes "config") (StandsInConfig config fault)) text
 TellsFault catalogue config (faults.Unsafe fault) text = Tells (IsUnsafeAt catalogue config) text
 TellsFault catalogue config (faults.Certificate fault) text =
-    Tells (InFile (codes "certificate") (λ position. Unit {0})) text
+    Tells (λ file position. file ≡ codes "certificate") text
 TellsFault catalogue config (faults.Check fault) text =
     Tells (InFile (codes "certificate") (λ position. position ≡ None)) text
 TellsFault catalogue config faults.Memory text = ⊥
