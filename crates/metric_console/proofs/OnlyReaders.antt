@@ -15,11 +15,10 @@ one_served [] n = refl
 one_served (a ∷ []) n = refl
 one_served (a ∷ b ∷ found) n = refl
 
-pub one_more : (p : ℕ → Bool) (n : ℕ) → p n ≡ true → only_reader (filter p (range_with_len 0 (n + 1))) ≡ with_served (only_reader (filter p (range_with_len 0 n))) n
-one_more p n e =
-    ap only_reader (filter_more p n ∙ ap (λ (b : Bool). filter p (range_with_len 0 n) ++ cond b (n ∷ []) []) e)
-    ∙ one_served (filter p (range_with_len 0 n)) n
+turned : (found : List ℕ) (n : ℕ) (b : Bool) → only_reader (found ++ cond b (n ∷ []) []) ≡ cond b (with_served (only_reader found) n) (only_reader found)
+turned found n true = one_served found n
+turned found n false = ap only_reader (append-nil found)
 
-pub one_not : (p : ℕ → Bool) (n : ℕ) → p n ≡ false → only_reader (filter p (range_with_len 0 (n + 1))) ≡ only_reader (filter p (range_with_len 0 n))
-one_not p n e =
-    ap only_reader (filter_more p n ∙ ap (λ (b : Bool). filter p (range_with_len 0 n) ++ cond b (n ∷ []) []) e ∙ append-nil (filter p (range_with_len 0 n)))
+pub one_turn : (p : ℕ → Bool) (n : ℕ) → only_reader (filter p (range_with_len 0 (n + 1)))
+    ≡ cond (p n) (with_served (only_reader (filter p (range_with_len 0 n))) n) (only_reader (filter p (range_with_len 0 n)))
+one_turn p n = ap only_reader (filter_more p n) ∙ turned (filter p (range_with_len 0 n)) n (p n)

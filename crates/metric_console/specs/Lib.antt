@@ -9,8 +9,8 @@ pub mod Fleets
 pub mod Inputs
 pub mod Encodings
 pub mod PageReaders
-pub mod PageLines
 pub mod Paging
+pub mod PageLines
 pub mod Tables
 pub mod Comparing
 pub mod Runs

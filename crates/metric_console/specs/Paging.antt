@@ -7,6 +7,8 @@ use Rattle.metric_contents.specs.declared.attributes.OwnedAttr.{OwnedAttr}
 use Rattle.metric_contents.specs.declared.contents.Contents.{Contents}
 use Rattle.metric_views.specs.declared.config.Setup.{Setup}
 use Rattle.metric_views.specs.declared.stream.Stream.{Stream}
+use Rattle.metric_history.specs.declared.batch.Batch.{Batch}
+use Rattle.metric_plan.specs.Plans.{PlanValue}
 use Rattle.metric_resolve.specs.Resolved.{streams_of}
 use Rattle.metric_exposition.specs.Expositions.{exposition}
 use Rattle.metric_exposition.specs.Pages.{end_text}
@@ -91,6 +93,12 @@ label_fault (Err (targets.BadLabel attribute)) = Some (BadLabel attribute)
 label_fault (Err (targets.LabelCollision attribute other)) = Some (LabelCollision attribute other)
 label_fault (Err targets.Memory) = None
 
+-- a fault of a target, as one of the console
+abbrev pub of_target : TargetFault → ConsoleFault
+of_target (targets.BadLabel attribute) = Page (BadLabel attribute)
+of_target (targets.LabelCollision attribute other) = Page (LabelCollision attribute other)
+of_target targets.Memory = Kit Memory
+
 -- What a page begins with, or why the attributes of the resource can't be the labels of one line.
 abbrev pub IsHead : Dialect → List OwnedAttr → Result (List ℕ) ConsoleFault → Type 0
 IsHead dialect resource (Ok head) =
@@ -99,13 +107,15 @@ IsHead dialect resource (Err (Page fault)) = label_fault (target_check resource)
 IsHead dialect resource (Err (Kit fault)) = fault ≡ Memory
 IsHead dialect resource (Err _) = ⊥
 
+-- the lines of a batch of a plan
+abbrev pub page_lines : Dialect → PlanValue → Batch → List ℕ
+page_lines dialect plan batch = exposition dialect plan.facts.contents plan.streams batch
+
 -- The replay of an input that stands in memory, of which a page is written.
 pub record IsPageReplay (dialect : Dialect) (reader : ℕ) (head tail : List ℕ) (trial : Bool)
     (input : List ℕ) (sink : SinkRun) (result : Result (Unit {0}) KitFault) : Type 0 where
   pub counts_after : ReadCounts
-  pub runs : RunsCommand
-      (IsPage (λ plan batch. exposition dialect plan.facts.contents plan.streams batch) reader
-      head tail (plain_options trial))
+  pub runs : RunsCommand (IsPage (page_lines dialect) reader head tail (plain_options trial))
       (IsFirstFault (plain_options trial))
       (record { input = Some input; counts = no_reads; counts_after = counts_after }) sink result
 

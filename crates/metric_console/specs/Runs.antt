@@ -8,7 +8,6 @@ use Rattle.metric_request.specs.declared.request.Task.{Task}
 use Rattle.metric_request.specs.declared.request.Task.TheVariants.{Replay, Diff}
 use Rattle.metric_exposition.specs.declared.dialect.Dialect.{Dialect}
 use Rattle.metric_commands.specs.Commands.{SinkRun}
-use Rattle.metric_commands.specs.declared.fault.KitFault.{KitFault}
 use Rattle.metric_commands.specs.declared.fault.KitFault.TheVariants.{Memory}
 use Rattle.metric_console.specs.Answers.{IsAnswer, IsAnswerFault}
 use Rattle.metric_console.specs.Comparing.{RunsDiff}
@@ -64,40 +63,53 @@ RefusesFor task parts (Page fault) = ⊥
 RefusesFor task parts (faults.Old fault) = ⊥
 RefusesFor task parts (Kit fault) = IsDeviceFault fault ⊎ IsAnswerFault task fault parts
 
--- The replay of an input in the form that is asked for, which is no page.
-abbrev pub IsReplayed : Request → Parts → List ℕ → SinkRun → Result (Unit {0}) KitFault → Type 0
-IsReplayed request parts input sink result =
-    IsReplayIn request.options.form request.resource (not (is_some parts.certificate))
-    request.options.audit input sink result
+-- What a replay of an input comes to in the form that is asked for, which is no page.
+abbrev pub EndsPlain : Request → Bool → List ℕ → SinkRun → Result (Unit {0}) ConsoleFault → Type 0
+EndsPlain request trial input sink (Ok done) =
+    IsReplayIn request.options.form request.resource trial request.options.audit input sink (Ok tt)
+EndsPlain request trial input sink (Err (Kit fault)) =
+    IsReplayIn request.options.form request.resource trial request.options.audit input sink
+    (Err fault)
+EndsPlain request trial input sink (Err _) = ⊥
 
--- What a replay of an input of parts comes to: of a page, and of any other form.
-abbrev pub EndsAs : Option Dialect → Request → Parts → List ℕ → SinkRun
+-- The same of a page, and of any other form.
+abbrev pub EndsAs : Option Dialect → Request → Parts → Bool → List ℕ → SinkRun
     → Result (Unit {0}) ConsoleFault → Type 0
-EndsAs (Some dialect) request parts input sink result =
-    ReplaysPage request parts dialect (not (is_some parts.certificate)) input sink result
-EndsAs None request parts input sink (Ok done) = IsReplayed request parts input sink (Ok tt)
-EndsAs None request parts input sink (Err (Kit fault)) =
-    IsReplayed request parts input sink (Err fault)
-EndsAs None request parts input sink (Err _) = ⊥
+EndsAs (Some dialect) request parts trial input sink result =
+    ReplaysPage request parts dialect trial input sink result
+EndsAs None request parts trial input sink result = EndsPlain request trial input sink result
 
--- The same of a script that is there.
-abbrev pub IsScriptEnd : Request → Parts → List ℕ → SinkRun → Result (Unit {0}) ConsoleFault
+-- In the form that is asked for: a trial, where there is no certificate.
+abbrev pub IsReplayEnd : Request → Parts → List ℕ → SinkRun → Result (Unit {0}) ConsoleFault
     → Type 0
-IsScriptEnd request parts script sink result =
-    EndsAs (dialect_of request.options.form) request parts
-    (input_of parts.catalogue parts.config parts.certificate script) sink result
+IsReplayEnd request parts input sink result =
+    EndsAs (dialect_of request.options.form) request parts (not (is_some parts.certificate))
+    input sink result
 
--- With its status; or memory was refused, or a file has the header of a part.
+-- an end without its status
+abbrev pub done_of : Result ℕ ConsoleFault → Result (Unit {0}) ConsoleFault
+done_of (Ok status) = Ok tt
+done_of (Err fault) = Err fault
+
+-- A file has the header of a part, or memory was refused.
+abbrev pub IsStopped : Result ℕ ConsoleFault → Type 0
+IsStopped (Ok status) = ⊥
+IsStopped (Err (Header role)) = Unit {0}
+IsStopped (Err (Kit Memory)) = Unit {0}
+IsStopped (Err _) = ⊥
+
+-- The replay of the input that the files make up with a script, and its status.
+pub record EndsScript (request : Request) (parts : Parts) (script : List ℕ) (sink : SinkRun)
+    (end : Result ℕ ConsoleFault) : Type 0 where
+  pub status : IfOk end (λ status. status ≡ 0)
+  pub ends : IsReplayEnd request parts
+      (input_of parts.catalogue parts.config parts.certificate script) sink (done_of end)
+
+-- It is stopped before it begins, or comes to its end.
 abbrev pub ReplaysScript : Request → Parts → List ℕ → SinkRun → Result ℕ ConsoleFault → Type 0
-ReplaysScript request parts script sink (Ok status) =
-    (status ≡ 0) × IsScriptEnd request parts script sink (Ok tt)
-ReplaysScript request parts script sink (Err (Kit fault)) =
-    ((fault ≡ Memory) × (sink.contents_after ≡ sink.contents))
-    ⊎ IsScriptEnd request parts script sink (Err (Kit fault))
-ReplaysScript request parts script sink (Err (Header role)) =
-    sink.contents_after ≡ sink.contents
-ReplaysScript request parts script sink (Err fault) =
-    IsScriptEnd request parts script sink (Err fault)
+ReplaysScript request parts script sink end =
+    (IsStopped end × (sink.contents_after ≡ sink.contents))
+    ⊎ EndsScript request parts script sink end
 
 -- Nothing is written where there is no script.
 abbrev pub ReplaysText : Request → Parts → Option (List ℕ) → SinkRun → Result ℕ ConsoleFault

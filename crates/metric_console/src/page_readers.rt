@@ -1,7 +1,6 @@
 //! The reader whose page is printed.
-ghost use Rattle.std.specs.Prelude.{◌≡◌, ◌+◌, ◌<◌, ◌^◌, filter, length};
-ghost use Rattle.std.specs.List.{position_from, range_with_len};
-ghost use Rattle.std.specs.Str.{bytes_eq};
+ghost use Rattle.std.specs.Prelude.{◌≡◌, ◌+◌, ◌≤◌, filter, if◌then◌else◌, length};
+ghost use Rattle.std.specs.List.{range_with_len};
 ghost use Rattle.metric_exposure.specs.declared.outlet.Outlet.TheVariants.{Prometheus};
 ghost use Rattle.metric_console.specs.Exposures.{has_served};
 ghost use Rattle.metric_console.specs.PageReaders.{only_reader, reader_asked, reader_named, with_served};
@@ -18,7 +17,7 @@ pub(crate) fn reader_asked(
     readers: &[Reader],
     streams: &[Stream],
 ) -> Result<u32, PageFault>
-    requires { length readers.now < 2 ^ 31 }
+    requires { length readers.now ≤ 16 }
     ensures { result ≡ reader_asked name.now readers.now streams.now }
 {
     match name {
@@ -30,7 +29,7 @@ pub(crate) fn reader_asked(
 // The number of the reader of a name, where the first is of a number. It calls itself at most as often as there are readers,
 // of which a config has 16 at most.
 fn reader_named(name: &str, number: u32, readers: &[Reader]) -> Result<u32, PageFault>
-    requires { number + length readers.now < 2 ^ 31 }
+    requires { number + length readers.now ≤ 16 }
     ensures { result ≡ reader_named name.now number readers.now }
 {
     match readers.split_first() {
@@ -52,11 +51,25 @@ fn only_reader(count: u32, streams: &[Stream]) -> Result<u32, PageFault>
 {
     let mut found = Err(PageFault::NoneServed);
     for reader in 0..count {
-        if serves_reader(streams, Outlet::Prometheus, reader) {
-            found = with_served(found, reader);
-        }
+        found = with_next(streams, found, reader);
     }
     found
+}
+
+// The only one, where one more is looked at.
+fn with_next(
+    streams: &[Stream],
+    found: Result<u32, PageFault>,
+    reader: u32,
+) -> Result<u32, PageFault>
+    ensures { result ≡ (if has_served Prometheus streams.now reader
+        then with_served found reader else found) }
+{
+    if serves_reader(streams, Outlet::Prometheus, reader) {
+        with_served(found, reader)
+    } else {
+        found
+    }
 }
 
 // The only one, where one more is found.

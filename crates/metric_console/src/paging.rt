@@ -1,11 +1,12 @@
 //! A script replayed, of which the page of a reader is printed.
-ghost use Rattle.std.specs.Prelude.{◌≡◌, IfOk, Ok};
+ghost use Rattle.std.specs.Prelude.{◌≡◌, ◌≤◌, IfOk, Ok, length};
 ghost use Rattle.metric_commands.specs.Commands.{sink_run};
 ghost use Rattle.metric_exposition.specs.Pages.{end_text};
 ghost use Rattle.metric_exposition.specs.TargetFaults.{target_check};
 ghost use Rattle.metric_exposition.specs.Targets.{target_text};
 ghost use Rattle.metric_console.specs.Paging.{IsHead, IsPageEnd, IsPageReplay, IsReaderFound, IsReaderRead, ReplaysPage};
-ghost use Rattle.metric_console.specs.Paging.{dialect_of, exposed, page_reader};
+ghost use Rattle.metric_console.specs.PageReaders.{reader_asked};
+ghost use Rattle.metric_console.specs.Paging.{dialect_of, exposed, exposed_by, of_target, page_reader};
 
 use crate::fault::{ConsoleFault, PageFault};
 use crate::page_readers::reader_asked;
@@ -14,7 +15,7 @@ use metric_catalogue::Catalogue;
 use metric_commands::{KitFault, PageForm, declared_of, replay_page};
 use metric_export::Encoding;
 use metric_exposition::{Dialect, TargetFault, push_end, push_exposition, push_target};
-use metric_exposure::{Outlet, exposure_faults};
+use metric_exposure::{ExposureFault, Outlet, exposure_faults};
 use metric_history::Batch;
 use metric_io::{CutSource, Sink};
 use metric_parts::Parts;
@@ -22,7 +23,7 @@ use metric_plan::Plan;
 use metric_request::{Form, Request};
 use metric_resolve::resolve_streams;
 use metric_resource::Resource;
-use metric_views::{Config, Stream};
+use metric_views::{Config, Reader, Stream};
 use std::alloc::{AllocError, Global};
 
 /// The format of the page that a form is, where it is one.
@@ -137,13 +138,22 @@ fn head_of(alloc: Global, dialect: Dialect, resource: &Resource) -> Result<Items
     let mut head = Vec::new(alloc);
     match push_target(alloc, &mut head, dialect, resource) {
         Ok(()) => Ok(Items::from_vec(head)),
-        Err(TargetFault::BadLabel { attribute }) => {
-            Err(ConsoleFault::Page(PageFault::BadLabel { attribute }))
+        Err(fault) => Err(of_target(fault)),
+    }
+}
+
+// A fault of a target, as one of the console.
+fn of_target(fault: TargetFault) -> ConsoleFault
+    ensures { result ≡ of_target fault }
+{
+    match fault {
+        TargetFault::BadLabel { attribute } => {
+            ConsoleFault::Page(PageFault::BadLabel { attribute })
         }
-        Err(TargetFault::LabelCollision { attribute, other }) => {
-            Err(ConsoleFault::Page(PageFault::LabelCollision { attribute, other }))
+        TargetFault::LabelCollision { attribute, other } => {
+            ConsoleFault::Page(PageFault::LabelCollision { attribute, other })
         }
-        Err(TargetFault::Memory) => Err(ConsoleFault::Kit(KitFault::Memory)),
+        TargetFault::Memory => ConsoleFault::Kit(KitFault::Memory),
     }
 }
 
@@ -174,8 +184,23 @@ fn page_reader(
     ensures { IsReaderFound (page_reader name.now catalogue.now config.now) result }
 {
     let streams = resolve_streams(alloc, catalogue, config)?;
-    match reader_asked(name, config.readers(), streams.as_slice()) {
-        Ok(reader) => exposed(alloc, catalogue, streams.as_slice(), reader),
+    reader_in(alloc, name, catalogue, config.readers(), streams.as_slice())
+}
+
+// The same of the streams of all readers.
+fn reader_in(
+    alloc: Global,
+    name: &Option<Text>,
+    catalogue: &Catalogue,
+    readers: &[Reader],
+    streams: &[Stream],
+) -> Result<u32, ConsoleFault>
+    requires { length readers.now ≤ 16 }
+    ensures { IsReaderFound (exposed catalogue.now streams.now
+        (reader_asked name.now readers.now streams.now)) result }
+{
+    match reader_asked(name, readers, streams) {
+        Ok(reader) => exposed(alloc, catalogue, streams, reader),
         Err(fault) => Err(ConsoleFault::Page(fault)),
     }
 }
@@ -190,9 +215,19 @@ fn exposed(
     ensures { IsReaderFound (exposed catalogue.now streams.now (Ok reader)) result }
 {
     let faults = exposure_faults(alloc, catalogue, streams, reader, Outlet::Prometheus)?;
+    match exposed_by(faults.as_slice(), reader) {
+        Ok(reader) => Ok(reader),
+        Err(fault) => Err(ConsoleFault::Page(fault)),
+    }
+}
+
+// The reader, where there is no fault, else the first.
+fn exposed_by(faults: &[ExposureFault], reader: u32) -> Result<u32, PageFault>
+    ensures { result ≡ exposed_by faults.now reader }
+{
     match faults.first() {
         None => Ok(reader),
-        Some(fault) => Err(ConsoleFault::Page(PageFault::Exposure(*fault))),
+        Some(fault) => Err(PageFault::Exposure(*fault)),
     }
 }
 

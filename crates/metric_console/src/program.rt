@@ -1,10 +1,12 @@
 //! A request, run.
-ghost use Rattle.std.specs.Prelude.{◌≡◌, ◌≢◌, IfErr, IfOk, MatchOption, OnErr};
+ghost use Rattle.std.specs.Prelude.{◌≡◌, ◌≢◌, IfErr, IfOk, MatchOption, None, OnErr, is_some, not};
+ghost use Rattle.metric_console.specs.Inputs.{input_of};
 ghost use Rattle.metric_console.specs.Comparing.{Compares, RefusesDiff};
 ghost use Rattle.metric_console.specs.Faults.{IsDeviceFault, IsRefusal};
 ghost use Rattle.metric_commands.specs.Commands.{sink_run};
 ghost use Rattle.metric_console.specs.Paging.{dialect_of};
-ghost use Rattle.metric_console.specs.Runs.{Answers, EndsAs, IsOverwriting, NamesInput, RefusesFor, Replays, RunsRequest, RunsTexts, known_by, writing};
+ghost use Rattle.metric_console.specs.Runs.{Answers, EndsPlain, EndsScript, IsOverwriting, IsReplayEnd, NamesInput, RefusesFor, Replays, RunsRequest};
+ghost use Rattle.metric_console.specs.Runs.{RunsTexts, known_by, writing};
 ghost use Rattle.metric_console.specs.Told.{IsLineEnd};
 
 use crate::answer::answer_of;
@@ -17,6 +19,7 @@ use crate::paging::{dialect_of, replay_as_page};
 use crate::parts::{Texts, texts_of};
 use crate::replaying::{has_header, input_of, replay_in_form};
 use crate::telling::{stop, tell_line, warn};
+use metric_base::Text;
 use metric_commands::KitFault;
 use metric_io::Sink;
 use metric_parts::Parts;
@@ -214,28 +217,71 @@ fn run_replay<W: Sink>(
         return Err(ConsoleFault::Header { role });
     }
     let input = input_of(alloc, &texts.parts, script)?;
-    replay_script(alloc, request, &texts.parts, &input, sink)?;
-    Ok(0)
+    replay_script(alloc, request, &texts.parts, script, &input, sink)
+}
+
+// Replays the input that files and a script make up. The exit status.
+fn replay_script<W: Sink>(
+    alloc: Global,
+    request: &Request,
+    parts: &Parts<'_>,
+    script: &Text,
+    input: &[u8],
+    sink: &mut W,
+) -> Result<u8, ConsoleFault>
+    requires { input.now ≡ input_of parts.now.catalogue parts.now.config parts.now.certificate
+        script.now }
+    ensures { EndsScript request.now parts.now script.now
+        (sink_run W.contents W.failures sink.old sink.new) result }
+{
+    // For the proof alone: the input has the script.
+    let _ = script;
+    match replay_as(alloc, request, parts, input, sink) {
+        Ok(()) => Ok(0),
+        Err(fault) => Err(fault),
+    }
 }
 
 // Replays an input of parts, which these are, in the form that is asked for.
-fn replay_script<W: Sink>(
+fn replay_as<W: Sink>(
     alloc: Global,
     request: &Request,
     parts: &Parts<'_>,
     input: &[u8],
     sink: &mut W,
 ) -> Result<(), ConsoleFault>
-    ensures { EndsAs (dialect_of request.now.options.form) request.now parts.now input.now
+    ensures { IsReplayEnd request.now parts.now input.now
         (sink_run W.contents W.failures sink.old sink.new) result }
 {
-    let trial = parts.certificate.is_none();
+    let trial = is_trial(parts);
     match dialect_of(request.options.form) {
         Some(dialect) => replay_as_page(alloc, request, dialect, parts, trial, input, sink),
-        None => {
-            replay_in_form(alloc, request, trial, input, sink)?;
-            Ok(())
-        }
+        None => replay_plain(alloc, request, trial, input, sink),
+    }
+}
+
+// Whether a replay is a trial: it is one without a certificate.
+fn is_trial(parts: &Parts<'_>) -> bool
+    ensures { result ≡ not (is_some parts.now.certificate) }
+{
+    !parts.certificate.is_some()
+}
+
+// The same in a form that is no page.
+fn replay_plain<W: Sink>(
+    alloc: Global,
+    request: &Request,
+    trial: bool,
+    input: &[u8],
+    sink: &mut W,
+) -> Result<(), ConsoleFault>
+    requires { dialect_of request.now.options.form ≡ None }
+    ensures { EndsPlain request.now trial input.now
+        (sink_run W.contents W.failures sink.old sink.new) result }
+{
+    match replay_in_form(alloc, request, trial, input, sink) {
+        Ok(()) => Ok(()),
+        Err(fault) => Err(ConsoleFault::Kit(fault)),
     }
 }
 

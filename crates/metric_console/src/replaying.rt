@@ -1,8 +1,7 @@
 //! A script replayed.
-ghost use Rattle.std.specs.Prelude.{◌≡◌, ◌++◌, IfOk, None, OnOk};
+ghost use Rattle.std.specs.Prelude.{◌≡◌, ◌≢◌, ◌++◌, IfOk, OnOk};
 ghost use Rattle.metric_commands.specs.Commands.{sink_run};
 ghost use Rattle.metric_console.specs.Inputs.{IsEncodedReplay, IsReplay, IsReplayIn, input_of, optional_text, part_text};
-ghost use Rattle.metric_console.specs.Paging.{dialect_of};
 
 use metric_base::Text;
 use metric_commands::{KitFault, ReplayOptions, replay, replay_encoded};
@@ -54,7 +53,9 @@ pub(crate) fn replay_in_form<W: Sink>(
     input: &[u8],
     sink: &mut W,
 ) -> Result<(), KitFault>
-    requires { dialect_of request.now.options.form ≡ None }
+    requires text { request.now.options.form ≢ Form.Prometheus }
+    requires metrics { request.now.options.form ≢ Form.OpenMetrics }
+    requires created { request.now.options.form ≢ Form.OpenMetricsCreated }
     ensures { IsReplayIn request.now.options.form request.now.resource trial
         request.now.options.audit input.now
         (sink_run W.contents W.failures sink.old sink.new) result }

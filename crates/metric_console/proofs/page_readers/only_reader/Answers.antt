@@ -1,19 +1,23 @@
 -- one reader more
-use Rattle.std.proofs.Common.{◌∙◌, ap, sym}
+use Rattle.std.proofs.Common.{◌≡◌, ◌∙◌, ℕ, Result, ap, arith, cond, sym}
+use Rattle.std.specs.Prelude.{filter}
+use Rattle.std.specs.List.{range_with_len}
 use Rattle.metric_exposure.specs.declared.outlet.Outlet.TheVariants.{Prometheus}
 use Rattle.metric_console.specs.Exposures.{has_served}
-use Rattle.metric_console.specs.PageReaders.{with_served}
-use Rattle.metric_console.proofs.OnlyReaders.{one_more, one_not}
+use Rattle.metric_console.specs.PageReaders.{only_reader, with_served}
+use Rattle.metric_console.specs.declared.fault.PageFault.{PageFault}
+use Rattle.metric_console.proofs.OnlyReaders.{one_turn}
 use Rattle.metric_console.proofs.page_readers.only_reader.Goals as goal
-
-pub loop-reader-preserved-then-serves_reader : goal.loop-reader-preserved-then-serves_reader
-loop-reader-preserved-then-serves_reader c =
-    let served = sym c.serves_reader.ensures ∙ c.if-serves_reader.true in
-    c.with_served.ensures
-    ∙ ap (λ found. with_served found c.loop-reader.reader) c.loop-reader.invariant
-    ∙ sym (one_more (has_served Prometheus c.args.streams.now) c.loop-reader.reader served)
 
 pub loop-reader-preserved : goal.loop-reader-preserved
 loop-reader-preserved c =
-    let served = sym c.serves_reader.ensures ∙ c.if-serves_reader.false in
-    c.loop-reader.invariant ∙ sym (one_not (has_served Prometheus c.args.streams.now) c.loop-reader.reader served)
+    let served = has_served Prometheus c.args.streams.now in
+    let n = c.loop-reader.reader in
+    c.with_next.ensures
+    ∙ ap (λ (found : Result ℕ PageFault). cond (served n) (with_served found n) found) c.loop-reader.invariant
+    ∙ sym (one_turn served n)
+
+pub returns : goal.returns
+returns c =
+    let all : c.loop-reader.reader ≡ c.args.count = omega arith in
+    c.loop-reader.invariant ∙ ap (λ (n : ℕ). only_reader (filter (has_served Prometheus c.args.streams.now) (range_with_len 0 n))) all

@@ -4,7 +4,7 @@ use Rattle.metric_io.specs.Cut.{SourceState}
 use Rattle.metric_commands.specs.Commands.{RunsCommand, sink_run}
 use Rattle.metric_commands.specs.Pages.{IsPage}
 use Rattle.metric_commands.specs.Replaying.{IsFirstFault, plain_options}
-use Rattle.metric_exposition.specs.Expositions.{exposition}
+use Rattle.metric_console.specs.Paging.{page_lines}
 use Rattle.metric_console.proofs.paging.print_page.Goals as goal
 
 pub returns : goal.returns
@@ -12,7 +12,7 @@ returns g c =
     let options = plain_options c.args.trial in
     let form = c.args.form.now in
     let P : SourceState → Type 0 = λ s. RunsCommand
-    (IsPage (λ plan batch. exposition form.encoding.now.dialect plan.facts.contents plan.streams batch) form.reader form.head.now form.tail.now options) (IsFirstFault options)
+    (IsPage (page_lines form.encoding.now.dialect) form.reader form.head.now form.tail.now options) (IsFirstFault options)
     (record { input = Some s.rest; counts = s.counts; counts_after = c.replay_page.new.source.counts })
     (sink_run g.W.Sink.contents g.W.Sink.failures c.args.sink.now c.replay_page.new.sink) c.replay_page.result in
     record { counts_after = c.replay_page.new.source.counts; runs = subst P c.new-source.ensures c.replay_page.ensures }

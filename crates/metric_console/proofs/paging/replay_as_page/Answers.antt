@@ -1,8 +1,14 @@
 -- What the target is, or why there is none.
-use Rattle.std.proofs.Common.{refl}
+use Rattle.std.proofs.Common.{◌∙◌, refl}
 use Rattle.metric_commands.specs.Commands.{sink_run}
 use Rattle.metric_console.proofs.PageEnds.{of_head}
 use Rattle.metric_console.proofs.paging.replay_as_page.Goals as goal
+
+pub replay_behind-requires-clause-labelled : goal.replay_behind-requires-clause-labelled
+replay_behind-requires-clause-labelled g c = c.in-Ok.ensures.0
+
+pub replay_behind-requires-clause-head : goal.replay_behind-requires-clause-head
+replay_behind-requires-clause-head g c = c.as_slice-head.ensures ∙ c.in-Ok.ensures.1
 
 pub returns-in-Err : goal.returns-in-Err
 returns-in-Err g c =
