@@ -14,7 +14,13 @@ pub(crate) fn told_old(
     texts: Option<&Texts>,
     fault: KitFault,
 ) -> Result<String, AllocError> {
-    let Some(parts) = texts.and_then(|texts| texts.old.as_ref()) else {
+    let Some(
+        Texts {
+            old: Some(parts),
+            ..
+        },
+    ) = texts
+    else {
         return told_plain(alloc, fault);
     };
     match fault {

@@ -13,7 +13,7 @@ pub loop-reader-preserved : goal.loop-reader-preserved
 loop-reader-preserved c =
     let served = has_served Prometheus c.args.streams.now in
     let n = c.loop-reader.reader in
-    c.with_next.ensures
+    c.with_next-found.ensures
     ∙ ap (λ (found : Result ℕ PageFault). cond (served n) (with_served found n) found) c.loop-reader.invariant
     ∙ sym (one_turn served n)
 

@@ -9,7 +9,7 @@ returns-in-Ok c =
     ap (λ (faults : List ExposureFault). exposed_by faults c.args.reader) (sym (c.as_slice.ensures.value ∙ c.in_ok-faults.ensures))
     ∙ sym c.exposed_by.ensures ∙ c.in-Ok.is
 
-pub returns-in-Err : goal.returns-in-Err
-returns-in-Err c =
+pub returns : goal.returns
+returns c =
     ap (λ (faults : List ExposureFault). exposed_by faults c.args.reader) (sym (c.as_slice.ensures.value ∙ c.in_ok-faults.ensures))
     ∙ sym c.exposed_by.ensures ∙ c.in-Err.is
