@@ -1,3 +1,2 @@
 pub mod ListLaws
 pub mod ReadLaws
-pub mod SettleLaws

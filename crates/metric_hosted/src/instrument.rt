@@ -11,13 +11,13 @@ ghost use Rattle.metric_marked.specs.Marks.{StandsMarked};
 ghost use Rattle.metric_seat.specs.Collections.{with_seen};
 ghost use Rattle.metric_seat.specs.Recordings.{KnowsRecording};
 
-use crate::settling::{SeatTold, seated, total_as_told};
+use crate::settling::{SeatTold, seated};
 use metric_contents::{Refusal, SetKey};
 use metric_core::Cell;
 use metric_history::Batch;
 use metric_marked::Marked;
 use metric_plan::Plan;
-use metric_seat::{FinishFault, ReaderSeat, RecorderSeat, Total};
+use metric_seat::{FinishFault, ReaderSeat, RecorderSeat, Total, total_of_all};
 use metric_slot::Slot;
 use std::alloc::{AllocError, Global};
 use std::marker::Model;
@@ -119,7 +119,7 @@ impl Hosted {
     {
         let cell = self.slot.cell();
         match seated(seats, cell.facts().budgets.len()) {
-            Ok(()) => match total_as_told(cell, seats) {
+            Ok(()) => match total_of_all(cell, seats, self.number()) {
                 Some(total) => Ok(total),
                 None => Err(FinishFault::AuditMismatch),
             },

@@ -1,7 +1,9 @@
 -- Journals and slips at the end of a provider.
-use Rattle.std.proofs.Common.{◌≡◌, ◌<◌, ℕ, zero, suc, ◌+◌, Bool, true, false, List, [], ◌∷◌, Some, length, map, refl, sym, ap, subst, ◌∙◌, arith}
-use Rattle.std.specs.Prelude.{◌||◌, ◌==◌, if◌then◌else◌, slice_get, sum}
-use Rattle.std.specs.List.{range_with_len}
+use Rattle.std.proofs.Common.{◌≡◌, ◌<◌, ℕ, zero, suc, ◌+◌, Bool, true, false, List, [], ◌∷◌, Some, get_or, length, map, refl, sym, ap, subst, ◌∙◌, arith}
+use Rattle.std.specs.Prelude.{◌||◌, ◌==◌, if◌then◌else◌, slice_get}
+use Rattle.std.specs.List.{list_all, range_with_len}
+use Rattle.std.proofs.lemmas.List.Folds.{list_all_at}
+use Rattle.std.proofs.lemmas.List.FromFn.{get_or-range_with_len, length-range_with_len}
 use Rattle.std.proofs.lemmas.Bool.{eqb-true}
 use Rattle.std.proofs.lemmas.List.{length-map}
 use Rattle.std.proofs.lemmas.Option.{same_Some, slice_get_within}
@@ -15,22 +17,33 @@ use Rattle.metric_plan.specs.Plans.{PlanValue}
 use Rattle.metric_safety.specs.SafeFacts.{are_admitted}
 use Rattle.metric_seat.specs.declared.total.Total.{Total}
 use Rattle.metric_seat.specs.Seats.{RecorderValue, slips_at}
-use Rattle.metric_provider.specs.Totals.{AreAllSeats, AreAsTold, AreNoted, Finishes, IsToldJournal, KeepToldJournals, entries_by, has_seat, slips_by, slips_of_seats, slips_on, told_count, told_sum, told_totals}
-use Rattle.metric_provider.proofs.SeatSums.{seat_of}
+use Rattle.metric_seat.specs.Settlements.{IsToldBy, has_each, has_seat, told_sum}
+use Rattle.metric_provider.specs.Totals.{AreNoted, AreSettled, Finishes, IsToldJournal, KeepToldJournals, entries_by, number_of, slips_by, slips_of_seats, slips_on, told_on, told_totals}
 
 -- ---- the slips of each recorder are its entries
 
+seat_of : (seats : List RecorderValue) (recorders k : ℕ) → has_each number_of seats recorders ≡ true → k < recorders → has_seat number_of seats k ≡ true
+seat_of seats recorders k each below = at (has_seat number_of seats k) refl
+  where
+    at : (b : Bool) → has_seat number_of seats k ≡ b → has_seat number_of seats k ≡ true
+    at true e = e
+    at false e =
+        let is : get_or (range_with_len 0 recorders) k 0 ≡ k = get_or-range_with_len 0 recorders k 0 below ∙ omega arith in
+        let none : list_all (has_seat number_of seats) (range_with_len 0 recorders) ≡ false =
+        list_all_at (has_seat number_of seats) (range_with_len 0 recorders) k 0 (omega (arith, length-range_with_len 0 recorders, below)) (ap (has_seat number_of seats) is ∙ e) in
+        absurd cc
+
 slips_by_if : (b : Bool) (seat : RecorderValue) (seats : List RecorderValue) (number i : ℕ) (entries : List Entry) → (seat.number == number) ≡ b
-    → slips_at seat i ≡ slips_of seat.number entries → (has_seat seats number ≡ true → slips_by seats number i ≡ slips_of number entries)
-    → has_seat (seat ∷ seats) number ≡ true → slips_by (seat ∷ seats) number i ≡ slips_of number entries
+    → slips_at seat i ≡ slips_of seat.number entries → (has_seat number_of seats number ≡ true → slips_by seats number i ≡ slips_of number entries)
+    → has_seat number_of (seat ∷ seats) number ≡ true → slips_by (seat ∷ seats) number i ≡ slips_of number entries
 slips_by_if true seat seats number i entries is here rest has =
     ap (λ (b : Bool). if b then slips_at seat i else slips_by seats number i) is
     ∙ here ∙ ap (λ (n : ℕ). slips_of n entries) (eqb-true seat.number number is)
 slips_by_if false seat seats number i entries is here rest has =
     ap (λ (b : Bool). if b then slips_at seat i else slips_by seats number i) is
-    ∙ rest (ap (λ (b : Bool). b || has_seat seats number) (sym is) ∙ has)
+    ∙ rest (ap (λ (b : Bool). b || has_seat number_of seats number) (sym is) ∙ has)
 
-slips_by_noted : (seats : List RecorderValue) (number i : ℕ) (entries : List Entry) → has_seat seats number ≡ true → AreNoted seats i entries → slips_by seats number i ≡ slips_of number entries
+slips_by_noted : (seats : List RecorderValue) (number i : ℕ) (entries : List Entry) → has_seat number_of seats number ≡ true → AreNoted seats i entries → slips_by seats number i ≡ slips_of number entries
 slips_by_noted [] number i entries has noted = absurd cc
 slips_by_noted (seat ∷ seats) number i entries has noted =
     slips_by_if (seat.number == number) seat seats number i entries refl (noted 0 seat (omega arith))
@@ -42,12 +55,12 @@ same_over f h a (suc n) same =
     ap (λ x. x ∷ map f (range_with_len (a + 1) n)) (same a (omega arith))
     ∙ ap (λ xs. h a ∷ xs) (same_over f h (a + 1) n (λ k below. same k (omega (arith, below))))
 
-slips_on_noted : (seats : List RecorderValue) (recorders i : ℕ) (entries : List Entry) → ((k : ℕ) → k < recorders → has_seat seats k ≡ true) → AreNoted seats i entries
+slips_on_noted : (seats : List RecorderValue) (recorders i : ℕ) (entries : List Entry) → ((k : ℕ) → k < recorders → has_seat number_of seats k ≡ true) → AreNoted seats i entries
     → slips_on seats recorders i ≡ entries_by recorders entries
 slips_on_noted seats recorders i entries each noted =
     same_over (λ (k : ℕ). slips_by seats k i) (λ (k : ℕ). slips_of k entries) 0 recorders (λ k below. slips_by_noted seats k i entries (each k (omega (arith, below))) noted)
 
-all_noted : {X : Type 0} (kept : X → List Entry) (books : List X) (seats : List RecorderValue) (recorders from : ℕ) → ((k : ℕ) → k < recorders → has_seat seats k ≡ true)
+all_noted : {X : Type 0} (kept : X → List Entry) (books : List X) (seats : List RecorderValue) (recorders from : ℕ) → ((k : ℕ) → k < recorders → has_seat number_of seats k ≡ true)
     → ((i : ℕ) (b : X) → slice_get books i ≡ Some b → AreNoted seats (from + i) (kept b))
     → map (slips_on seats recorders) (range_with_len from (length books)) ≡ map (entries_by recorders) (map kept books)
 all_noted kept [] seats recorders from each noted = refl
@@ -72,8 +85,8 @@ get_some (x ∷ xs) (suc i) below = get_some xs i (omega (arith, below))
 -- what the parts of the end are told makes the end
 pub finishes : {B : Type 0} (kept : B → List Entry) (keeps : Bool) (plan : PlanValue) (cells : List (CellValue B)) (seats : List RecorderValue)
     (totals : List Total) (journals : List (List Entry)) (slips : List (List (List Slip))) (recorders instruments : ℕ)
-    → length cells ≡ length plan.facts.instruments → AreAllSeats plan seats → recorders ≡ length plan.facts.contents.recorders → instruments ≡ length plan.facts.instruments
-    → totals ≡ told_totals seats 0 plan.facts.instruments → AreAsTold kept plan.facts.instruments cells seats → KeepToldJournals kept keeps plan.facts.instruments cells seats
+    → length cells ≡ length plan.facts.instruments → has_each number_of seats (length plan.facts.contents.recorders) ≡ true → recorders ≡ length plan.facts.contents.recorders → instruments ≡ length plan.facts.instruments
+    → totals ≡ told_totals seats 0 plan.facts.instruments → AreSettled true kept plan.facts.instruments cells seats → KeepToldJournals kept keeps plan.facts.instruments cells seats
     → journals ≡ map (λ (c : CellValue B). kept c.book) cells → slips ≡ slips_of_seats seats recorders instruments
     → Finishes keeps plan seats totals journals slips
 finishes {B} kept keeps plan cells seats totals journals slips recorders instruments long all counted numbered told as_told kept_told are noted =
@@ -91,21 +104,22 @@ finishes {B} kept keeps plan cells seats totals journals slips recorders instrum
       };
       noted = own;
       entries = own ∙ ap (λ (n : ℕ). map (slips_on seats count) (range_with_len 0 n)) (sym long)
-          ∙ all_noted of cells seats count 0 (λ k below. seat_of seats count k all.one_each.each below)
+          ∙ all_noted of cells seats count 0 (λ k below. seat_of seats count k all below)
           (λ i c found. let at = get_some plan.facts.instruments i (omega (arith, long, slice_get_within cells i c found)) in
           let here : i ≡ 0 + i = omega arith in
           subst (λ (n : ℕ). AreNoted seats n (kept c.book)) here (as_told i at.0 c at.1 found).noted)
           ∙ ap (λ (js : List (List Entry)). map (entries_by count) js) (sym are);
     }
 
--- the entries that a book keeps of a cell as told are a journal as told
-pub told_journal : {B : Type 0} (stands : B → Standing) (keeps : Bool) (own : Facts) (c : CellValue B) (seats : List RecorderValue) (i : ℕ) (entries : List Entry)
+-- the entries that a book keeps of a cell whose recorders all have seats are a journal as told
+pub told_journal : {B : Type 0} (stands : B → Standing) (keeps whole : Bool) (own : Facts) (c : CellValue B) (seats : List RecorderValue) (i : ℕ) (entries : List Entry)
     → CellKept stands c → ((facts : Facts) (journal : List Entry) (marks : List ℕ) → stands c.book facts journal marks → entries ≡ kept_of keeps journal)
-    → c.facts ≡ own → sum c.spent ≡ told_count seats i → c.total ≡ told_sum own seats i → IsToldJournal keeps own seats i entries
-told_journal stands keeps own c seats i entries cell all same counted summed = record {
+    → c.facts ≡ own → IsToldBy whole number_of (told_on i) c seats → whole ≡ true → IsToldJournal keeps own seats i entries
+told_journal stands keeps true own c seats i entries cell all same told is = record {
   accepted = cell.journal;
   kept = all c.facts cell.journal c.marks cell.known.book;
-  counted = sym cell.known.counted ∙ cell.counted ∙ counted;
-  summed = sym cell.known.summed ∙ summed;
+  counted = sym cell.known.counted ∙ told.count;
+  summed = sym cell.known.summed ∙ told.sum ∙ ap (λ (f : Facts). told_sum (told_on i) f.lo seats) same;
   admitted = subst (λ (f : Facts). are_admitted f cell.journal ≡ true) same cell.admitted;
 }
+told_journal stands keeps false own c seats i entries cell all same told is = absurd cc

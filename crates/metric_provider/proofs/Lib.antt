@@ -1,9 +1,7 @@
-pub mod SeatSums
 pub mod CollectLaws
 pub mod SettleLaws
 pub mod EntryLaws
 pub mod JournalLaws
 pub mod GainLaws
 pub mod RollLaws
-pub mod PartlyLaws
 pub mod BatchLaws

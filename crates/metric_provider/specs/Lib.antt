@@ -5,7 +5,6 @@ pub mod Closing
 pub mod Granting
 pub mod Totals
 pub mod Locked
-pub mod Partly
 pub mod BatchBounds
 pub mod Rolling
 pub mod Faults

@@ -1,8 +1,7 @@
 -- What a provider comes to when it is finished.
-use Rattle.std.specs.Prelude.{◌≡◌, ◌+◌, ℕ, ℤ, pos, ◌+ℤ◌, ◌*ℤ◌, Bool, true, not, ◌&&◌, ◌==◌, All}
-use Rattle.std.specs.Prelude.{List, [], ◌∷◌, Some, Result, Ok, Err, length, map, nat_lt, slice_get}
-use Rattle.std.specs.Prelude.{slice_index, sum_by, if◌then◌else◌}
-use Rattle.std.specs.List.{list_all, list_any, range_with_len}
+use Rattle.std.specs.Prelude.{◌≡◌, ◌+◌, ℕ, Bool, true, not, ◌||◌, ◌==◌, All, List, [], ◌∷◌, Some}
+use Rattle.std.specs.Prelude.{Result, Ok, Err, filter, length, map, slice_get, if◌then◌else◌}
+use Rattle.std.specs.List.{list_all, range_with_len}
 use Rattle.metric_base.specs.Steps.{◌>>=◌, require}
 use Rattle.metric_aggregate.specs.Value.{sum_of}
 use Rattle.metric_book.specs.Journals.{kept_of}
@@ -20,101 +19,82 @@ use Rattle.metric_seat.specs.declared.fault.FinishFault.TheVariants.{AuditMismat
 use Rattle.metric_seat.specs.declared.total.Total.{Total}
 use Rattle.metric_seat.specs.Recordings.{told_at}
 use Rattle.metric_seat.specs.Seats.{ProviderValue, RecorderValue, is_recorder_of, slips_at}
+use Rattle.metric_seat.specs.Settlements.{IsToldBy, are_distinct, has_each, has_seat, told_count}
+use Rattle.metric_seat.specs.Settlements.{told_sum, told_total}
+use Rattle.metric_slot.specs.declared.told.Told.{Told}
 
--- how many recordings the recorders were told of on the instrument of a number
-abbrev pub told_count : List RecorderValue → ℕ → ℕ
-told_count seats instrument =
-    sum_by (λ (seat : RecorderValue). (told_at seat instrument).count) seats
+-- the number of a seat's recorder
+abbrev pub number_of : RecorderValue → ℕ
+number_of seat = seat.number
 
--- how far their values are together above the least
-abbrev pub told_amount : List RecorderValue → ℕ → ℕ
-told_amount seats instrument =
-    sum_by (λ (seat : RecorderValue). (told_at seat instrument).amount) seats
-
--- the sum of their values
-abbrev pub told_sum : Facts → List RecorderValue → ℕ → ℤ
-told_sum own seats instrument =
-    pos (told_amount seats instrument) +ℤ pos (told_count seats instrument) *ℤ own.lo
-
--- what the recorders were told of an instrument with these facts
-abbrev pub told_total : Facts → List RecorderValue → ℕ → Total
-told_total own seats instrument =
-    record { count = told_count seats instrument; sum = told_sum own seats instrument }
+-- what the recorder of a seat was told of the instrument of a number
+abbrev pub told_on : ℕ → RecorderValue → Told
+told_on instrument seat = told_at seat instrument
 
 -- # told totals (profile)
 -- For each instrument how many recordings its recorders were told of, and the sum of their values.
 abbrev pub told_totals : List RecorderValue → ℕ → List Facts → List Total
 told_totals seats number [] = []
 told_totals seats number (own ∷ all) =
-    told_total own seats number ∷ told_totals seats (number + 1) all
+    told_total (told_on number) own.lo seats ∷ told_totals seats (number + 1) all
 
--- whether a seat is of the recorder of a number
-abbrev pub is_numbered : ℕ → RecorderValue → Bool
-is_numbered number seat = seat.number == number
+-- ---- whose seats they are
 
--- whether some seat is
-abbrev pub has_seat : List RecorderValue → ℕ → Bool
-has_seat seats number = list_any (is_numbered number) seats
+-- # partly seated (profile)
+-- The seats are of this provider, and no number stands twice; or the fault.
+abbrev pub partly_seated : ProviderValue → List RecorderValue → Result (Unit {0}) FinishFault
+partly_seated p seats =
+    require (list_all (is_recorder_of p) seats) Stranger >>= λ _.
+    require (are_distinct number_of seats) Stranger
 
--- whether no number stands twice
-abbrev pub are_distinct : List RecorderValue → Bool
-are_distinct [] = true
-are_distinct (seat ∷ seats) = not (has_seat seats seat.number) && are_distinct seats
-
--- whether there is a seat for each recorder of so many
-abbrev pub has_each : List RecorderValue → ℕ → Bool
-has_each seats recorders = list_all (has_seat seats) (range_with_len 0 recorders)
+-- the same, and where all are to be there none is missing; or the first fault
+abbrev pub seated_by : Bool → ProviderValue → List RecorderValue → Result (Unit {0}) FinishFault
+seated_by all p seats =
+    partly_seated p seats >>= λ _.
+    require (not all || has_each number_of seats (length p.plan.facts.contents.recorders))
+    RecorderMissing
 
 -- # seated (profile)
 -- The seats are of this provider, no number stands twice, and none is missing; or the first fault.
 abbrev pub seated : ProviderValue → List RecorderValue → Result (Unit {0}) FinishFault
-seated p seats =
-    require (list_all (is_recorder_of p) seats) Stranger >>= λ _.
-    require (are_distinct seats) Stranger >>= λ _.
-    require (has_each seats (length p.plan.facts.contents.recorders)) RecorderMissing
+seated p seats = seated_by true p seats
 
--- There is one seat for each of so many recorders.
-pub record AreOneEach (recorders : ℕ) (seats : List RecorderValue) : Type 0 where
-  pub known : list_all (λ (seat : RecorderValue). nat_lt seat.number recorders) seats ≡ true
-  pub distinct : are_distinct seats ≡ true
-  pub each : has_each seats recorders ≡ true
+-- # missing recorders (profile)
+-- Those of the plan that have no seat, in ascending order.
+abbrev pub missing_of : List RecorderValue → ℕ → List ℕ
+missing_of seats recorders =
+    filter (λ number. not (has_seat number_of seats number)) (range_with_len 0 recorders)
 
--- There is one seat for each recorder of the plan, made for as many instruments.
-pub record AreAllSeats (plan : PlanValue) (seats : List RecorderValue) : Type 0 where
-  pub one_each : AreOneEach (length plan.facts.contents.recorders) seats
-  pub long : list_all
-      (λ (seat : RecorderValue). length seat.told == length plan.facts.instruments) seats ≡ true
+-- ---- what they were told, and what the instruments have
 
 -- the slips of each seat are the entries of its recorder, each once, in their order
 abbrev pub AreNoted : List RecorderValue → ℕ → List Entry → Type 0
 AreNoted seats instrument entries =
     All (λ (seat : RecorderValue). slips_at seat instrument ≡ slips_of seat.number entries) seats
 
--- # as told (profile) [IsAsTold, AreNoted]
--- A cell has the plan's facts, each spent budget is what that recorder was told, and so is the sum;
--- each recorder's slips are its entries among those that the book keeps.
-pub record IsAsTold {B : Type 0} (kept : B → List Entry) (own : Facts) (c : CellValue B)
-    (seats : List RecorderValue) (instrument : ℕ) : Type 0 where
+-- # settled (profile) [IsSettled, AreSettled, AreNoted]
+-- A cell has the plan's facts, its numbers are by what the recorders were told, of which all have
+-- seats or some, and each recorder's slips are its entries among those that the book keeps.
+pub record IsSettled {B : Type 0} (whole : Bool) (kept : B → List Entry) (own : Facts)
+    (c : CellValue B) (seats : List RecorderValue) (instrument : ℕ) : Type 0 where
   pub facts : c.facts ≡ own
-  pub spent : list_all (λ (seat : RecorderValue). slice_index c.spent seat.number
-      == (told_at seat instrument).count) seats ≡ true
-  pub sum : c.total ≡ told_sum own seats instrument
+  pub numbers : IsToldBy whole number_of (told_on instrument) c seats
   pub noted : AreNoted seats instrument (kept c.book)
 
 -- the cell of each instrument is
-abbrev pub AreAsTold : {B : Type 0} → (B → List Entry) → List Facts → List (CellValue B)
+abbrev pub AreSettled : {B : Type 0} → Bool → (B → List Entry) → List Facts → List (CellValue B)
     → List RecorderValue → Type 0
-AreAsTold {B} kept instruments cells seats =
+AreSettled {B} whole kept instruments cells seats =
     (i : ℕ) (own : Facts) (c : CellValue B) → slice_get instruments i ≡ Some own
-    → slice_get cells i ≡ Some c → IsAsTold kept own c seats i
+    → slice_get cells i ≡ Some c → IsSettled whole kept own c seats i
 
--- what refuses the totals: some cell is not as told, or memory was refused
-abbrev pub RefusesTotals : {B : Type 0} → (B → List Entry) → List Facts → List (CellValue B)
-    → List RecorderValue → FinishFault → Type 0
-RefusesTotals kept instruments cells seats AuditMismatch =
-    AreAsTold kept instruments cells seats → ⊥
-RefusesTotals kept instruments cells seats Memory = Unit {0}
-RefusesTotals kept instruments cells seats other = ⊥
+-- what refuses the totals: some cell is not, or memory was refused
+abbrev pub RefusesTotals : {B : Type 0} → Bool → (B → List Entry) → List Facts
+    → List (CellValue B) → List RecorderValue → FinishFault → Type 0
+RefusesTotals whole kept instruments cells seats AuditMismatch =
+    AreSettled whole kept instruments cells seats → ⊥
+RefusesTotals whole kept instruments cells seats Memory = Unit {0}
+RefusesTotals whole kept instruments cells seats other = ⊥
 
 -- what refuses to finish with these seats: their own fault, else what the totals refuse
 abbrev pub RefusesFinish : Result (Unit {0}) FinishFault → FinishFault → Type 0
@@ -154,8 +134,8 @@ pub record IsToldJournal (keeps : Bool) (own : Facts) (seats : List RecorderValu
     (journal : List Entry) : Type 0 where
   pub accepted : List Entry
   pub kept : journal ≡ kept_of keeps accepted
-  pub counted : length accepted ≡ told_count seats instrument
-  pub summed : sum_of (values accepted) ≡ told_sum own seats instrument
+  pub counted : length accepted ≡ told_count (told_on instrument) seats
+  pub summed : sum_of (values accepted) ≡ told_sum (told_on instrument) own.lo seats
   pub admitted : are_admitted own accepted ≡ true
 
 -- there is such a journal of each instrument

@@ -1,23 +1,23 @@
 //! The end of a provider: its instruments leave their locks and are compared with what the recorders were told.
 ghost use Rattle.std.specs.Prelude.{◌≡◌, ◌≤◌, ◌+◌, IsTrue, Ok, true, length, map, vec_capacity, vec_len, IfOk, IfErr, OnErr, OnOk};
+ghost use Rattle.metric_provider.specs.Locked.{AreLockedJournals, ComesTo};
 ghost use Rattle.std.specs.List.{list_all};
-ghost use Rattle.metric_provider.specs.Locked.{AreLockedJournals};
-ghost use Rattle.metric_provider.specs.Providers.{IsProvider};
 ghost use Rattle.metric_seat.specs.Seats.{is_recorder_of, provider_of};
-ghost use Rattle.metric_provider.specs.Totals.{AreAllSeats, AreToldJournals, Finishes, RefusesFinish, are_distinct, entries_by, has_each, has_seat, seated, slips_of_seats, told_totals};
+ghost use Rattle.metric_seat.specs.Settlements.{has_each};
+ghost use Rattle.metric_provider.specs.Totals.{AreToldJournals, Finishes, RefusesFinish, entries_by, missing_of, number_of, partly_seated, seated, seated_by, slips_of_seats, told_totals};
 
 use crate::gate::Gate;
 use crate::journals::{journals_of, slips_of_seats};
 use crate::provider::{Locked, Provider};
 use crate::recorder::Recorder;
-use crate::settling::settle;
-use crate::totals::{Finished, Totals};
+use crate::settling::{has_all, settle};
+use crate::totals::{Finished, Partly, Totals};
 use crossbeam_utils::CachePadded;
 use metric_book::Book;
 use metric_plan::Plan;
-use metric_seat::FinishFault;
+use metric_seat::{FinishFault, are_distinct, has_seat};
 use metric_slot::Slot;
-use std::alloc::Global;
+use std::alloc::{AllocError, Global};
 use std::sync::{Mutex, Wait};
 
 impl<B: Book, G: Gate> Provider<B, G> {
@@ -31,8 +31,8 @@ impl<B: Book, G: Gate> Provider<B, G> {
     /// - [`FinishFault::Stranger`] where a seat's run is of another number, a seat was made for another number of instruments,
     ///   the plan has no recorder of its number, or two seats are of one recorder.
     /// - [`FinishFault::RecorderMissing`] where a recorder has no seat among them.
-    /// - [`FinishFault::AuditMismatch`] where an instrument's facts, one of its spent budgets, its sum or a recorder's entries
-    ///   are others.
+    /// - [`FinishFault::AuditMismatch`] where an instrument's facts, one of its spent budgets, its count, its sum or a
+    ///   recorder's entries are others.
     /// - [`FinishFault::Memory`], which may stand in the place of `AuditMismatch`.
     pub fn finish<R: Wait>(
         self,
@@ -50,8 +50,9 @@ impl<B: Book, G: Gate> Provider<B, G> {
         ensures entries { IfOk result (λ totals.
             let numbers = length self.plan.facts.contents.recorders in
             totals.slips.items ≡ map (entries_by numbers) totals.journals.items) }
-        ensures behind { IfOk result (λ totals. let instruments = self.plan.facts.instruments in
-            AreLockedJournals B.stands B.kept instruments recorders.items totals.journals.items) }
+        ensures behind { IfOk result (λ totals. let all = self.plan.facts.instruments in
+            let journals = totals.journals.items in
+            AreLockedJournals true B.stands B.kept all recorders.items journals) }
         ensures seated { OnOk result (seated self recorders.items ≡ Ok tt) }
         ensures refused { IfErr result (λ refused.
             RefusesFinish (seated self recorders.items) refused.2) }
@@ -85,9 +86,9 @@ impl<B: Book, G: Gate> Provider<B, G> {
         ensures totals { IfOk result (λ finished. let end = finished.totals in
             Finishes B.KEEPS_ENTRIES self.plan recorders.items
             end.instruments.items end.journals.items end.slips.items) }
-        ensures behind { IfOk result (λ finished. let instruments = self.plan.facts.instruments in
+        ensures behind { IfOk result (λ finished. let all = self.plan.facts.instruments in
             let journals = finished.totals.journals.items in
-            AreLockedJournals B.stands B.kept instruments recorders.items journals) }
+            AreLockedJournals true B.stands B.kept all recorders.items journals) }
         ensures plan { IfOk result (λ finished. finished.plan ≡ self.plan) }
         ensures certified { IfOk result (λ finished. IsTrue finished.plan.is_certified) }
         ensures seated { OnOk result (seated self recorders.items ≡ Ok tt) }
@@ -96,9 +97,75 @@ impl<B: Book, G: Gate> Provider<B, G> {
         ensures provider { IfErr result (λ refused. refused.0 ≡ self) }
         ensures recorders { IfErr result (λ refused. refused.1.items ≡ recorders.items) }
     {
+        match self.ended(alloc, recorders, true) {
+            Ok((partly, plan, gate)) => {
+                let Partly {
+                    totals,
+                    missing: _none,
+                } = partly;
+                Ok(Finished { totals, plan, gate })
+            }
+            Err(refused) => Err(refused),
+        }
+    }
+
+    /// Ends the provider by the seats that are there, in any order, where a seat was lost: each total is exactly what
+    /// these recorders were told, and the recorders without a seat are named. Where none is missing, it comes to what
+    /// [`Provider::finish`] does.
+    ///
+    /// Of a recorder without a seat nothing is known, so an instrument's count and sum are compared with nothing, and
+    /// its recordings are in no total; the journals have them, where the books keep their entries.
+    ///
+    /// # Errors
+    ///
+    /// Those of [`Provider::finish`] but for `RecorderMissing`; `AuditMismatch` where an instrument's facts, the spent
+    /// budget of a recorder that has a seat or its entries are others.
+    pub fn finish_partly<R: Wait>(
+        self,
+        _rt: &R,
+        alloc: Global,
+        recorders: Vec<Recorder>,
+    ) -> Result<Partly, (Provider<B, G>, Vec<Recorder>, FinishFault)>
+        ensures totals { IfOk result (λ partly. let end = partly.totals in
+            ComesTo B.stands B.kept B.KEEPS_ENTRIES self.plan recorders.items
+            end.instruments.items end.journals.items end.slips.items) }
+        ensures missing { IfOk result (λ partly. partly.missing.items
+            ≡ missing_of recorders.items (length self.plan.facts.contents.recorders)) }
+        ensures seated { OnOk result (partly_seated self recorders.items ≡ Ok tt) }
+        ensures refused { IfErr result (λ refused.
+            RefusesFinish (partly_seated self recorders.items) refused.2) }
+        ensures provider { IfErr result (λ refused. refused.0 ≡ self) }
+        ensures recorders { IfErr result (λ refused. refused.1.items ≡ recorders.items) }
+    {
+        match self.ended(alloc, recorders, false) {
+            Ok((partly, _plan, _gate)) => Ok(partly),
+            Err(refused) => Err(refused),
+        }
+    }
+
+    // Ends the provider by these seats, which are to be those of all its recorders, or those that are there.
+    fn ended(
+        self,
+        alloc: Global,
+        recorders: Vec<Recorder>,
+        all: bool,
+    ) -> Result<(Partly, Plan, G), (Provider<B, G>, Vec<Recorder>, FinishFault)>
+        ensures totals { IfOk result (λ ended. let end = ended.0.totals in
+            ComesTo B.stands B.kept B.KEEPS_ENTRIES self.plan recorders.items
+            end.instruments.items end.journals.items end.slips.items) }
+        ensures missing { IfOk result (λ ended. ended.0.missing.items
+            ≡ missing_of recorders.items (length self.plan.facts.contents.recorders)) }
+        ensures plan { IfOk result (λ ended. ended.1 ≡ self.plan) }
+        ensures certified { IfOk result (λ ended. IsTrue ended.1.is_certified) }
+        ensures seated { OnOk result (seated_by all self recorders.items ≡ Ok tt) }
+        ensures refused { IfErr result (λ refused.
+            RefusesFinish (seated_by all self recorders.items) refused.2) }
+        ensures provider { IfErr result (λ refused. refused.0 ≡ self) }
+        ensures recorders { IfErr result (λ refused. refused.1.items ≡ recorders.items) }
+    {
         let (plan, run, gate, mut slots) = self.into_slots();
-        match settle_seated(alloc, &plan, run, &mut slots, recorders.as_slice()) {
-            Ok(totals) => Ok(Finished { totals, plan, gate }),
+        match settle_seated(alloc, &plan, run, &mut slots, recorders.as_slice(), all) {
+            Ok(partly) => Ok((partly, plan, gate)),
             Err(fault) => {
                 let provider = Provider::from_slots(plan, run, gate, slots);
                 Err((provider, recorders, fault))
@@ -107,29 +174,62 @@ impl<B: Book, G: Gate> Provider<B, G> {
     }
 }
 
-// What the provider comes to, where the seats are those of all recorders of this run of the plan.
+// What the provider comes to, where the seats are those of this run of the plan that they are to be.
 fn settle_seated<B: Book>(
     alloc: Global,
     plan: &Plan,
     run: u64,
     locked: &mut Vec<Locked<B>>,
     recorders: &[Recorder],
-) -> Result<Totals, FinishFault>
+    all: bool,
+) -> Result<Partly, FinishFault>
     requires { vec_len locked.old ≡ length plan.now.facts.instruments }
-    ensures totals { IfOk result (λ totals. let sums = totals.instruments.items in
-        Finishes B.KEEPS_ENTRIES
-        plan.now recorders.now sums totals.journals.items totals.slips.items) }
-    ensures behind { IfOk result (λ totals. let instruments = plan.now.facts.instruments in
-        AreLockedJournals B.stands B.kept instruments recorders.now totals.journals.items) }
-    ensures seated { OnOk result (seated (provider_of plan.now run) recorders.now ≡ Ok tt) }
-    ensures refused { IfErr result (λ fault.
-        RefusesFinish (seated (provider_of plan.now run) recorders.now) fault) }
+    ensures totals { IfOk result (λ partly. let end = partly.totals in
+        ComesTo B.stands B.kept B.KEEPS_ENTRIES plan.now recorders.now
+        end.instruments.items end.journals.items end.slips.items) }
+    ensures missing { IfOk result (λ partly. partly.missing.items
+        ≡ missing_of recorders.now (length plan.now.facts.contents.recorders)) }
+    ensures seated { let p = provider_of plan.now run in
+        OnOk result (seated_by all p recorders.now ≡ Ok tt) }
+    ensures refused { let p = provider_of plan.now run in
+        IfErr result (λ fault. RefusesFinish (seated_by all p recorders.now) fault) }
     ensures back { OnErr result (vec_len locked.new ≡ vec_len locked.old) }
 {
-    match seated(plan, run, recorders) {
-        Ok(()) => settle_locked(alloc, plan, locked, recorders),
+    match seated_by(plan, run, recorders, all) {
+        Ok(()) => settle_partly(alloc, plan, locked, recorders),
         Err(fault) => Err(fault),
     }
+}
+
+// What the provider comes to by these seats, and whose are missing.
+fn settle_partly<B: Book>(
+    alloc: Global,
+    plan: &Plan,
+    locked: &mut Vec<Locked<B>>,
+    recorders: &[Recorder],
+) -> Result<Partly, FinishFault>
+    requires { vec_len locked.old ≡ length plan.now.facts.instruments }
+    ensures totals { IfOk result (λ partly. let end = partly.totals in
+        ComesTo B.stands B.kept B.KEEPS_ENTRIES plan.now recorders.now
+        end.instruments.items end.journals.items end.slips.items) }
+    ensures missing { IfOk result (λ partly. partly.missing.items
+        ≡ missing_of recorders.now (length plan.now.facts.contents.recorders)) }
+    ensures refused { IfErr result (λ fault. RefusesFinish (Ok tt) fault) }
+    ensures back { OnErr result (vec_len locked.new ≡ vec_len locked.old) }
+{
+    let missing = missing_of(alloc, recorders, plan.catalogue().recorders().len())?;
+    let totals = settle_locked(alloc, plan, locked, recorders)?;
+    Ok(Partly { totals, missing })
+}
+
+// The numbers of so many recorders that have no seat, in ascending order.
+fn missing_of(alloc: Global, recorders: &[Recorder], count: usize) -> Result<Vec<u32>, AllocError>
+    requires { count ≤ 64 }
+    ensures { IfOk result (λ missing. missing.items ≡ missing_of recorders.now count) }
+{
+    (0..count as u32)
+        .filter(|number| !has_seat(recorders, *number as usize))
+        .collect(alloc)
 }
 
 /// What instruments come to that leave their locks; refused, they are locked again. All room for that is made first.
@@ -139,13 +239,10 @@ pub(crate) fn settle_locked<B: Book>(
     locked: &mut Vec<Locked<B>>,
     recorders: &[Recorder],
 ) -> Result<Totals, FinishFault>
-    requires slots { vec_len locked.old ≡ length plan.now.facts.instruments }
-    requires recorders { AreAllSeats plan.now recorders.now }
+    requires { vec_len locked.old ≡ length plan.now.facts.instruments }
     ensures totals { IfOk result (λ totals. let sums = totals.instruments.items in
-        Finishes B.KEEPS_ENTRIES
+        ComesTo B.stands B.kept B.KEEPS_ENTRIES
         plan.now recorders.now sums totals.journals.items totals.slips.items) }
-    ensures behind { IfOk result (λ totals. let instruments = plan.now.facts.instruments in
-        AreLockedJournals B.stands B.kept instruments recorders.now totals.journals.items) }
     ensures refused { IfErr result (λ fault. RefusesFinish (Ok tt) fault) }
     ensures back { OnErr result (vec_len locked.new ≡ vec_len locked.old) }
 {
@@ -169,13 +266,10 @@ fn totals_of<B: Book>(
     slots: &[Slot<B>],
     recorders: &[Recorder],
 ) -> Result<Totals, FinishFault>
-    requires slots { length slots.now ≡ length plan.now.facts.instruments }
-    requires recorders { AreAllSeats plan.now recorders.now }
+    requires { length slots.now ≡ length plan.now.facts.instruments }
     ensures totals { IfOk result (λ totals. let sums = totals.instruments.items in
-        Finishes B.KEEPS_ENTRIES
+        ComesTo B.stands B.kept B.KEEPS_ENTRIES
         plan.now recorders.now sums totals.journals.items totals.slips.items) }
-    ensures behind { IfOk result (λ totals. let instruments = plan.now.facts.instruments in
-        AreLockedJournals B.stands B.kept instruments recorders.now totals.journals.items) }
     ensures refused { IfErr result (λ fault. RefusesFinish (Ok tt) fault) }
 {
     match settle(alloc, plan, slots, recorders) {
@@ -216,55 +310,30 @@ pub(crate) fn put_back<B: Book>(slots: &mut Vec<Slot<B>>, locked: &mut Vec<Locke
     }
 }
 
-/// Whether the seats are those of all recorders of this run of the plan, or the first fault.
-pub(crate) fn seated(plan: &Plan, run: u64, recorders: &[Recorder]) -> Result<(), FinishFault>
-    ensures exact { result ≡ seated (provider_of plan.now run) recorders.now }
-    ensures all { OnOk result (AreAllSeats plan.now recorders.now) }
+/// Whether the seats are of this run of the plan, no two of one recorder, and where they are to be those of all its
+/// recorders none is missing; or the first fault.
+pub(crate) fn seated_by(
+    plan: &Plan,
+    run: u64,
+    recorders: &[Recorder],
+    all: bool,
+) -> Result<(), FinishFault>
+    ensures exact { result ≡ seated_by all (provider_of plan.now run) recorders.now }
+    ensures whole { let numbers = length plan.now.facts.contents.recorders in
+        OnOk result (all ≡ true → has_each number_of recorders.now numbers ≡ true) }
 {
     if !are_of(plan, run, recorders) || !are_distinct(recorders) {
         return Err(FinishFault::Stranger);
     }
-    if !has_all(plan, recorders) {
+    if all && !has_all(plan, recorders) {
         return Err(FinishFault::RecorderMissing);
     }
     Ok(())
 }
 
-/// Whether each seat is of this run of the plan.
-pub(crate) fn are_of(plan: &Plan, run: u64, recorders: &[Recorder]) -> bool
+// Whether each seat is of this run of the plan.
+fn are_of(plan: &Plan, run: u64, recorders: &[Recorder]) -> bool
     ensures { result ≡ list_all (is_recorder_of (provider_of plan.now run)) recorders.now }
 {
     recorders.iter().all(|seat| seat.is_of(plan, run))
-}
-
-/// Whether there is a seat for each recorder of the plan.
-pub(crate) fn has_all(plan: &Plan, recorders: &[Recorder]) -> bool
-    ensures { result ≡ has_each recorders.now (length plan.now.facts.contents.recorders) }
-{
-    has_each(recorders, plan.catalogue().recorders().len())
-}
-
-/// Whether no two seats are of one recorder.
-pub(crate) fn are_distinct(recorders: &[Recorder]) -> bool
-    ensures { result ≡ are_distinct recorders.now }
-{
-    match recorders.split_first() {
-        None => true,
-        Some((seat, rest)) => !has_seat(rest, seat.number()) && are_distinct(rest),
-    }
-}
-
-// Whether there is a seat for each recorder of so many.
-fn has_each(recorders: &[Recorder], count: usize) -> bool
-    requires { count ≤ 64 }
-    ensures { result ≡ has_each recorders.now count }
-{
-    (0..count as u32).all(|number| has_seat(recorders, number))
-}
-
-/// Whether some seat is of the recorder of this number.
-pub(crate) fn has_seat(recorders: &[Recorder], number: u32) -> bool
-    ensures { result ≡ has_seat recorders.now number }
-{
-    recorders.iter().any(|seat| seat.number() == number)
 }

@@ -12,7 +12,6 @@ mod finish;
 mod gate;
 mod held;
 mod journals;
-mod partly;
 mod provider;
 mod recorder;
 mod rolling;

@@ -3,7 +3,7 @@ ghost use Rattle.std.specs.Prelude.{◌≡◌, map, take, slice_get, IfOk, IfErr
 ghost use Rattle.metric_contents.specs.Attributes.{given_by};
 ghost use Rattle.metric_provider.specs.Granting.{AnswersAsking};
 ghost use Rattle.metric_seat.specs.KeyRecordings.{AreAccepted, IsRefusedAfter, admitted_key, noted_of_all};
-ghost use Rattle.metric_seat.specs.Recordings.{AnswersSeat, IsToldOf, KnowsRecording, SeatSpares, admitted, told_at};
+ghost use Rattle.metric_seat.specs.Recordings.{AnswersSeat, IsToldOf, KnowsRecording, SeatSpares, admitted};
 ghost use Rattle.metric_seat.specs.Seats.{is_recorder_of, new_recorder, provider_of, slips_at};
 
 use crate::gate::Gate;
@@ -11,7 +11,7 @@ use crate::provider::Provider;
 use metric_book::{Book, Slip};
 use metric_contents::{Attr, Refusal, SetKey};
 use metric_plan::Plan;
-use metric_seat::{Measurement, RecorderSeat, SetsFault};
+use metric_seat::{Measurement, RecorderSeat, SetsFault, Tells};
 use metric_slot::Told;
 use std::alloc::{AllocError, Global};
 use std::marker::Model;
@@ -213,17 +213,26 @@ impl Recorder {
         provider.grant(rt, self.number(), instrument, amount)
     }
 
-    // What it was told of an instrument, nothing for an unknown one.
-    pub(crate) fn told_at(&self, instrument: u32) -> Told
-        ensures { result ≡ told_at self.now instrument }
-    {
-        self.seat.told_at(instrument)
-    }
-
     // Whether the seat is of this run of the plan.
     pub(crate) fn is_of(&self, plan: &Plan, run: u64) -> bool
         ensures { result ≡ is_recorder_of (provider_of plan.now run) self.now }
     {
         self.seat.is_of(plan, run)
+    }
+}
+
+impl Tells for Recorder {
+    ghost use Rattle.metric_provider.specs.Totals.{number_of, told_on};
+
+    ghost numbered = { number_of };
+
+    ghost tells = { λ seat instrument. told_on instrument seat };
+
+    fn number(&self) -> u32 {
+        self.seat.number()
+    }
+
+    fn told_at(&self, instrument: u32) -> Told {
+        self.seat.told_at(instrument)
     }
 }

@@ -1,14 +1,14 @@
 //! A provider that goes over into the next run of its plan.
-ghost use Rattle.std.specs.Prelude.{◌≡◌, ◌==◌, IsTrue, false, IfErr, IfOk, OnErr, OnOk, Ok, length, map, vec_len};
+ghost use Rattle.std.specs.Prelude.{◌≡◌, ◌==◌, IsTrue, true, false, IfErr, IfOk, OnErr, OnOk, Ok, length, map, vec_len};
 ghost use Rattle.std.specs.List.{range_with_len};
 ghost use Rattle.metric_provider.specs.Locked.{AreLockedJournals};
 ghost use Rattle.metric_provider.specs.Rolling.{IsInTime, IsLatest, RefusesNext, RefusesRoll, new_collectors, new_recorders};
 ghost use Rattle.metric_seat.specs.Seats.{provider_of};
-ghost use Rattle.metric_provider.specs.Totals.{AreAllSeats, Finishes, RefusesFinish, seated};
+ghost use Rattle.metric_provider.specs.Totals.{Finishes, RefusesFinish, seated};
 
 use crate::collector::Collector;
 use crate::fault::RollFault;
-use crate::finish::{seated, settle_locked};
+use crate::finish::{seated_by, settle_locked};
 use crate::gate::Gate;
 use crate::provider::{Locked, Provider};
 use crate::recorder::Recorder;
@@ -47,9 +47,9 @@ impl<B: Book, G: Gate> Provider<B, G> {
         ensures totals { IfOk result (λ rolled. let end = rolled.totals in
             Finishes B.KEEPS_ENTRIES self.plan recorders.items
             end.instruments.items end.journals.items end.slips.items) }
-        ensures behind { IfOk result (λ rolled. let instruments = self.plan.facts.instruments in
+        ensures behind { IfOk result (λ rolled. let all = self.plan.facts.instruments in
             let journals = rolled.totals.journals.items in
-            AreLockedJournals B.stands B.kept instruments recorders.items journals) }
+            AreLockedJournals true B.stands B.kept all recorders.items journals) }
         ensures next { IfOk result (λ rolled. rolled.provider ≡ provider_of self.plan run) }
         ensures next_recorders { IfOk result (λ rolled.
             rolled.recorders.items ≡ new_recorders B.KEEPS_ENTRIES run self.plan) }
@@ -113,9 +113,9 @@ impl<B: Book, G: Gate> Provider<B, G> {
         ensures totals { IfOk result (λ rolled. let end = rolled.totals in
             Finishes B.KEEPS_ENTRIES self.plan recorders.items
             end.instruments.items end.journals.items end.slips.items) }
-        ensures behind { IfOk result (λ rolled. let instruments = self.plan.facts.instruments in
+        ensures behind { IfOk result (λ rolled. let all = self.plan.facts.instruments in
             let journals = rolled.totals.journals.items in
-            AreLockedJournals B.stands B.kept instruments recorders.items journals) }
+            AreLockedJournals true B.stands B.kept all recorders.items journals) }
         ensures next { IfOk result (λ rolled. rolled.provider ≡ provider_of self.plan next.run) }
         ensures next_recorders { IfOk result (λ rolled.
             rolled.recorders.items ≡ new_recorders B.KEEPS_ENTRIES next.run self.plan) }
@@ -175,6 +175,7 @@ fn is_same_run(next: NextRun, run: u64) -> bool
 }
 
 // What the provider comes to and the parts of the next one, where the seats are those of all recorders of this run of the plan.
+// The instruments leave their locks last, when the memory for all else was taken.
 fn seated_parts<B: Book>(
     alloc: Global,
     plan: &Plan,
@@ -188,9 +189,9 @@ fn seated_parts<B: Book>(
     ensures totals { IfOk result (λ parts. let end = parts.totals in
         Finishes B.KEEPS_ENTRIES plan.now recorders.now
         end.instruments.items end.journals.items end.slips.items) }
-    ensures behind { IfOk result (λ parts. let instruments = plan.now.facts.instruments in
+    ensures behind { IfOk result (λ parts. let all = plan.now.facts.instruments in
         let journals = parts.totals.journals.items in
-        AreLockedJournals B.stands B.kept instruments recorders.now journals) }
+        AreLockedJournals true B.stands B.kept all recorders.now journals) }
     ensures slots { IfOk result (λ parts.
         vec_len parts.slots ≡ length plan.now.facts.instruments) }
     ensures next_recorders { IfOk result (λ parts.
@@ -202,45 +203,17 @@ fn seated_parts<B: Book>(
         RefusesFinish (seated (provider_of plan.now run) recorders.now) fault) }
     ensures back { OnErr result (vec_len locked.new ≡ vec_len locked.old) }
 {
-    match seated(plan, run, recorders) {
-        Ok(()) => parts_of(alloc, plan, locked, recorders, next),
+    match seated_by(plan, run, recorders, true) {
+        Ok(()) => {
+            let (slots, seats, collectors) = new_parts(alloc, plan, next.start, next.run)?;
+            let totals = settle_locked(alloc, plan, locked, recorders)?;
+            Ok(RolledParts {
+                totals,
+                slots,
+                recorders: seats,
+                collectors,
+            })
+        }
         Err(fault) => Err(fault),
     }
-}
-
-// What the instruments come to and the parts of the next provider. The instruments leave their locks last, when the memory
-// for all else was taken.
-fn parts_of<B: Book>(
-    alloc: Global,
-    plan: &Plan,
-    locked: &mut Vec<Locked<B>>,
-    recorders: &[Recorder],
-    next: NextRun,
-) -> Result<RolledParts<B>, FinishFault>
-    requires slots { vec_len locked.old ≡ length plan.now.facts.instruments }
-    requires recorders { AreAllSeats plan.now recorders.now }
-    requires certified { IsTrue plan.now.is_certified }
-    ensures totals { IfOk result (λ parts. let end = parts.totals in
-        Finishes B.KEEPS_ENTRIES plan.now recorders.now
-        end.instruments.items end.journals.items end.slips.items) }
-    ensures behind { IfOk result (λ parts. let instruments = plan.now.facts.instruments in
-        let journals = parts.totals.journals.items in
-        AreLockedJournals B.stands B.kept instruments recorders.now journals) }
-    ensures slots { IfOk result (λ parts.
-        vec_len parts.slots ≡ length plan.now.facts.instruments) }
-    ensures next_recorders { IfOk result (λ parts.
-        parts.recorders.items ≡ new_recorders B.KEEPS_ENTRIES next.run plan.now) }
-    ensures next_collectors { IfOk result (λ parts.
-        parts.collectors.items ≡ new_collectors next.run plan.now) }
-    ensures refused { IfErr result (λ fault. RefusesFinish (Ok tt) fault) }
-    ensures back { OnErr result (vec_len locked.new ≡ vec_len locked.old) }
-{
-    let (slots, seats, collectors) = new_parts(alloc, plan, next.start, next.run)?;
-    let totals = settle_locked(alloc, plan, locked, recorders)?;
-    Ok(RolledParts {
-        totals,
-        slots,
-        recorders: seats,
-        collectors,
-    })
 }

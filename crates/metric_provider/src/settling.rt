@@ -1,9 +1,8 @@
 //! The instruments compared with what their recorders were told.
-ghost use Rattle.std.specs.Prelude.{◌≡◌, ◌↔◌, ◌<◌, ◌+ℤ◌, ◌*ℤ◌, pos, IsTrue, IfNone, IfOk, IfErr, IfSome, OnOk, OnSome, Some, length, slice_get, slice_index, sum, ◌==◌};
-ghost use Rattle.std.specs.List.{list_all};
+ghost use Rattle.std.specs.Prelude.{◌≡◌, ◌↔◌, IsTrue, true, IfNone, IfOk, IfErr, IfSome, OnOk, OnSome, Some, length, slice_get};
 ghost use Rattle.metric_book.specs.Slips.{slip_of, slips_of};
-ghost use Rattle.metric_seat.specs.Recordings.{told_at};
-ghost use Rattle.metric_provider.specs.Totals.{AreAllSeats, AreOneEach, AreAsTold, AreNoted, IsAsTold, IsToldJournal, KeepToldJournals, RefusesTotals, told_amount, told_count, told_sum, told_total, told_totals};
+ghost use Rattle.metric_seat.specs.Settlements.{IsToldBy, has_each, told_total};
+ghost use Rattle.metric_provider.specs.Totals.{AreNoted, AreSettled, IsSettled, IsToldJournal, KeepToldJournals, RefusesTotals, number_of, told_on, told_totals};
 
 use crate::recorder::Recorder;
 use metric_book::{Book, Slip};
@@ -11,37 +10,41 @@ use metric_core::Cell;
 use metric_facts::{Facts, same_facts};
 use metric_history::Entry;
 use metric_plan::Plan;
-use metric_seat::{FinishFault, Total};
-use metric_slot::{Slot, is_above, least_sum};
+use metric_seat::{FinishFault, Total, has_each, total_of_all, total_of_some};
+use metric_slot::Slot;
 use std::alloc::Global;
 
-/// The totals of the instruments, where each of them has the facts of the plan for its place, each of its numbers is what
-/// the recorders were told, and the entries that its book keeps are those of which they have slips; else `AuditMismatch`.
-/// The only other fault is `Memory`.
+/// What recorders were told of each instrument, where each has the facts of the plan for its place, its numbers are what
+/// the recorders were told, and the entries that its book keeps are those of which they have slips; else
+/// `AuditMismatch`. The only other fault is `Memory`. Where a recorder of the plan has no seat among them, nothing is
+/// known of what it was told, and the counts and sums of the instruments are compared with nothing.
 pub fn settle<B: Book>(
     alloc: Global,
     plan: &Plan,
     slots: &[Slot<B>],
     recorders: &[Recorder],
 ) -> Result<Vec<Total>, FinishFault>
-    requires slots { length slots.now ≡ length plan.now.facts.instruments }
-    requires recorders { AreAllSeats plan.now recorders.now }
+    requires { length slots.now ≡ length plan.now.facts.instruments }
     ensures totals { IfOk result (λ totals.
         totals.items ≡ told_totals recorders.now 0 plan.now.facts.instruments) }
-    ensures told { let instruments = plan.now.facts.instruments in
-        OnOk result (AreAsTold B.kept instruments slots.now recorders.now) }
+    ensures settled { let instruments = plan.now.facts.instruments in
+        let whole = has_each number_of recorders.now (length plan.now.facts.contents.recorders) in
+        OnOk result (AreSettled whole B.kept instruments slots.now recorders.now) }
     ensures journals { let instruments = plan.now.facts.instruments in
-        OnOk result (
+        let whole = has_each number_of recorders.now (length plan.now.facts.contents.recorders) in
+        OnOk result (whole ≡ true →
         KeepToldJournals B.kept B.KEEPS_ENTRIES instruments slots.now recorders.now) }
     ensures refused { let instruments = plan.now.facts.instruments in
-        IfErr result (RefusesTotals B.kept instruments slots.now recorders.now) }
+        let whole = has_each number_of recorders.now (length plan.now.facts.contents.recorders) in
+        IfErr result (RefusesTotals whole B.kept instruments slots.now recorders.now) }
 {
+    let whole = has_all(plan, recorders);
     let count = plan.catalogue().instruments().len() as u32;
     let mut totals = Vec::with_capacity(alloc, slots.len())?;
     for instrument in 0..count {
         let facts = plan.facts(instrument);
         let cell = slots[instrument as usize].cell();
-        match settled(facts, cell, recorders, instrument) {
+        match settled(whole, facts, cell, recorders, instrument) {
             Some(total) => totals.push_reserved(total),
             None => return Err(FinishFault::AuditMismatch),
         }
@@ -49,88 +52,65 @@ pub fn settle<B: Book>(
     Ok(totals)
 }
 
-// The total of an instrument, where its facts are these, its numbers are what the recorders were told, and the entries
-// that its book keeps are those of which they have slips.
+/// Whether there is a seat for each recorder of the plan.
+pub(crate) fn has_all(plan: &Plan, recorders: &[Recorder]) -> bool
+    ensures { let numbers = length plan.now.facts.contents.recorders in
+        result ≡ has_each number_of recorders.now numbers }
+{
+    has_each(recorders, plan.catalogue().recorders().len())
+}
+
+// What recorders, all or some, were told of an instrument, where its facts are these, its numbers are by what they were
+// told, and the entries that its book keeps are those of which they have slips.
 fn settled<B: Book>(
+    whole: bool,
     facts: &Facts,
     cell: &Cell<B>,
     recorders: &[Recorder],
     instrument: u32,
 ) -> Option<Total>
-    requires { AreOneEach (length facts.now.budgets) recorders.now }
     ensures told { OnSome result (
-        IsAsTold B.kept facts.now cell.now recorders.now instrument) }
+        IsSettled whole B.kept facts.now cell.now recorders.now instrument) }
     ensures journal { let entries = B.kept cell.now.book in
-        OnSome result (
+        OnSome result (whole ≡ true →
         IsToldJournal B.KEEPS_ENTRIES facts.now recorders.now instrument entries) }
     ensures total { IfSome result (λ total.
-        total ≡ told_total facts.now recorders.now instrument) }
+        total ≡ told_total (told_on instrument) facts.now.lo recorders.now) }
     ensures other { IfNone result (
-        IsAsTold B.kept facts.now cell.now recorders.now instrument → ⊥) }
+        IsSettled whole B.kept facts.now cell.now recorders.now instrument → ⊥) }
 {
-    if !same_facts(cell.facts(), facts) || !are_spent(cell, recorders, instrument) {
+    if !same_facts(cell.facts(), facts) {
         return None;
     }
-    let total = total_of(cell);
-    if !is_sum(&total, facts, amount_of(recorders, instrument)) {
-        return None;
-    }
+    let total = total_by(whole, cell, recorders, instrument)?;
     if !are_noted(cell.entries(), recorders, instrument) {
         return None;
     }
     Some(total)
 }
 
-// How many recordings the instrument has, and the sum of their values.
-fn total_of<B: Book>(cell: &Cell<B>) -> Total
-    ensures count { result.count ≡ sum cell.now.spent }
-    ensures sum { result.sum ≡ cell.now.total }
+// What they were told, where the instrument's numbers are by that.
+fn total_by<B: Book>(
+    whole: bool,
+    cell: &Cell<B>,
+    recorders: &[Recorder],
+    instrument: u32,
+) -> Option<Total>
+    ensures told { OnSome result (
+        IsToldBy whole number_of (told_on instrument) cell.now recorders.now) }
+    ensures total { IfSome result (λ total.
+        total ≡ told_total (told_on instrument) cell.now.facts.lo recorders.now) }
+    ensures other { IfNone result (
+        IsToldBy whole number_of (told_on instrument) cell.now recorders.now → ⊥) }
 {
-    Total {
-        count: cell.count(),
-        sum: cell.sum(),
+    if whole {
+        total_of_all(cell, recorders, instrument)
+    } else {
+        total_of_some(cell, recorders, instrument)
     }
 }
 
-/// Whether the instrument has as many recordings of each recorder as that one was told of.
-pub(crate) fn are_spent<B: Book>(cell: &Cell<B>, recorders: &[Recorder], instrument: u32) -> bool
-    ensures { result ≡ list_all (λ seat.
-        slice_index cell.now.spent seat.number == (told_at seat instrument).count) recorders.now }
-{
-    recorders.iter().all(|seat| cell.spent(seat.number()) == seat.told_at(instrument).count)
-}
-
-/// How many recordings the recorders were told of.
-pub(crate) fn count_of(recorders: &[Recorder], instrument: u32) -> u128
-    ensures { result ≡ told_count recorders.now instrument }
-{
-    let mut count = 0;
-    for seat in recorders {
-        count += u128::from(seat.told_at(instrument).count);
-    }
-    count
-}
-
-/// How far the values that the recorders were told of are together above the least.
-pub(crate) fn amount_of(recorders: &[Recorder], instrument: u32) -> u128
-    ensures { result ≡ told_amount recorders.now instrument }
-{
-    let mut amount = 0;
-    for seat in recorders {
-        amount += u128::from(seat.told_at(instrument).amount);
-    }
-    amount
-}
-
-// Whether so many values of the instrument, together so far above the least, have this sum.
-fn is_sum(total: &Total, facts: &Facts, amount: u128) -> bool
-    ensures { IsTrue result
-        ↔ (total.now.sum ≡ pos amount +ℤ pos total.now.count *ℤ facts.now.lo) }
-{
-    is_above(total.sum, least_sum(total.count, facts.lo), amount)
-}
-
-/// Whether the slips of each seat are the entries of its recorder.
+// Whether the slips of each seat are the entries of its recorder.
 pub(crate) fn are_noted(entries: &[Entry], recorders: &[Recorder], instrument: u32) -> bool
     ensures { IsTrue result ↔ AreNoted recorders.now instrument entries.now }
 {

@@ -6,3 +6,4 @@ pub mod Collections
 pub mod Handing
 pub mod OneSlot
 pub mod Faults
+pub mod Settlements

@@ -9,6 +9,8 @@ mod keys;
 mod notes;
 mod reader;
 mod recorder;
+mod settling;
+mod tells;
 mod total;
 
 pub use fault::{FinishFault, SetsFault};
@@ -16,4 +18,6 @@ pub use held::{Collected, Held};
 pub use keys::Measurement;
 pub use reader::ReaderSeat;
 pub use recorder::RecorderSeat;
+pub use settling::{are_distinct, has_each, has_seat, total_of_all, total_of_some};
+pub use tells::Tells;
 pub use total::Total;

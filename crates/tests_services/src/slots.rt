@@ -1,6 +1,5 @@
 //! A slot by its own calls, and what it comes to by the seats of recorders that were told of nothing.
 ghost use Rattle.std.specs.Prelude.{◌≡◌, IsTrue, length};
-ghost use Rattle.metric_provider.specs.Totals.{AreAllSeats};
 
 use crate::asserted::{OrFail, assert_equal};
 use crate::samples::{HITS, MAIN};
@@ -68,8 +67,7 @@ fn write_settled(
     slot: &Slot<Marked>,
     recorders: &[Recorder],
 ) -> Result<(), AllocError>
-    requires one { length plan.now.facts.instruments ≡ 1 }
-    requires recorders { AreAllSeats plan.now recorders.now }
+    requires { length plan.now.facts.instruments ≡ 1 }
 {
     match settle(alloc, plan, std::slice::from_ref(slot), recorders) {
         Ok(totals) => writeln!(out, "{totals:?}"),
@@ -88,7 +86,6 @@ fn write_slot<R: Abort>(
 )
     requires certified { IsTrue plan.now.is_certified }
     requires one { length plan.now.facts.instruments ≡ 1 }
-    requires recorders { AreAllSeats plan.now recorders.now }
 {
     let mut slot: Slot<Marked> = Slot::new(alloc, plan, 0, 0).or_fail(rt);
     if is_called {
@@ -98,7 +95,6 @@ fn write_slot<R: Abort>(
 }
 
 // Writes the same for the seats of a plan that are told of nothing.
-#[tactic(auto, using(crate::proofs::SeatLaws::one_seat))]
 fn write_untold<R: Abort + Wait>(
     out: &mut String,
     rt: &R,
@@ -107,7 +103,6 @@ fn write_untold<R: Abort + Wait>(
     is_called: bool,
 )
     requires certified { IsTrue plan.is_certified }
-    requires recorder { length plan.facts.contents.recorders ≡ 1 }
     requires one { length plan.facts.instruments ≡ 1 }
 {
     match start::<R, Marked, NoGate>(rt, alloc, plan, 0, 1, NoGate) {
@@ -120,8 +115,8 @@ fn write_untold<R: Abort + Wait>(
 
 fn told<R: Abort + Wait>(rt: &R, alloc: Global, is_called: bool) -> String {
     let plan = certified_plan(alloc, HITS, MAIN).or_fail(rt);
-    if plan.catalogue().recorders().len() != 1 || plan.all_facts().len() != 1 {
-        panic!(rt; "not one recorder and one instrument");
+    if plan.all_facts().len() != 1 {
+        panic!(rt; "not one instrument");
     }
     let mut out = String::new(alloc);
     write_untold(&mut out, rt, alloc, plan, is_called);

@@ -1,12 +1,11 @@
 -- one instrument more, each of which is that of the plan and has a slot
-use Rattle.std.proofs.Common.{◌≡◌, ◌<◌, ◌≤◌, ◌++◌, ℕ, List, Some, length, sym, ap, subst, ◌∙◌, arith}
+use Rattle.std.proofs.Common.{◌≡◌, ◌<◌, ◌≤◌, ◌++◌, ℕ, Bool, true, List, Some, length, sym, ap, subst, ◌∙◌, arith}
 use Rattle.std.specs.Prelude.{slice_get}
 use Rattle.std.proofs.lemmas.Option.{slice_get-get_or, slice_get_within}
 use Rattle.metric_core.specs.Cells.{CellValue}
 use Rattle.metric_facts.specs.declared.facts.Facts.{Facts}
 use Rattle.metric_seat.specs.declared.total.Total.{Total}
-use Rattle.metric_provider.specs.Totals.{AreOneEach, IsAsTold, IsToldJournal, told_totals}
-use Rattle.metric_seat.specs.PlanFacts.{budgets_each}
+use Rattle.metric_provider.specs.Totals.{AreSettled, IsSettled, IsToldJournal, told_totals}
 use Rattle.metric_provider.proofs.SettleLaws.{told_more_cells, totals_end, totals_more}
 use Rattle.metric_provider.proofs.settling.settle.Goals as goal
 
@@ -27,37 +26,33 @@ overflow_cast-instrument g c = record { fits = omega (arith, c.loop-instrument-t
 
 pub offset_bounds-slots-instrument : goal.offset_bounds-slots-instrument
 offset_bounds-slots-instrument g c =
-    omega (arith, c.requires.slots, c.loop-instrument-test.true, c.catalogue.ensures.one_each, ap length c.instruments.ensures.instruments)
+    omega (arith, c.requires, c.loop-instrument-test.true, c.catalogue.ensures.one_each, ap length c.instruments.ensures.instruments)
 
 pub bounds-slots-instrument : goal.bounds-slots-instrument
 bounds-slots-instrument g c =
-    omega (arith, c.requires.slots, c.loop-instrument-test.true, c.catalogue.ensures.one_each, ap length c.instruments.ensures.instruments)
+    omega (arith, c.requires, c.loop-instrument-test.true, c.catalogue.ensures.one_each, ap length c.instruments.ensures.instruments)
 
 pub push_reserved-requires : goal.push_reserved-requires
 push_reserved-requires g c =
     let below : c.loop-instrument.instrument < length c.args.slots.now =
-    omega (arith, c.requires.slots, c.loop-instrument-test.true, c.catalogue.ensures.one_each, ap length c.instruments.ensures.instruments) in
+    omega (arith, c.requires, c.loop-instrument-test.true, c.catalogue.ensures.one_each, ap length c.instruments.ensures.instruments) in
     omega (arith, below, c.loop-instrument.invariant.count, c.loop-instrument.invariant.room)
 
-pub settled-requires : goal.settled-requires
-settled-requires g c =
-    subst (λ (n : ℕ). AreOneEach n c.args.recorders.now)
-    (sym (budgets_each c.args.plan.now c.loop-instrument.instrument c.facts-facts.result.now c.facts-facts.ensures.kept c.facts-facts.ensures.facts)) c.requires.recorders.one_each
-
 pub returns-in-None-clause-refused : goal.returns-in-None-clause-refused
-returns-in-None-clause-refused g c = λ all.
+returns-in-None-clause-refused g c =
     let number = c.loop-instrument.instrument in
     let below : number < length c.args.slots.now =
-    omega (arith, c.requires.slots, c.loop-instrument-test.true, c.catalogue.ensures.one_each, ap length c.instruments.ensures.instruments) in
+    omega (arith, c.requires, c.loop-instrument-test.true, c.catalogue.ensures.one_each, ap length c.instruments.ensures.instruments) in
     let there : slice_get c.args.slots.now number ≡ Some c.cell-cell.result.now =
     slice_get-get_or c.args.slots.now number c.index-slots-instrument.result below ∙ ap (λ (v : CellValue g.row.B.Denot). Some v) (sym c.index-slots-instrument.is ∙ sym c.cell-cell.ensures.cell) in
-    c.in-None.ensures.other (all number c.facts-facts.result.now c.cell-cell.result.now c.facts-facts.ensures.facts there)
+    subst (λ (whole : Bool). AreSettled whole g.B.Book.kept c.args.plan.now.facts.instruments c.args.slots.now c.args.recorders.now → ⊥) c.has_all-whole.ensures
+    (λ all. c.in-None.ensures.other (all number c.facts-facts.result.now c.cell-cell.result.now c.facts-facts.ensures.facts there))
 
 pub loop-instrument-preserved : goal.loop-instrument-preserved
 loop-instrument-preserved g c =
     let number = c.loop-instrument.instrument in
     let below : number < length c.args.slots.now =
-    omega (arith, c.requires.slots, c.loop-instrument-test.true, c.catalogue.ensures.one_each, ap length c.instruments.ensures.instruments) in
+    omega (arith, c.requires, c.loop-instrument-test.true, c.catalogue.ensures.one_each, ap length c.instruments.ensures.instruments) in
     let there : slice_get c.args.slots.now number ≡ Some c.cell-cell.result.now =
     slice_get-get_or c.args.slots.now number c.index-slots-instrument.result below ∙ ap (λ (v : CellValue g.row.B.Denot). Some v) (sym c.index-slots-instrument.is ∙ sym c.cell-cell.ensures.cell) in
     record {
@@ -65,11 +60,11 @@ loop-instrument-preserved g c =
       room = omega (arith, c.push_reserved.ensures.capacity, c.loop-instrument.invariant.room);
       totals = totals_more c.args.recorders.now number c.args.plan.now.facts.instruments c.loop-instrument.totals.items c.push_reserved.new.self.items _ c.facts-facts.result.now c.in-Some.total
           c.facts-facts.ensures.facts c.in-Some.ensures.total c.push_reserved.ensures.items c.loop-instrument.invariant.totals;
-      told = told_more_cells (λ (own : Facts) (cell : CellValue g.row.B.Denot) (i : ℕ). IsAsTold g.B.Book.kept own cell c.args.recorders.now i)
+      told = told_more_cells (λ (own : Facts) (cell : CellValue g.row.B.Denot) (i : ℕ). IsSettled c.has_all-whole.result g.B.Book.kept own cell c.args.recorders.now i)
           c.args.plan.now.facts.instruments c.args.slots.now number c.facts-facts.result.now c.cell-cell.result.now
           c.facts-facts.ensures.facts there c.in-Some.ensures.told c.loop-instrument.invariant.told;
       journals = told_more_cells
-          (λ (own : Facts) (cell : CellValue g.row.B.Denot) (i : ℕ). IsToldJournal g.B.Book.KEEPS_ENTRIES own c.args.recorders.now i (g.B.Book.kept cell.book))
+          (λ (own : Facts) (cell : CellValue g.row.B.Denot) (i : ℕ). c.has_all-whole.result ≡ true → IsToldJournal g.B.Book.KEEPS_ENTRIES own c.args.recorders.now i (g.B.Book.kept cell.book))
           c.args.plan.now.facts.instruments c.args.slots.now number c.facts-facts.result.now c.cell-cell.result.now
           c.facts-facts.ensures.facts there c.in-Some.ensures.journal c.loop-instrument.invariant.journals;
     }
@@ -80,14 +75,17 @@ returns-clause-totals g c =
     (omega (arith, c.loop-instrument-test.false, c.catalogue.ensures.one_each, ap length c.instruments.ensures.instruments))
     c.loop-instrument.invariant.totals
 
-pub returns-clause-told : goal.returns-clause-told
-returns-clause-told g c = λ i own cell found there.
-    let all : length c.args.plan.now.facts.instruments ≤ c.loop-instrument.instrument =
+pub returns-clause-settled : goal.returns-clause-settled
+returns-clause-settled g c =
+    let instruments = c.args.plan.now.facts.instruments in
+    let all : length instruments ≤ c.loop-instrument.instrument =
     omega (arith, c.loop-instrument-test.false, c.catalogue.ensures.one_each, ap length c.instruments.ensures.instruments) in
-    c.loop-instrument.invariant.told i own cell (omega (arith, all, slice_get_within c.args.plan.now.facts.instruments i own found)) found there
+    subst (λ (whole : Bool). AreSettled whole g.B.Book.kept instruments c.args.slots.now c.args.recorders.now) c.has_all-whole.ensures
+    (λ i own cell found there. c.loop-instrument.invariant.told i own cell (omega (arith, all, slice_get_within instruments i own found)) found there)
 
 pub returns-clause-journals : goal.returns-clause-journals
-returns-clause-journals g c = λ i own cell found there.
-    let all : length c.args.plan.now.facts.instruments ≤ c.loop-instrument.instrument =
+returns-clause-journals g c = λ whole i own cell found there.
+    let instruments = c.args.plan.now.facts.instruments in
+    let all : length instruments ≤ c.loop-instrument.instrument =
     omega (arith, c.loop-instrument-test.false, c.catalogue.ensures.one_each, ap length c.instruments.ensures.instruments) in
-    c.loop-instrument.invariant.journals i own cell (omega (arith, all, slice_get_within c.args.plan.now.facts.instruments i own found)) found there
+    c.loop-instrument.invariant.journals i own cell (omega (arith, all, slice_get_within instruments i own found)) found there (c.has_all-whole.ensures ∙ whole)

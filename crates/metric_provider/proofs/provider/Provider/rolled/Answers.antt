@@ -1,5 +1,5 @@
 -- the parts are those of this provider's plan and run
-use Rattle.std.proofs.Common.{◌≡◌, List, refl, sym, ap, subst, ◌∙◌}
+use Rattle.std.proofs.Common.{◌≡◌, true, List, refl, sym, ap, subst, ◌∙◌}
 use Rattle.metric_plan.specs.Plans.{PlanValue}
 use Rattle.metric_provider.specs.Locked.{AreLockedJournals}
 use Rattle.metric_provider.specs.Rolling.{new_collectors, new_recorders}
@@ -34,8 +34,8 @@ pub returns-in-Ok-clause-behind : goal.returns-in-Ok-clause-behind
 returns-in-Ok-clause-behind g c =
     let journals = c.in-Ok.parts.totals.journals.items in
     let plan_is : c.into_slots-plan.result.0 ≡ c.args.self.plan = ap (λ (p : ProviderValue). p.plan) c.into_slots-plan.ensures.value in
-    subst (λ (plan : PlanValue). AreLockedJournals g.B.Book.stands g.B.Book.kept plan.facts.instruments c.args.recorders.items journals) plan_is
-    (subst (λ (seats : List RecorderValue). AreLockedJournals g.B.Book.stands g.B.Book.kept c.into_slots-plan.result.0.facts.instruments seats journals)
+    subst (λ (plan : PlanValue). AreLockedJournals true g.B.Book.stands g.B.Book.kept plan.facts.instruments c.args.recorders.items journals) plan_is
+    (subst (λ (seats : List RecorderValue). AreLockedJournals true g.B.Book.stands g.B.Book.kept c.into_slots-plan.result.0.facts.instruments seats journals)
     c.as_slice.ensures.value c.in-Ok.ensures.behind)
 
 pub returns-in-Ok-clause-next : goal.returns-in-Ok-clause-next

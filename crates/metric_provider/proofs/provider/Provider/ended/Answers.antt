@@ -1,13 +1,13 @@
 -- the parts are those of this provider's plan and run
 use Rattle.std.proofs.Common.{◌≡◌, List, length, refl, sym, ap, subst, ◌∙◌}
 use Rattle.metric_plan.specs.Plans.{PlanValue}
-use Rattle.metric_provider.specs.Partly.{ComesTo, missing_of, partly_seated}
 use Rattle.metric_seat.specs.Seats.{ProviderValue, RecorderValue, provider_of}
-use Rattle.metric_provider.specs.Totals.{RefusesFinish, has_each}
-use Rattle.metric_provider.proofs.provider.Provider.finish_partly.Goals as goal
+use Rattle.metric_provider.specs.Locked.{ComesTo}
+use Rattle.metric_provider.specs.Totals.{RefusesFinish, missing_of, seated_by}
+use Rattle.metric_provider.proofs.provider.Provider.ended.Goals as goal
 
-pub partly_settled-requires : goal.partly_settled-requires
-partly_settled-requires g c = c.into_slots-plan.ensures.kept.one_each
+pub settle_seated-requires : goal.settle_seated-requires
+settle_seated-requires g c = c.into_slots-plan.ensures.kept.one_each
 
 pub from_slots-provider-requires : goal.from_slots-provider-requires
 from_slots-provider-requires g c = record {
@@ -19,8 +19,8 @@ pub returns-in-Ok-clause-totals : goal.returns-in-Ok-clause-totals
 returns-in-Ok-clause-totals g c =
     let end = c.in-Ok.partly.totals in
     let plan_is : c.into_slots-plan.result.0 ≡ c.args.self.plan = ap (λ (p : ProviderValue). p.plan) c.into_slots-plan.ensures.value in
-    subst (λ (plan : PlanValue). ComesTo g.B.Book.stands g.B.Book.kept g.B.Book.KEEPS_ENTRIES (has_each c.args.recorders.items (length plan.facts.contents.recorders)) plan c.args.recorders.items end.instruments.items end.journals.items end.slips.items) plan_is
-    (subst (λ (seats : List RecorderValue). ComesTo g.B.Book.stands g.B.Book.kept g.B.Book.KEEPS_ENTRIES (has_each seats (length c.into_slots-plan.result.0.facts.contents.recorders)) c.into_slots-plan.result.0 seats end.instruments.items end.journals.items end.slips.items)
+    subst (λ (plan : PlanValue). ComesTo g.B.Book.stands g.B.Book.kept g.B.Book.KEEPS_ENTRIES plan c.args.recorders.items end.instruments.items end.journals.items end.slips.items) plan_is
+    (subst (λ (seats : List RecorderValue). ComesTo g.B.Book.stands g.B.Book.kept g.B.Book.KEEPS_ENTRIES c.into_slots-plan.result.0 seats end.instruments.items end.journals.items end.slips.items)
     c.as_slice.ensures.value c.in-Ok.ensures.totals)
 
 pub returns-in-Ok-clause-missing : goal.returns-in-Ok-clause-missing
@@ -31,14 +31,14 @@ returns-in-Ok-clause-missing g c =
 
 pub returns-in-Ok-clause-seated : goal.returns-in-Ok-clause-seated
 returns-in-Ok-clause-seated g c =
-    ap (λ (p : ProviderValue). partly_seated p c.args.recorders.items) (sym c.into_slots-plan.ensures.value)
-    ∙ ap (λ (seats : List RecorderValue). partly_seated (provider_of c.into_slots-plan.result.0 c.into_slots-plan.result.1) seats) (sym c.as_slice.ensures.value)
+    ap (λ (p : ProviderValue). seated_by c.args.all p c.args.recorders.items) (sym c.into_slots-plan.ensures.value)
+    ∙ ap (λ (seats : List RecorderValue). seated_by c.args.all (provider_of c.into_slots-plan.result.0 c.into_slots-plan.result.1) seats) (sym c.as_slice.ensures.value)
     ∙ c.in-Ok.ensures.seated
 
 pub returns-in-Err-clause-refused : goal.returns-in-Err-clause-refused
 returns-in-Err-clause-refused g c =
-    subst (λ (p : ProviderValue). RefusesFinish (partly_seated p c.args.recorders.items) c.in-Err.fault) c.into_slots-plan.ensures.value
-    (subst (λ (seats : List RecorderValue). RefusesFinish (partly_seated (provider_of c.into_slots-plan.result.0 c.into_slots-plan.result.1) seats) c.in-Err.fault)
+    subst (λ (p : ProviderValue). RefusesFinish (seated_by c.args.all p c.args.recorders.items) c.in-Err.fault) c.into_slots-plan.ensures.value
+    (subst (λ (seats : List RecorderValue). RefusesFinish (seated_by c.args.all (provider_of c.into_slots-plan.result.0 c.into_slots-plan.result.1) seats) c.in-Err.fault)
     c.as_slice.ensures.value c.in-Err.ensures.refused)
 
 pub returns-in-Err-clause-provider : goal.returns-in-Err-clause-provider
