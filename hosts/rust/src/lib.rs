@@ -52,6 +52,28 @@
 //! }
 //! ```
 //!
+//! Each of them may go to another thread, and an instrument be shared; a recorder or a reader is not shared even by `&`.
+//!
+//! ```
+//! fn goes<T: Send>() {}
+//! goes::<wormweekly::Recorder>();
+//! goes::<wormweekly::Reader>();
+//! fn is_shared<T: Send + Sync>() {}
+//! is_shared::<wormweekly::Metrics>();
+//! is_shared::<wormweekly::Instrument>();
+//! is_shared::<wormweekly::Prepared>();
+//! ```
+//!
+//! ```compile_fail,E0277
+//! fn is_shared<T: Sync>() {}
+//! is_shared::<wormweekly::Recorder>();
+//! ```
+//!
+//! ```compile_fail,E0277
+//! fn is_shared<T: Sync>() {}
+//! is_shared::<wormweekly::Reader>();
+//! ```
+//!
 //! A recorder that was dropped is gone, and so are its totals: [`Metrics::settle`] asks for all of them.
 //!
 //! ```compile_fail,E0382

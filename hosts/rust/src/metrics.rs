@@ -21,6 +21,8 @@ pub struct Instrument {
     own: Arc<Own>,
 }
 
+// Each recording writes in it, so no two share lines of cache, nor a pair of lines that are fetched together.
+#[repr(align(128))]
 struct Own {
     run: u64,
     number: u32,

@@ -3,18 +3,21 @@ use crate::fault::{ListRefusal, Refusal};
 use crate::metrics::Instrument;
 use crate::raw::{self, Handle};
 use crate::texts::told;
-use crate::value::{Room, Value};
+use crate::value::{FewAttributes, Room, Value};
 
 // A recording with more attributes is refused without words: each key is compared with all after it.
 const MOST_EXPLAINED: usize = 128;
 
 /// The seat of one recorder, with which a thread records. It keeps what it was told of its recordings, and goes from thread
 /// to thread, but is never shared or copied.
+// Each recording writes in it, so no two of a list share lines of cache, nor a pair of lines that are fetched together.
+#[repr(align(128))]
 pub struct Recorder {
     handle: Handle,
     run: u64,
     number: u32,
     name: String,
+    few: FewAttributes,
     room: Room,
     list: Vec<raw::Prepared>,
 }
@@ -60,6 +63,7 @@ impl Recorder {
             run,
             number,
             name: String::new(),
+            few: FewAttributes::default(),
             room: Room::default(),
             list: Vec::new(),
         }
@@ -129,6 +133,7 @@ impl Recorder {
     }
 
     /// Makes a recording. Its attributes are found before the lock is taken, so that other threads wait for the recording alone.
+    /// Any order will do; that of the catalogue's keys is found fastest.
     ///
     /// # Errors
     ///
@@ -143,16 +148,21 @@ impl Recorder {
             Ok(own) => self.record_found(instrument, &raw::Prepared { value, ..own }),
             Err(refusal) => Err(refusal),
         };
-        recorded.map_err(|refusal| refusal.told(|| self.explained(instrument, value)))
+        recorded.map_err(|refusal| refusal.told(|| self.explained(instrument, attributes, value)))
     }
 
-    // What a recording of a value is refused for, whose attributes the room still has. No lock is taken.
-    fn explained(&mut self, instrument: &Instrument, value: i64) -> Option<String> {
-        let Recorder { handle, room, .. } = self;
-        let Room { texts, attributes } = room;
+    // What a recording is refused for. No lock is taken.
+    fn explained(
+        &mut self,
+        instrument: &Instrument,
+        attributes: &[(&str, Value<'_>)],
+        value: i64,
+    ) -> Option<String> {
         if attributes.len() > MOST_EXPLAINED {
             return None;
         }
+        let Recorder { handle, room, .. } = self;
+        let (texts, attributes) = room.filled(attributes);
         // SAFETY: as in `found`.
         let text = told(|out, length| unsafe {
             raw::wormweekly_explain(
@@ -183,7 +193,8 @@ impl Recorder {
     ) -> Result<Prepared, Refusal> {
         let found = self.found(instrument, attributes);
         // Any value would do, since the attributes are told of first.
-        let own = found.map_err(|refusal| refusal.told(|| self.explained(instrument, 0)))?;
+        let own =
+            found.map_err(|refusal| refusal.told(|| self.explained(instrument, attributes, 0)))?;
         let instrument = instrument.clone();
         Ok(Prepared { instrument, own })
     }
@@ -196,8 +207,13 @@ impl Recorder {
         if instrument.run() != self.run {
             return Err(Refusal::Stranger);
         }
-        self.room.fill(attributes);
-        let Room { texts, attributes } = &self.room;
+        let Recorder {
+            handle, few, room, ..
+        } = self;
+        let (texts, attributes) = match few.filled(attributes) {
+            Some(filled) => filled,
+            None => room.filled(attributes),
+        };
         let mut own = raw::Prepared {
             set: [0; 8],
             value: 0,
@@ -205,7 +221,7 @@ impl Recorder {
         // SAFETY: the handle is as the library left it, this call has it alone, and the buffers are borrowed for it.
         answer(unsafe {
             raw::wormweekly_prepare(
-                &mut self.handle,
+                handle,
                 instrument.number(),
                 texts.as_ptr(),
                 texts.len(),

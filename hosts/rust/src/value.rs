@@ -36,7 +36,84 @@ impl From<bool> for Value<'_> {
     }
 }
 
-/// Room for the attributes of one call, which a recorder keeps from call to call: after the first calls it takes no memory.
+// An instrument has at most so many keys, and the texts of a recording are mostly short.
+const FEW: usize = 8;
+const SHORT: usize = 256;
+
+/// Room for the few short attributes that most recordings have.
+pub(crate) struct FewAttributes {
+    texts: [u8; SHORT],
+    attributes: [Attribute; FEW],
+}
+
+impl Default for FewAttributes {
+    fn default() -> FewAttributes {
+        FewAttributes {
+            texts: [0; SHORT],
+            attributes: [Attribute::default(); FEW],
+        }
+    }
+}
+
+impl FewAttributes {
+    /// The attributes as a call takes them; nothing where they are too many, or their texts too long.
+    pub(crate) fn filled(
+        &mut self,
+        attributes: &[(&str, Value<'_>)],
+    ) -> Option<(&[u8], &[Attribute])> {
+        let own = self.attributes.get_mut(..attributes.len())?;
+        let mut end = 0;
+        for ((key, value), own) in attributes.iter().zip(own.iter_mut()) {
+            end = put(&mut self.texts, end, key)?;
+            if let Value::Text(text) = value {
+                end = put(&mut self.texts, end, text)?;
+            }
+            *own = attribute_of(key, *value);
+        }
+        Some((&self.texts[..end], own))
+    }
+}
+
+// Puts a text behind those that end here. Where its end is then.
+fn put(room: &mut [u8; SHORT], end: usize, text: &str) -> Option<usize> {
+    let text = text.as_bytes();
+    let next = end + text.len();
+    let room = room.get_mut(end..next)?;
+    match text.len() {
+        8..=16 => put_ends::<8>(room, text),
+        4..=7 => put_ends::<4>(room, text),
+        _ => room.copy_from_slice(text),
+    }
+    Some(next)
+}
+
+// Copies the first and the last so many bytes of a text, which is less work than a call that copies it where these are all.
+fn put_ends<const N: usize>(room: &mut [u8], text: &[u8]) {
+    if let (Some(room), Some(text)) = (room.first_chunk_mut::<N>(), text.first_chunk::<N>()) {
+        *room = *text;
+    }
+    if let (Some(room), Some(text)) = (room.last_chunk_mut::<N>(), text.last_chunk::<N>()) {
+        *room = *text;
+    }
+}
+
+// An attribute without its texts.
+fn attribute_of(key: &str, value: Value<'_>) -> Attribute {
+    let (kind, text, whole) = match value {
+        Value::Text(text) => (0, text.len(), 0),
+        Value::Whole(whole) => (1, 0, whole),
+        Value::Flag(false) => (2, 0, 0),
+        Value::Flag(true) => (3, 0, 0),
+    };
+    Attribute {
+        key: key.len(),
+        kind,
+        text,
+        whole,
+    }
+}
+
+/// Room for any attributes of one call, which a recorder keeps from call to call: after the first calls it takes no memory.
 #[derive(Clone, Default)]
 pub(crate) struct Room {
     pub(crate) texts: Vec<u8>,
@@ -52,25 +129,59 @@ impl Room {
         }
     }
 
+    /// The attributes as a call takes them.
+    pub(crate) fn filled(&mut self, attributes: &[(&str, Value<'_>)]) -> (&[u8], &[Attribute]) {
+        self.fill(attributes);
+        (&self.texts, &self.attributes)
+    }
+
     fn push(&mut self, key: &str, value: Value<'_>) {
         self.texts.extend_from_slice(key.as_bytes());
-        let mut own = Attribute {
-            key: key.len(),
-            kind: 0,
-            text: 0,
-            whole: 0,
-        };
-        match value {
-            Value::Text(text) => {
-                self.texts.extend_from_slice(text.as_bytes());
-                own.text = text.len();
-            }
-            Value::Whole(whole) => {
-                own.kind = 1;
-                own.whole = whole;
-            }
-            Value::Flag(flag) => own.kind = if flag { 3 } else { 2 },
+        if let Value::Text(text) = value {
+            self.texts.extend_from_slice(text.as_bytes());
         }
-        self.attributes.push(own);
+        self.attributes.push(attribute_of(key, value));
+    }
+}
+
+#[cfg(test)]
+mod tests {
+    use super::{FEW, FewAttributes, Room, SHORT, Value};
+
+    // A text of so many bytes, no two beside each other alike.
+    fn text_of(length: usize) -> String {
+        "abcdefghijklmnopqrstuvw"
+            .chars()
+            .cycle()
+            .take(length)
+            .collect()
+    }
+
+    // Both rooms give one answer wherever the small one has room.
+    fn compare(attributes: &[(&str, Value<'_>)]) {
+        let (mut few, mut room) = (FewAttributes::default(), Room::default());
+        let (texts, all) = room.filled(attributes);
+        let fits = attributes.len() <= FEW && texts.len() <= SHORT;
+        match few.filled(attributes) {
+            None => assert!(!fits),
+            Some((few_texts, few_all)) => {
+                assert!(fits);
+                assert_eq!(few_texts, texts);
+                let parts = |own: &crate::raw::Attribute| (own.key, own.kind, own.text, own.whole);
+                assert!(few_all.iter().map(parts).eq(all.iter().map(parts)));
+            }
+        }
+    }
+
+    #[test]
+    fn both_rooms_give_the_same() {
+        for length in 0..300 {
+            let text = text_of(length);
+            compare(&[(&text, Value::Whole(-7)), ("é", Value::Flag(true))]);
+            compare(&[("key", Value::Text(&text)), (&text, Value::Flag(false))]);
+            for count in 0..10 {
+                compare(&vec![(text.as_str(), Value::Text(&text)); count]);
+            }
+        }
     }
 }
