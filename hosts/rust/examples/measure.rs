@@ -1,6 +1,7 @@
-//! What a recording through the library costs, beside a map behind a mutex.
+//! What a recording through the library costs, beside a map behind a mutex: prints the table of docs/PERFORMANCE.md, in
+//! nanoseconds for a recording of each thread, the least of some runs.
 //!
-//!     cargo run --offline --release --example measure [RECORDINGS]     how many each thread makes
+//!     cargo run --offline --release --example measure [RECORDINGS [RUNS]]     how many each thread makes, and how often
 use std::collections::HashMap;
 use std::env;
 use std::error::Error;
@@ -12,6 +13,7 @@ use wormweekly::{Instrument, Opened, Prepared, Recorder, Value, open};
 
 const THREADS: usize = 4;
 const AT_ONCE: usize = 16;
+const RUNS: usize = 3;
 
 /// Three attributes, each with some values.
 const KEYS: [(&str, &[&str]); 3] = [
@@ -22,26 +24,45 @@ const KEYS: [(&str, &[&str]); 3] = [
 
 const CONFIG: &str = "format = 1\n[[reader]]\nname = 'console'\n";
 
+/// What is measured: how many threads there are, and whether each has an instrument of its own.
+const COLUMNS: [(&str, usize, bool); 3] = [
+    ("1 thread", 1, false),
+    ("4 threads, one instrument", THREADS, false),
+    ("4 threads, one each", THREADS, true),
+];
+
+const ROWS: [&str; 5] = [
+    "three attributes at the call",
+    "prepared",
+    "prepared, sixteen in one call, each",
+    "a map of three owned texts",
+    "a map of three borrowed texts",
+];
+
 fn main() -> Result<(), Box<dyn Error>> {
-    let each = match env::args().nth(1) {
-        Some(word) => word.parse()?,
-        None => 1_000_000,
-    };
-    println!("nanoseconds for a recording, of each thread; {each} recordings each");
-    for threads in [1, THREADS] {
-        for own in [false, true] {
-            if threads == 1 && own {
-                continue;
+    let numbers: Result<Vec<usize>, _> = env::args().skip(1).map(|word| word.parse()).collect();
+    let numbers = numbers?;
+    let each = numbers.first().copied().unwrap_or(1_000_000);
+    let mut least = [[f64::INFINITY; COLUMNS.len()]; ROWS.len()];
+    for _ in 0..numbers.get(1).copied().unwrap_or(RUNS) {
+        for (column, (_, threads, own)) in COLUMNS.iter().enumerate() {
+            let library = through_the_library(*threads, *own, each)?;
+            let maps = through_maps(*threads, *own, each);
+            for (row, time) in library.into_iter().chain(maps).enumerate() {
+                least[row][column] = least[row][column].min(time);
             }
-            let on = if own {
-                "one instrument each"
-            } else {
-                "one instrument"
-            };
-            println!("{threads} threads, {on}");
-            through_the_library(threads, own, each)?;
-            through_maps(threads, own, each);
         }
+    }
+    println!(
+        "| Recording | {} |",
+        COLUMNS.map(|(name, ..)| name).join(" | ")
+    );
+    println!("|---|{}", "---|".repeat(COLUMNS.len()));
+    for (name, times) in ROWS.iter().zip(least) {
+        println!(
+            "| {name} | {} |",
+            times.map(|time| format!("{time:.0}")).join(" | ")
+        );
     }
     Ok(())
 }
@@ -87,10 +108,6 @@ fn attributes_at(number: usize) -> [(&'static str, Value<'static>); 3] {
         (KEYS[1].0, values[1].into()),
         (KEYS[2].0, values[2].into()),
     ]
-}
-
-fn tell(what: &str, nanoseconds: f64) {
-    println!("  {what:<44}{nanoseconds:>8.1}");
 }
 
 // How long each of so many calls takes that one thread for each recorder makes, in nanoseconds.
@@ -140,23 +157,21 @@ fn seats<'a>(
         .collect()
 }
 
-fn through_the_library(threads: usize, own: bool, each: usize) -> Result<(), Box<dyn Error>> {
+fn through_the_library(threads: usize, own: bool, each: usize) -> Result<[f64; 3], Box<dyn Error>> {
     let mut opened = open(&catalogue(), CONFIG, 0)?;
-    let time = time_for(each, seats(&mut opened, threads, own)?, |seat, number| {
+    let at_the_call = time_for(each, seats(&mut opened, threads, own)?, |seat, number| {
         let done = seat
             .recorder
             .record(seat.instrument, &attributes_at(number), 1);
         done.expect("the recording is made");
     });
-    tell("library, three attributes at the call", time);
-    let time = time_for(each, seats(&mut opened, threads, own)?, |seat, number| {
+    let prepared = time_for(each, seats(&mut opened, threads, own)?, |seat, number| {
         let done = seat
             .recorder
             .record_prepared(&seat.prepared[number % AT_ONCE], 1);
         done.expect("the recording is made");
     });
-    tell("library, prepared", time);
-    let time = time_for(
+    let at_once = time_for(
         each / AT_ONCE,
         seats(&mut opened, threads, own)?,
         |seat, _| {
@@ -166,37 +181,35 @@ fn through_the_library(threads: usize, own: bool, each: usize) -> Result<(), Box
                 .expect("the recordings are made");
         },
     );
-    tell("library, prepared, sixteen at once", time / AT_ONCE as f64);
     let all = each * 2 + each / AT_ONCE * AT_ONCE;
     let totals = opened.metrics.settle(&mut opened.recorders)?;
     let count: u64 = totals.iter().map(|total| total.count).sum();
     assert_eq!(count, (all * threads) as u64);
-    Ok(())
+    Ok([at_the_call, prepared, at_once / AT_ONCE as f64])
 }
 
-fn through_maps(threads: usize, own: bool, each: usize) {
+fn through_maps(threads: usize, own: bool, each: usize) -> [f64; 2] {
     let count = if own { threads } else { 1 };
     let owned: Vec<Mutex<HashMap<[String; 3], i64>>> =
         (0..count).map(|_| Mutex::default()).collect();
     let maps = |number: usize| number.min(count - 1);
     let states: Vec<_> = (0..threads).map(|number| &owned[maps(number)]).collect();
-    let time = time_for(each, states, |map, number| {
+    let owning = time_for(each, states, |map, number| {
         let key = values_at(black_box(number)).map(str::to_owned);
         *map.lock()
             .expect("no thread panics")
             .entry(key)
             .or_default() += 1;
     });
-    tell("a map of owned triples behind a mutex", time);
     let borrowed: Vec<Mutex<HashMap<[&str; 3], i64>>> =
         (0..count).map(|_| Mutex::default()).collect();
     let states: Vec<_> = (0..threads).map(|number| &borrowed[maps(number)]).collect();
-    let time = time_for(each, states, |map, number| {
+    let borrowing = time_for(each, states, |map, number| {
         let key = values_at(black_box(number));
         *map.lock()
             .expect("no thread panics")
             .entry(key)
             .or_default() += 1;
     });
-    tell("a map of borrowed triples behind a mutex", time);
+    [owning, borrowing]
 }

@@ -5,6 +5,9 @@ use crate::raw::{self, Handle};
 use crate::texts::told;
 use crate::value::{FewAttributes, Room, Value};
 
+// The number of the refusal of a recorder or an instrument of another run.
+const STRANGER: u32 = 12;
+
 // A recording with more attributes is refused without words: each key is compared with all after it.
 const MOST_EXPLAINED: usize = 128;
 
@@ -144,11 +147,27 @@ impl Recorder {
         attributes: &[(&str, Value<'_>)],
         value: i64,
     ) -> Result<(), Refusal> {
-        let recorded = match self.found(instrument, attributes) {
-            Ok(own) => self.record_found(instrument, &raw::Prepared { value, ..own }),
-            Err(refusal) => Err(refusal),
+        let mut own = raw::Prepared { set: [0; 8], value };
+        let code = match self.find(instrument, attributes, &mut own) {
+            0 => self.record_found(instrument, &own),
+            code => code,
         };
-        recorded.map_err(|refusal| refusal.told(|| self.explained(instrument, attributes, value)))
+        match code {
+            0 => Ok(()),
+            code => Err(self.refused(code, instrument, attributes, value)),
+        }
+    }
+
+    // The refusal of this number of a recording. A call of its own, since few recordings are refused.
+    #[cold]
+    fn refused(
+        &mut self,
+        code: u32,
+        instrument: &Instrument,
+        attributes: &[(&str, Value<'_>)],
+        value: i64,
+    ) -> Refusal {
+        Refusal::of(code).told(|| self.explained(instrument, attributes, value))
     }
 
     // What a recording is refused for. No lock is taken.
@@ -163,7 +182,7 @@ impl Recorder {
         }
         let Recorder { handle, room, .. } = self;
         let (texts, attributes) = room.filled(attributes);
-        // SAFETY: as in `found`.
+        // SAFETY: as in `find`.
         let text = told(|out, length| unsafe {
             raw::wormweekly_explain(
                 handle,
@@ -191,21 +210,30 @@ impl Recorder {
         instrument: &Instrument,
         attributes: &[(&str, Value<'_>)],
     ) -> Result<Prepared, Refusal> {
-        let found = self.found(instrument, attributes);
         // Any value would do, since the attributes are told of first.
-        let own =
-            found.map_err(|refusal| refusal.told(|| self.explained(instrument, attributes, 0)))?;
-        let instrument = instrument.clone();
-        Ok(Prepared { instrument, own })
+        let mut own = raw::Prepared {
+            set: [0; 8],
+            value: 0,
+        };
+        match self.find(instrument, attributes, &mut own) {
+            0 => {
+                let instrument = instrument.clone();
+                Ok(Prepared { instrument, own })
+            }
+            code => Err(self.refused(code, instrument, attributes, 0)),
+        }
     }
 
-    fn found(
+    // Finds the set key of attributes, and writes it; the value stays. What the library answers, or that the instrument is of
+    // another run.
+    fn find(
         &mut self,
         instrument: &Instrument,
         attributes: &[(&str, Value<'_>)],
-    ) -> Result<raw::Prepared, Refusal> {
+        own: &mut raw::Prepared,
+    ) -> u32 {
         if instrument.run() != self.run {
-            return Err(Refusal::Stranger);
+            return STRANGER;
         }
         let Recorder {
             handle, few, room, ..
@@ -214,12 +242,8 @@ impl Recorder {
             Some(filled) => filled,
             None => room.filled(attributes),
         };
-        let mut own = raw::Prepared {
-            set: [0; 8],
-            value: 0,
-        };
         // SAFETY: the handle is as the library left it, this call has it alone, and the buffers are borrowed for it.
-        answer(unsafe {
+        unsafe {
             raw::wormweekly_prepare(
                 handle,
                 instrument.number(),
@@ -227,20 +251,15 @@ impl Recorder {
                 texts.len(),
                 attributes.as_ptr(),
                 attributes.len(),
-                &mut own,
+                own,
             )
-        })?;
-        Ok(own)
+        }
     }
 
-    fn record_found(
-        &mut self,
-        instrument: &Instrument,
-        own: &raw::Prepared,
-    ) -> Result<(), Refusal> {
+    fn record_found(&mut self, instrument: &Instrument, own: &raw::Prepared) -> u32 {
         let mut held = instrument.lock();
         // SAFETY: the handles are as the library left them, and this call has them alone.
-        answer(unsafe { raw::wormweekly_record_prepared(&mut held.handle, &mut self.handle, own) })
+        unsafe { raw::wormweekly_record_prepared(&mut held.handle, &mut self.handle, own) }
     }
 
     /// Makes a recording with attributes that were prepared.
@@ -253,7 +272,7 @@ impl Recorder {
             value,
             ..prepared.own
         };
-        self.record_found(&prepared.instrument, &own)
+        answer(self.record_found(&prepared.instrument, &own))
     }
 
     /// Makes several recordings with attributes that were prepared for one instrument, in one call and under one lock.
@@ -276,7 +295,7 @@ impl Recorder {
         }));
         let mut made = 0;
         let mut held = first.instrument.lock();
-        // SAFETY: as in `found`.
+        // SAFETY: as in `find`.
         let code = unsafe {
             raw::wormweekly_record_list(
                 &mut held.handle,
@@ -302,7 +321,7 @@ impl Recorder {
     // A name of the plan.
     pub(crate) fn name_of(&mut self, kind: u32, number: u32) -> Result<String, u32> {
         let handle = &mut self.handle;
-        // SAFETY: as in `found`.
+        // SAFETY: as in `find`.
         told(|out, length| unsafe {
             raw::wormweekly_name(handle, kind, number, out.as_mut_ptr(), out.len(), length)
         })
@@ -311,7 +330,7 @@ impl Recorder {
     // The warnings of the plan.
     pub(crate) fn warnings(&mut self) -> Result<String, u32> {
         let handle = &mut self.handle;
-        // SAFETY: as in `found`.
+        // SAFETY: as in `find`.
         told(|out, length| unsafe {
             raw::wormweekly_warnings(handle, out.as_mut_ptr(), out.len(), length)
         })

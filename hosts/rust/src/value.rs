@@ -62,32 +62,36 @@ impl FewAttributes {
         attributes: &[(&str, Value<'_>)],
     ) -> Option<(&[u8], &[Attribute])> {
         let own = self.attributes.get_mut(..attributes.len())?;
-        let mut end = 0;
+        let mut left = &mut self.texts[..];
         for ((key, value), own) in attributes.iter().zip(own.iter_mut()) {
-            end = put(&mut self.texts, end, key)?;
+            left = put(left, key)?;
             if let Value::Text(text) = value {
-                end = put(&mut self.texts, end, text)?;
+                left = put(left, text)?;
             }
             *own = attribute_of(key, *value);
         }
+        let end = SHORT - left.len();
         Some((&self.texts[..end], own))
     }
 }
 
-// Puts a text behind those that end here. Where its end is then.
-fn put(room: &mut [u8; SHORT], end: usize, text: &str) -> Option<usize> {
+// Puts a text at the front of a room. What is left of it.
+#[inline(always)]
+fn put<'a>(room: &'a mut [u8], text: &str) -> Option<&'a mut [u8]> {
     let text = text.as_bytes();
-    let next = end + text.len();
-    let room = room.get_mut(end..next)?;
+    let (front, left) = room.split_at_mut_checked(text.len())?;
     match text.len() {
-        8..=16 => put_ends::<8>(room, text),
-        4..=7 => put_ends::<4>(room, text),
-        _ => room.copy_from_slice(text),
+        8..=16 => put_ends::<8>(front, text),
+        4..=7 => put_ends::<4>(front, text),
+        2..=3 => put_ends::<2>(front, text),
+        1 => put_ends::<1>(front, text),
+        _ => front.copy_from_slice(text),
     }
-    Some(next)
+    Some(left)
 }
 
 // Copies the first and the last so many bytes of a text, which is less work than a call that copies it where these are all.
+#[inline(always)]
 fn put_ends<const N: usize>(room: &mut [u8], text: &[u8]) {
     if let (Some(room), Some(text)) = (room.first_chunk_mut::<N>(), text.first_chunk::<N>()) {
         *room = *text;
