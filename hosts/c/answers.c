@@ -93,6 +93,7 @@ static const char WRONG_CERTIFICATE[] =
 static const wormweekly_attribute NONE[] = { { 0, WORMWEEKLY_NO, 0, 0 } };
 static const wormweekly_attribute COUNTRY[] = { { 7, WORMWEEKLY_TEXT, 2, 0 } };
 static const wormweekly_attribute PAID[] = { { 7, WORMWEEKLY_TEXT, 2, 0 }, { 4, WORMWEEKLY_YES, 0, 0 } };
+static const wormweekly_attribute PAID_FIRST[] = { { 4, WORMWEEKLY_YES, 0, 0 }, { 7, WORMWEEKLY_TEXT, 2, 0 } };
 static const wormweekly_attribute PAID_7[] = { { 7, WORMWEEKLY_TEXT, 2, 0 }, { 4, WORMWEEKLY_WHOLE, 0, 7 } };
 static const wormweekly_attribute UNPAID[] = { { 7, WORMWEEKLY_TEXT, 2, 0 }, { 4, WORMWEEKLY_NO, 0, 0 } };
 static const wormweekly_attribute TWICE[] = { { 7, WORMWEEKLY_TEXT, 2, 0 }, { 7, WORMWEEKLY_TEXT, 2, 0 } };
@@ -740,6 +741,12 @@ static const struct row ORDERS_ROWS[] = {
     { CALL(prepare), .texts = "abcdefghi", GIVEN(NINE), .answer = WORMWEEKLY_UNKNOWN_KEY, .numbers = { 2, 1 } },
     { CALL(prepare), .number = INSTRUMENTS, .texts = "countryfrpaid", GIVEN(PAID),
       .answer = WORMWEEKLY_UNKNOWN_INSTRUMENT, .numbers = { 2, 1 } },
+    { CALL(prepare), .texts = "countrydepaid", GIVEN(PAID_7), .answer = WORMWEEKLY_COMBINATION, .numbers = { 2, 1 } },
+    { CALL(prepare), .texts = "countryfr", GIVEN(COUNTRY), .answer = WORMWEEKLY_MISSING_KEY, .numbers = { 2, 1 } },
+    { CALL(prepare), .texts = "countrxfrpaid", GIVEN(PAID), .answer = WORMWEEKLY_UNKNOWN_KEY, .numbers = { 2, 1 } },
+    { CALL(prepare), .texts = "country\xff\xffpaid", GIVEN(PAID), .answer = WORMWEEKLY_NO_TEXT, .numbers = { 2, 1 } },
+    { CALL(prepare), .texts = "paidcountryde", GIVEN(PAID_FIRST), .numbers = { 1, 1 } },
+    { CALL(prepare), .texts = "countryfrpaid\xff", GIVEN(PAID), .numbers = { 2, 1 } },
     { CALL(record_prepared), .value = -50 },
     { CALL(record_prepared), .value = -101, .answer = WORMWEEKLY_VALUE_RANGE },
     { CALL(record_forged), .key = 0, .entry = UINT16_MAX, .answer = WORMWEEKLY_UNKNOWN_VALUE },

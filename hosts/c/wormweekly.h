@@ -30,9 +30,10 @@
  *
  * The keys and texts of all attributes of a call stand one after the other in one buffer, and beside it a list of
  * wormweekly_attribute says how long each is. So {"country" = "de", "paid" = yes} is the text "countrydepaid" with the
- * list { { 7, WORMWEEKLY_TEXT, 2, 0 }, { 4, WORMWEEKLY_YES, 0, 0 } }. Up to eight attributes take no memory. Who records one
- * set of attributes often prepares its set key once. Where threads share an instrument, find the attributes before its mutex is
- * taken, by wormweekly_prepare, and make the recording under it, by wormweekly_record_prepared: so the others wait for less.
+ * list { { 7, WORMWEEKLY_TEXT, 2, 0 }, { 4, WORMWEEKLY_YES, 0, 0 } }. Up to eight attributes take no memory. Any order will
+ * do; that of the catalogue's keys is found fastest. Who records one set of attributes often prepares its set key once. Where
+ * threads share an instrument, find the attributes before its mutex is taken, by wormweekly_prepare, and make the recording
+ * under it, by wormweekly_record_prepared: so the others wait for less.
  *
  * WHAT A HOST OWES, AND NOTHING CHECKS
  *

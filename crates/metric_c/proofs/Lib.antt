@@ -6,6 +6,8 @@ pub mod ToldLaws
 pub mod PlaceLaws
 pub mod EachLaws
 pub mod AttributeLaws
+pub mod InOrderLaws
+pub mod TakenLaws
 pub mod ResourceLaws
 pub mod Utf8Laws
 pub mod HeldLaws

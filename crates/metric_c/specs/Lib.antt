@@ -2,6 +2,7 @@ pub mod HeldInstrument
 pub mod HeldRecorder
 pub mod HeldReader
 pub mod Attributes
+pub mod InOrder
 pub mod Reading
 pub mod Codes
 pub mod Texts

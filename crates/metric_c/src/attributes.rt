@@ -1,5 +1,6 @@
 //! Attributes as a host gives them.
-ghost use Rattle.std.specs.Prelude.{◌≡◌, ◌≤◌, Some, length, map, option_map, take, IfErr, IfOk};
+ghost use Rattle.std.specs.Prelude.{◌≡◌, ◌≤◌, Some, length, map, option_map, take, IfErr, IfOk, IsTrue};
+ghost use Rattle.std.specs.Str.{IsAscii};
 ghost use Rattle.metric_c.specs.Attributes.{attributes_from, given_first, plain_value, text_first};
 ghost use Rattle.metric_c.specs.Reading.{ReadsFew, Refuses};
 ghost use Rattle.metric_contents.specs.Attributes.{given_by};
@@ -8,7 +9,7 @@ ghost use Rattle.metric_names.specs.Values.{value_of};
 use metric_contents::Attr;
 use metric_names::ValueRef;
 use std::alloc::Global;
-use std::str::from_utf8;
+use std::str::{from_utf8, from_utf8_unchecked};
 
 /// An attribute without its texts, which stand beside it, those of all attributes one after the other: how long its key's
 /// text is; what kind of value it has (0: a text of this length, 1: a whole number, 2: no, 3: yes).
@@ -107,7 +108,7 @@ fn attr_of<'a>(texts: &'a [u8], own: &Attribute) -> Option<(Attr<'a>, &'a [u8])>
 }
 
 // The value of an attribute that is no text.
-fn value_of(own: &Attribute) -> Option<ValueRef<'static>>
+pub(crate) fn value_of(own: &Attribute) -> Option<ValueRef<'static>>
     ensures { option_map (λ value. value_of value) result ≡ plain_value own.now }
 {
     match own.kind {
@@ -119,15 +120,30 @@ fn value_of(own: &Attribute) -> Option<ValueRef<'static>>
 }
 
 // The text of this length that stands first, and what is left.
-fn text_of(texts: &[u8], length: usize) -> Option<(&str, &[u8])>
+pub(crate) fn text_of(texts: &[u8], length: usize) -> Option<(&str, &[u8])>
     ensures { option_map (λ read. (read.0.now, read.1.now)) result ≡ text_first length texts.now }
 {
     if length > texts.len() {
         return None;
     }
     let (text, rest) = texts.split_at(length);
+    if is_plain(text) {
+        return Some((unsafe { from_utf8_unchecked(text) }, rest));
+    }
     match from_utf8(text) {
         Ok(text) => Some((text, rest)),
         Err(_) => None,
     }
+}
+
+// Whether all bytes are ASCII: texts of attributes mostly are, and are short.
+fn is_plain(text: &[u8]) -> bool
+    ensures { IsTrue result → IsAscii text.now }
+{
+    for byte in text {
+        if *byte >= 128 {
+            return false;
+        }
+    }
+    true
 }

@@ -35,6 +35,7 @@ mod explaining;
 mod exposed;
 mod grants;
 mod headrooms;
+mod in_order;
 mod instrument_handle;
 mod linting;
 mod names;

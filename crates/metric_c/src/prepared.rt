@@ -9,6 +9,7 @@ ghost use Rattle.metric_contents.specs.Encoding.{encode_of};
 
 use crate::attributes::{Attribute, Unread, all_attributes, few_attributes};
 use crate::codes::{DONE, MEMORY, NO_TEXT, NOT_OPEN, code_of};
+use crate::in_order::encoded_in_order;
 use crate::instrument_handle::InstrumentHandle;
 use crate::recorder_handle::RecorderHandle;
 use metric_contents::Attr;
@@ -42,6 +43,31 @@ pub extern "C" fn wormweekly_prepare(
 
 // Reads the attributes, and writes their set key.
 fn prepare_given(
+    alloc: Global,
+    own: &HostedRecorder,
+    instrument: u32,
+    texts: &[u8],
+    given: &[Attribute],
+    prepared: &mut Measurement,
+) -> u32
+    ensures answer { let read = attributes_from given.now texts.now in
+        IsPrepared own.now.plan instrument (length given.now) read result prepared.new.set }
+    ensures refused { result ≢ 0 → prepared.new ≡ prepared.old }
+    ensures value { prepared.new.value ≡ prepared.old.value }
+{
+    match encoded_in_order(own.plan.get(), instrument, texts, given) {
+        Some(set) => {
+            prepared.set = set;
+            DONE
+        }
+        None => prepare_listed(alloc, own, instrument, texts, given, prepared),
+    }
+}
+
+// The same by way of a list of them, of which eight take no memory. A call of its own, so that the room for that list is paid
+// for by those that need it.
+#[inline(never)]
+fn prepare_listed(
     alloc: Global,
     own: &HostedRecorder,
     instrument: u32,
