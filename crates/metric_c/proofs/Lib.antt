@@ -8,6 +8,7 @@ pub mod EachLaws
 pub mod AttributeLaws
 pub mod InOrderLaws
 pub mod TakenLaws
+pub mod AdmissionLaws
 pub mod ResourceLaws
 pub mod Utf8Laws
 pub mod HeldLaws

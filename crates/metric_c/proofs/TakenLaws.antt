@@ -1,5 +1,5 @@
 -- What is left of attributes once a key has taken its entry.
-use Rattle.std.proofs.Common.{◌≡◌, ◌<◌, ◌≤◌, ℕ, ◌-◌, Bool, true, List, [], ◌∷◌, ◌++◌, length, take, drop, replicate, min, Option, Some, None, Ok, Result, ◌+◌, refl, sym, ap, subst, inl, ◌∙◌, arith}
+use Rattle.std.proofs.Common.{◌≡◌, ◌<◌, ℕ, ◌-◌, Bool, true, List, [], ◌∷◌, ◌++◌, length, take, drop, replicate, min, Option, Some, None, Ok, Result, ◌+◌, refl, sym, ap, subst, inl, ◌∙◌, arith}
 use Rattle.std.specs.Prelude.{IsSomeAnd, slice_get}
 use Rattle.std.proofs.lemmas.List.{at_drop_all, length-append, length-replicate, length-take}
 use Rattle.metric_base.specs.Steps.{◌>>=◌, require, require_some}

@@ -1,5 +1,5 @@
 -- What a key takes of attributes that stand in the order of their keys.
-use Rattle.std.specs.Prelude.{◌≡◌, ◌≢◌, ◌⊎◌, ℕ, List, [], ◌∷◌, Option, Some, None, IsSomeAnd}
+use Rattle.std.specs.Prelude.{◌≡◌, ◌≢◌, ℕ, List, [], ◌∷◌, Option, Some, None, IsSomeAnd}
 use Rattle.metric_contents.specs.declared.contents.Key.{Key}
 use Rattle.metric_contents.specs.Encoding.{Given, entry_with}
 use Rattle.metric_contents.specs.InOrder.{entry_in_order}

@@ -11,9 +11,9 @@ use metric_contents::{Instrument, Key, SetKey};
 use metric_names::ValueRef;
 use metric_plan::Plan;
 
-/// The set key of attributes for the instrument of this number, where they stand in the order of its keys; nothing where
-/// they do not, or where there is something to refuse. Each key is compared with the declared name, and no list of
-/// attributes is made. Takes no memory.
+/// The set key of attributes for the instrument of this number, where they stand in the order of its keys; nothing
+/// where they do not, or where there is something to refuse. Each key is compared with the declared name, and no list
+/// of attributes is made. Takes no memory.
 pub(crate) fn encoded_in_order(
     plan: &Plan,
     instrument: u32,

@@ -8,10 +8,11 @@ ghost use Rattle.metric_contents.specs.Attributes.{given_by};
 ghost use Rattle.metric_contents.specs.Encoding.{encode_of};
 
 use crate::attributes::{Attribute, Unread, all_attributes, few_attributes};
-use crate::codes::{DONE, MEMORY, NO_TEXT, NOT_OPEN, code_of};
+use crate::codes::{DONE, MEMORY, NO_TEXT, NOT_OPEN};
 use crate::in_order::encoded_in_order;
 use crate::instrument_handle::InstrumentHandle;
 use crate::recorder_handle::RecorderHandle;
+use crate::recordings::record_key;
 use metric_contents::Attr;
 use metric_hosted::{Hosted, HostedRecorder, Measurement};
 use std::alloc::Global;
@@ -64,8 +65,8 @@ fn prepare_given(
     }
 }
 
-// The same by way of a list of them, of which eight take no memory. A call of its own, so that the room for that list is paid
-// for by those that need it.
+// The same by way of a list of them, of which eight take no memory. A call of its own, so that the room for that list
+// is paid for by those that need it.
 #[inline(never)]
 fn prepare_listed(
     alloc: Global,
@@ -154,9 +155,7 @@ fn record_one(held: &mut Hosted, own: &mut HostedRecorder, prepared: &Measuremen
     ensures instrument { result ≢ 0 → held.new ≡ held.old }
     ensures recorder { result ≢ 0 → own.new ≡ own.old }
 {
-    let HostedRecorder { plan, seat } = own;
-    let answer = held.record_set(plan.get(), seat, prepared.set, prepared.value);
-    code_of(&answer)
+    record_key(held, own, prepared.set, prepared.value)
 }
 
 /// Makes the recordings of a list, one after the other, up to the first that is refused, and writes how many were made.

@@ -2,14 +2,16 @@
 ghost use Rattle.std.specs.Prelude.{◌≡◌, ◌≢◌, IsSomeAnd, length, map};
 ghost use Rattle.metric_c.specs.Attributes.{attributes_from};
 ghost use Rattle.metric_c.specs.Codes.{Changes, IsCodeOf, IsCodeOfRead, WhereBoth};
-ghost use Rattle.metric_c.specs.Recordings.{AnswersGiven, RecordsGiven};
+ghost use Rattle.metric_c.specs.Recordings.{AnswersGiven, AnswersKey, RecordsGiven, RecordsKey};
 ghost use Rattle.metric_contents.specs.Attributes.{given_by};
 
 use crate::attributes::{Attribute, Unread, all_attributes, few_attributes};
 use crate::codes::{MEMORY, NO_TEXT, NOT_OPEN, code_of};
+use crate::in_order::encoded_in_order;
 use crate::instrument_handle::InstrumentHandle;
 use crate::recorder_handle::RecorderHandle;
-use metric_contents::Attr;
+use metric_contents::{Attr, SetKey};
+use metric_facts::laws::attributes_name_allowed_sets;
 use metric_hosted::{Hosted, HostedRecorder};
 use std::alloc::Global;
 
@@ -45,8 +47,36 @@ pub extern "C" fn wormweekly_record(
     code
 }
 
-// Reads the attributes, and makes the recording.
+// Finds the set key of the attributes, and makes the recording.
 fn record_given(
+    alloc: Global,
+    held: &mut Hosted,
+    own: &mut HostedRecorder,
+    texts: &[u8],
+    given: &[Attribute],
+    value: i64,
+) -> u32
+    ensures answer { IsCodeOfRead (length given.now) (attributes_from given.now texts.now)
+        (λ attrs. AnswersGiven attrs value held.old own.old) result }
+    ensures done { result ≡ 0 → IsSomeAnd (attributes_from given.now texts.now) (λ attrs.
+        RecordsGiven attrs value held.old held.new own.old own.new) }
+    ensures instrument { result ≢ 0 → held.new ≡ held.old }
+    ensures recorder { result ≢ 0 → own.new ≡ own.old }
+{
+    // For the proof alone: what attributes name is an allowed set of the instrument.
+    attributes_name_allowed_sets();
+    let plan = own.plan.get();
+    let _ = plan.catalogue();
+    match encoded_in_order(plan, held.number(), texts, given) {
+        Some(set) => record_key(held, own, set, value),
+        None => record_listed(alloc, held, own, texts, given, value),
+    }
+}
+
+// The same by way of a list of them, of which eight take no memory. A call of its own, so that the room for that list
+// is paid for by those that need it.
+#[inline(never)]
+fn record_listed(
     alloc: Global,
     held: &mut Hosted,
     own: &mut HostedRecorder,
@@ -91,5 +121,22 @@ fn record_attributes(
 {
     let HostedRecorder { plan, seat } = own;
     let answer = held.record(plan.get(), seat, attrs, value);
+    code_of(&answer)
+}
+
+/// Makes a recording of a set key.
+pub(crate) fn record_key(
+    held: &mut Hosted,
+    own: &mut HostedRecorder,
+    set: SetKey,
+    value: i64,
+) -> u32
+    ensures answer { IsCodeOf (AnswersKey set value held.old own.old) result }
+    ensures done { result ≡ 0 → RecordsKey set value held.old held.new own.old own.new }
+    ensures instrument { result ≢ 0 → held.new ≡ held.old }
+    ensures recorder { result ≢ 0 → own.new ≡ own.old }
+{
+    let HostedRecorder { plan, seat } = own;
+    let answer = held.record_set(plan.get(), seat, set, value);
     code_of(&answer)
 }

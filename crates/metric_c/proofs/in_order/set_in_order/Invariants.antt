@@ -1,8 +1,7 @@
 -- the entries so far, with those of what is left, are those of all; 0 in the places that are left
-use Rattle.std.proofs.Common.{◌≡◌, ◌-◌, List, [], ◌++◌, drop, replicate, take, Some}
+use Rattle.std.proofs.Common.{◌≡◌, ◌-◌, List, ◌++◌, drop, replicate, take, Some}
 use Rattle.std.specs.Prelude.{IsSomeAnd}
 use Rattle.metric_contents.specs.Encoding.{Given}
-use Rattle.metric_contents.specs.InOrder.{entries_after}
 use Rattle.metric_c.specs.Attributes.{attributes_from}
 use Rattle.metric_c.proofs.TakenLaws.{AreEntries}
 use Rattle.metric_c.proofs.in_order.set_in_order.Given as goal
