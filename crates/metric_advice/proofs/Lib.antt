@@ -3,7 +3,6 @@ mod Headers
 mod Lists
 pub mod Mapped
 mod Numbers
-mod Overs
 mod Refusing
 mod Rooms
 mod Told

@@ -15,7 +15,7 @@ use Rattle.metric_advice.specs.declared.limit.Limit.{Limit}
 use Rattle.metric_advice.specs.declared.limit.Limit.TheVariants.{Count, Amount, SumLow, SumHigh, Series}
 use Rattle.metric_advice.specs.Edges.{IsEdge, IsMost}
 use Rattle.metric_advice.specs.Headrooms.{IsHeadroom, IsOwnHeadroom, most_by_series, tightened, tightened_at}
-use Rattle.metric_advice.specs.Limits.{OwnFinds, OwnFindsAt, plain}
+use Rattle.metric_advice.specs.Limits.{OwnFinds, OwnFindsAt}
 use Rattle.metric_advice.proofs.EdgeLaws.{asked_edge, four_grouped, streams_edge, tightened_edge}
 
 -- the total stays
@@ -41,7 +41,7 @@ all-total contents i h (s ∷ streams) = all-total contents i (tightened_at cont
 -- an instrument's own numbers
 pub own_edge : (h : Headroom) (summed : Type 0) (instrument : Instrument) (amount low high : Option ℕ) → h.most ≡ 2 ^ 64 - 1 → h.limit ≡ Count
     → IsMost (λ t. AmountsFit t instrument) amount → IsMost (λ t. summed → LowFits t instrument) low → IsMost (λ t. summed → HighFits t instrument) high
-    → IsEdge (λ t. OwnFinds plain t summed instrument)
+    → IsEdge (λ t. OwnFinds t summed instrument)
     (tightened (tightened (tightened h amount Amount) low SumLow) high SumHigh).most (tightened (tightened (tightened h amount Amount) low SumLow) high SumHigh).limit
 own_edge h summed instrument amount low high most limit amounts lows highs =
     let one : IsEdge (λ t. Asks (CountsFit t) Count) (2 ^ 64 - 1) Count =
@@ -61,12 +61,12 @@ own_edge h summed instrument amount low high most limit amounts lows highs =
 
 -- the own numbers of the instrument of a number
 pub own_at : (contents : Contents) (streams : List Stream) (n : ℕ) (summed : Bool) (i : Instrument) (h : Headroom) → slice_get contents.instruments n ≡ Some i
-    → h.total ≡ total_of contents n → summed ≡ is_summed streams n → IsEdge (λ t. OwnFinds plain t (IsTrue summed) i) h.most h.limit → IsOwnHeadroom contents streams n h
+    → h.total ≡ total_of contents n → summed ≡ is_summed streams n → IsEdge (λ t. OwnFinds t (IsTrue summed) i) h.most h.limit → IsOwnHeadroom contents streams n h
 own_at contents streams n summed i h at total flag edge = record {
   total = total;
   edge =
-      subst (λ (o : Option Instrument). IsEdge (λ t. WhereThere (OwnFinds plain t (IsTrue (is_summed streams n))) o) h.most h.limit) (sym at)
-      (subst (λ (b : Bool). IsEdge (λ t. OwnFinds plain t (IsTrue b) i) h.most h.limit) flag edge);
+      subst (λ (o : Option Instrument). IsEdge (λ t. WhereThere (OwnFinds t (IsTrue (is_summed streams n))) o) h.most h.limit) (sym at)
+      (subst (λ (b : Bool). IsEdge (λ t. OwnFinds t (IsTrue b) i) h.most h.limit) flag edge);
 }
 
 -- with its streams

@@ -9,5 +9,4 @@ pub mod Said
 pub mod Unused
 pub mod Collected
 pub mod Remarks
-pub mod UnsafeParts
 pub mod Kinds

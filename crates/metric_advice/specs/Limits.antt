@@ -18,12 +18,12 @@ use Rattle.metric_advice.specs.declared.limit.Limit.TheVariants.{Series}
 -- Of an instrument first whether its counts, the amount of its values, its least and its greatest
 -- sum fit, then of each of its streams whether its series are within the limit: the first that
 -- fails.
-abbrev pub OwnFinds : {F : Type 0} → (Limit → F) → ℕ → Type 0 → Instrument → Option F → Type 0
-OwnFinds told total summed instrument =
-    Then (Asks (CountsFit total) (told Count))
-    (Then (Asks (AmountsFit total instrument) (told Amount))
-    (Then (Asks (summed → LowFits total instrument) (told SumLow))
-    (Asks (summed → HighFits total instrument) (told SumHigh))))
+abbrev pub OwnFinds : ℕ → Type 0 → Instrument → Option Limit → Type 0
+OwnFinds total summed instrument =
+    Then (Asks (CountsFit total) Count)
+    (Then (Asks (AmountsFit total instrument) Amount)
+    (Then (Asks (summed → LowFits total instrument) SumLow)
+    (Asks (summed → HighFits total instrument) SumHigh)))
 
 -- Where the stream is of the instrument of this number, which is recorded so often,
 -- its series are within its limit.
@@ -36,13 +36,9 @@ abbrev pub StreamFinds : Contents → ℕ → ℕ → ℕ × Stream → Option L
 StreamFinds contents instrument total stream =
     Asks (SeriesFit contents instrument total stream.1) (Series stream.0)
 
--- the limit itself
-abbrev pub plain : Limit → Limit
-plain limit = limit
-
 abbrev pub OwnFindsAt : Contents → List Stream → ℕ → ℕ → Option Limit → Type 0
 OwnFindsAt contents streams instrument total =
-    WhereThere (OwnFinds plain total (IsTrue (is_summed streams instrument)))
+    WhereThere (OwnFinds total (IsTrue (is_summed streams instrument)))
     (slice_get contents.instruments instrument)
 
 -- what is found of the instrument of a number that is recorded so often: of its own

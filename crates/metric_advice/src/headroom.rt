@@ -9,7 +9,7 @@ ghost use Rattle.metric_bounds.specs.Safe.{AmountsFit, HighFits, LowFits};
 ghost use Rattle.metric_advice.specs.declared.headroom.Headroom.{Headroom as Room};
 ghost use Rattle.metric_advice.specs.Edges.{IsEdge, IsMost};
 ghost use Rattle.metric_advice.specs.Headrooms.{IsHeadroom, IsOwnHeadroom, above, below, most_by_series, tightened, tightened_at};
-ghost use Rattle.metric_advice.specs.Limits.{OwnFinds, plain};
+ghost use Rattle.metric_advice.specs.Limits.{OwnFinds};
 
 use crate::limit::Limit;
 use metric_base::Items;
@@ -104,7 +104,7 @@ fn headrooms_with(
 fn headroom_of(total: u128, instrument: &Instrument, is_summed: bool) -> Headroom
     requires { instrument.now.lo ≤ℤ instrument.now.hi }
     ensures total { result.total ≡ total }
-    ensures edge { IsEdge (λ count. OwnFinds plain count (IsTrue is_summed) instrument.now)
+    ensures edge { IsEdge (λ count. OwnFinds count (IsTrue is_summed) instrument.now)
         result.most result.limit }
 {
     let mut headroom = Headroom {
@@ -133,7 +133,7 @@ impl Headroom {
 }
 
 // At how many recordings no two sums are 2^64 or more apart.
-pub(crate) fn most_by_amount(instrument: &Instrument) -> Option<u64>
+fn most_by_amount(instrument: &Instrument) -> Option<u64>
     requires { instrument.now.lo ≤ℤ instrument.now.hi }
     ensures { IsMost (λ count. AmountsFit count instrument.now) result }
 {
@@ -141,7 +141,7 @@ pub(crate) fn most_by_amount(instrument: &Instrument) -> Option<u64>
 }
 
 // At how many recordings no sum is below the least i64, where sums are kept.
-pub(crate) fn most_by_low(instrument: &Instrument, is_summed: bool) -> Option<u64>
+fn most_by_low(instrument: &Instrument, is_summed: bool) -> Option<u64>
     ensures { IsMost (λ count. IsTrue is_summed → LowFits count instrument.now) result }
 {
     if !is_summed {
@@ -151,7 +151,7 @@ pub(crate) fn most_by_low(instrument: &Instrument, is_summed: bool) -> Option<u6
 }
 
 // At how many recordings no sum is above the greatest i64, where sums are kept.
-pub(crate) fn most_by_high(instrument: &Instrument, is_summed: bool) -> Option<u64>
+fn most_by_high(instrument: &Instrument, is_summed: bool) -> Option<u64>
     ensures { IsMost (λ count. IsTrue is_summed → HighFits count instrument.now) result }
 {
     if !is_summed {
@@ -221,7 +221,7 @@ fn tighten_one(all: &mut [Headroom], instrument: u32, most: Option<u64>, limit: 
 }
 
 // At how many recordings the series of a stream are within its limit.
-pub(crate) fn most_by_series(
+fn most_by_series(
     alloc: Global,
     catalogue: &Catalogue,
     stream: &Stream,

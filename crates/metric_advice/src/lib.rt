@@ -1,8 +1,8 @@
 //! What an operator and a service want to know before they run: how often each instrument may be recorded, what looks like a
-//! mistake in a catalogue and a config, which part of safety fails, what a refusal is about, and where a fault stands in its text.
+//! mistake in a catalogue and a config, what a refusal is about, and where a fault stands in its text.
 //!
-//! `specs/Limits.antt` and `specs/Headrooms.antt` say what a headroom is, `specs/Remarks.antt` what is remarked,
-//! `specs/UnsafeParts.antt` which part of safety fails first, and `specs/Explanations.antt` what a refusal is about.
+//! `specs/Limits.antt` and `specs/Headrooms.antt` say what a headroom is, `specs/Remarks.antt` what is remarked, and
+//! `specs/Explanations.antt` what a refusal is about.
 #![tactic(auto)]
 
 mod collected;
@@ -15,7 +15,6 @@ mod position;
 mod remark;
 mod said;
 mod selected;
-mod unsafe_part;
 mod unused;
 mod values;
 
@@ -25,4 +24,3 @@ pub use limit::Limit;
 pub use linting::{lint, remark_of};
 pub use position::{Position, locate_in_catalogue, locate_in_config};
 pub use remark::{KeyList, Remark, is_kind};
-pub use unsafe_part::{UnsafePart, explain_unsafe};

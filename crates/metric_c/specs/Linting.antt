@@ -16,8 +16,7 @@ use Rattle.metric_c.specs.Texts.{AnswersText}
 
 -- a remark on what was read stands at this place of some file
 abbrev pub StandsIn : Pair → Remark → List ℕ → Option Position → Type 0
-StandsIn pair remark file position =
-    RemarkStands pair.catalogue_source.text.now pair.config_source.text.now remark position
+StandsIn pair remark file position = RemarkStands pair remark position
 
 -- A line with some words on a remark, with the file and the place in which it stands.
 pub record IsRemarkLine (pair : Pair) (remark : Remark) (line : List ℕ) : Type 0 where

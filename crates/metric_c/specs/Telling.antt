@@ -4,7 +4,8 @@ use Rattle.metric_text.specs.Lists.{numbered}
 use Rattle.metric_advice.specs.declared.position.Position.{Position}
 use Rattle.metric_diagnosis.specs.declared.sources.Pair.{Pair}
 use Rattle.metric_diagnosis.specs.Marks.{StandsInCatalogue, StandsInConfig}
-use Rattle.metric_diagnosis.specs.Unsafe.{PartStands}
+use Rattle.metric_diagnosis.specs.Places.{PartStands}
+use Rattle.metric_make.specs.declared.fault.MakeFault.{MakeFault}
 use Rattle.metric_setup.specs.declared.fault.SetupFault.{SetupFault}
 use Rattle.metric_setup.specs.declared.fault.SetupFault.TheVariants as faults
 use Rattle.metric_c.specs.Pairs.{IsPair}
@@ -33,10 +34,11 @@ abbrev pub InFile : List ℕ → (Option Position → Type 0) → List ℕ → O
 InFile name Stands file position = (file ≡ name) × Stands position
 
 -- The part of safety that fails first of what the texts are stands there.
-pub record IsUnsafeAt (catalogue config file : List ℕ) (position : Option Position) : Type 0 where
+pub record IsUnsafeAt (catalogue config : List ℕ) (fault : MakeFault) (file : List ℕ)
+    (position : Option Position) : Type 0 where
   pub pair : Pair
   pub is : IsPair catalogue config pair
-  pub stands : PartStands pair position
+  pub stands : PartStands pair fault position
 
 -- # told fault (profile) [TellsFault, Tells]
 -- The file that the fault is of, the place of its field where that is found, and words.
@@ -45,7 +47,8 @@ TellsFault catalogue config (faults.Catalogue fault) text =
     Tells (InFile (codes "catalogue") (StandsInCatalogue catalogue fault)) text
 TellsFault catalogue config (faults.Config fault) text =
     Tells (InFile (codes "config") (StandsInConfig config fault)) text
-TellsFault catalogue config (faults.Unsafe fault) text = Tells (IsUnsafeAt catalogue config) text
+TellsFault catalogue config (faults.Unsafe fault) text =
+    Tells (IsUnsafeAt catalogue config fault) text
 TellsFault catalogue config (faults.Certificate fault) text =
     Tells (λ file position. file ≡ codes "certificate") text
 TellsFault catalogue config (faults.Check fault) text =

@@ -54,7 +54,7 @@ fn told_unsafe(
     config: &str,
     fault: MakeFault,
 ) -> Result<Vec<u8>, AllocError>
-    ensures { IfOk result (λ text. Tells (IsUnsafeAt catalogue.now config.now) text.items) }
+    ensures { IfOk result (λ text. Tells (IsUnsafeAt catalogue.now config.now fault) text.items) }
 {
     match fault {
         MakeFault::Memory => Err(AllocError),
@@ -70,7 +70,7 @@ fn told_part(
     fault: MakeFault,
 ) -> Result<Vec<u8>, AllocError>
     requires { fault ≢ MakeFault.Memory }
-    ensures { IfOk result (λ text. Tells (IsUnsafeAt catalogue.now config.now) text.items) }
+    ensures { IfOk result (λ text. Tells (IsUnsafeAt catalogue.now config.now fault) text.items) }
 {
     let Ok(declared) = declared_of(alloc, catalogue, config) else {
         return Err(AllocError);

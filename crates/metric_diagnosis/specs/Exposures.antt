@@ -1,29 +1,18 @@
 -- Where a fault stands that keeps a stream from a way out.
 use Rattle.std.specs.Prelude.{◌≡◌, ℕ, List, Option, Some, None, slice_get}
-use Rattle.std.specs.Option.{option_map}
-use Rattle.metric_catalogue.specs.declared.fault.CataloguePlace.TheVariants.{Instrument}
-use Rattle.metric_views.specs.declared.fault.ConfigPlace.TheVariants.{Top, Reader, View}
+use Rattle.metric_views.specs.declared.fault.ConfigPlace.TheVariants.{Top, Reader}
 use Rattle.metric_views.specs.declared.stream.Stream.{Stream}
 use Rattle.metric_advice.specs.declared.position.Position.{Position}
 use Rattle.metric_exposure.specs.declared.fault.ExposureFault.{ExposureFault}
 use Rattle.metric_exposure.specs.declared.fault.ExposureFault.TheVariants as faults
 use Rattle.metric_diagnosis.specs.declared.places.Place.{Place}
-use Rattle.metric_diagnosis.specs.declared.places.Place.TheVariants.{Catalogue, Config}
-use Rattle.metric_diagnosis.specs.Places.{standing}
+use Rattle.metric_diagnosis.specs.declared.places.Place.TheVariants.{Config}
+use Rattle.metric_diagnosis.specs.Places.{place_of_stream, standing}
 
 -- the reader of a stream
 abbrev pub place_of_reader : Option Stream → Place
 place_of_reader None = Config Top
 place_of_reader (Some stream) = Config (Reader stream.reader)
-
-abbrev pub place_by : Option ℕ → ℕ → Place
-place_by None instrument = Catalogue (Instrument instrument)
-place_by (Some view) instrument = Config (View view)
-
--- the view of a stream, else its instrument
-abbrev pub place_of_stream : Option Stream → Place
-place_of_stream None = Config Top
-place_of_stream (Some stream) = place_by stream.view stream.instrument
 
 -- the table that a fault is about: of a stream that is a delta its reader
 abbrev pub place_of : List Stream → ExposureFault → Place

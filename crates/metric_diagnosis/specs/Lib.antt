@@ -1,4 +1,3 @@
 pub mod Exposures
-pub mod Places
-pub mod Unsafe
 pub mod Marks
+pub mod Places

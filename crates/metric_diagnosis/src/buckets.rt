@@ -1,7 +1,10 @@
 //! Buckets that tell nothing.
-use crate::exposures::place_of_stream;
+ghost use Rattle.std.specs.Prelude.{◌≡◌, IfOk, slice_get};
+ghost use Rattle.metric_diagnosis.specs.Places.{place_of_stream, streams_in};
+
 use crate::places::{Place, told};
 use crate::sources::Pair;
+use crate::stream_places::stream_place;
 use crate::told::told_stream;
 use metric_contents::Instrument;
 use metric_resolve::resolve_streams;
@@ -13,11 +16,14 @@ pub(crate) fn told_bucket(
     alloc: Global,
     pair: Pair<'_>,
     number: u32,
-) -> Result<(Place, String), AllocError> {
+) -> Result<(Place, String), AllocError>
+    ensures { IfOk result (λ told. told.0
+        ≡ place_of_stream (slice_get (streams_in pair.entry) number)) }
+{
     let streams = resolve_streams(alloc, pair.catalogue, pair.config)?;
     let stream = streams.as_slice().get(number as usize);
     told(
-        place_of_stream(stream),
+        stream_place(streams.as_slice(), number),
         words_of(alloc, pair, number, stream),
     )
 }

@@ -1,14 +1,14 @@
 //! What a person is told of a stream that a way out would lose.
 ghost use Rattle.std.specs.Prelude.{◌≡◌, IfOk};
 ghost use Rattle.std.specs.Option.{option_map};
-ghost use Rattle.metric_diagnosis.specs.Exposures.{ExposureStands, place_of, place_of_reader, place_of_stream};
+ghost use Rattle.metric_diagnosis.specs.Exposures.{ExposureStands, place_of, place_of_reader};
 
 use crate::diagnosis::Diagnosis;
 use crate::places::{Place, position_of, source_of};
 use crate::shown::Quoted;
 use crate::sources::Pair;
+use crate::stream_places::place_of_stream;
 use crate::told::told_stream;
-use metric_catalogue::CataloguePlace;
 use metric_exposure::{ExposureFault, Outlet};
 use metric_family::{family_of, label_of};
 use metric_views::{ConfigPlace, Stream};
@@ -58,19 +58,6 @@ fn place_of_reader(stream: Option<&Stream>) -> Place
     match stream {
         Some(stream) => Place::Config(ConfigPlace::Reader(stream.reader)),
         None => TOP,
-    }
-}
-
-// The view of a stream, else its instrument.
-pub(crate) fn place_of_stream(stream: Option<&Stream>) -> Place
-    ensures { result ≡ place_of_stream (option_map (λ s. s.now) stream.entry) }
-{
-    let Some(stream) = stream else {
-        return TOP;
-    };
-    match stream.view {
-        Some(view) => Place::Config(ConfigPlace::View(view)),
-        None => Place::Catalogue(CataloguePlace::Instrument(stream.instrument)),
     }
 }
 

@@ -19,7 +19,7 @@
 //!       | ^
 //! ```
 //!
-//! `specs/Marks.antt`, `specs/Places.antt` and `specs/Unsafe.antt` say where a fault stands; what the words say, no contract does.
+//! `specs/Marks.antt`, `specs/Places.antt` and `specs/Exposures.antt` say where a fault stands; what the words say, no contract does.
 #![tactic(auto)]
 
 mod buckets;
@@ -48,6 +48,7 @@ mod shown;
 mod site;
 mod sources;
 mod spot;
+mod stream_places;
 mod tables;
 mod told;
 mod toml_fault;

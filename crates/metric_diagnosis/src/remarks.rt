@@ -1,6 +1,6 @@
 //! What a person is told of a remark.
 ghost use Rattle.std.specs.Prelude.{◌≡◌, IfOk};
-ghost use Rattle.metric_diagnosis.specs.Places.{IsAbout, RemarkStands};
+ghost use Rattle.metric_diagnosis.specs.Places.{RemarkStands, place_of_remark, streams_in};
 
 use crate::buckets::told_bucket;
 use crate::collected::{words_of_idle_reader, words_of_level};
@@ -28,8 +28,7 @@ pub fn diagnose_remark<'t>(
     remark: Remark,
 ) -> Result<Diagnosis<'t, Remark>, AllocError>
     ensures fault { IfOk result (λ told. told.fault ≡ remark) }
-    ensures place { IfOk result (λ told. RemarkStands pair.entry.catalogue_source.text.now
-        pair.entry.config_source.text.now remark told.position) }
+    ensures place { IfOk result (λ told. RemarkStands pair.entry remark told.position) }
 {
     let (place, words) = told_of(alloc, pair, remark)?;
     let position = position_of(alloc, pair, place)?;
@@ -37,7 +36,8 @@ pub fn diagnose_remark<'t>(
 }
 
 fn told_of(alloc: Global, pair: Pair<'_>, remark: Remark) -> Result<(Place, String), AllocError>
-    ensures { IfOk result (λ told. IsAbout remark told.0) }
+    ensures { IfOk result (λ told. told.0
+        ≡ place_of_remark (streams_in pair.entry) remark) }
 {
     match remark {
         Remark::Unfit { view, instrument } => told(

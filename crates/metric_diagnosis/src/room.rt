@@ -1,23 +1,27 @@
 //! How often an instrument may be recorded, and why not more often.
+ghost use Rattle.std.specs.Prelude.{◌≡◌, IfOk, slice_get};
+ghost use Rattle.metric_diagnosis.specs.Places.{place_of_series, streams_in};
+
 use crate::cause::Named;
 use crate::places::{Place, told};
 use crate::sentence::{write_one, write_two};
 use crate::sources::Pair;
+use crate::stream_places::series_place;
 use crate::told::{ToldStream, instrument_of, told_stream};
 use metric_advice::{Headroom, Limit, headrooms, sets_of};
 use metric_bounds::{amount, high, low};
 use metric_contents::Instrument;
 use metric_resolve::resolve_streams;
-use metric_views::{ConfigPlace, Stream};
+use metric_views::Stream;
 use std::alloc::{AllocError, Global};
 use std::fmt;
 
-// What is told of an instrument whose budgets are together more than is safe for this reason, or by its headroom.
+// What is told of an instrument whose budgets are together more than is safe for this reason.
 pub(crate) fn told_room(
     alloc: Global,
     pair: Pair<'_>,
     number: u32,
-    reason: Option<Limit>,
+    reason: Limit,
 ) -> Result<String, AllocError> {
     let named = instrument_of(pair.catalogue, number);
     let rooms = headrooms(alloc, pair.catalogue, pair.config)?;
@@ -35,11 +39,11 @@ fn words_of_room(
     alloc: Global,
     named: Named<'_>,
     room: Headroom,
-    reason: Option<Limit>,
+    reason: Limit,
     instrument: &Instrument,
 ) -> Result<String, AllocError> {
-    let Headroom { total, most, limit } = room;
-    let why = why_of(total, reason.unwrap_or(limit), instrument);
+    let Headroom { total, most, .. } = room;
+    let why = why_of(total, reason, instrument);
     format!(in alloc;
         "{named}: its budgets and its spare are {total} recordings together, and at most {most} are safe: {why}"
     )
@@ -115,35 +119,16 @@ pub(crate) fn told_series(
     pair: Pair<'_>,
     instrument: u32,
     number: u32,
-) -> Result<(Place, String), AllocError> {
+) -> Result<(Place, String), AllocError>
+    ensures { IfOk result (λ told. told.0
+        ≡ place_of_series (slice_get (streams_in pair.entry) number)) }
+{
     let streams = resolve_streams(alloc, pair.catalogue, pair.config)?;
-    told_stream_of(
-        alloc,
-        pair,
-        instrument,
-        number,
-        streams.as_slice().get(number as usize),
+    let stream = streams.as_slice().get(number as usize);
+    told(
+        series_place(streams.as_slice(), number),
+        words_of_series(alloc, pair, instrument, number, stream),
     )
-}
-
-// The same of the stream of a number, where there is one.
-fn told_stream_of(
-    alloc: Global,
-    pair: Pair<'_>,
-    instrument: u32,
-    number: u32,
-    stream: Option<&Stream>,
-) -> Result<(Place, String), AllocError> {
-    match stream {
-        Some(stream) => told(
-            place_of(stream),
-            words_of_series(alloc, pair, instrument, number, stream),
-        ),
-        None => told(
-            place_of_reader(0),
-            format!(in alloc; "stream {number} may have more series than its limit"),
-        ),
-    }
 }
 
 fn words_of_series(
@@ -151,8 +136,11 @@ fn words_of_series(
     pair: Pair<'_>,
     instrument: u32,
     number: u32,
-    stream: &Stream,
+    stream: Option<&Stream>,
 ) -> Result<String, AllocError> {
+    let Some(stream) = stream else {
+        return format!(in alloc; "stream {number} may have more series than its limit");
+    };
     let told = told_stream(alloc, pair, number, stream)?;
     let sets = sets_of(alloc, pair.catalogue, stream)?;
     let limit = stream.limit;
@@ -160,16 +148,4 @@ fn words_of_series(
     format!(in alloc;
         "{told} may have {sets} sets of attributes, and its limit is {limit}: raise it, keep fewer keys, or lower the budgets and the spare of {named} to {limit} recordings together"
     )
-}
-
-// The view of a stream, else its reader.
-fn place_of(stream: &Stream) -> Place {
-    match stream.view {
-        Some(view) => Place::Config(ConfigPlace::View(view)),
-        None => place_of_reader(stream.reader),
-    }
-}
-
-fn place_of_reader(reader: u32) -> Place {
-    Place::Config(ConfigPlace::Reader(reader))
 }

@@ -15,7 +15,24 @@ use Rattle.metric_resolve.specs.Unfit.{is_unfit_with, unfit_of, unfit_of_view, u
 use Rattle.metric_resolve.specs.declared.warning.Warning.{Warning}
 use Rattle.metric_resolve.specs.declared.warning.Warning.TheVariants as warnings
 use Rattle.metric_bounds.specs.Safe.{AreDistinct}
-use Rattle.metric_make.specs.Making.{IsNamed, is_collision}
+use Rattle.metric_make.specs.declared.fault.MakeFault.{MakeFault}
+use Rattle.metric_make.specs.Finding.{first_collision}
+use Rattle.metric_make.specs.Making.{IsNamed}
+
+abbrev pub is_collision : Warning → Bool
+is_collision (warnings.Collision a b) = true
+is_collision (warnings.Unfit view instrument) = false
+
+-- the first collision among warnings
+pub some_collision : (ws : List Warning) (fault : MakeFault) → first_collision ws ≡ Some fault → list_any is_collision ws ≡ true
+some_collision [] fault e = absurd cc
+some_collision (warnings.Collision a b ∷ ws) fault e = refl
+some_collision (warnings.Unfit view instrument ∷ ws) fault e = some_collision ws fault e
+
+pub no_collision : (ws : List Warning) → first_collision ws ≡ None → list_any is_collision ws ≡ false
+no_collision [] e = refl
+no_collision (warnings.Collision a b ∷ ws) e = absurd cc
+no_collision (warnings.Unfit view instrument ∷ ws) e = no_collision ws e
 
 -- No view that does not fit is a collision.
 flat_none : {X A : Type 0} (p : A → Bool) (f : X → List A) → ((x : X) → list_any p (f x) ≡ false) → (xs : List X) → list_any p (flat_map f xs) ≡ false

@@ -10,9 +10,10 @@ use Rattle.metric_bounds.specs.First.{Asks, Reports}
 use Rattle.metric_bounds.specs.Safe.{SetsFit}
 use Rattle.metric_bounds.specs.Sets.{count_or, listed_of, product_of, sets_of}
 use Rattle.metric_make.specs.declared.fault.MakeFault.{MakeFault}
-use Rattle.metric_make.specs.declared.fault.MakeFault.TheVariants.{LimitExceeded, Memory}
+use Rattle.metric_make.specs.declared.fault.MakeFault.TheVariants.{Memory}
 use Rattle.metric_cert.specs.declared.stream.By.TheVariants as by
 use Rattle.metric_cert.specs.declared.stream.StreamSets.{StreamSets}
+use Rattle.metric_make.specs.Finding.{limit_exceeded}
 use Rattle.metric_make.specs.Making.{entry_by_list, entry_of, entry_past, entry_with}
 use Rattle.metric_cert.specs.Valid.{IsEntryOf}
 
@@ -73,14 +74,14 @@ pub fits_past : (contents : Contents) (stream : Stream) → stream.limit < produ
 fits_past contents stream past none fit = omega (arith, sets_past contents stream past none, fit)
 
 -- what is found by the budgets, where neither the product nor a list is within the limit
-pub budget_reports : (contents : Contents) (stream : Stream) (total : ℕ) (r : Result StreamSets MakeFault) → stream.limit < product_of contents stream
+pub budget_reports : (contents : Contents) (number : ℕ) (stream : Stream) (total : ℕ) (r : Result StreamSets MakeFault) → stream.limit < product_of contents stream
     → entry_by_list stream (listed_of contents stream) ≡ None → total ≡ total_of contents stream.instrument
-    → r ≡ (if nat_le total stream.limit then Ok (entry_with stream by.Budget total) else Err LimitExceeded)
-    → Reports Memory (Asks (SetsFit contents stream) LimitExceeded) r
-budget_reports contents stream total r past none is given = choose (nat_le total stream.limit) refl given
+    → r ≡ (if nat_le total stream.limit then Ok (entry_with stream by.Budget total) else Err (limit_exceeded number stream))
+    → Reports Memory (Asks (SetsFit contents stream) (limit_exceeded number stream)) r
+budget_reports contents number stream total r past none is given = choose (nat_le total stream.limit) refl given
   where
-    choose : (b : Bool) → nat_le total stream.limit ≡ b → r ≡ (if b then Ok (entry_with stream by.Budget total) else Err LimitExceeded)
-        → Reports Memory (Asks (SetsFit contents stream) LimitExceeded) r
+    choose : (b : Bool) → nat_le total stream.limit ≡ b → r ≡ (if b then Ok (entry_with stream by.Budget total) else Err (limit_exceeded number stream))
+        → Reports Memory (Asks (SetsFit contents stream) (limit_exceeded number stream)) r
     choose true e given = rw given (budget_fits contents stream total is (leb-true total stream.limit e))
     choose false e given =
         let above = leb-false total stream.limit e in

@@ -6,4 +6,5 @@ mod Collided
 mod Rising
 mod Entries
 mod Formatted
+mod Forgotten
 mod MadeValid

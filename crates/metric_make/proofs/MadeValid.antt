@@ -15,7 +15,6 @@ use Rattle.metric_views.specs.declared.config.View.{View}
 use Rattle.metric_views.specs.declared.stream.Stream.{Stream}
 use Rattle.metric_resolve.specs.Applying.{meter_at}
 use Rattle.metric_resolve.specs.Resolved.{streams_of}
-use Rattle.metric_bounds.specs.Finding.{InstrumentsFind, LimitsFind, SafetyFinds}
 use Rattle.metric_bounds.specs.FindingLaws.{SafetyFinds-IsSingle, none_from_safe, safe_from_none}
 use Rattle.metric_bounds.specs.First.{Reports, Then}
 use Rattle.metric_bounds.specs.Safe.{AreDistinct, IsSafe, SetsFit}
@@ -28,10 +27,12 @@ use Rattle.metric_cert.specs.declared.reason.Evidence.{Evidence}
 use Rattle.metric_cert.specs.declared.reason.Evidence.TheVariants.{Name}
 use Rattle.metric_cert.specs.declared.reason.SelectionReason.{SelectionReason}
 use Rattle.metric_cert.specs.declared.stream.StreamSets.{StreamSets}
-use Rattle.metric_make.specs.Making.{IsEvidenceBy, IsMade, IsMadeBy, IsMadeEvidence, IsMadeFor, IsMadeReason, IsMadeWith, entry_of, first_miss, make_faults, or_else}
+use Rattle.metric_make.specs.Finding.{InstrumentsFind, LimitsFind, UnsafeFinds}
+use Rattle.metric_make.specs.Making.{IsEvidenceBy, IsMade, IsMadeBy, IsMadeEvidence, IsMadeFor, IsMadeReason, IsMadeWith, entry_of, first_miss, or_else}
 use Rattle.metric_cert.specs.Criteria.{holds}
 use Rattle.metric_cert.specs.Valid.{Holds, IsEntryOf, IsReasonOf, IsTrueEvidence, IsTrueOf, IsValid, all_pairs, pattern_for}
 use Rattle.metric_make.proofs.Entries.{true_entry}
+use Rattle.metric_make.proofs.Forgotten.{forgotten, same_faults}
 use Rattle.metric_cert.specs.CriteriaLaws.{holds-Decides}
 use Rattle.metric_make.proofs.Pairs.{AllZip-mapped, AllZip-weaker}
 
@@ -132,34 +133,35 @@ pub record Answered (contents : Contents) (config : Config) (r : Result Claims M
   pub accepts : IsSafe contents config → IsOkUnless r Memory
 
 pub answered : (contents : Contents) (config : Config) (r : Result Claims MakeFault) → IfOk r (IsMade contents config)
-    → Reports Memory (SafetyFinds make_faults contents (streams_of contents config)) r → Answered contents config r
+    → Reports Memory (UnsafeFinds contents config) r → Answered contents config r
 answered contents config (Ok certificate) made found =
-    let safe = safe_from_none make_faults contents (streams_of contents config) found in
+    let safe = safe_from_none same_faults contents (streams_of contents config) (forgotten contents config None found) in
     record { valid = valid_of contents config certificate safe made; safe = safe; accepts = λ s. tt }
 answered contents config (Err fault) made found = record { valid = tt; safe = tt; accepts = λ safe. by fault (refused safe fault found) }
   where
-    refused : IsSafe contents config → (fault : MakeFault) → (fault ≢ Memory → SafetyFinds make_faults contents (streams_of contents config) (Some fault)) → (fault ≢ Memory) → ⊥
+    refused : IsSafe contents config → (fault : MakeFault) → (fault ≢ Memory → UnsafeFinds contents config (Some fault)) → (fault ≢ Memory) → ⊥
     refused safe fault found other =
-        (SafetyFinds-IsSingle make_faults contents (streams_of contents config)).alone fault (none_from_safe make_faults contents (streams_of contents config) safe) (found other)
+        (SafetyFinds-IsSingle same_faults contents (streams_of contents config)).alone true (none_from_safe same_faults contents (streams_of contents config) safe)
+        (forgotten contents config (Some fault) (found other))
 
     by : (fault : MakeFault) → (fault ≢ Memory → ⊥) → fault ≡ Memory
-    by Collision h = absurd (h (λ e. absurd cc))
-    by LimitExceeded h = absurd (h (λ e. absurd cc))
-    by SumLow h = absurd (h (λ e. absurd cc))
-    by SumHigh h = absurd (h (λ e. absurd cc))
-    by CountRange h = absurd (h (λ e. absurd cc))
-    by AmountRange h = absurd (h (λ e. absurd cc))
+    by (Collision first later) h = absurd (h (λ e. absurd cc))
+    by (LimitExceeded stream reader instrument) h = absurd (h (λ e. absurd cc))
+    by (SumLow instrument) h = absurd (h (λ e. absurd cc))
+    by (SumHigh instrument) h = absurd (h (λ e. absurd cc))
+    by (CountRange instrument) h = absurd (h (λ e. absurd cc))
+    by (AmountRange instrument) h = absurd (h (λ e. absurd cc))
     by Memory h = refl
 
 -- the same of the certificate for streams of distinct identities
 pub concluded : (contents : Contents) (config : Config) (streams : List Stream) (r : Result Claims MakeFault) → streams ≡ streams_of contents config → AreDistinct contents streams
-    → IfOk r (IsMadeFor contents config streams) → Reports Memory (Then (InstrumentsFind make_faults contents streams) (LimitsFind make_faults contents streams)) r
+    → IfOk r (IsMadeFor contents config streams) → Reports Memory (Then (InstrumentsFind contents streams) (LimitsFind contents streams)) r
     → Answered contents config r
 concluded contents config streams r is distinct made found =
     answered contents config r (subst (λ (s : List Stream). IfOk r (IsMadeFor contents config s)) is made)
-    (subst (λ (s : List Stream). Reports Memory (SafetyFinds make_faults contents s) r) is (whole r found))
+    (whole r (subst (AreDistinct contents) is distinct) (subst (λ (s : List Stream). Reports Memory (Then (InstrumentsFind contents s) (LimitsFind contents s)) r) is found))
   where
-    whole : (r : Result Claims MakeFault) → Reports Memory (Then (InstrumentsFind make_faults contents streams) (LimitsFind make_faults contents streams)) r
-        → Reports Memory (SafetyFinds make_faults contents streams) r
-    whole (Ok certificate) found = (distinct, found)
-    whole (Err fault) found = λ other. inr (distinct, found other)
+    whole : (r : Result Claims MakeFault) → AreDistinct contents (streams_of contents config)
+        → Reports Memory (Then (InstrumentsFind contents (streams_of contents config)) (LimitsFind contents (streams_of contents config))) r → Reports Memory (UnsafeFinds contents config) r
+    whole (Ok certificate) distinct found = (distinct, found)
+    whole (Err fault) distinct found = λ other. inr (distinct, found other)

@@ -8,30 +8,31 @@ use Rattle.metric_contents.specs.declared.contents.Instrument.{Instrument}
 use Rattle.metric_views.specs.declared.stream.Stream.{Stream}
 use Rattle.metric_resolve.specs.Applying.{all_instruments}
 use Rattle.metric_bounds.specs.Amounts.{total_of}
-use Rattle.metric_bounds.specs.Finding.{InstrumentFinds, NumberFinds, WhereThere}
+use Rattle.metric_bounds.specs.Finding.{WhereThere}
 use Rattle.metric_bounds.specs.Sums.{is_summed}
 use Rattle.metric_cert.specs.declared.bound.InstrumentBound.{InstrumentBound}
 use Rattle.metric_make.specs.declared.fault.MakeFault.{MakeFault}
-use Rattle.metric_make.specs.Making.{HasNumbers, make_faults}
+use Rattle.metric_make.specs.Finding.{NumberFinds, OwnFinds}
+use Rattle.metric_make.specs.Making.{HasNumbers}
 use Rattle.metric_cert.specs.Valid.{IsBoundAt, IsBoundOf}
 use Rattle.metric_make.proofs.Pairs.{AllZip-at}
 
 pub found_at : (contents : Contents) (streams : List Stream) (n total : ℕ) (summed : Bool) (i : Instrument) (found : Option MakeFault)
     → slice_get contents.instruments n ≡ Some i → total ≡ total_of contents n → summed ≡ is_summed streams n
-    → InstrumentFinds make_faults total (IsTrue summed) i found → NumberFinds make_faults contents streams n found
+    → OwnFinds n total (IsTrue summed) i found → NumberFinds contents streams n found
 found_at contents streams n total summed i found at is_total is_flag finds =
-    subst (λ (o : Option Instrument). WhereThere (InstrumentFinds make_faults (total_of contents n) (IsTrue (is_summed streams n))) o found) (sym at)
-    (subst (λ (b : Bool). InstrumentFinds make_faults (total_of contents n) (IsTrue b) i found) is_flag
-    (subst (λ (t : ℕ). InstrumentFinds make_faults t (IsTrue summed) i found) is_total finds))
+    subst (λ (o : Option Instrument). WhereThere (OwnFinds n (total_of contents n) (IsTrue (is_summed streams n))) o found) (sym at)
+    (subst (λ (b : Bool). OwnFinds n (total_of contents n) (IsTrue b) i found) is_flag
+    (subst (λ (t : ℕ). OwnFinds n t (IsTrue summed) i found) is_total finds))
 
 pub bound_at : (contents : Contents) (streams : List Stream) (n total : ℕ) (summed : Bool) (i : Instrument) (bound : InstrumentBound)
     → slice_get contents.instruments n ≡ Some i → total ≡ total_of contents n → summed ≡ is_summed streams n
-    → HasNumbers n total i bound → InstrumentFinds make_faults total (IsTrue summed) i None → IsBoundAt contents streams n bound
+    → HasNumbers n total i bound → OwnFinds n total (IsTrue summed) i None → IsBoundAt contents streams n bound
 bound_at contents streams n total summed i bound at is_total is_flag has finds =
     subst (λ (o : Option Instrument). IsSomeAnd o (λ instrument. IsBoundOf contents streams n instrument bound)) (sym at)
     (let own = subst (λ (t : ℕ). HasNumbers n t i bound) is_total has in
-    let safe = subst (λ (b : Bool). InstrumentFinds make_faults (total_of contents n) (IsTrue b) i None) is_flag
-    (subst (λ (t : ℕ). InstrumentFinds make_faults t (IsTrue summed) i None) is_total finds) in
+    let safe = subst (λ (b : Bool). OwnFinds n (total_of contents n) (IsTrue b) i None) is_flag
+    (subst (λ (t : ℕ). OwnFinds n t (IsTrue summed) i None) is_total finds) in
     record {
       numbered = own.numbered;
       total = own.total;

@@ -1,5 +1,5 @@
 -- How a certificate is made: which evidence, which numbers and which faults the maker chooses.
-use Rattle.std.specs.Prelude.{◌≡◌, ◌<◌, ℕ, pos, Bool, true, false, length, if◌then◌else◌, List}
+use Rattle.std.specs.Prelude.{◌≡◌, ◌<◌, ℕ, pos, Bool, length, if◌then◌else◌, List}
 use Rattle.std.specs.Prelude.{◌++◌, map, nat_le, Option, Some, None, slice_get, unwrap_or}
 use Rattle.std.specs.List.{AllZip}
 use Rattle.metric_glob.specs.Reasons.{Confirms}
@@ -14,17 +14,12 @@ use Rattle.metric_views.specs.declared.stream.Stream.{Stream}
 use Rattle.metric_cert.specs.Criteria.{holds}
 use Rattle.metric_resolve.specs.Applying.{all_instruments, all_readers, meter_at}
 use Rattle.metric_resolve.specs.Collisions.{Identity, identity_of}
-use Rattle.metric_resolve.specs.declared.warning.Warning.{Warning}
-use Rattle.metric_resolve.specs.declared.warning.Warning.TheVariants as warnings
 use Rattle.metric_resolve.specs.Resolved.{streams_of}
 use Rattle.metric_bounds.specs.Amounts.{amount_with, high_with, low_with, total_of}
-use Rattle.metric_bounds.specs.Finding.{SafetyFaults}
 use Rattle.metric_bounds.specs.Sets.{FlagsKeys, listed_of, product_of}
 use Rattle.metric_cert.specs.Valid.{IsBoundAt, IsOrderOf, all_pairs, pattern_for}
 use Rattle.metric_cert.specs.declared.bound.InstrumentBound.{InstrumentBound}
 use Rattle.metric_cert.specs.declared.claims.Claims.{Claims}
-use Rattle.metric_make.specs.declared.fault.MakeFault.{MakeFault}
-use Rattle.metric_make.specs.declared.fault.MakeFault.TheVariants as faults
 use Rattle.metric_cert.specs.declared.reason.Criterion.{Criterion}
 use Rattle.metric_cert.specs.declared.reason.Criterion.TheVariants.{InstrumentType, InstrumentUnit}
 use Rattle.metric_cert.specs.declared.reason.Criterion.TheVariants.{MeterName, MeterVersion}
@@ -35,17 +30,6 @@ use Rattle.metric_cert.specs.declared.reason.SelectionReason.{SelectionReason}
 use Rattle.metric_cert.specs.declared.stream.By.{By}
 use Rattle.metric_cert.specs.declared.stream.By.TheVariants as by
 use Rattle.metric_cert.specs.declared.stream.StreamSets.{StreamSets}
-
--- the faults by which the maker names what is not safe
-abbrev pub make_faults : SafetyFaults MakeFault
-make_faults = record {
-  collision = faults.Collision;
-  limit_exceeded = faults.LimitExceeded;
-  sum_low = faults.SumLow;
-  sum_high = faults.SumHigh;
-  count_range = faults.CountRange;
-  amount_range = faults.AmountRange;
-}
 
 abbrev pub or_else : Bool → Criterion → Option Criterion → Option Criterion
 or_else held criterion next = if held then next else Some criterion
@@ -173,7 +157,3 @@ pub record IsNamed (contents : Contents) (stream : Stream) : Type 0 where
   pub flags : FlagsKeys contents stream
   pub own : Identity
   pub is : identity_of contents stream ≡ Some own
-
-abbrev pub is_collision : Warning → Bool
-is_collision (warnings.Collision a b) = true
-is_collision (warnings.Unfit view instrument) = false

@@ -3,11 +3,11 @@ ghost use Rattle.std.specs.Prelude.{◌≡◌, ◌≤ℤ◌, pos, IfOk, IsTrue, 
 ghost use Rattle.std.specs.List.{AllZip};
 ghost use Rattle.std.specs.Result.{result_err};
 ghost use Rattle.metric_resolve.specs.Applying.{all_instruments};
-ghost use Rattle.metric_bounds.specs.Finding.{InstrumentFinds, InstrumentsFind};
 ghost use Rattle.metric_bounds.specs.Amounts.{amount_with, high_with, low_with, total_of};
 ghost use Rattle.metric_bounds.specs.First.{Asks, Reports};
 ghost use Rattle.metric_bounds.specs.Safe.{AmountsFit, CountsFit, HighFits, LowFits};
-ghost use Rattle.metric_make.specs.Making.{HasNumbers, make_faults};
+ghost use Rattle.metric_make.specs.Finding.{InstrumentsFind, OwnFinds};
+ghost use Rattle.metric_make.specs.Making.{HasNumbers};
 ghost use Rattle.metric_cert.specs.Valid.{IsBoundAt};
 
 use crate::fault::MakeFault;
@@ -28,7 +28,7 @@ pub(crate) fn bounds_of(
     ensures bounds { IfOk result
         (AllZip (IsBoundAt catalogue.now streams.now) (all_instruments catalogue.now)) }
     ensures found { Reports MakeFault.Memory
-        (InstrumentsFind make_faults catalogue.now streams.now) result }
+        (InstrumentsFind catalogue.now streams.now) result }
 {
     let totals = totals(alloc, catalogue)?;
     bounds_with(alloc, catalogue, streams, totals.as_slice())
@@ -45,7 +45,7 @@ fn bounds_with(
     ensures bounds { IfOk result
         (AllZip (IsBoundAt catalogue.now streams.now) (all_instruments catalogue.now)) }
     ensures found { Reports MakeFault.Memory
-        (InstrumentsFind make_faults catalogue.now streams.now) result }
+        (InstrumentsFind catalogue.now streams.now) result }
 {
     let summed = summed(alloc, streams, catalogue.instruments().len())?;
     let mut bounds = Items::new(alloc);
@@ -67,13 +67,12 @@ fn bound_of(
 ) -> Result<InstrumentBound, MakeFault>
     requires { instrument.now.lo ≤ℤ instrument.now.hi }
     ensures bound { IfOk result (HasNumbers number total instrument.now) }
-    ensures found { InstrumentFinds make_faults total (IsTrue summed) instrument.now
-        (result_err result) }
+    ensures found { OwnFinds number total (IsTrue summed) instrument.now (result_err result) }
 {
-    let total = count_of(total)?;
-    let amount = amount_of(total, instrument)?;
-    let low = low_of(total, instrument, summed)?;
-    let high = high_of(total, instrument, summed)?;
+    let total = count_of(number, total)?;
+    let amount = amount_of(number, total, instrument)?;
+    let low = low_of(number, total, instrument, summed)?;
+    let high = high_of(number, total, instrument, summed)?;
     Ok(InstrumentBound {
         instrument: number,
         total,
@@ -83,53 +82,58 @@ fn bound_of(
     })
 }
 
-fn count_of(total: u128) -> Result<u64, MakeFault>
+fn count_of(number: u32, total: u128) -> Result<u64, MakeFault>
     ensures count { IfOk result (λ count. count ≡ total) }
-    ensures found { Asks (CountsFit total) MakeFault.CountRange (result_err result) }
+    ensures found { Asks (CountsFit total) (MakeFault.CountRange number) (result_err result) }
 {
     if total < 1 << 64 {
         Ok(total as u64)
     } else {
-        Err(MakeFault::CountRange)
+        Err(MakeFault::CountRange { instrument: number })
     }
 }
 
-fn amount_of(total: u64, instrument: &Instrument) -> Result<u64, MakeFault>
+fn amount_of(number: u32, total: u64, instrument: &Instrument) -> Result<u64, MakeFault>
     requires { instrument.now.lo ≤ℤ instrument.now.hi }
     ensures amount { IfOk result
         (λ amount. pos amount ≡ amount_with total instrument.now.lo instrument.now.hi) }
-    ensures found { Asks (AmountsFit total instrument.now) MakeFault.AmountRange
+    ensures found { Asks (AmountsFit total instrument.now) (MakeFault.AmountRange number)
         (result_err result) }
 {
     let amount = amount(total, instrument.lo, instrument.hi);
     if amount < 1 << 64 {
         Ok(amount as u64)
     } else {
-        Err(MakeFault::AmountRange)
+        Err(MakeFault::AmountRange { instrument: number })
     }
 }
 
-fn low_of(total: u64, instrument: &Instrument, summed: bool) -> Result<i128, MakeFault>
+fn low_of(number: u32, total: u64, instrument: &Instrument, summed: bool) -> Result<i128, MakeFault>
     ensures low { IfOk result (λ low. low ≡ low_with total instrument.now.lo) }
-    ensures found { Asks (IsTrue summed → LowFits total instrument.now) MakeFault.SumLow
+    ensures found { Asks (IsTrue summed → LowFits total instrument.now) (MakeFault.SumLow number)
         (result_err result) }
 {
     let low = low(total, instrument.lo);
     if summed && !is_i64(low) {
-        Err(MakeFault::SumLow)
+        Err(MakeFault::SumLow { instrument: number })
     } else {
         Ok(low)
     }
 }
 
-fn high_of(total: u64, instrument: &Instrument, summed: bool) -> Result<i128, MakeFault>
+fn high_of(
+    number: u32,
+    total: u64,
+    instrument: &Instrument,
+    summed: bool,
+) -> Result<i128, MakeFault>
     ensures high { IfOk result (λ high. high ≡ high_with total instrument.now.hi) }
-    ensures found { Asks (IsTrue summed → HighFits total instrument.now) MakeFault.SumHigh
+    ensures found { Asks (IsTrue summed → HighFits total instrument.now) (MakeFault.SumHigh number)
         (result_err result) }
 {
     let high = high(total, instrument.hi);
     if summed && !is_i64(high) {
-        Err(MakeFault::SumHigh)
+        Err(MakeFault::SumHigh { instrument: number })
     } else {
         Ok(high)
     }

@@ -1,14 +1,13 @@
 //! Certificates of what is safe.
 ghost use Rattle.std.specs.Prelude.{◌≡◌, ◌≤◌, All, IfOk, IsOkUnless, length};
-ghost use Rattle.std.specs.List.{list_any};
 ghost use Rattle.std.specs.Result.{result_err};
 ghost use Rattle.metric_catalogue.specs.Sound.{IsSound};
-ghost use Rattle.metric_bounds.specs.Finding.{InstrumentsFind, LimitsFind, SafetyFinds};
-ghost use Rattle.metric_bounds.specs.First.{Asks, Reports, Then};
+ghost use Rattle.metric_bounds.specs.First.{Reports, Then};
 ghost use Rattle.metric_bounds.specs.Safe.{AreDistinct, IsSafe};
 ghost use Rattle.metric_resolve.specs.Resolved.{streams_of};
 ghost use Rattle.metric_resolve.specs.Warnings.{warnings_of};
-ghost use Rattle.metric_make.specs.Making.{IsMade, IsMadeFor, IsNamed, is_collision, make_faults};
+ghost use Rattle.metric_make.specs.Finding.{CollisionFinds, InstrumentsFind, LimitsFind, UnsafeFinds, first_collision};
+ghost use Rattle.metric_make.specs.Making.{IsMade, IsMadeFor, IsNamed};
 ghost use Rattle.metric_cert.specs.Valid.{IsValid};
 
 use crate::bounds::bounds_of;
@@ -24,7 +23,7 @@ use metric_resolve::{
 use metric_views::{Config, Stream};
 use std::alloc::{AllocError, Global};
 
-/// A certificate that a catalogue and a config are safe, or the first part of safety that fails: two
+/// A certificate that a catalogue and a config are safe, or the first part of safety that fails, with what it is about: two
 /// streams have one identity; then of each instrument `CountRange`, `AmountRange`, `SumLow` and `SumHigh`;
 /// then a stream may have more series than its limit.
 ///
@@ -35,8 +34,7 @@ use std::alloc::{AllocError, Global};
 pub fn make(alloc: Global, catalogue: &Catalogue, config: &Config) -> Result<Certificate, MakeFault>
     ensures valid { IfOk result (IsValid catalogue.now config.now) }
     ensures made { IfOk result (IsMade catalogue.now config.now) }
-    ensures found { Reports MakeFault.Memory
-        (SafetyFinds make_faults catalogue.now (streams_of catalogue.now config.now)) result }
+    ensures found { Reports MakeFault.Memory (UnsafeFinds catalogue.now config.now) result }
     ensures safe { IfOk result (λ _. IsSafe catalogue.now config.now) }
     ensures accepts { IsSafe catalogue.now config.now → IsOkUnless result MakeFault.Memory }
 {
@@ -63,24 +61,27 @@ fn are_distinct(catalogue: &Catalogue, config: &Config, resolved: &Streams) -> R
     requires list { resolved.now.list ≡ streams_of catalogue.now config.now }
     requires warnings { resolved.now.warnings ≡ warnings_of catalogue.now config.now }
     requires named { All (IsNamed catalogue.now) resolved.now.list }
-    ensures { Asks (AreDistinct catalogue.now resolved.now.list) MakeFault.Collision
+    ensures { CollisionFinds catalogue.now resolved.now.list resolved.now.warnings
         (result_err result) }
 {
     // What the warnings mean.
     collisions_are_of_one_identity();
-    if has_collision(resolved.warnings()) {
-        Err(MakeFault::Collision)
-    } else {
-        Ok(())
+    match first_collision(resolved.warnings()) {
+        Some(fault) => Err(fault),
+        None => Ok(()),
     }
 }
 
-fn has_collision(warnings: &[Warning]) -> bool
-    ensures { result ≡ list_any is_collision warnings.now }
+// The first collision of which there is a warning.
+fn first_collision(warnings: &[Warning]) -> Option<MakeFault>
+    ensures { result ≡ first_collision warnings.now }
 {
-    warnings
-        .iter()
-        .any(|warning| matches!(warning, Warning::Collision { .. }))
+    for warning in warnings {
+        if let Warning::Collision { a, b } = *warning {
+            return Some(MakeFault::Collision { first: a, later: b });
+        }
+    }
+    None
 }
 
 // The certificate for streams of distinct identities, part for part, or the first fault.
@@ -95,8 +96,8 @@ fn certificate_of(
     requires distinct { AreDistinct catalogue.now streams.now }
     ensures made { IfOk result (IsMadeFor catalogue.now config.now streams.now) }
     ensures found { Reports MakeFault.Memory
-        (Then (InstrumentsFind make_faults catalogue.now streams.now)
-        (LimitsFind make_faults catalogue.now streams.now)) result }
+        (Then (InstrumentsFind catalogue.now streams.now) (LimitsFind catalogue.now streams.now))
+        result }
 {
     let bounds = bounds_of(alloc, catalogue, streams)?;
     let entries = entries_of(alloc, catalogue, bounds.as_slice(), streams)?;

@@ -53,8 +53,8 @@
 //!    for some itself, until nothing is left ([`Refusal::NoSpare`]). The certificate vouches for the budgets and the spare
 //!    together.
 //! 8. **Files that are wrong.** [`lint`] gives a [`Remark`] on each thing in the files that looks like a mistake;
-//!    [`locate_in_catalogue`] and [`locate_in_config`] give the [`Position`] of a fault, and [`explain_unsafe`] the
-//!    [`UnsafePart`] for which there is no certificate. For people a [`Diagnosis`] says in one line where a fault is and why, with
+//!    [`locate_in_catalogue`] and [`locate_in_config`] give the [`Position`] of a fault, and a [`MakeFault`] has the streams or
+//!    the instrument for which there is no certificate. For people a [`Diagnosis`] says in one line where a fault is and why, with
 //!    an [`Excerpt`] of the text: [`diagnose_catalogue`] and [`diagnose_config`] of a [`NamedText`], [`diagnose_make`] and
 //!    [`diagnose_remark`] of a [`Pair`] of them, [`diagnose_certificate`] and [`diagnose_check`] of a certificate.
 //! 9. **By steps.** What `open` does: [`Catalogue::read`] and [`Config::read`], each up to its first fault, a
@@ -103,9 +103,7 @@ pub use metric_advice::Limit;
 pub use metric_advice::Mistake;
 pub use metric_advice::Position;
 pub use metric_advice::Remark;
-pub use metric_advice::UnsafePart;
 pub use metric_advice::explain_refusal;
-pub use metric_advice::explain_unsafe;
 pub use metric_advice::headrooms;
 pub use metric_advice::lint;
 pub use metric_advice::locate_in_catalogue;

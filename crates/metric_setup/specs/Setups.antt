@@ -9,11 +9,11 @@ use Rattle.metric_views.specs.declared.config.Setup.{Setup}
 use Rattle.metric_views.specs.declared.fault.ViewFault.{ViewFault}
 use Rattle.metric_views.specs.declared.stream.Stream.{Stream}
 use Rattle.metric_resolve.specs.Resolved.{streams_of}
-use Rattle.metric_bounds.specs.Finding.{SafetyFinds}
 use Rattle.metric_bounds.specs.Safe.{IsSafe}
 use Rattle.metric_bounds.specs.Sets.{product_of}
 use Rattle.metric_cert.specs.Certificates.{certificate_from}
-use Rattle.metric_make.specs.Making.{IsMade, make_faults}
+use Rattle.metric_make.specs.Finding.{UnsafeFinds}
+use Rattle.metric_make.specs.Making.{IsMade}
 use Rattle.metric_cert.specs.Valid.{IsValid}
 use Rattle.metric_cert.specs.declared.claims.Claims.{Claims as Certificate}
 use Rattle.metric_cert.specs.declared.fault.CertFault.{CertFault}
@@ -58,8 +58,7 @@ pub record IsFaultyConfig (catalogue config : List ℕ) (fault : ViewFault) : Ty
 
 -- This is the first part of safety that fails.
 abbrev pub IsUnsafe : Contents → Setup → MakeFault → Type 0
-IsUnsafe contents setup fault =
-    SafetyFinds make_faults contents (streams_of contents setup) (Some fault)
+IsUnsafe contents setup fault = UnsafeFinds contents setup (Some fault)
 
 -- The catalogue and the config are right, and not safe together.
 pub record IsUnsafeSetup (catalogue config : List ℕ) (fault : MakeFault) : Type 0 where

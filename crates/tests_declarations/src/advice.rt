@@ -1,11 +1,10 @@
 //! Headrooms, remarks, explanations and positions.
 use crate::asserted::{OrFail, assert_equal};
 use crate::declared::{Declared, read_both};
-use metric_advice::{
-    explain_refusal, explain_unsafe, headrooms, lint, locate_in_catalogue, locate_in_config,
-};
+use metric_advice::{explain_refusal, headrooms, lint, locate_in_catalogue, locate_in_config};
 use metric_catalogue::{Catalogue, CatalogueFault, CataloguePlace};
 use metric_contents::Attr;
+use metric_make::make;
 use metric_names::ValueRef;
 use metric_views::ConfigPlace;
 use std::alloc::{AllocError, Global};
@@ -231,38 +230,79 @@ budget = [{ instrument = 0, amount = 2 }]
 
 const ONE_READER: &str = "format = 1\n[[reader]]\nname = 'r'\n";
 
+// An instrument after one that is safe, whose values may be so far apart.
+const APART: &str = "
+format = 1
+[[meter]]
+name = 'm'
+[[meter.instrument]]
+name = 'first'
+kind = 'counter'
+range = [0, 1]
+[[meter.instrument]]
+name = 'second'
+kind = 'up_down_counter'
+range = [LOW, HIGH]
+[[recorder]]
+name = 'one'
+budget = [{ instrument = 0, amount = 9 }, { instrument = 1, amount = 9 }]
+";
+
 // A catalogue and a config, and the first part of safety that fails.
 const UNSAFE: &[(&str, &str, &str)] = &[
     (JOBS, ONE_READER, "None"),
     (
         JOBS,
-        "format = 1\n[[reader]]\nname = 'r'\nlimit = { counter = 3 }",
-        "Some(TooOften { instrument: 0, limit: Series { stream: 0 } })",
+        "format = 1\n[[reader]]\nname = 'p'\n[[reader]]\nname = 'r'\nlimit = { counter = 3 }",
+        "Some(LimitExceeded { stream: 3, reader: 1, instrument: 0 })",
     ),
     (
         JOBS,
         "format = 1\n[[reader]]\nname = 'r'\n[[view]]\ninstrument_name = 'level'\nstream_name = 'QUEUE'",
         "Some(Collision { first: 1, later: 2 })",
     ),
-    (
-        BUSY,
-        ONE_READER,
-        "Some(TooOften { instrument: 0, limit: Count })",
-    ),
+    (BUSY, ONE_READER, "Some(CountRange { instrument: 0 })"),
 ];
 
-fn unsafe_part<R: Abort>(rt: &R, alloc: Global, declared: &Declared) -> String {
-    let part = explain_unsafe(alloc, &declared.catalogue, &declared.config).or_fail(rt);
-    format!(in alloc; "{part:?}").or_fail(rt)
-}
+// The least and the greatest value of the second instrument, and the first part of safety that fails.
+const RANGES: &[(&str, &str, &str)] = &[
+    (
+        "-9000000000000000000",
+        "9000000000000000000",
+        "Some(AmountRange { instrument: 1 })",
+    ),
+    (
+        "-2000000000000000000",
+        "0",
+        "Some(SumLow { instrument: 1 })",
+    ),
+    (
+        "0",
+        "2000000000000000000",
+        "Some(SumHigh { instrument: 1 })",
+    ),
+    ("-1", "1", "None"),
+];
 
 fn told_unsafe<R: Abort>(rt: &R, alloc: Global, catalogue: &str, config: &str) -> String {
     let declared = read_both(rt, alloc, catalogue, config);
-    unsafe_part(rt, alloc, &declared)
+    let part = make(alloc, &declared.catalogue, &declared.config).err();
+    format!(in alloc; "{part:?}").or_fail(rt)
 }
 
 #[test]
-fn what_is_not_safe_is_explained(rt: HostRuntime) {
+fn what_is_not_safe_is_told_with_its_instrument(rt: HostRuntime) {
+    let alloc = rt.alloc();
+    for (low, high, wanted) in RANGES {
+        let text = APART.replace(alloc, "LOW", low).or_fail(&rt);
+        let text = text.replace(alloc, "HIGH", high).or_fail(&rt);
+        let told = told_unsafe(&rt, alloc, text.as_str(), ONE_READER);
+        assert_equal(&rt, told.as_str(), *wanted);
+    }
+}
+
+#[test]
+fn what_is_not_safe_is_told_with_its_numbers(rt: HostRuntime) {
     for (catalogue, config, wanted) in UNSAFE {
         let told = told_unsafe(&rt, rt.alloc(), catalogue, config);
         assert_equal(&rt, told.as_str(), *wanted);

@@ -4,7 +4,7 @@ use Rattle.metric_advice.specs.declared.headroom.Headroom.{Headroom}
 use Rattle.metric_advice.specs.declared.limit.Limit.TheVariants.{Count, Amount, SumLow, SumHigh}
 use Rattle.metric_advice.specs.Edges.{IsEdge}
 use Rattle.metric_advice.specs.Headrooms.{tightened}
-use Rattle.metric_advice.specs.Limits.{OwnFinds, plain}
+use Rattle.metric_advice.specs.Limits.{OwnFinds}
 use Rattle.metric_advice.proofs.Rooms.{own_edge, tightened-total}
 use Rattle.metric_advice.proofs.headroom.headroom_of.Goals as goal
 
@@ -24,5 +24,5 @@ returns-clause-edge c =
     let high = c.most_by_high.result in
     let is : c.tighten-3.new.self ≡ tightened (tightened (tightened start amount Amount) low SumLow) high SumHigh =
     c.tighten-3.ensures ∙ ap (λ (x : Headroom). tightened x high SumHigh) (c.tighten-2.ensures ∙ ap (λ (x : Headroom). tightened x low SumLow) c.tighten.ensures) in
-    subst (λ (x : Headroom). IsEdge (λ t. OwnFinds plain t summed c.args.instrument.now) x.most x.limit) (sym is)
+    subst (λ (x : Headroom). IsEdge (λ t. OwnFinds t summed c.args.instrument.now) x.most x.limit) (sym is)
     (own_edge start summed c.args.instrument.now amount low high refl refl c.most_by_amount.ensures c.most_by_low.ensures c.most_by_high.ensures)

@@ -12,5 +12,5 @@ returns-in-Some-clause-found c =
 pub returns-in-None-clause-found : goal.returns-in-None-clause-found
 returns-in-None-clause-found c =
     let stream = c.args.stream.now in
-    budget_reports c.args.catalogue.now stream c.args.total c.entry_by_budget.result c.requires.past
+    budget_reports c.args.catalogue.now c.args.number stream c.args.total c.entry_by_budget.result c.requires.past
     (ap (entry_by_list stream) (sym c.in_ok-listed.ensures) ∙ sym c.entry_by_list.ensures ∙ c.in-None.is) c.requires.total c.entry_by_budget.ensures
