@@ -29,27 +29,46 @@ fn says_nothing(view: &View) -> bool
     selects_all(&view.criteria) && changes_nothing(&view.settings)
 }
 
+// Each criterion is named, so that a new one is not left out unnoticed.
 fn selects_all(criteria: &Criteria) -> bool
     ensures { result ≡ selects_all criteria.now }
 {
-    criteria.instrument_name.is_none()
-        && criteria.instrument_type.is_none()
-        && criteria.instrument_unit.is_none()
-        && criteria.meter_name.is_none()
-        && criteria.meter_version.is_none()
-        && criteria.meter_schema_url.is_none()
+    let Criteria {
+        instrument_name,
+        instrument_type,
+        instrument_unit,
+        meter_name,
+        meter_version,
+        meter_schema_url,
+    } = criteria;
+    instrument_name.is_none()
+        && instrument_type.is_none()
+        && instrument_unit.is_none()
+        && meter_name.is_none()
+        && meter_version.is_none()
+        && meter_schema_url.is_none()
 }
 
+// The same of each setting.
 fn changes_nothing(settings: &Settings) -> bool
     ensures { result ≡ changes_nothing settings.now }
 {
-    settings.stream_name.is_none()
-        && settings.description.is_none()
-        && settings.aggregation.is_none()
-        && settings.boundaries.is_none()
-        && settings.keep.is_none()
-        && settings.exclude.is_none()
-        && settings.limit.is_none()
+    let Settings {
+        stream_name,
+        description,
+        aggregation,
+        boundaries,
+        keep,
+        exclude,
+        limit,
+    } = settings;
+    stream_name.is_none()
+        && description.is_none()
+        && aggregation.is_none()
+        && boundaries.is_none()
+        && keep.is_none()
+        && exclude.is_none()
+        && limit.is_none()
 }
 
 // Puts a remark last for each key that a view keeps and excludes.

@@ -1,3 +1,4 @@
+pub mod Choices
 pub mod Exposures
 pub mod Marks
 pub mod Places

@@ -138,36 +138,36 @@ fn wrong_of<'v>(
             None => of_value(value, "the number of an instrument"),
         },
         CatalogueDefect::TooMany => Wrong::TooMany(most_of(spot)),
-        CatalogueDefect::BadCombination => Wrong::Row(spot.entry.unwrap_or(0), UNFIT),
-        CatalogueDefect::DuplicateCombination => Wrong::Row(spot.entry.unwrap_or(0), REPEATED),
-        _ => Wrong::Plain(words_of(defect)),
+        CatalogueDefect::BadCombination => Wrong::Combination(spot.entry.unwrap_or(0), UNFIT),
+        CatalogueDefect::DuplicateCombination => {
+            Wrong::Combination(spot.entry.unwrap_or(0), REPEATED)
+        }
+        CatalogueDefect::DuplicateMeter => Wrong::Plain(SAME_METER),
+        CatalogueDefect::DuplicateInstrument => Wrong::Plain(SAME_INSTRUMENT),
+        CatalogueDefect::DuplicateKey => Wrong::Plain(SAME_KEY),
+        CatalogueDefect::DuplicateRecorder => Wrong::Plain(SAME_RECORDER),
+        CatalogueDefect::DuplicateBudget => Wrong::Plain(SAME_BUDGET),
+        CatalogueDefect::ReservedKey => Wrong::Plain(RESERVED),
     }
 }
 
 const UNFIT: &str =
     " does not fit the keys: it has one entry for each key, the number of a value from 1 on, or 0 if the key is optional";
 
-const REPEATED: &str = " is listed before";
+const REPEATED: &str = " repeats an earlier one";
 
-// What is told of a defect without a value.
-fn words_of(defect: CatalogueDefect) -> &'static str {
-    match defect {
-        CatalogueDefect::DuplicateMeter => {
-            ": an earlier meter has the same name, version and schema_url"
-        }
-        CatalogueDefect::DuplicateInstrument => {
-            ": an earlier instrument of the meter has the same name, without ASCII case"
-        }
-        CatalogueDefect::DuplicateKey => ": an earlier key of the instrument has the same name",
-        CatalogueDefect::DuplicateRecorder => ": an earlier recorder has the same name",
-        CatalogueDefect::DuplicateBudget => {
-            ": an earlier budget of the recorder is for the same instrument"
-        }
-        CatalogueDefect::ReservedKey =>
-            ": this name marks the overflow point, and no key may have it",
-        _ => " is wrong",
-    }
-}
+const SAME_METER: &str = ": an earlier meter has the same name, version and schema_url";
+
+const SAME_INSTRUMENT: &str =
+    ": an earlier instrument of the meter has the same name, without ASCII case";
+
+const SAME_KEY: &str = ": an earlier key of the instrument has the same name";
+
+const SAME_RECORDER: &str = ": an earlier recorder has the same name";
+
+const SAME_BUDGET: &str = ": an earlier budget of the recorder is for the same instrument";
+
+const RESERVED: &str = ": this name marks the overflow point, and no key may have it";
 
 // That a value is of another kind than the field takes.
 fn wrong_kind<'v>(spot: CatalogueSpot, value: Option<&'v Value>) -> Wrong<'v> {
@@ -196,7 +196,7 @@ fn wrong_kind<'v>(spot: CatalogueSpot, value: Option<&'v Value>) -> Wrong<'v> {
     }
 }
 
-// That a value of a key or a row, or the list of them, is of another kind.
+// That a value of a key or a combination, or the list of them, is of another kind.
 fn wrong_entry<'v>(spot: CatalogueSpot, value: Option<&'v Value>) -> Wrong<'v> {
     match (spot.entry, value, spot.field) {
         (Some(number), Some(value), CatalogueField::Values) => {
@@ -235,15 +235,36 @@ fn bad_range<'v>(spot: CatalogueSpot, value: Option<&'v Value>) -> Wrong<'v> {
 
 // The most that a field may have.
 fn most_of(spot: CatalogueSpot) -> &'static str {
-    match (spot.field, spot.entry) {
-        (CatalogueField::Meter, _) => "64 meters",
-        (CatalogueField::Recorder, _) => "64 recorders",
-        (CatalogueField::Instrument, _) => "512 instruments of all meters",
-        (CatalogueField::Boundaries, _) => "128 boundaries",
-        (CatalogueField::Key, _) => "8 keys",
-        (CatalogueField::Allowed, _) => "4096 rows",
-        (CatalogueField::Values, None) => "1000 values",
-        (CatalogueField::Budget, _) => "512 budgets",
-        _ => "1023 characters",
+    match spot.field {
+        CatalogueField::Meter => "64 meters",
+        CatalogueField::Recorder => "64 recorders",
+        CatalogueField::Instrument => "512 instruments of all meters",
+        CatalogueField::Boundaries => "128 boundaries",
+        CatalogueField::Key => "8 keys",
+        CatalogueField::Allowed => "4096 combinations",
+        CatalogueField::Values => most_of_values(spot.entry),
+        CatalogueField::Budget => "512 budgets",
+        CatalogueField::Unknown
+        | CatalogueField::Format
+        | CatalogueField::Name
+        | CatalogueField::Version
+        | CatalogueField::SchemaUrl
+        | CatalogueField::Kind
+        | CatalogueField::Unit
+        | CatalogueField::Description
+        | CatalogueField::Range
+        | CatalogueField::Spare
+        | CatalogueField::Optional
+        | CatalogueField::Amount => CHARACTERS,
+    }
+}
+
+const CHARACTERS: &str = "1023 characters";
+
+// The most values, or characters of one value.
+fn most_of_values(entry: Option<u32>) -> &'static str {
+    match entry {
+        Some(_) => CHARACTERS,
+        None => "1000 values",
     }
 }

@@ -1,5 +1,6 @@
 //! The cause of a fault of a config, and the way to its field.
 use crate::cause::{Cause, Named};
+use crate::choices::{aggregation_words, gauge_aggregation_words, temporality_words};
 use crate::mistake::{Mistake, Wrong};
 use crate::reasons::{
     Entries, of_boundaries, of_format, of_list, of_name, of_pattern, of_value, of_word,
@@ -11,19 +12,6 @@ use metric_contents::Kind;
 use metric_views::{ConfigField, ConfigPlace, ConfigSpot, ViewDefect, field_names, kind_names};
 use std::alloc::Global;
 use toml::{Table, Value};
-
-const TEMPORALITIES: &[&str] = &["delta", "cumulative"];
-
-const AGGREGATIONS: &[&str] = &[
-    "default",
-    "drop",
-    "sum",
-    "last_value",
-    "explicit_bucket_histogram",
-];
-
-// What a gauge can be aggregated by.
-const GAUGE_AGGREGATIONS: &[&str] = &["default", "drop", "last_value", "explicit_bucket_histogram"];
 
 // The way to what is wrong in the top table of a config, and the cause.
 pub(crate) fn config_cause<'v>(
@@ -178,23 +166,42 @@ fn wrong_choice<'v>(spot: ConfigSpot, value: Option<&'v Value>) -> Wrong<'v> {
     match (spot.place, spot.kind, spot.field) {
         (ConfigPlace::Reader(_), None, _) => of_value(value, "a table"),
         (_, _, ConfigField::Limit) => of_value(value, "a whole number"),
-        (_, _, ConfigField::Temporality) => of_word(value, TEMPORALITIES),
-        (_, Some(Kind::Gauge), _) => of_word(value, GAUGE_AGGREGATIONS),
-        _ => of_word(value, AGGREGATIONS),
+        (_, _, ConfigField::Temporality) => of_word(value, temporality_words()),
+        (_, Some(Kind::Gauge), _) => of_word(value, gauge_aggregation_words()),
+        _ => of_word(value, aggregation_words()),
     }
 }
 
 // The most that a field may have.
 fn most_of(field: ConfigField, value: Option<&Value>) -> &'static str {
-    let is_list = match value {
-        Some(value) => value.as_array().is_some(),
-        None => false,
-    };
     match field {
         ConfigField::Reader => "16 readers",
         ConfigField::View => "256 views",
         ConfigField::Boundaries => "128 boundaries",
-        ConfigField::Keep | ConfigField::Exclude if is_list => "64 keys, each of 1023 characters,",
-        _ => "1023 characters",
+        ConfigField::Keep | ConfigField::Exclude => most_of_keys(value),
+        ConfigField::Unknown
+        | ConfigField::Format
+        | ConfigField::Name
+        | ConfigField::Temporality
+        | ConfigField::Aggregation
+        | ConfigField::Limit
+        | ConfigField::InstrumentName
+        | ConfigField::InstrumentType
+        | ConfigField::InstrumentUnit
+        | ConfigField::MeterName
+        | ConfigField::MeterVersion
+        | ConfigField::MeterSchemaUrl
+        | ConfigField::StreamName
+        | ConfigField::Description => CHARACTERS,
+    }
+}
+
+const CHARACTERS: &str = "1023 characters";
+
+// The most keys of a list.
+fn most_of_keys(value: Option<&Value>) -> &'static str {
+    match value {
+        Some(value) if value.as_array().is_some() => "64 keys, each of 1023 characters,",
+        _ => CHARACTERS,
     }
 }

@@ -27,6 +27,7 @@ mod catalogue;
 mod catalogue_cause;
 mod cause;
 mod certificate;
+mod choices;
 mod collected;
 mod config;
 mod config_cause;

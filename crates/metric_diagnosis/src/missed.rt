@@ -114,44 +114,45 @@ fn misses<'t>(
     Some((count, first?))
 }
 
-// The criteria but the name, where an instrument misses them.
+// The criteria but the name, where an instrument misses them. Each is named, so that a new one is not left out unnoticed.
 fn missed_by<'t>(
     criteria: &Criteria,
     meter: &'t Meter,
     instrument: &'t Instrument,
 ) -> [Option<Missed<'t>>; 5] {
+    let Criteria {
+        instrument_name: _,
+        instrument_type,
+        instrument_unit,
+        meter_name,
+        meter_version,
+        meter_schema_url,
+    } = criteria;
     let unit = instrument.unit.get().as_str();
+    let name = meter.name.as_str();
+    let version = meter.version.as_str();
+    let schema_url = meter.schema_url.as_str();
     [
-        missed_kind(criteria, instrument.kind),
+        missed_kind(instrument_type, instrument.kind),
+        missed_text(instrument_unit, "its unit", unit, "instrument_unit"),
+        missed_text(meter_name, "the name of its meter", name, "meter_name"),
         missed_text(
-            &criteria.instrument_unit,
-            "its unit",
-            unit,
-            "instrument_unit",
-        ),
-        missed_text(
-            &criteria.meter_name,
-            "the name of its meter",
-            meter.name.as_str(),
-            "meter_name",
-        ),
-        missed_text(
-            &criteria.meter_version,
+            meter_version,
             "the version of its meter",
-            meter.version.as_str(),
+            version,
             "meter_version",
         ),
         missed_text(
-            &criteria.meter_schema_url,
+            meter_schema_url,
             "the schema URL of its meter",
-            meter.schema_url.as_str(),
+            schema_url,
             "meter_schema_url",
         ),
     ]
 }
 
-fn missed_kind<'t>(criteria: &Criteria, kind: Kind) -> Option<Missed<'t>> {
-    if is_of_kind(&criteria.instrument_type, kind) {
+fn missed_kind<'t>(criterion: &Option<Kind>, kind: Kind) -> Option<Missed<'t>> {
+    if is_of_kind(criterion, kind) {
         return None;
     }
     Some(Missed {

@@ -45,8 +45,8 @@ pub(crate) enum Wrong<'v> {
     Order(i64, i64, &'static str),
     // A value stands twice.
     Repeated(&'v Value),
-    // These words tell what is wrong with the row of a number.
-    Row(u32, &'static str),
+    // These words tell what is wrong with the combination of a number.
+    Combination(u32, &'static str),
 }
 
 impl fmt::Display for Mistake<'_> {
@@ -144,7 +144,7 @@ impl fmt::Display for Wrong<'_> {
                 write_three(f, (": ", &first), (" and ", &second), (": ", &how), "")
             }
             Wrong::Repeated(value) => write_one(f, (": ", &Shown(value)), " is listed twice"),
-            Wrong::Row(number, words) => write_one(f, (": row ", &number), words),
+            Wrong::Combination(number, words) => write_one(f, (": combination ", &number), words),
         }
     }
 }

@@ -1,7 +1,7 @@
 //! The boxes of views.
 use crate::diagram::{Node, Tone};
 use crate::instruments::kind_word;
-use metric_base::Text;
+use metric_base::{Few, Text};
 use metric_views::{Aggregation, Config, Criteria, Settings, View};
 use std::alloc::{AllocError, Global};
 
@@ -15,11 +15,11 @@ pub(crate) fn view_nodes(alloc: Global, config: &Config) -> Result<Vec<Node>, Al
 }
 
 fn view_node(alloc: Global, number: usize, view: &View) -> Result<Node, AllocError> {
-    let title = view_title(alloc, number, &view.criteria)?;
-    let mut node = Node::new(alloc, title, tone_of(&view.settings));
-    add_criteria(alloc, &mut node, &view.criteria)?;
-    add_settings(alloc, &mut node, &view.settings)?;
-    add_keys(alloc, &mut node, &view.settings)?;
+    let View { criteria, settings } = view;
+    let title = view_title(alloc, number, criteria)?;
+    let mut node = Node::new(alloc, title, tone_of(settings));
+    add_criteria(alloc, &mut node, criteria)?;
+    add_settings(alloc, &mut node, settings)?;
     Ok(node)
 }
 
@@ -47,16 +47,25 @@ pub(crate) fn tone_of(settings: &Settings) -> Tone {
     }
 }
 
-// What the view asks of an instrument beside its name.
+// What the view asks of an instrument beside its name, which is in the title. Each criterion is named, so that a new one
+// is not left out unnoticed.
 fn add_criteria(alloc: Global, node: &mut Node, criteria: &Criteria) -> Result<(), AllocError> {
-    if let Some(kind) = criteria.instrument_type {
+    let Criteria {
+        instrument_name: _,
+        instrument_type,
+        instrument_unit,
+        meter_name,
+        meter_version,
+        meter_schema_url,
+    } = criteria;
+    if let Some(kind) = *instrument_type {
         let kind = kind_word(kind);
         node.add_line(format!(in alloc; "of kind {kind}"))?;
     }
-    add_text(alloc, node, "of unit", &criteria.instrument_unit)?;
-    add_text(alloc, node, "of meter", &criteria.meter_name)?;
-    add_text(alloc, node, "of version", &criteria.meter_version)?;
-    add_text(alloc, node, "of schema", &criteria.meter_schema_url)
+    add_text(alloc, node, "of unit", instrument_unit)?;
+    add_text(alloc, node, "of meter", meter_name)?;
+    add_text(alloc, node, "of version", meter_version)?;
+    add_text(alloc, node, "of schema", meter_schema_url)
 }
 
 fn add_text(
@@ -72,23 +81,34 @@ fn add_text(
     Ok(())
 }
 
-// What the view changes, but for keys.
+// What the view changes but for the description, which is too long for a box. Each setting is named, so that a new one is not
+// left out unnoticed.
 fn add_settings(alloc: Global, node: &mut Node, settings: &Settings) -> Result<(), AllocError> {
-    if let Some(aggregation) = settings.aggregation {
+    let Settings {
+        stream_name,
+        description: _,
+        aggregation,
+        boundaries,
+        keep,
+        exclude,
+        limit,
+    } = settings;
+    if let Some(aggregation) = *aggregation {
         node.add_line(String::from_str(alloc, aggregation_line(aggregation)))?;
     }
-    if let Some(name) = &settings.stream_name {
+    if let Some(name) = stream_name {
         let name = name.get().as_str();
         node.add_line(format!(in alloc; "renames to {name}"))?;
     }
-    if let Some(boundaries) = &settings.boundaries {
+    if let Some(boundaries) = boundaries {
         let count = boundaries.get().as_slice().len();
         node.add_line(format!(in alloc; "{count} boundaries"))?;
     }
-    if let Some(limit) = settings.limit {
+    if let Some(limit) = *limit {
         node.add_line(format!(in alloc; "limit {limit}"))?;
     }
-    Ok(())
+    add_keys(alloc, node, "keeps", keep)?;
+    add_keys(alloc, node, "leaves out", exclude)
 }
 
 fn aggregation_line(aggregation: Aggregation) -> &'static str {
@@ -101,13 +121,15 @@ fn aggregation_line(aggregation: Aggregation) -> &'static str {
     }
 }
 
-// Which keys the view keeps, and which it leaves out.
-fn add_keys(alloc: Global, node: &mut Node, settings: &Settings) -> Result<(), AllocError> {
-    if let Some(keys) = &settings.keep {
-        node.add_line(keys_line(alloc, "keeps", keys.as_slice()))?;
-    }
-    if let Some(keys) = &settings.exclude {
-        node.add_line(keys_line(alloc, "leaves out", keys.as_slice()))?;
+// A list of keys of the view.
+fn add_keys(
+    alloc: Global,
+    node: &mut Node,
+    label: &str,
+    keys: &Option<Few<Text, 64>>,
+) -> Result<(), AllocError> {
+    if let Some(keys) = keys {
+        node.add_line(keys_line(alloc, label, keys.as_slice()))?;
     }
     Ok(())
 }

@@ -189,7 +189,7 @@ kind = 'gauge'
 range = [0, 1]
 ";
 
-// The keys and rows of the second instrument from line 12 on, where its mistake stands, and what is told of it.
+// The keys and combinations of the second instrument from line 12 on, where its mistake stands, and what is told of it.
 const KEYS: &[(&str, &str, &str)] = &[
     (
         "key = [{ name = '', values = [1] }]",
@@ -234,17 +234,17 @@ const KEYS: &[(&str, &str, &str)] = &[
     (
         "key = [{ name = 'k', values = [1] }]\nallowed = [[1], [1, 1]]",
         "13:17",
-        "field \"allowed\": row 1 does not fit the keys: it has one entry for each key, the number of a value from 1 on, or 0 if the key is optional",
+        "field \"allowed\": combination 1 does not fit the keys: it has one entry for each key, the number of a value from 1 on, or 0 if the key is optional",
     ),
     (
         "key = [{ name = 'k', values = [5, 6] }]\nallowed = [\n  [1], # [3]\n  [3]]",
         "15:3",
-        "field \"allowed\": row 1 does not fit the keys: it has one entry for each key, the number of a value from 1 on, or 0 if the key is optional",
+        "field \"allowed\": combination 1 does not fit the keys: it has one entry for each key, the number of a value from 1 on, or 0 if the key is optional",
     ),
     (
         "key = [{ name = 'k', values = [5, 6] }]\nallowed = [[1], [2], [1]]",
         "13:22",
-        "field \"allowed\": row 2 is listed before",
+        "field \"allowed\": combination 2 repeats an earlier one",
     ),
     (
         "key = [{ name = 'k', values = [5, 6] }]\nallowed = [['a']]",
