@@ -5,3 +5,4 @@ pub mod JournalLaws
 pub mod GainLaws
 pub mod RollLaws
 pub mod BatchLaws
+mod RoomLaws

@@ -8,3 +8,4 @@ pub mod Locked
 pub mod BatchBounds
 pub mod Rolling
 pub mod Faults
+pub mod Rooms

@@ -15,6 +15,7 @@ mod journals;
 mod provider;
 mod recorder;
 mod rolling;
+mod rooms;
 mod settling;
 mod starting;
 mod timed;
