@@ -7,3 +7,7 @@ pub mod Left
 pub mod Replaced
 pub mod Counts
 pub mod Found
+pub mod TimeUnits
+pub mod Timers
+pub mod Works
+pub mod Jobs

@@ -69,6 +69,13 @@ impl<K> Handle<K> {
         self.number
     }
 
+    // The fingerprint of the plan.
+    pub(crate) fn plan(&self) -> u64
+        ensures { result ≡ self.now.plan }
+    {
+        self.plan
+    }
+
     // The number of the instrument in a plan, to another of which the handle is a stranger.
     #[inline(always)]
     pub(crate) fn number_in(&self, plan: &Plan) -> Result<u32, Refusal>

@@ -8,20 +8,28 @@
 //! `specs/Calls.antt` what a call does, `specs/KeysGiven.antt` what the law says.
 #![tactic(auto)]
 
+mod at;
 mod bound;
 mod bound_list;
 mod budget;
 mod counted;
+mod during;
 mod fault;
 mod found;
 mod handle;
+mod jobs;
 mod kinds;
 mod laws;
 mod named;
+mod recorded;
 mod replaced;
 mod seat;
 mod seats;
+mod time_unit;
+mod timed;
+mod timer;
 
+pub use at::{AnySeat, At};
 pub use bound::{Bound, BoundCounter, BoundGauge, BoundHistogram, BoundUpDownCounter};
 pub use bound_list::{BoundList, ListFault};
 pub use budget::left;
@@ -29,9 +37,14 @@ pub use counted::Counted;
 pub use fault::HandleFault;
 pub use found::value_of;
 pub use handle::{Counter, Gauge, Handle, Histogram, UpDownCounter};
+pub use jobs::Need;
 pub use kinds::{Adds, IsCounter, IsGauge, IsHistogram, IsUpDownCounter, Records};
 pub use laws::{compared_keys_are_bound, compared_keys_are_recorded};
 pub use named::{counter, gauge, histogram, up_down_counter};
+pub use recorded::Recorded;
 pub use replaced::Replaced;
 pub use seat::Seat;
 pub use seats::{take_reader, take_recorder};
+pub use time_unit::TimeUnit;
+pub use timed::TimedFault;
+pub use timer::{Timer, TimerFault};

@@ -2,7 +2,7 @@
 #![tactic(auto)]
 
 use anyhow::{Context, Result};
-use metric_sdk::{Attr, Runs, StdSink, counter, open, write_batch};
+use metric_sdk::{AnySeat, Attr, Runs, StdSink, counter, open, write_batch};
 use std::io;
 
 const CATALOGUE: &str = "format = 1
@@ -26,9 +26,9 @@ fn main(rt: HostRuntime) -> Result<()> {
     let (provider, mut recorders, mut readers) = opened;
     let orders = counter(provider.plan(), "shop", "orders", &["country"])?;
     let recorder = recorders.first_mut().context("no recorder")?;
+    let mut at = recorder.at(&rt, &provider);
     for (country, articles) in [("de", 2), ("fr", 1), ("de", 5)] {
-        let attributes = [Attr::text("country", country)];
-        orders.add(&rt, &provider, recorder, &attributes, articles)?;
+        at.add(&orders, &[Attr::text("country", country)], articles)?;
     }
     let reader = readers.first_mut().context("no reader")?;
     let batch = reader.collect(&rt, alloc, &provider, orders.number(), 1_000)?;

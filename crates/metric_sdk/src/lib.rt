@@ -16,11 +16,14 @@
 //!    [`Explanation`]. Nothing is counted in another series, and no new series appears. `Recorder::accepted` tells what the
 //!    seat was [`Told`] of, [`left`] what is left of its budget. A [`Counted`] seat counts its refusals, and handles take it
 //!    as they take a recorder's (a [`Seat`]); `known_or` and `clamped` of a handle put a declared value in the place of one
-//!    that is not, counted by a [`Replaced`].
+//!    that is not, counted by a [`Replaced`]. `seat.at(&rt, &provider)` of [`AnySeat`] is an [`At`], a seat with what it
+//!    records on: its `add` and `record` name the rest alone, and `during` counts work as under way until it ends, however it
+//!    does, where the seat is [`Recorded`].
 //! 4. **Bound attributes.** `Handle::bind` looks attributes up once; the [`Bound`] that it gives records without a look-up,
 //!    and a [`BoundList`] hands on many under one lock. Below both are set keys: `Recorder::admits` gives the [`SetKey`] of
 //!    attributes, `Recorder::record_set` records by it, and `Recorder::record_sets` a list of [`Measurement`]s, up to a
-//!    [`SetsFault`].
+//!    [`SetsFault`]. `Bound::timer` gives a [`Timer`], with the [`TimeUnit`] that its histogram is declared in, or a
+//!    [`TimerFault`]; `timed` of an `At` records by it how long work took, or tells a [`TimedFault`].
 //! 5. **Export.** [`Periodic`] collects at each [`Tick`] of a [`Ticker`], a [`ClockTicker`] until its [`StopFlag`] is set or a
 //!    [`ListTicker`]; it hands each batch on to a [`MetricExporter`], as a [`TextExporter`] is, flushes that after each
 //!    collection, and at its end collects a last time. What it did, and the [`StopCause`] of its ticker, is a [`PeriodicEnd`]; what
@@ -50,8 +53,10 @@
 //!    all back with a [`RollFault`]; [`roll_over_all`] does so with the readers and their exporter, up to a [`RollLeft`].
 //!    For what no recorder's budget foresees an instrument may have a spare: while the run goes on, `Provider::grant`
 //!    gives some of it to any recorder, and by `Recorder::ask` a recorder whose budget is spent ([`Refusal::Budget`]) asks
-//!    for some itself, until nothing is left ([`Refusal::NoSpare`]). The certificate vouches for the budgets and the spare
-//!    together.
+//!    for some itself, until nothing is left ([`Refusal::NoSpare`]). `Recorder::room` tells what a recorder has left with its
+//!    grants, `Provider::spare_left` what is left of a spare, and `has_room` of an `At` whether there is room for each [`Need`]
+//!    of a job that makes several recordings, so that it is begun only where it can be made whole. The certificate vouches for
+//!    the budgets and the spare together.
 //! 8. **Files that are wrong.** [`lint`] gives a [`Remark`] on each thing in the files that looks like a mistake;
 //!    [`locate_in_catalogue`] and [`locate_in_config`] give the [`Position`] of a fault, and a [`MakeFault`] has the streams or
 //!    the instrument for which there is no certificate. For people a [`Diagnosis`] says in one line where a fault is and why, with
@@ -176,6 +181,8 @@ pub use metric_exposure::ExposureFault;
 pub use metric_exposure::expose;
 pub use metric_exposure::expose_to_otlp;
 pub use metric_handles::Adds;
+pub use metric_handles::AnySeat;
+pub use metric_handles::At;
 pub use metric_handles::Bound;
 pub use metric_handles::BoundCounter;
 pub use metric_handles::BoundGauge;
@@ -193,9 +200,15 @@ pub use metric_handles::IsGauge;
 pub use metric_handles::IsHistogram;
 pub use metric_handles::IsUpDownCounter;
 pub use metric_handles::ListFault;
+pub use metric_handles::Need;
+pub use metric_handles::Recorded;
 pub use metric_handles::Records;
 pub use metric_handles::Replaced;
 pub use metric_handles::Seat;
+pub use metric_handles::TimeUnit;
+pub use metric_handles::TimedFault;
+pub use metric_handles::Timer;
+pub use metric_handles::TimerFault;
 pub use metric_handles::UpDownCounter;
 pub use metric_handles::counter;
 pub use metric_handles::gauge;

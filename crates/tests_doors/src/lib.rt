@@ -26,3 +26,5 @@ mod pages;
 mod rolls;
 #[cfg(test)]
 mod strangers;
+#[cfg(test)]
+mod works;

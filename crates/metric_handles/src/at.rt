@@ -1,0 +1,239 @@
+//! A seat with what it records on.
+ghost use Rattle.std.specs.Prelude.{◌≡◌, ◌≢◌, map};
+ghost use Rattle.metric_contents.specs.Attributes.{given_by};
+ghost use Rattle.metric_handles.specs.Calls.{IsStrange, IsStrangeList, MakesRecording, MakesRecordings, answer_of, left_of, untried_of};
+ghost use Rattle.metric_handles.specs.Replaced.{counted_after, keeps_amount_in, keeps_value_in, known_or_in, nearest_in};
+ghost use Rattle.metric_names.specs.Values.{value_of};
+ghost use Rattle.metric_plan.specs.Plans.{print_of};
+ghost use Rattle.metric_seat.specs.KeyRecordings.{admitted_key};
+ghost use Rattle.metric_seat.specs.Recordings.{admitted};
+
+use crate::bound::Bound;
+use crate::bound_list::BoundList;
+use crate::handle::Handle;
+use crate::kinds::{Adds, Records};
+use crate::replaced::Replaced;
+use crate::seat::Seat;
+use metric_book::Book;
+use metric_contents::{Attr, Refusal};
+use metric_names::ValueRef;
+use metric_provider::{Gate, Provider, SetsFault};
+use std::sync::Wait;
+
+/// A seat with the runtime and the provider that it records with: what a thread has in hand for some work, so that a
+/// recording names the instrument, the attributes and the value alone. It is made by [`AnySeat::at`].
+pub struct At<'a, R, S, B: Book, G: Gate> {
+    pub(crate) seat: &'a mut S,
+    pub(crate) rt: &'a R,
+    pub(crate) provider: &'a Provider<B, G>,
+}
+
+impl<R, S, B: Book, G: Gate> Drop for At<'_, R, S, B, G> {
+    fn drop(self)
+        ensures { self.exit.0.now ≡ self.entry.seat.now }
+    {
+        let At {
+            seat: _,
+            rt: _,
+            provider: _,
+        } = self;
+    }
+}
+
+/// What each [`Seat`] can be lent for.
+pub trait AnySeat {
+    /// The seat with the runtime and the provider that it records with, for as long as it is lent.
+    fn at<'a, R, B: Book, G: Gate>(
+        &'a mut self,
+        rt: &'a R,
+        provider: &'a Provider<B, G>,
+    ) -> At<'a, R, Self, B, G>
+        ensures same { result.seat.ghost_name ≡ self.entry.ghost_name }
+        ensures seat { result.seat.now ≡ self.old }
+        ensures provider { result.provider.now ≡ provider.now };
+}
+
+impl<S: Seat> AnySeat for S {
+    fn at<'a, R, B: Book, G: Gate>(
+        &'a mut self,
+        rt: &'a R,
+        provider: &'a Provider<B, G>,
+    ) -> At<'a, R, S, B, G> {
+        At {
+            seat: self,
+            rt,
+            provider,
+        }
+    }
+}
+
+impl<R: Wait, S: Seat, B: Book, G: Gate> At<'_, R, S, B, G> {
+    /// Adds a value to the series of these attributes (Metrics API, Add): `Handle::add`, with its refusals.
+    #[inline(always)]
+    pub fn add<K: Adds>(
+        &mut self,
+        handle: &Handle<K>,
+        attrs: &[Attr<'_>],
+        value: i64,
+    ) -> Result<(), Refusal>
+        ensures same { self.new.seat.ghost_name ≡ self.old.seat.ghost_name }
+        ensures provider { self.new.provider.now ≡ self.old.provider.now }
+        ensures strange { handle.now.plan ≢ print_of self.old.provider.now.plan
+            → IsStrange result × (self.new.seat.now ≡ self.old.seat.now) }
+        ensures made { let given = map given_by attrs.now in let number = handle.now.number in
+            let p = self.old.provider.now in let old = S.seat self.old.seat.now in
+            let admission = admitted p old number given value in
+            handle.now.plan ≡ print_of p.plan
+            → MakesRecording B.KEEPS_ENTRIES B.spares_memory p
+            old (S.seat self.new.seat.now) number value admission result }
+        ensures noted { handle.now.plan ≡ print_of self.old.provider.now.plan
+            → S.notes self.old.seat.now self.new.seat.now handle.now.number 0 result }
+    {
+        handle.add(self.rt, self.provider, self.seat, attrs, value)
+    }
+
+    /// Records a value with these attributes (Metrics API, Record): `Handle::record`, with its refusals.
+    #[inline(always)]
+    pub fn record<K: Records>(
+        &mut self,
+        handle: &Handle<K>,
+        attrs: &[Attr<'_>],
+        value: i64,
+    ) -> Result<(), Refusal>
+        ensures same { self.new.seat.ghost_name ≡ self.old.seat.ghost_name }
+        ensures provider { self.new.provider.now ≡ self.old.provider.now }
+        ensures strange { handle.now.plan ≢ print_of self.old.provider.now.plan
+            → IsStrange result × (self.new.seat.now ≡ self.old.seat.now) }
+        ensures made { let given = map given_by attrs.now in let number = handle.now.number in
+            let p = self.old.provider.now in let old = S.seat self.old.seat.now in
+            let admission = admitted p old number given value in
+            handle.now.plan ≡ print_of p.plan
+            → MakesRecording B.KEEPS_ENTRIES B.spares_memory p
+            old (S.seat self.new.seat.now) number value admission result }
+        ensures noted { handle.now.plan ≡ print_of self.old.provider.now.plan
+            → S.notes self.old.seat.now self.new.seat.now handle.now.number 0 result }
+    {
+        handle.record(self.rt, self.provider, self.seat, attrs, value)
+    }
+
+    /// Adds a value to the series of bound attributes (Metrics API, Add): `Bound::add`, with its refusals.
+    #[inline(always)]
+    pub fn add_bound<K: Adds>(&mut self, bound: &Bound<K>, value: i64) -> Result<(), Refusal>
+        ensures same { self.new.seat.ghost_name ≡ self.old.seat.ghost_name }
+        ensures provider { self.new.provider.now ≡ self.old.provider.now }
+        ensures strange { bound.now.plan ≢ print_of self.old.provider.now.plan
+            → IsStrange result × (self.new.seat.now ≡ self.old.seat.now) }
+        ensures made { let number = bound.now.instrument in
+            let p = self.old.provider.now in let old = S.seat self.old.seat.now in
+            let admission = admitted_key p old number bound.now.set value in
+            bound.now.plan ≡ print_of p.plan
+            → MakesRecording B.KEEPS_ENTRIES B.spares_memory p
+            old (S.seat self.new.seat.now) number value admission result }
+        ensures noted { bound.now.plan ≡ print_of self.old.provider.now.plan
+            → S.notes self.old.seat.now self.new.seat.now bound.now.instrument 0 result }
+    {
+        bound.add(self.rt, self.provider, self.seat, value)
+    }
+
+    /// Records a value with bound attributes (Metrics API, Record): `Bound::record`, with its refusals.
+    #[inline(always)]
+    pub fn record_bound<K: Records>(&mut self, bound: &Bound<K>, value: i64) -> Result<(), Refusal>
+        ensures same { self.new.seat.ghost_name ≡ self.old.seat.ghost_name }
+        ensures provider { self.new.provider.now ≡ self.old.provider.now }
+        ensures strange { bound.now.plan ≢ print_of self.old.provider.now.plan
+            → IsStrange result × (self.new.seat.now ≡ self.old.seat.now) }
+        ensures made { let number = bound.now.instrument in
+            let p = self.old.provider.now in let old = S.seat self.old.seat.now in
+            let admission = admitted_key p old number bound.now.set value in
+            bound.now.plan ≡ print_of p.plan
+            → MakesRecording B.KEEPS_ENTRIES B.spares_memory p
+            old (S.seat self.new.seat.now) number value admission result }
+        ensures noted { bound.now.plan ≡ print_of self.old.provider.now.plan
+            → S.notes self.old.seat.now self.new.seat.now bound.now.instrument 0 result }
+    {
+        bound.record(self.rt, self.provider, self.seat, value)
+    }
+
+    /// Adds the values of a list under one lock, up to the first that is refused, and takes out what was made:
+    /// `BoundList::add`, with its fault.
+    pub fn add_list<K: Adds>(&mut self, list: &mut BoundList<K>) -> Result<(), SetsFault>
+        ensures same { self.new.seat.ghost_name ≡ self.old.seat.ghost_name }
+        ensures provider { self.new.provider.now ≡ self.old.provider.now }
+        ensures strange { list.old.plan ≢ print_of self.old.provider.now.plan
+            → IsStrangeList result × (self.new.seat.now ≡ self.old.seat.now) }
+        ensures made { let p = self.old.provider.now in list.old.plan ≡ print_of p.plan
+            → MakesRecordings B.KEEPS_ENTRIES B.spares_memory p (S.seat self.old.seat.now)
+            (S.seat self.new.seat.now) list.old.instrument list.old.all result }
+        ensures noted { let untried = untried_of list.old.all result in
+            list.old.plan ≡ print_of self.old.provider.now.plan
+            → S.notes self.old.seat.now self.new.seat.now list.old.instrument untried
+            (answer_of result) }
+        ensures left { list.new ≡ record list.old { all = left_of list.old.all result } }
+    {
+        list.add(self.rt, self.provider, self.seat)
+    }
+
+    /// Records the values of a list under one lock, up to the first that is refused, and takes out what was made:
+    /// `BoundList::record`, with its fault.
+    pub fn record_list<K: Records>(&mut self, list: &mut BoundList<K>) -> Result<(), SetsFault>
+        ensures same { self.new.seat.ghost_name ≡ self.old.seat.ghost_name }
+        ensures provider { self.new.provider.now ≡ self.old.provider.now }
+        ensures strange { list.old.plan ≢ print_of self.old.provider.now.plan
+            → IsStrangeList result × (self.new.seat.now ≡ self.old.seat.now) }
+        ensures made { let p = self.old.provider.now in list.old.plan ≡ print_of p.plan
+            → MakesRecordings B.KEEPS_ENTRIES B.spares_memory p (S.seat self.old.seat.now)
+            (S.seat self.new.seat.now) list.old.instrument list.old.all result }
+        ensures noted { let untried = untried_of list.old.all result in
+            list.old.plan ≡ print_of self.old.provider.now.plan
+            → S.notes self.old.seat.now self.new.seat.now list.old.instrument untried
+            (answer_of result) }
+        ensures left { list.new ≡ record list.old { all = left_of list.old.all result } }
+    {
+        list.record(self.rt, self.provider, self.seat)
+    }
+}
+
+impl<R, S, B: Book, G: Gate> At<'_, R, S, B, G> {
+    /// The attribute, where the instrument declares its value for its key; else the key with the other value, and the
+    /// count of replaced values rises by one: `Handle::known_or`, with its refusals.
+    pub fn known_or<'v, K>(
+        &self,
+        handle: &Handle<K>,
+        replaced: &mut Replaced,
+        attr: Attr<'v>,
+        other: ValueRef<'v>,
+    ) -> Result<Attr<'v>, Refusal>
+        ensures value { let plan = self.now.provider.now.plan in
+            result ≡ known_or_in plan handle.now attr.entry other.entry }
+        ensures counted { let value = value_of attr.entry.value in
+            let plan = self.now.provider.now.plan in
+            let kept = keeps_value_in plan handle.now attr.entry.key.now value in
+            let after = counted_after kept replaced.old.values in
+            replaced.new ≡ record replaced.old { values = after } }
+    {
+        handle.known_or(self.provider.plan(), replaced, attr, other)
+    }
+
+    /// The value, where it is in the instrument's range; else the end of the range that is next to it, and the count
+    /// of replaced amounts rises by one: `Handle::clamped`, with its refusals.
+    pub fn clamped<K>(
+        &self,
+        handle: &Handle<K>,
+        replaced: &mut Replaced,
+        value: i64,
+    ) -> Result<i64, Refusal>
+        ensures value { result ≡ nearest_in self.now.provider.now.plan handle.now value }
+        ensures counted { let kept = keeps_amount_in self.now.provider.now.plan handle.now value in
+            let after = counted_after kept replaced.old.amounts in
+            replaced.new ≡ record replaced.old { amounts = after } }
+    {
+        handle.clamped(self.provider.plan(), replaced, value)
+    }
+
+    /// The seat.
+    pub fn seat(&self) -> &S
+        ensures { result.now ≡ self.now.seat.now }
+    {
+        self.seat
+    }
+}

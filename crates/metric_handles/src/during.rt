@@ -1,0 +1,120 @@
+//! Work that is counted while it goes on.
+ghost use Rattle.std.specs.Prelude.{◌≡◌, ◌-◌, IfErr, OnOk, slice_index};
+ghost use Rattle.std.specs.Fn.{FnOnceReturnsAtMut};
+ghost use Rattle.metric_handles.specs.Works.{Begins, ComesBack, HasWayBack, LacksWayBack, MakesBound};
+ghost use Rattle.metric_seat.specs.Recordings.{told_at};
+
+use crate::at::At;
+use crate::bound::BoundUpDownCounter;
+use crate::recorded::Recorded;
+use metric_book::Book;
+use metric_contents::Refusal;
+use metric_facts::Facts;
+use metric_provider::{Gate, Recorder};
+use std::sync::Wait;
+
+impl<R: Wait, S: Recorded, B: Book, G: Gate> At<'_, R, S, B, G> {
+    /// Does some work, and counts it as under way meanwhile: 1 is added to an up-down counter before it, and taken
+    /// away after it, whatever the work gave (Metrics API, UpDownCounter). The work is lent the seat. A `?` inside the
+    /// work ends the work alone, so no way out of it leaves the count behind. The work is done whatever is refused;
+    /// with what it gave comes the first refusal.
+    ///
+    /// Nothing is added where it could not be taken away again: where the instrument's range has no -1
+    /// (`ValueRange`), and where the recorder has no room for both recordings (`Budget`). The seat is not asked then,
+    /// so a [`Counted`](crate::Counted) one counts nothing. What the work itself records on the instrument takes of
+    /// the same room, and an instrument that is closed meanwhile keeps the count: the refusal tells.
+    pub fn during<T, F: FnOnce(&mut S) -> T>(
+        &mut self,
+        active: &BoundUpDownCounter,
+        work: F,
+    ) -> (T, Result<(), Refusal>)
+        requires { F.IsAlwaysCallable work }
+        ensures same { self.new.seat.ghost_name ≡ self.old.seat.ghost_name }
+        ensures provider { self.new.provider.now ≡ self.old.provider.now }
+        ensures counted { let p = self.old.provider.now in
+            let makes =
+            MakesBound B.KEEPS_ENTRIES B.spares_memory S.seat S.notes p active.now in
+            ComesBack S.seat makes (FnOnceReturnsAtMut F.FnOnce work) p.plan
+            active.now.instrument self.old.seat.now self.new.seat.now result.0 result.1 }
+    {
+        let began = self.begin(active);
+        let done = work(self.seat);
+        match began {
+            Ok(()) => {
+                let ended = active.add(self.rt, self.provider, self.seat, -1);
+                (done, ended)
+            }
+            Err(refusal) => (done, Err(refusal)),
+        }
+    }
+
+    // Adds 1, where it can be taken away again.
+    fn begin(&mut self, active: &BoundUpDownCounter) -> Result<(), Refusal>
+        ensures same { self.new.seat.ghost_name ≡ self.old.seat.ghost_name }
+        ensures provider { self.new.provider.now ≡ self.old.provider.now }
+        ensures begins { let p = self.old.provider.now in
+            let makes =
+            MakesBound B.KEEPS_ENTRIES B.spares_memory S.seat S.notes p active.now in
+            Begins S.seat makes p.plan active.now.instrument self.old.seat.now self.new.seat.now
+            result }
+    {
+        self.has_way_back(active)?;
+        active.add(self.rt, self.provider, self.seat, 1)
+    }
+
+    // Whether 1 can be taken away again, once it is added. The lock is taken only where the budget alone has not
+    // enough room.
+    #[tactic(auto, using(crate::proofs::WayLaws::has_way_by_room, crate::proofs::WayLaws::has_way_by_budget, crate::proofs::WayLaws::lacks_range, crate::proofs::WayLaws::lacks_budget))]
+    fn has_way_back(&self, active: &BoundUpDownCounter) -> Result<(), Refusal>
+        ensures ok { let plan = self.now.provider.now.plan in let seat = S.seat self.now.seat.now in
+            OnOk result (HasWayBack plan seat active.now.instrument) }
+        ensures err { let plan = self.now.provider.now.plan in let seat = S.seat self.now.seat.now in
+            IfErr result (LacksWayBack plan seat active.now.instrument) }
+    {
+        let (plan, number) = (self.provider.plan(), active.number());
+        if active.plan() != plan.fingerprint() {
+            return Err(Refusal::Stranger);
+        }
+        if number as usize >= plan.all_facts().len() {
+            return Err(Refusal::UnknownInstrument);
+        }
+        let facts = plan.facts(number);
+        if !facts.admits(&-1) {
+            return Err(Refusal::ValueRange);
+        }
+        let recorder = self.seat.recorder();
+        if left_in(facts, recorder, number) >= 2 {
+            return Ok(());
+        }
+        match recorder.room(self.rt, self.provider, number) {
+            Ok(room) if room >= 2 => Ok(()),
+            Ok(_) => Err(Refusal::Budget),
+            Err(_) => Err(Refusal::Stranger),
+        }
+    }
+}
+
+// How many recordings of its budget a recorder was not told of yet.
+fn left_in(facts: &Facts, recorder: &Recorder, number: u32) -> u64
+    ensures { let declared = slice_index facts.now.budgets recorder.now.number in
+        result ≡ declared - (told_at recorder.now number).count }
+{
+    declared_for(facts, recorder.number()).saturating_sub(told_count(recorder, number))
+}
+
+fn declared_for(facts: &Facts, recorder: u32) -> u64
+    ensures { result ≡ slice_index facts.now.budgets recorder }
+{
+    let budgets = facts.budgets.as_slice();
+    budgets.get(recorder as usize).copied().unwrap_or(0)
+}
+
+#[tactic(auto, using(crate::proofs::WayLaws::told_some, crate::proofs::WayLaws::told_none))]
+fn told_count(recorder: &Recorder, number: u32) -> u64
+    ensures { result ≡ (told_at recorder.now number).count }
+{
+    match recorder.accepted(number) {
+        Some(told) => told.count,
+        None => 0,
+    }
+}

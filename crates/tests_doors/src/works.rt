@@ -1,0 +1,343 @@
+//! Tests of a seat with its provider: recordings, work that is counted and timed, and the room that is left.
+use crate::asserted::{OrFail, assert_equal};
+use metric_handles::{
+    AnySeat, BoundUpDownCounter, Counted, TimeUnit, TimedFault, Timer, TimerFault, counter,
+    histogram, up_down_counter,
+};
+use metric_sdk::{
+    Attr, Marked, MeterProvider, NoGate, Plan, Recorder, Refusal, Replaced, ValueRef,
+    certified_plan, start,
+};
+use std::alloc::Global;
+use std::process::Abort;
+use std::sync::Wait;
+
+const SHOP: &str = "format = 2
+[[meter]]
+name = 'shop'
+[[meter.instrument]]
+name = 'orders'
+kind = 'counter'
+range = [1, 100]
+spare = 10
+key = [{ name = 'country', values = ['de', 'fr'] }]
+[[meter.instrument]]
+name = 'active'
+kind = 'up_down_counter'
+range = [-1, 1]
+spare = 1
+[[meter.instrument]]
+name = 'rising'
+kind = 'up_down_counter'
+range = [0, 1]
+[[meter.instrument]]
+name = 'took'
+kind = 'histogram'
+unit = 'ms'
+range = [0, 60000]
+[[meter.instrument]]
+name = 'size'
+kind = 'histogram'
+unit = 'By'
+range = [0, 9]
+[[recorder]]
+name = 'till'
+budget = [
+    { instrument = 0, amount = 3 },
+    { instrument = 1, amount = 5 },
+    { instrument = 2, amount = 5 },
+    { instrument = 3, amount = 2 },
+]
+[[recorder]]
+name = 'web'
+budget = [{ instrument = 1, amount = 3 }]
+";
+
+const READERS: &str = "format = 1
+[[reader]]
+name = 'console'
+";
+
+// The same instruments under another name: nothing of its plan is of the shop's.
+const OTHER: &str = "format = 2
+[[meter]]
+name = 'other'
+[[meter.instrument]]
+name = 'active'
+kind = 'up_down_counter'
+range = [-1, 1]
+[[meter.instrument]]
+name = 'took'
+kind = 'histogram'
+unit = 's'
+range = [0, 9]
+[[recorder]]
+name = 'till'
+";
+
+// A provider with the seats of its recorders.
+type Seats = (MeterProvider, Vec<Recorder>);
+
+fn open_seats<R: Abort + Wait>(rt: &R, alloc: Global) -> Seats {
+    let plan = certified_plan(alloc, SHOP, READERS).or_fail(rt);
+    match start::<_, Marked, NoGate>(rt, alloc, plan, 0, 1, NoGate) {
+        Ok((provider, recorders, _)) => (provider, recorders),
+        Err((_, _, refused)) => Err(refused).or_fail(rt),
+    }
+}
+
+// What a seat does: it adds to orders of a country, or is granted so many on an instrument.
+enum Step {
+    Add(&'static str, i64),
+    Grant(u32, u64),
+    Look,
+}
+
+// Steps, each with its answer and with what is then left to the recorder and of the spare, of orders.
+const STEPS: &[(Step, &str)] = &[
+    (Step::Look, "done, room 3, spare 10"),
+    (Step::Add("de", 5), "done, room 2, spare 10"),
+    (Step::Add("uk", 5), "5 UnknownValue, room 2, spare 10"),
+    (Step::Grant(0, 4), "done, room 6, spare 6"),
+    (Step::Add("fr", 1), "done, room 5, spare 6"),
+    (Step::Add("fr", 1), "done, room 4, spare 6"),
+    (Step::Add("fr", 1), "done, room 3, spare 6"),
+    (Step::Grant(0, 7), "14 NoSpare, room 3, spare 6"),
+    (Step::Grant(0, 6), "done, room 9, spare 0"),
+];
+
+#[test]
+fn what_is_left_counts_grants(rt: HostRuntime) {
+    let alloc = rt.alloc();
+    let (provider, mut seats) = open_seats(&rt, alloc);
+    let orders = counter(provider.plan(), "shop", "orders", &["country"]).or_fail(&rt);
+    let mut seat = seats.remove(0);
+    for (step, wanted) in STEPS {
+        let answer = match step {
+            Step::Add(country, value) => {
+                let mut at = seat.at(&rt, &provider);
+                at.add(&orders, &[Attr::text("country", country)], *value)
+            }
+            Step::Grant(instrument, amount) => seat.ask(&rt, &provider, *instrument, *amount),
+            Step::Look => Ok(()),
+        };
+        let mut told = String::new(alloc);
+        match answer {
+            Ok(()) => write!(told, "done").or_fail(&rt),
+            Err(refusal) => write!(told, "{refusal}").or_fail(&rt),
+        }
+        let room = seat.room(&rt, &provider, orders.number()).or_fail(&rt);
+        let spare = provider.spare_left(&rt, orders.number()).or_fail(&rt);
+        write!(told, ", room {room}, spare {spare}").or_fail(&rt);
+        assert_equal(&rt, told.as_str(), wanted);
+    }
+    let (other, mut strangers) = open_seats(&rt, alloc);
+    let stranger = strangers.remove(1);
+    let unknown = [
+        seat.room(&rt, &provider, 9),
+        provider.spare_left(&rt, 9),
+        stranger.room(&rt, &provider, 1),
+        stranger.room(&rt, &other, 1),
+    ];
+    let wanted = [
+        Err(Refusal::UnknownInstrument),
+        Err(Refusal::UnknownInstrument),
+        Ok(3),
+        Ok(3),
+    ];
+    assert_equal(&rt, unknown, wanted);
+}
+
+// What is told of work that is counted twice, one within the other.
+fn count_twice<R: Wait>(
+    rt: &R,
+    provider: &MeterProvider,
+    seat: &mut Recorder,
+    active: &BoundUpDownCounter,
+) -> [Result<(), Refusal>; 2] {
+    let mut at = seat.at(rt, provider);
+    let (inner, outer) = at.during(active, |seat| {
+        seat.at(rt, provider).during(active, |_| ()).1
+    });
+    [outer, inner]
+}
+
+// How many recordings a seat was told of on an instrument, and their sum, where its least value is this.
+fn made<R: Abort>(rt: &R, seat: &Recorder, instrument: u32, lo: i64) -> (u64, i128) {
+    let told = seat.accepted(instrument).expect(rt, "no such instrument");
+    let sum = i128::from(told.amount).saturating_add(i128::from(lo).saturating_mul(i128::from(
+        told.count,
+    )));
+    (told.count, sum)
+}
+
+// A recorder, an instrument with its number and its least value, how many it is granted before, and what it is told
+// of work that is counted twice; with how many recordings that made and what they come to.
+type Counting = (usize, &'static str, i64, u64, &'static str);
+
+const COUNTED: &[Counting] = &[
+    (0, "active", -1, 0, "[Ok(()), Ok(())] (4, 0)"),
+    // Its budget is 3, and the inner work takes the last of it.
+    (1, "active", -1, 0, "[Err(Budget), Ok(())] (3, 1)"),
+    (1, "active", -1, 1, "[Ok(()), Ok(())] (4, 0)"),
+    (
+        0,
+        "rising",
+        0,
+        0,
+        "[Err(ValueRange), Err(ValueRange)] (0, 0)",
+    ),
+];
+
+#[test]
+fn a_count_comes_back(rt: HostRuntime) {
+    let alloc = rt.alloc();
+    for (recorder, name, lo, granted, wanted) in COUNTED {
+        let (provider, mut seats) = open_seats(&rt, alloc);
+        let mut seat = seats.remove(*recorder);
+        let active = up_down_counter(provider.plan(), "shop", name, &[]).or_fail(&rt);
+        let bound = active.bind(provider.plan(), &[]).or_fail(&rt);
+        seat.ask(&rt, &provider, active.number(), *granted)
+            .or_fail(&rt);
+        let answers = count_twice(&rt, &provider, &mut seat, &bound);
+        let made = made(&rt, &seat, active.number(), *lo);
+        let told = format!(in alloc; "{answers:?} {made:?}").or_fail(&rt);
+        assert_equal(&rt, told.as_str(), wanted);
+    }
+}
+
+// Bound attributes of another plan.
+fn strange<R: Abort>(rt: &R, alloc: Global) -> Plan {
+    certified_plan(alloc, OTHER, READERS).or_fail(rt)
+}
+
+#[test]
+fn a_count_comes_back_where_work_fails(rt: HostRuntime) {
+    let alloc = rt.alloc();
+    let (provider, mut seats) = open_seats(&rt, alloc);
+    let plan = provider.plan();
+    let orders = counter(plan, "shop", "orders", &["country"]).or_fail(&rt);
+    let active = up_down_counter(plan, "shop", "active", &[]).or_fail(&rt);
+    let bound = active.bind(plan, &[]).or_fail(&rt);
+    let seat = match Counted::new(alloc, plan, seats.remove(0)) {
+        Ok(seat) => seat,
+        Err((_, refused)) => Err(refused).or_fail(&rt),
+    };
+    let mut seat = seat;
+    let mut at = seat.at(&rt, &provider);
+    let mut replaced = Replaced::none();
+    let (failed, counted) = at.during(&bound, |seat| {
+        let mut at = seat.at(&rt, &provider);
+        at.add(&orders, &[Attr::text("country", "uk")], 1)?;
+        at.add(&orders, &[Attr::text("country", "de")], 1)
+    });
+    assert_equal(&rt, [failed, counted], [Err(Refusal::UnknownValue), Ok(())]);
+    let uk = Attr::text("country", "uk");
+    let known = at
+        .known_or(&orders, &mut replaced, uk, ValueRef::Text("fr"))
+        .or_fail(&rt);
+    let amount = at.clamped(&orders, &mut replaced, 101).or_fail(&rt);
+    let added = at.add(&orders, &[known], amount);
+    let other = strange(&rt, alloc);
+    let stranger = up_down_counter(&other, "other", "active", &[]).or_fail(&rt);
+    let stranger = stranger.bind(&other, &[]).or_fail(&rt);
+    let (done, counted) = at.during(&stranger, |_| 7);
+    assert_equal(
+        &rt,
+        (done, [added, counted]),
+        (7, [Ok(()), Err(Refusal::Stranger)]),
+    );
+    let refused = at.seat().refused(orders.number(), Refusal::UnknownValue);
+    let made = made(&rt, at.seat().seat(), active.number(), -1);
+    assert_equal(&rt, (refused, made, replaced.values), (1, (2, 0), 1));
+}
+
+// The timer of a histogram of a plan.
+fn timer_of<R: Abort>(
+    rt: &R,
+    plan: &Plan,
+    own: &Plan,
+    meter: &str,
+    name: &str,
+) -> Result<Timer, TimerFault> {
+    let took = histogram(plan, meter, name, &[]).or_fail(rt);
+    took.bind(plan, &[]).or_fail(rt).timer(own)
+}
+
+#[test]
+fn a_duration_is_recorded_in_the_unit_of_its_instrument(rt: HostRuntime) {
+    let alloc = rt.alloc();
+    let (provider, mut seats) = open_seats(&rt, alloc);
+    let (plan, other) = (provider.plan(), strange(&rt, alloc));
+    let units = [
+        timer_of(&rt, plan, plan, "shop", "took").map(|timer| timer.unit()),
+        timer_of(&rt, &other, &other, "other", "took").map(|timer| timer.unit()),
+        timer_of(&rt, plan, plan, "shop", "size").map(|timer| timer.unit()),
+        timer_of(&rt, &other, plan, "other", "took").map(|timer| timer.unit()),
+    ];
+    let wanted = [
+        Ok(TimeUnit::Milliseconds),
+        Ok(TimeUnit::Seconds),
+        Err(TimerFault::OtherUnit),
+        Err(TimerFault::OtherPlan),
+    ];
+    assert_equal(&rt, units, wanted);
+    let timer = timer_of(&rt, plan, plan, "shop", "took").or_fail(&rt);
+    let mut seat = seats.remove(0);
+    let mut at = seat.at(&rt, &provider);
+    let refused = Err(TimedFault::Refused(Refusal::Budget));
+    for wanted in [Ok(()), Ok(()), refused] {
+        let (done, told) = at.timed(&timer, |_| 7);
+        assert_equal(&rt, (done, told), (7, wanted));
+    }
+    let (count, sum) = made(&rt, at.seat(), timer.took().number(), 0);
+    assert_equal(&rt, (count, sum < 60_000), (2, true));
+}
+
+// How many recordings of orders and of durations a job makes, by the number of its handle, and what it is told.
+type Job = (&'static [(usize, u64)], &'static str);
+
+const JOBS: &[Job] = &[
+    (&[], "Ok(())"),
+    (&[(0, 1), (1, 1)], "Ok(())"),
+    (&[(0, 3), (1, 2)], "Ok(())"),
+    // Of two needs of one instrument the sum is asked for.
+    (
+        &[(1, 1), (0, 2), (0, 2)],
+        "Err(SetsFault { place: 1, refusal: Budget })",
+    ),
+    (
+        &[(0, 1), (1, 3)],
+        "Err(SetsFault { place: 1, refusal: Budget })",
+    ),
+    (
+        &[(0, 1), (2, 1), (1, 3)],
+        "Err(SetsFault { place: 1, refusal: Stranger })",
+    ),
+];
+
+#[test]
+fn a_job_has_room_for_all_of_it_or_none(rt: HostRuntime) {
+    let alloc = rt.alloc();
+    let (provider, mut seats) = open_seats(&rt, alloc);
+    let (plan, other) = (provider.plan(), strange(&rt, alloc));
+    let orders = counter(plan, "shop", "orders", &["country"]).or_fail(&rt);
+    let took = histogram(plan, "shop", "took", &[]).or_fail(&rt);
+    let strange = histogram(&other, "other", "took", &[]).or_fail(&rt);
+    let mut seat = seats.remove(0);
+    let at = seat.at(&rt, &provider);
+    for (job, wanted) in JOBS {
+        let mut needs = Vec::new(alloc);
+        for (handle, count) in *job {
+            let need = match handle {
+                0 => orders.need(*count),
+                1 => took.need(*count),
+                _ => strange.need(*count),
+            };
+            needs.push(need).or_fail(&rt);
+        }
+        let answer = at.has_room(needs.as_slice());
+        let told = format!(in alloc; "{answer:?}").or_fail(&rt);
+        assert_equal(&rt, told.as_str(), wanted);
+    }
+}
