@@ -1,0 +1,5 @@
+pub mod Members
+pub mod Seen
+pub mod FieldNames
+mod EachMore
+pub mod Budgets
