@@ -11,9 +11,10 @@ use Rattle.metric_console.specs.declared.fault.ConsoleFault.TheVariants as fault
 use Rattle.metric_console.specs.declared.fault.PageFault.{PageFault}
 use Rattle.metric_console.specs.declared.fault.PageFault.TheVariants as pages
 
--- 4 without memory, else 3
+-- 4 without memory, 1 where the file is a catalogue that is refused, else 3
 abbrev pub unread_status : Unread → ℕ
 unread_status unread.Memory = 4
+unread_status unread.Unexpanded = 1
 unread_status _ = 3
 
 -- 1 where the files have no reader for a page, 2 where the words are wrong

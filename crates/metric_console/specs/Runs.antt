@@ -1,22 +1,25 @@
 -- What running a request does.
 use Rattle.std.specs.Prelude.{◌≡◌, ◌≢◌, ◌⊎◌, ℕ, Bool, true, not, List, Option, Some, None, Result, Ok}
 use Rattle.std.specs.Prelude.{Err, IfErr, IfOk, IfSome, IsErr, IsErrAnd, IsSomeAnd, OnErr, is_some}
+use Rattle.metric_short.specs.declared.fault.ShortFault.{ShortFault}
+use Rattle.metric_short.specs.declared.fault.ShortFault.TheVariants as short
+use Rattle.metric_short.specs.Expansions.{IsExpansion, expansion_of}
 use Rattle.metric_parts.specs.declared.parts.Parts.{Parts}
 use Rattle.metric_request.specs.declared.request.Files.{Files}
 use Rattle.metric_request.specs.declared.request.Request.{Request}
 use Rattle.metric_request.specs.declared.request.Task.{Task}
-use Rattle.metric_request.specs.declared.request.Task.TheVariants.{Replay, Diff}
+use Rattle.metric_request.specs.declared.request.Task.TheVariants.{Replay, Diff, Expand}
 use Rattle.metric_exposition.specs.declared.dialect.Dialect.{Dialect}
 use Rattle.metric_commands.specs.Commands.{SinkRun}
 use Rattle.metric_commands.specs.declared.fault.KitFault.TheVariants.{Memory}
 use Rattle.metric_console.specs.Answers.{IsAnswer, IsAnswerFault}
 use Rattle.metric_console.specs.Comparing.{RunsDiff}
-use Rattle.metric_console.specs.Delivered.{IsDeliveredAnswer, answer_status}
+use Rattle.metric_console.specs.Readings.{AreTexts, IsHeld}
+use Rattle.metric_console.specs.Delivered.{IsDelivered, IsDeliveredAnswer, answer_status}
 use Rattle.metric_console.specs.Faults.{IsDeviceFault, IsRefusal, status_of}
 use Rattle.metric_console.specs.Folders.{MadeFile}
 use Rattle.metric_console.specs.Inputs.{IsReplayIn, input_of}
 use Rattle.metric_console.specs.Paging.{ReplaysPage, dialect_of}
-use Rattle.metric_console.specs.Readings.{AreTexts}
 use Rattle.metric_console.specs.declared.answer.Answer.{Answer}
 use Rattle.metric_console.specs.declared.fault.ConsoleFault.{ConsoleFault}
 use Rattle.metric_console.specs.declared.fault.ConsoleFault.TheVariants.{Unread, Header, Kit, Page}
@@ -195,10 +198,59 @@ abbrev pub exit_of : Result ℕ ConsoleFault → ℕ
 exit_of (Ok status) = status
 exit_of (Err fault) = status_of fault
 
--- # what running a request does (profile)
--- A request is run, and its end is told by the exit status.
-pub record RunsRequest (known : Known) (request : Request) (writing : Writing)
+-- A command is run on its files, and its end is told by the exit status.
+pub record RunsCommand (known : Known) (request : Request) (writing : Writing)
     (sink : SinkRun) (status : ℕ) : Type 0 where
   pub end : Result ℕ ConsoleFault
   pub runs : RunsFiles known request writing sink end
   pub is_status : status ≡ exit_of end
+
+-- The catalogue that the file is of format 3 is expanded, and the expansion written.
+pub record IsExpanded (known : Known) (files : Files) (writing : Writing) : Type 0 where
+  pub source : List ℕ
+  pub printed : List ℕ
+  pub is_held : IsHeld known.held files.catalogue source
+  pub is_expansion : IsExpansion source printed
+  pub delivered : IsDelivered files.output printed writing.made writing.made_after
+      writing.contents writing.contents_after
+  pub apart : IsSomeAnd files.output (λ path. path ≡ files.catalogue) → ⊥
+
+-- The first fault of the catalogue that the file is.
+pub record IsUnexpanded (known : Known) (files : Files) (fault : ShortFault) : Type 0 where
+  pub source : List ℕ
+  pub is_held : IsHeld known.held files.catalogue source
+  pub first : fault ≢ short.Memory → expansion_of source ≡ Err fault
+
+-- 4 without memory, else 1
+abbrev pub short_status : ShortFault → ℕ
+short_status short.Memory = 4
+short_status _ = 1
+
+-- The catalogue is refused by its first fault, and nothing is written.
+pub record RefusesShort (known : Known) (files : Files) (writing : Writing) (status : ℕ) : Type 0 where
+  pub fault : ShortFault
+  pub is_unexpanded : IsUnexpanded known files fault
+  pub untouched : IsUntouched writing
+  pub is_status : status ≡ short_status fault
+
+-- A file cannot be read or written.
+pub record StopsExpansion (writing : Writing) (status : ℕ) : Type 0 where
+  pub fault : ConsoleFault
+  pub unmade : writing.made_after ≡ writing.made
+  pub untouched : IsRefusal fault → IsUntouched writing
+  pub is_status : status ≡ status_of fault
+
+-- # what expanding does (profile) [ExpandsFile]
+-- The expansion is written; or the catalogue is refused by its first fault, and nothing is written; or a file is not
+-- read or not written. The exit status says which.
+abbrev pub ExpandsFile : Known → Files → Writing → ℕ → Type 0
+ExpandsFile known files writing status =
+    ((status ≡ 0) × IsExpanded known files writing)
+    ⊎ (RefusesShort known files writing status ⊎ StopsExpansion writing status)
+
+-- # what running a request does (profile)
+-- A catalogue is expanded, or another command run, and the end is told by the exit status.
+pub record RunsRequest (known : Known) (request : Request) (writing : Writing)
+    (sink : SinkRun) (status : ℕ) : Type 0 where
+  pub expanded : request.task ≡ Expand → ExpandsFile known request.files writing status
+  pub commanded : request.task ≢ Expand → RunsCommand known request writing sink status

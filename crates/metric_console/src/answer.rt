@@ -41,6 +41,7 @@ pub(crate) fn answer_of(
 ) -> Result<Answer, KitFault>
     requires other { task ≢ Task.Replay }
     requires single { task ≢ Task.Diff }
+    requires long { task ≢ Task.Expand }
     requires certificate { task ≡ Task.Check → IsSome parts.now.certificate }
     ensures ok { IfOk result (IsAnswer task request.now parts.now) }
     ensures first { IfErr result (λ fault. IsAnswerFault task fault parts.now) }
@@ -52,7 +53,7 @@ pub(crate) fn answer_of(
         Task::Headroom => roomed(alloc, parts),
         Task::Lint => noted(alloc, request, parts),
         Task::Draw => drawn(alloc, parts),
-        Task::Replay | Task::Diff => unreachable!(),
+        Task::Replay | Task::Diff | Task::Expand => unreachable!(),
     }
 }
 

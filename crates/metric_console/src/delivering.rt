@@ -103,7 +103,7 @@ fn status_of(denied: &[Text], answer: &Answer) -> u8
 }
 
 // Writes a text to the file at a path, or else to the sink.
-fn put<F: Folder, W: Sink>(
+pub(crate) fn put<F: Folder, W: Sink>(
     path: &Option<Text>,
     text: &Text,
     folder: &mut F,

@@ -119,6 +119,7 @@ fn unread_status(cause: Unread) -> u8
 {
     match cause {
         Unread::Memory => 4,
+        Unread::Unexpanded => 1,
         Unread::Missing
         | Unread::Directory
         | Unread::Denied

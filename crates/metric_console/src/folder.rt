@@ -20,6 +20,8 @@ pub enum Unread {
     Unreadable,
     /// It is no UTF-8.
     NotText,
+    /// It is a catalogue of format 3 that has a fault.
+    Unexpanded,
     /// Memory was refused.
     Memory,
 }
@@ -34,6 +36,9 @@ impl Unread {
             Unread::TooLong => "it has more than 67108864 bytes",
             Unread::Unreadable => "it cannot be read, or has more than 67108864 bytes",
             Unread::NotText => "it is not UTF-8",
+            Unread::Unexpanded => {
+                "it is a catalogue of format 3 with a fault, which 'wormweekly expand' tells"
+            }
             Unread::Memory => "memory was refused",
         }
     }

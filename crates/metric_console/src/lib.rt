@@ -11,6 +11,7 @@ mod change_sheet;
 mod comparing;
 mod concerns;
 mod delivering;
+mod expanding;
 mod exposures;
 mod fault;
 mod fleet;

@@ -5,7 +5,7 @@ ghost use Rattle.metric_console.specs.Comparing.{Compares, RefusesDiff};
 ghost use Rattle.metric_console.specs.Faults.{IsDeviceFault, IsRefusal};
 ghost use Rattle.metric_commands.specs.Commands.{sink_run};
 ghost use Rattle.metric_console.specs.Paging.{dialect_of};
-ghost use Rattle.metric_console.specs.Runs.{Answers, EndsPlain, EndsScript, IsOverwriting, IsReplayEnd, NamesInput, RefusesFor, Replays, RunsRequest};
+ghost use Rattle.metric_console.specs.Runs.{Answers, EndsPlain, EndsScript, IsOverwriting, IsReplayEnd, NamesInput, RefusesFor, Replays, RunsCommand, RunsRequest};
 ghost use Rattle.metric_console.specs.Runs.{RunsTexts, known_by, writing};
 ghost use Rattle.metric_console.specs.Told.{IsLineEnd};
 
@@ -13,6 +13,7 @@ use crate::answer::answer_of;
 use crate::change_sheet::ChangeSheet;
 use crate::comparing::{Comparison, comparison_of, diff_status};
 use crate::delivering::{deliver, print, print_sheet};
+use crate::expanding::run_expand;
 use crate::fault::{ConsoleFault, Role};
 use crate::folder::{Folder, Unread};
 use crate::paging::{dialect_of, replay_as_page};
@@ -47,8 +48,27 @@ pub fn run_request<F: Folder, W: Sink, E: Sink>(
     ensures unmade { OnErr request (folder.new ≡ folder.old) }
 {
     match request {
-        Ok(request) => run_files(alloc, &request, columns, folder, sink, errors),
+        Ok(request) => run_asked(alloc, &request, columns, folder, sink, errors),
         Err(fault) => tell_line(fault, sink, errors),
+    }
+}
+
+fn run_asked<F: Folder, W: Sink, E: Sink>(
+    alloc: Global,
+    request: &Request,
+    columns: u32,
+    folder: &mut F,
+    sink: &mut W,
+    errors: &mut E,
+) -> u8
+    ensures { RunsRequest (known_by F.held F.same folder.old) request.now
+        (writing F.made W.contents folder.old folder.new sink.old sink.new)
+        (sink_run W.contents W.failures sink.old sink.new) result }
+{
+    if request.task == Task::Expand {
+        run_expand(alloc, request, folder, sink, errors)
+    } else {
+        run_files(alloc, request, columns, folder, sink, errors)
     }
 }
 
@@ -61,7 +81,8 @@ fn run_files<F: Folder, W: Sink, E: Sink>(
     sink: &mut W,
     errors: &mut E,
 ) -> u8
-    ensures { RunsRequest (known_by F.held F.same folder.old) request.now
+    requires { request.now.task ≢ Task.Expand }
+    ensures { RunsCommand (known_by F.held F.same folder.old) request.now
         (writing F.made W.contents folder.old folder.new sink.old sink.new)
         (sink_run W.contents W.failures sink.old sink.new) result }
 {
@@ -111,6 +132,7 @@ fn run_texts<F: Folder, W: Sink, E: Sink>(
     sink: &mut W,
     errors: &mut E,
 ) -> Result<u8, ConsoleFault>
+    requires { request.now.task ≢ Task.Expand }
     ensures { RunsTexts request.now texts.now
         (writing F.made W.contents folder.old folder.new sink.old sink.new)
         (sink_run W.contents W.failures sink.old sink.new) result }
@@ -137,6 +159,7 @@ fn run_answer<F: Folder, W: Sink, E: Sink>(
 ) -> Result<u8, ConsoleFault>
     requires other { request.now.task ≢ Task.Replay }
     requires single { request.now.task ≢ Task.Diff }
+    requires long { request.now.task ≢ Task.Expand }
     ensures ok { IfOk result (Answers request.now texts.now.parts
         (writing F.made W.contents folder.old folder.new sink.old sink.new)) }
     ensures first { IfErr result (RefusesFor request.now.task texts.now.parts) }

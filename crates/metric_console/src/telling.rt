@@ -149,6 +149,9 @@ fn told(
         ConsoleFault::Header { role } => told_header(alloc, &request.files, role),
         ConsoleFault::Page(fault) => told_page(alloc, request, texts, fault),
         ConsoleFault::Old(fault) => told_old(alloc, &request.files, texts, fault),
+        ConsoleFault::Kit(KitFault::Write) => {
+            String::from_str(alloc, "standard output: a write failed\n")
+        }
         ConsoleFault::Kit(fault) => match texts {
             Some(texts) => told_kit(alloc, &request.files, texts, fault),
             None => told_plain(alloc, fault),
@@ -225,7 +228,7 @@ fn told_kit(
 ) -> Result<String, AllocError> {
     match fault {
         KitFault::Catalogue(fault) => {
-            let source = source_of(&files.catalogue, &texts.parts.catalogue);
+            let source = source_of(&texts.name, &texts.parts.catalogue);
             spelled(alloc, diagnose_catalogue(alloc, source, fault))
         }
         KitFault::Config(fault) => {
@@ -234,7 +237,6 @@ fn told_kit(
         }
         KitFault::Make(fault) => told_make(alloc, files, texts, fault),
         KitFault::Input { line } => told_script(alloc, files, texts, line),
-        KitFault::Write => String::from_str(alloc, "standard output: a write failed\n"),
         KitFault::Certificate(_) | KitFault::Check(_) => {
             told_certificate(alloc, files, texts, fault)
         }
@@ -292,7 +294,7 @@ pub(crate) fn source_of<'t>(path: &'t Text, text: &'t Text) -> NamedText<'t> {
 pub(crate) fn pair_of<'t>(files: &'t Files, texts: &'t Texts, declared: &'t Declared) -> Pair<'t> {
     Pair {
         catalogue: &declared.catalogue,
-        catalogue_source: source_of(&files.catalogue, &texts.parts.catalogue),
+        catalogue_source: source_of(&texts.name, &texts.parts.catalogue),
         config: &declared.config,
         config_source: source_of(&files.config, &texts.parts.config),
     }

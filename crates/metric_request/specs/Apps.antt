@@ -117,6 +117,13 @@ diff_app =
     (with_rule (with_rule compared_app (text_rule (codes "certificate"))) denied_rule)
     (flag_rule (codes "json"))
 
+-- a command over a catalogue alone
+abbrev pub single_app : App
+single_app = with_rule (new_app (codes "expand")) (file_rule (codes "catalogue") true)
+
+abbrev pub expand_app : App
+expand_app = with_rule single_app output_rule
+
 -- the program, with its version and without a command
 abbrev pub bare_app : App
 bare_app =
@@ -136,5 +143,7 @@ second_app = with_subcommand (with_subcommand first_app make_app.top) check_app.
 -- What the words of a command line ask for.
 abbrev pub program_app : App
 program_app =
-    with_subcommand (with_subcommand (with_subcommand second_app replay_app.top) draw_app.top)
-    diff_app.top
+    with_subcommand
+    (with_subcommand (with_subcommand (with_subcommand second_app replay_app.top) draw_app.top)
+    diff_app.top)
+    expand_app.top

@@ -26,7 +26,7 @@ use Rattle.metric_request.specs.declared.request.Outlets.{Outlets}
 use Rattle.metric_request.specs.declared.request.Request.{Request}
 use Rattle.metric_request.specs.declared.request.Task.{Task}
 use Rattle.metric_request.specs.declared.request.Task.TheVariants.{Lint, Show, Make, Check}
-use Rattle.metric_request.specs.declared.request.Task.TheVariants.{Headroom, Replay, Draw, Diff}
+use Rattle.metric_request.specs.declared.request.Task.TheVariants.{Headroom, Replay, Draw, Diff, Expand}
 
 -- the command by its name
 abbrev pub task_of : Text → Task
@@ -38,6 +38,7 @@ task_of name =
     else if bytes_eq name (codes "headroom") then Headroom
     else if bytes_eq name (codes "replay") then Replay
     else if bytes_eq name (codes "diff") then Diff
+    else if bytes_eq name (codes "expand") then Expand
     else Draw
 
 -- an argument was given this word

@@ -7,6 +7,7 @@ ghost use Rattle.metric_request.specs.Apps.{replay_app, second_app, show_app, ta
 
 use crate::arguments::{file, flag, number, output, text, texts};
 use crate::diff_command::diff;
+use crate::expand_command::expand;
 use clap::{Arg, Command};
 use std::alloc::{AllocError, Global};
 
@@ -60,7 +61,8 @@ pub(crate) fn program<'a>(alloc: Global) -> Result<Command<'a>, AllocError>
 {
     let program = with_command(second(alloc), replay(alloc));
     let program = with_command(program, draw(alloc));
-    with_command(program, diff(alloc))
+    let program = with_command(program, diff(alloc));
+    with_command(program, expand(alloc))
 }
 
 fn second<'a>(alloc: Global) -> Result<Command<'a>, AllocError>

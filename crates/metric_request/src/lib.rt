@@ -5,6 +5,7 @@ mod arguments;
 mod attributes;
 mod commands;
 mod diff_command;
+mod expand_command;
 mod fault;
 mod reading;
 mod request;

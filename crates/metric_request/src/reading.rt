@@ -197,6 +197,7 @@ fn task_of(command: &str) -> Task
         "headroom" => Task::Headroom,
         "replay" => Task::Replay,
         "diff" => Task::Diff,
+        "expand" => Task::Expand,
         _ => Task::Draw,
     }
 }

@@ -24,6 +24,8 @@ pub enum Task {
     Draw,
     /// Print what a change of a catalogue or a config does.
     Diff,
+    /// Print a catalogue of format 3 as the catalogue of format 2 that it means.
+    Expand,
 }
 
 /// The paths of the files that a command reads and writes.
@@ -35,7 +37,7 @@ pub struct Files {
     pub old_config: Option<Text>,
     /// Where the catalogue is.
     pub catalogue: Text,
-    /// Where the config is.
+    /// Where the config is; empty where the command reads none.
     pub config: Text,
     /// Where the certificate is, where the command has one.
     pub certificate: Option<Text>,
