@@ -40,6 +40,10 @@ mod pictures;
 #[cfg(test)]
 mod remarks;
 #[cfg(test)]
+mod short_service;
+#[cfg(test)]
+mod shorts;
+#[cfg(test)]
 mod spares;
 #[cfg(test)]
 mod streams;
