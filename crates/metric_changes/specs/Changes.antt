@@ -7,7 +7,10 @@ use Rattle.metric_views.specs.declared.stream.Stream.{Stream}
 use Rattle.metric_advice.specs.declared.headroom.Headroom.{Headroom}
 use Rattle.metric_changes.specs.declared.change.Change.{Change}
 use Rattle.metric_changes.specs.declared.change.Change.TheVariants as changes
-use Rattle.metric_changes.specs.Known.{instrument_name, meter_numbers, place_of, reader_numbers, stream_name}
+use Rattle.metric_changes.specs.declared.named.Sort.{Sort}
+use Rattle.metric_changes.specs.declared.named.Sort.TheVariants as sorts
+use Rattle.metric_changes.specs.declared.side.Side.{Side}
+use Rattle.metric_changes.specs.Known.{instrument_name, is_meter, is_reader, numbers_by, place_of, stream_name}
 use Rattle.metric_changes.specs.Parts.{differences_with, when}
 
 -- What a catalogue and a config declare, and what they give.
@@ -21,16 +24,19 @@ abbrev pub plan : Contents → Config → List Stream → List Headroom → Plan
 plan contents config streams rooms =
     record { contents = contents; config = config; streams = streams; rooms = rooms }
 
+abbrev pub plan_of : Side → Plan
+plan_of side = plan side.catalogue.now side.config.now side.streams.now side.rooms.now
+
 -- what the streams of one of the two plans are known by
 unfoldable pub stream_names : Plan → Plan → List (List ℕ)
 stream_names old plan =
-    map (stream_name (reader_numbers old.config.readers plan.config.readers)
-    (meter_numbers old.contents.meters plan.contents.meters) plan.contents) plan.streams
+    map (stream_name (numbers_by is_reader old.config.readers plan.config.readers)
+    (numbers_by is_meter old.contents.meters plan.contents.meters) plan.contents) plan.streams
 
 -- what the instruments of one of the two plans are known by
 unfoldable pub instrument_names : Plan → Plan → List (List ℕ)
 instrument_names old plan =
-    map (instrument_name (meter_numbers old.contents.meters plan.contents.meters))
+    map (instrument_name (numbers_by is_meter old.contents.meters plan.contents.meters))
     plan.contents.instruments
 
 -- the old stream of a number goes, or differs from the new one of its name
@@ -39,13 +45,6 @@ stream_change old new number None = changes.StreamGone number ∷ []
 stream_change old new number (Some other) =
     differences_with old.contents new.contents number other (slice_get old.streams number)
     (slice_get new.streams other)
-
-abbrev pub stream_change_by : (List ℕ → Option ℕ) → Plan → Plan → ℕ × List ℕ → List Change
-stream_change_by find old new name = stream_change old new name.0 (find name.1)
-
--- the new stream of a name is none of the old ones
-abbrev pub stream_new_by : (List ℕ → Option ℕ) → ℕ × List ℕ → List Change
-stream_new_by find name = when (not (is_some (find name.1))) (changes.StreamNew name.0)
 
 -- the budgets, or what is safe, are another number
 abbrev pub room_changes : ℕ → ℕ → Option Headroom → Option Headroom → List Change
@@ -60,30 +59,35 @@ instrument_change old new number None = changes.InstrumentGone number ∷ []
 instrument_change old new number (Some other) =
     room_changes number other (slice_get old.rooms number) (slice_get new.rooms other)
 
-abbrev pub instrument_change_by : (List ℕ → Option ℕ) → Plan → Plan → ℕ × List ℕ → List Change
-instrument_change_by find old new name = instrument_change old new name.0 (find name.1)
+abbrev pub names : Sort → Plan → Plan → List (List ℕ)
+names sorts.Streams old plan = stream_names old plan
+names sorts.Instruments old plan = instrument_names old plan
 
-abbrev pub instrument_new_by : (List ℕ → Option ℕ) → ℕ × List ℕ → List Change
-instrument_new_by find name = when (not (is_some (find name.1))) (changes.InstrumentNew name.0)
+abbrev pub change : Sort → Plan → Plan → ℕ → Option ℕ → List Change
+change sorts.Streams old new number found = stream_change old new number found
+change sorts.Instruments old new number found = instrument_change old new number found
 
--- the streams that go or differ, in the order of the old ones, and then those that are new
-unfoldable pub stream_changes : Plan → Plan → List Change
-stream_changes old new =
-    flat_map (stream_change_by (place_of (stream_names old new)) old new)
-    (enumerate_from 0 (stream_names old old))
-    ++ flat_map (stream_new_by (place_of (stream_names old old)))
-    (enumerate_from 0 (stream_names old new))
+abbrev pub change_by : Sort → (List ℕ → Option ℕ) → Plan → Plan → ℕ × List ℕ → List Change
+change_by sort find old new name = change sort old new name.0 (find name.1)
 
--- the same of the instruments
-unfoldable pub instrument_changes : Plan → Plan → List Change
-instrument_changes old new =
-    flat_map (instrument_change_by (place_of (instrument_names old new)) old new)
-    (enumerate_from 0 (instrument_names old old))
-    ++ flat_map (instrument_new_by (place_of (instrument_names old old)))
-    (enumerate_from 0 (instrument_names old new))
+abbrev pub coming : Sort → ℕ → Change
+coming sorts.Streams number = changes.StreamNew number
+coming sorts.Instruments number = changes.InstrumentNew number
+
+-- the new one of a name is none of the old ones
+abbrev pub new_by : Sort → (List ℕ → Option ℕ) → ℕ × List ℕ → List Change
+new_by sort find name = when (not (is_some (find name.1))) (coming sort name.0)
+
+-- those that go or differ, in the order of the old ones, and then those that are new
+unfoldable pub sort_changes : Sort → Plan → Plan → List Change
+sort_changes sort old new =
+    flat_map (change_by sort (place_of (names sort old new)) old new)
+    (enumerate_from 0 (names sort old old))
+    ++ flat_map (new_by sort (place_of (names sort old old)))
+    (enumerate_from 0 (names sort old new))
 
 -- # change (profile) [changes_of]
 -- The streams that go or differ, and those that are new; and the same of instruments. Of several of
 -- one name the first is compared.
 abbrev pub changes_of : Plan → Plan → List Change
-changes_of old new = stream_changes old new ++ instrument_changes old new
+changes_of old new = sort_changes sorts.Streams old new ++ sort_changes sorts.Instruments old new

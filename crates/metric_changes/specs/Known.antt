@@ -10,30 +10,22 @@ use Rattle.metric_contents.specs.declared.contents.Meter.{Meter}
 use Rattle.metric_views.specs.declared.config.Reader.{Reader}
 use Rattle.metric_views.specs.declared.stream.Stream.{Stream}
 
-abbrev pub is_reader : List ℕ → Reader → Bool
-is_reader name reader = bytes_eq reader.name name
+-- the readers have one name
+abbrev pub is_reader : Reader → Reader → Bool
+is_reader reader other = bytes_eq other.name reader.name
 
--- the old number of a reader by its name; of a new one a number that no old one has
-abbrev pub reader_number : List Reader → ℕ × Reader → ℕ
-reader_number olds reader =
-    unwrap_or (position_from (is_reader reader.1.name) 0 olds) (length olds + reader.0)
+-- the old number of what is known; of what is new a number that no old one has
+abbrev pub number_by : {A : Type 0} → (A → A → Bool) → List A → ℕ × A → ℕ
+number_by is olds own = unwrap_or (position_from (is own.1) 0 olds) (length olds + own.0)
 
-abbrev pub reader_numbers : List Reader → List Reader → List ℕ
-reader_numbers olds readers = map (reader_number olds) (enumerate_from 0 readers)
+abbrev pub numbers_by : {A : Type 0} → (A → A → Bool) → List A → List A → List ℕ
+numbers_by is olds news = map (number_by is olds) (enumerate_from 0 news)
 
 -- the meters have one name, version and schema URL
 abbrev pub is_meter : Meter → Meter → Bool
 is_meter meter other =
     bytes_eq other.name meter.name
     && (bytes_eq other.version meter.version && bytes_eq other.schema_url meter.schema_url)
-
--- the old number of a meter by these; of a new one a number that no old one has
-abbrev pub meter_number : List Meter → ℕ × Meter → ℕ
-meter_number olds meter =
-    unwrap_or (position_from (is_meter meter.1) 0 olds) (length olds + meter.0)
-
-abbrev pub meter_numbers : List Meter → List Meter → List ℕ
-meter_numbers olds meters = map (meter_number olds) (enumerate_from 0 meters)
 
 -- # what is known in both (data model, identity; API, instrument name) [known_text, stream_name]
 -- The reader's number, the meter's, and the name folded to ASCII lower case. The readers of one

@@ -17,6 +17,8 @@ use Rattle.metric_views.specs.Selection.{is_kind}
 use Rattle.metric_changes.specs.declared.change.Change.{Change}
 use Rattle.metric_changes.specs.declared.change.Change.TheVariants as changes
 use Rattle.metric_changes.specs.declared.change.StreamPart.{StreamPart}
+use Rattle.metric_changes.specs.declared.keys.Way.{Way}
+use Rattle.metric_changes.specs.declared.keys.Way.TheVariants as ways
 use Rattle.metric_changes.specs.declared.change.StreamPart.TheVariants as parts
 
 -- a change, where it holds
@@ -85,17 +87,19 @@ abbrev pub is_lost : List Key → Stream → Stream → ℕ × Key → Bool
 is_lost others s t key =
     slice_index_or s.kept key.0 false && not (keeps others t key.1.name)
 
-abbrev pub key_gone : ℕ → ℕ → List Key → Stream → Stream → ℕ × Key → List Change
-key_gone old new others s t key = when (is_lost others s t key) (changes.KeyGone old new key.0)
+-- that a key goes, or that one is new
+abbrev pub key_change : Way → ℕ → ℕ → ℕ → Change
+key_change ways.Gone old new key = changes.KeyGone old new key
+key_change ways.New old new key = changes.KeyNew old new key
 
-abbrev pub key_new : ℕ → ℕ → List Key → Stream → Stream → ℕ × Key → List Change
-key_new old new others s t key = when (is_lost others s t key) (changes.KeyNew old new key.0)
+abbrev pub lost_key : Way → ℕ → ℕ → List Key → Stream → Stream → ℕ × Key → List Change
+lost_key way old new others s t key = when (is_lost others s t key) (key_change way old new key.0)
 
 -- each key that goes, and then each that is new
 abbrev pub key_changes : ℕ → ℕ → List Key → List Key → Stream → Stream → List Change
 key_changes old new keys others s t =
-    flat_map (key_gone old new others s t) (enumerate_from 0 keys)
-    ++ flat_map (key_new old new keys t s) (enumerate_from 0 others)
+    flat_map (lost_key ways.Gone old new others s t) (enumerate_from 0 keys)
+    ++ flat_map (lost_key ways.New old new keys t s) (enumerate_from 0 others)
 
 abbrev pub differences_with : Contents → Contents → ℕ → ℕ → Option Stream → Option Stream
     → List Change

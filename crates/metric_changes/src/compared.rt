@@ -1,11 +1,10 @@
 //! All that differs.
 ghost use Rattle.std.specs.Prelude.{◌≡◌, IfOk};
-ghost use Rattle.metric_changes.specs.Changes.{changes_of, plan};
+ghost use Rattle.metric_changes.specs.Changes.{changes_of, plan_of};
 
 use crate::change::Change;
-use crate::instruments::add_instruments;
+use crate::named::{Sort, add_sort};
 use crate::side::Side;
-use crate::streams::add_streams;
 use metric_base::Items;
 use std::alloc::{AllocError, Global};
 
@@ -14,13 +13,11 @@ use std::alloc::{AllocError, Global};
 /// the same where their readers have one name, their meters one name, version and schema URL, and they one name without case
 /// (Metrics data model, identity); of several the first counts. Takes n log n for n streams. Fails only where memory is refused.
 pub fn changes(alloc: Global, old: Side<'_>, new: Side<'_>) -> Result<Items<Change>, AllocError>
-    ensures { IfOk result (λ changes. changes ≡ changes_of
-        (plan old.entry.catalogue.now old.entry.config.now old.entry.streams.now old.entry.rooms.now)
-        (plan new.entry.catalogue.now new.entry.config.now new.entry.streams.now
-        new.entry.rooms.now)) }
+    ensures { IfOk result (λ changes. changes ≡
+        changes_of (plan_of old.entry) (plan_of new.entry)) }
 {
     let mut changes = Items::new(alloc);
-    add_streams(alloc, &mut changes, old, new)?;
-    add_instruments(alloc, &mut changes, old, new)?;
+    add_sort(alloc, &mut changes, Sort::Streams, old, new)?;
+    add_sort(alloc, &mut changes, Sort::Instruments, old, new)?;
     Ok(changes)
 }

@@ -2,7 +2,7 @@
 ghost use Rattle.std.specs.Prelude.{◌≡◌, ◌++◌, ◌&&◌, OnOk, Some, false, length, not, slice_get, slice_index_or};
 ghost use Rattle.std.specs.List.{enumerate_from, flat_map, list_any};
 ghost use Rattle.std.specs.Str.{bytes_eq};
-ghost use Rattle.metric_changes.specs.Parts.{is_kept_as, is_lost, keeps, key_changes, key_gone, key_new, keys_of};
+ghost use Rattle.metric_changes.specs.Parts.{is_kept_as, is_lost, keeps, key_change, key_changes, keys_of, lost_key};
 
 use crate::change::Change;
 use crate::parts::{Numbers, add_when};
@@ -17,6 +17,13 @@ use std::alloc::AllocError;
 pub(crate) struct Keyed<'k> {
     pub(crate) keys: &'k [Key],
     pub(crate) stream: &'k Stream,
+}
+
+/// Whether keys go or are new.
+#[derive(Clone, Copy, Drop)]
+pub(crate) enum Way {
+    Gone,
+    New,
 }
 
 /// A stream of a catalogue with the keys of its instrument.
@@ -48,50 +55,37 @@ pub(crate) fn add_keys(
         ++ key_changes of.old of.new old.entry.keys.now new.entry.keys.now
         old.entry.stream.now new.entry.stream.now) }
 {
-    add_gone(changes, of, old, new)?;
-    add_new(changes, of, old, new)
+    add_lost(changes, of, Way::Gone, old, new)?;
+    add_lost(changes, of, Way::New, new, old)
 }
 
-fn add_gone(
+// Puts a change last for each key that one stream keeps and another does not.
+fn add_lost(
     changes: &mut Items<Change>,
     of: Numbers,
-    old: Keyed<'_>,
-    new: Keyed<'_>,
+    way: Way,
+    own: Keyed<'_>,
+    other: Keyed<'_>,
 ) -> Result<(), AllocError>
     ensures { OnOk result (changes.new ≡ changes.old
-        ++ flat_map (key_gone of.old of.new new.entry.keys.now old.entry.stream.now
-        new.entry.stream.now) (enumerate_from 0 old.entry.keys.now)) }
+        ++ flat_map (lost_key way of.old of.new other.entry.keys.now own.entry.stream.now
+        other.entry.stream.now) (enumerate_from 0 own.entry.keys.now)) }
 {
-    for (key, own) in old.keys.iter().enumerate() {
-        let change = Change::KeyGone {
-            old: of.old,
-            new: of.new,
-            key,
-        };
-        add_when(changes, is_lost(old.stream, key, own, new), change)?;
+    for (number, key) in own.keys.iter().enumerate() {
+        let change = key_change(way, of, number);
+        add_when(changes, is_lost(own.stream, number, key, other), change)?;
     }
     Ok(())
 }
 
-fn add_new(
-    changes: &mut Items<Change>,
-    of: Numbers,
-    old: Keyed<'_>,
-    new: Keyed<'_>,
-) -> Result<(), AllocError>
-    ensures { OnOk result (changes.new ≡ changes.old
-        ++ flat_map (key_new of.old of.new old.entry.keys.now new.entry.stream.now
-        old.entry.stream.now) (enumerate_from 0 new.entry.keys.now)) }
+fn key_change(way: Way, of: Numbers, key: usize) -> Change
+    ensures { result ≡ key_change way of.old of.new key }
 {
-    for (key, own) in new.keys.iter().enumerate() {
-        let change = Change::KeyNew {
-            old: of.old,
-            new: of.new,
-            key,
-        };
-        add_when(changes, is_lost(new.stream, key, own, old), change)?;
+    let Numbers { old, new } = of;
+    match way {
+        Way::Gone => Change::KeyGone { old, new, key },
+        Way::New => Change::KeyNew { old, new, key },
     }
-    Ok(())
 }
 
 // Whether a stream keeps the key of a number, and another none of its name.

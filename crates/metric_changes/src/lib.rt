@@ -8,6 +8,7 @@ mod change;
 mod compared;
 mod instruments;
 mod keys;
+mod named;
 mod names;
 mod numbers;
 mod parts;

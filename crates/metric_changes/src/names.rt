@@ -1,9 +1,10 @@
 //! What streams and instruments are known by.
 ghost use Rattle.std.specs.Prelude.{◌≡◌, IfOk, map, slice_index_or, unwrap_or, slice_get};
-ghost use Rattle.metric_changes.specs.Changes.{instrument_names, plan, stream_names};
-ghost use Rattle.metric_changes.specs.Known.{instrument_name, known_text, meter_numbers, meter_with, reader_numbers, stream_name};
+ghost use Rattle.metric_changes.specs.Changes.{instrument_names, names, plan_of, stream_names};
+ghost use Rattle.metric_changes.specs.Known.{instrument_name, known_text, meter_with, stream_name};
 
-use crate::numbers::{meter_numbers, reader_numbers};
+use crate::named::Sort;
+use crate::numbers::numbers;
 use crate::side::Side;
 use metric_base::{Items, Text};
 use metric_catalogue::Catalogue;
@@ -12,20 +13,28 @@ use metric_names::Name;
 use metric_views::Stream;
 use std::alloc::{AllocError, Global};
 
-/// What the streams of a side are known by, in the numbers of the old one.
-#[tactic(auto, unfolding(crate::specs::Changes::stream_names))]
-pub(crate) fn stream_names(
+/// What those of a side are known by, in the numbers of the old one.
+pub(crate) fn names(
     alloc: Global,
+    sort: Sort,
     old: Side<'_>,
     side: Side<'_>,
 ) -> Result<Items<Text>, AllocError>
-    ensures { IfOk result (λ names. names ≡ stream_names
-        (plan old.entry.catalogue.now old.entry.config.now old.entry.streams.now old.entry.rooms.now)
-        (plan side.entry.catalogue.now side.entry.config.now side.entry.streams.now
-        side.entry.rooms.now)) }
+    ensures { IfOk result (λ all. all ≡ names sort (plan_of old.entry) (plan_of side.entry)) }
 {
-    let readers = reader_numbers(alloc, old.config.readers(), side.config.readers())?;
-    let meters = meter_numbers(alloc, old.catalogue.meters(), side.catalogue.meters())?;
+    match sort {
+        Sort::Streams => stream_names(alloc, old, side),
+        Sort::Instruments => instrument_names(alloc, old, side),
+    }
+}
+
+#[tactic(auto, unfolding(crate::specs::Changes::stream_names))]
+fn stream_names(alloc: Global, old: Side<'_>, side: Side<'_>) -> Result<Items<Text>, AllocError>
+    ensures { IfOk result (λ names. names ≡
+        stream_names (plan_of old.entry) (plan_of side.entry)) }
+{
+    let readers = numbers(alloc, old.config.readers(), side.config.readers())?;
+    let meters = numbers(alloc, old.catalogue.meters(), side.catalogue.meters())?;
     names_of(
         alloc,
         side.catalogue,
@@ -98,19 +107,12 @@ fn known_text(alloc: Global, reader: usize, meter: usize, name: &Name) -> Result
     Ok(Text::from_string(text))
 }
 
-/// What the instruments of a side are known by, in the numbers of the old one.
 #[tactic(auto, unfolding(crate::specs::Changes::instrument_names))]
-pub(crate) fn instrument_names(
-    alloc: Global,
-    old: Side<'_>,
-    side: Side<'_>,
-) -> Result<Items<Text>, AllocError>
-    ensures { IfOk result (λ names. names ≡ instrument_names
-        (plan old.entry.catalogue.now old.entry.config.now old.entry.streams.now old.entry.rooms.now)
-        (plan side.entry.catalogue.now side.entry.config.now side.entry.streams.now
-        side.entry.rooms.now)) }
+fn instrument_names(alloc: Global, old: Side<'_>, side: Side<'_>) -> Result<Items<Text>, AllocError>
+    ensures { IfOk result (λ names. names ≡
+        instrument_names (plan_of old.entry) (plan_of side.entry)) }
 {
-    let meters = meter_numbers(alloc, old.catalogue.meters(), side.catalogue.meters())?;
+    let meters = numbers(alloc, old.catalogue.meters(), side.catalogue.meters())?;
     names_of_instruments(alloc, side.catalogue.instruments(), meters.as_slice())
 }
 

@@ -1,91 +1,76 @@
 //! The numbers by which readers and meters of two files are known.
-ghost use Rattle.std.specs.Prelude.{◌≡◌, ◌≤◌, ◌<◌, ◌+◌, IfOk, length, map, unwrap_or};
-ghost use Rattle.std.specs.List.{enumerate_from, position_from};
-ghost use Rattle.metric_changes.specs.Known.{is_meter, is_reader, meter_number, meter_numbers, reader_number, reader_numbers};
+ghost use Rattle.std.specs.Prelude.{◌≡◌, ◌≤◌, ◌<◌, IfOk, length};
+ghost use Rattle.std.specs.List.{position_from};
+ghost use Rattle.metric_changes.specs.Known.{number_by, numbers_by};
 
 use metric_base::Items;
 use metric_contents::Meter;
 use metric_views::Reader;
 use std::alloc::{AllocError, Global};
 
-/// Of each reader the number of the old one of its name, else one that no old one has.
-pub(crate) fn reader_numbers(
-    alloc: Global,
-    olds: &[Reader],
-    readers: &[Reader],
-) -> Result<Items<usize>, AllocError>
-    requires few_old { length olds.now ≤ 16 }
-    requires few { length readers.now ≤ 16 }
-    ensures { IfOk result (λ numbers. numbers ≡ reader_numbers olds.now readers.now) }
-{
-    let mut numbers = Items::new(alloc);
-    for (number, reader) in readers.iter().enumerate() {
-        numbers.push(reader_number(olds, number, reader))?;
-    }
-    Ok(numbers)
+/// What has a number in each of two files, and may be the same in both.
+pub(crate) trait Numbered {
+    ghost use Rattle.std.specs.Prelude.{◌≡◌, Bool};
+
+    // Whether another is the same.
+    ghost is: { Self → Self → Bool };
+
+    fn is(&self, other: &Self) -> bool
+        ensures { result ≡ is self.now other.now };
 }
 
-fn reader_number(olds: &[Reader], number: usize, reader: &Reader) -> usize
-    requires few_old { length olds.now ≤ 16 }
-    requires few { number < 16 }
-    ensures { result ≡ reader_number olds.now (number, reader.now) }
-{
-    match reader_place(olds, reader.name.as_str()) {
-        Some(place) => place,
-        None => olds.len() + number,
+impl Numbered for Reader {
+    ghost use Rattle.metric_changes.specs.Known.{is_reader};
+
+    ghost is = { is_reader };
+
+    fn is(&self, other: &Reader) -> bool {
+        other.name.as_str() == self.name.as_str()
     }
 }
 
-fn reader_place(olds: &[Reader], name: &str) -> Option<usize>
-    ensures { result ≡ position_from (is_reader name.now) 0 olds.now }
-{
-    olds.iter().position(|old| is_reader(name, old))
+impl Numbered for Meter {
+    ghost use Rattle.metric_changes.specs.Known.{is_meter};
+
+    ghost is = { is_meter };
+
+    fn is(&self, other: &Meter) -> bool {
+        other.name.as_str() == self.name.as_str()
+            && other.version.as_str() == self.version.as_str()
+            && other.schema_url.as_str() == self.schema_url.as_str()
+    }
 }
 
-fn is_reader(name: &str, reader: &Reader) -> bool
-    ensures { result ≡ is_reader name.now reader.now }
-{
-    reader.name.as_str() == name
-}
-
-/// Of each meter the number of the old one of its name, version and schema URL, else one that no old one has.
-pub(crate) fn meter_numbers(
+/// Of each new one the number of the old one that is the same, else one that no old one has. At most 64 are there of each.
+pub(crate) fn numbers<T: Numbered>(
     alloc: Global,
-    olds: &[Meter],
-    meters: &[Meter],
+    olds: &[T],
+    news: &[T],
 ) -> Result<Items<usize>, AllocError>
     requires few_old { length olds.now ≤ 64 }
-    requires few { length meters.now ≤ 64 }
-    ensures { IfOk result (λ numbers. numbers ≡ meter_numbers olds.now meters.now) }
+    requires few { length news.now ≤ 64 }
+    ensures { IfOk result (λ numbers. numbers ≡ numbers_by T.is olds.now news.now) }
 {
     let mut numbers = Items::new(alloc);
-    for (number, meter) in meters.iter().enumerate() {
-        numbers.push(meter_number(olds, number, meter))?;
+    for (number, own) in news.iter().enumerate() {
+        numbers.push(number_in(olds, number, own))?;
     }
     Ok(numbers)
 }
 
-fn meter_number(olds: &[Meter], number: usize, meter: &Meter) -> usize
+fn number_in<T: Numbered>(olds: &[T], number: usize, own: &T) -> usize
     requires few_old { length olds.now ≤ 64 }
     requires few { number < 64 }
-    ensures { result ≡ meter_number olds.now (number, meter.now) }
+    ensures { result ≡ number_by T.is olds.now (number, own.now) }
 {
-    match meter_place(olds, meter) {
+    match place_in(olds, own) {
         Some(place) => place,
         None => olds.len() + number,
     }
 }
 
-fn meter_place(olds: &[Meter], meter: &Meter) -> Option<usize>
-    ensures { result ≡ position_from (is_meter meter.now) 0 olds.now }
+fn place_in<T: Numbered>(olds: &[T], own: &T) -> Option<usize>
+    ensures { result ≡ position_from (T.is own.now) 0 olds.now }
 {
-    olds.iter().position(|old| is_meter(meter, old))
-}
-
-fn is_meter(meter: &Meter, other: &Meter) -> bool
-    ensures { result ≡ is_meter meter.now other.now }
-{
-    other.name.as_str() == meter.name.as_str()
-        && other.version.as_str() == meter.version.as_str()
-        && other.schema_url.as_str() == meter.schema_url.as_str()
+    olds.iter().position(|old| own.is(old))
 }
