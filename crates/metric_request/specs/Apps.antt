@@ -117,6 +117,26 @@ diff_app =
     (with_rule (with_rule compared_app (text_rule (codes "certificate"))) denied_rule)
     (flag_rule (codes "json"))
 
+-- the option of a file of an old pair
+abbrev pub old_rule : Text → Text → Rule
+old_rule id long = record (text_rule id) { long = Some long }
+
+-- a report, with its output and what it compares with, and with all its options
+abbrev pub written_app : App
+written_app =
+    with_rule
+    (with_rule (with_rule (pair_app (codes "report")) output_rule)
+    (old_rule (codes "old_catalogue") (codes "old-catalogue")))
+    (old_rule (codes "old_config") (codes "old-config"))
+
+abbrev pub report_app : App
+report_app =
+    with_rule
+    (with_rule
+    (with_rule (with_rule written_app (texts_rule (codes "allow"))) (texts_rule (codes "for")))
+    (number_rule (codes "rate") 1 most_rate (codes "10000")))
+    (number_rule (codes "instances") 1 most_instances (codes "1"))
+
 -- a command over a catalogue alone
 abbrev pub single_app : App
 single_app = with_rule (new_app (codes "expand")) (file_rule (codes "catalogue") true)
@@ -144,6 +164,8 @@ second_app = with_subcommand (with_subcommand first_app make_app.top) check_app.
 abbrev pub program_app : App
 program_app =
     with_subcommand
+    (with_subcommand
     (with_subcommand (with_subcommand (with_subcommand second_app replay_app.top) draw_app.top)
     diff_app.top)
+    report_app.top)
     expand_app.top

@@ -26,7 +26,8 @@ use Rattle.metric_request.specs.declared.request.Outlets.{Outlets}
 use Rattle.metric_request.specs.declared.request.Request.{Request}
 use Rattle.metric_request.specs.declared.request.Task.{Task}
 use Rattle.metric_request.specs.declared.request.Task.TheVariants.{Lint, Show, Make, Check}
-use Rattle.metric_request.specs.declared.request.Task.TheVariants.{Headroom, Replay, Draw, Diff, Expand}
+use Rattle.metric_request.specs.declared.request.Task.TheVariants.{Headroom, Replay, Draw, Diff}
+use Rattle.metric_request.specs.declared.request.Task.TheVariants.{Expand, Report}
 
 -- the command by its name
 abbrev pub task_of : Text → Task
@@ -38,6 +39,7 @@ task_of name =
     else if bytes_eq name (codes "headroom") then Headroom
     else if bytes_eq name (codes "replay") then Replay
     else if bytes_eq name (codes "diff") then Diff
+    else if bytes_eq name (codes "report") then Report
     else if bytes_eq name (codes "expand") then Expand
     else Draw
 
@@ -126,10 +128,16 @@ script_in rows =
     if is_some (first_of (codes "fourth") rows) then first_of (codes "fourth") rows
     else first_of (codes "third") rows
 
+-- an old file: where the other old one alone is named, it is the new one
+abbrev pub old_in : Text → Text → Text → List Row → Option Text
+old_in id other new rows =
+    if not (is_some (first_of id rows)) && is_some (first_of other rows) then Some (text_in new rows)
+    else first_of id rows
+
 abbrev pub files_in : List Row → Files
 files_in rows = record {
-  old_catalogue = first_of (codes "old_catalogue") rows;
-  old_config = first_of (codes "old_config") rows;
+  old_catalogue = old_in (codes "old_catalogue") (codes "old_config") (codes "catalogue") rows;
+  old_config = old_in (codes "old_config") (codes "old_catalogue") (codes "config") rows;
   catalogue = text_in (codes "catalogue") rows;
   config = text_in (codes "config") rows;
   certificate = certificate_in rows;

@@ -8,15 +8,16 @@ ghost use Rattle.metric_request.specs.Apps.{replay_app, second_app, show_app, ta
 use crate::arguments::{file, flag, number, output, text, texts};
 use crate::diff_command::diff;
 use crate::expand_command::expand;
+use crate::report_command::report;
 use clap::{Arg, Command};
 use std::alloc::{AllocError, Global};
 
 // The widest table, the highest rate and the most processes.
 const MOST_WIDTH: u64 = 1_000;
 
-const MOST_RATE: u64 = 1_000_000_000;
+pub(crate) const MOST_RATE: u64 = 1_000_000_000;
 
-const MOST_INSTANCES: u64 = 1_000_000;
+pub(crate) const MOST_INSTANCES: u64 = 1_000_000;
 
 const ABOUT: &str = "Tells before a deploy what a catalogue and a config of metrics will give.";
 
@@ -62,6 +63,7 @@ pub(crate) fn program<'a>(alloc: Global) -> Result<Command<'a>, AllocError>
     let program = with_command(second(alloc), replay(alloc));
     let program = with_command(program, draw(alloc));
     let program = with_command(program, diff(alloc));
+    let program = with_command(program, report(alloc));
     with_command(program, expand(alloc))
 }
 
@@ -130,7 +132,7 @@ pub(crate) fn named<'a>(
 }
 
 // A command over a catalogue and a config.
-fn over_pair<'a>(
+pub(crate) fn over_pair<'a>(
     alloc: Global,
     name: &'a str,
     about: &'a str,

@@ -8,6 +8,7 @@ mod diff_command;
 mod expand_command;
 mod fault;
 mod reading;
+mod report_command;
 mod request;
 
 pub use fault::{LineFault, Misuse};

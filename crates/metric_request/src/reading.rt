@@ -7,7 +7,7 @@ ghost use Rattle.metric_request.specs.Apps.{program_app};
 ghost use Rattle.metric_request.specs.Attributes.{resource_in};
 ghost use Rattle.metric_request.specs.Faults.{IsAllowed, IsMisuse, IsNoRequest, IsNotAsked, IsOwn};
 ghost use Rattle.metric_request.specs.Numbers.{number_in, number_of};
-ghost use Rattle.metric_request.specs.Requests.{certificate_in, denies_else, files_in, form_in, form_of, forms_else, has_word, options_in, request_in, resource_asked, script_in, task_of, text_in};
+ghost use Rattle.metric_request.specs.Requests.{certificate_in, denies_else, files_in, form_in, form_of, forms_else, has_word, old_in, options_in, request_in, resource_asked, script_in, task_of, text_in};
 ghost use Rattle.metric_request.specs.Requests.{allows_else, concerns_in, is_concern, is_denied, is_for, is_outlet, outlets_else, outlets_in, reads_else, words_in};
 
 use crate::attributes::resource_of;
@@ -197,6 +197,7 @@ fn task_of(command: &str) -> Task
         "headroom" => Task::Headroom,
         "replay" => Task::Replay,
         "diff" => Task::Diff,
+        "report" => Task::Report,
         "expand" => Task::Expand,
         _ => Task::Draw,
     }
@@ -205,8 +206,8 @@ fn task_of(command: &str) -> Task
 fn files_of(alloc: Global, arguments: &ArgMatches<'_>) -> Result<Files, AllocError>
     ensures { IfOk result (λ files. files ≡ files_in (rows_of (found_of arguments.now))) }
 {
-    let old_catalogue = optional(alloc, arguments, "old_catalogue")?;
-    let old_config = optional(alloc, arguments, "old_config")?;
+    let old_catalogue = old_path(alloc, arguments, "old_catalogue", "old_config", "catalogue")?;
+    let old_config = old_path(alloc, arguments, "old_config", "old_catalogue", "config")?;
     let catalogue = text_of(alloc, arguments, "catalogue")?;
     let config = text_of(alloc, arguments, "config")?;
     let certificate = certificate_of(alloc, arguments)?;
@@ -221,6 +222,24 @@ fn files_of(alloc: Global, arguments: &ArgMatches<'_>) -> Result<Files, AllocErr
         script,
         output,
     })
+}
+
+// The path of an old file: where the other old file alone is named, it is the new one.
+fn old_path(
+    alloc: Global,
+    arguments: &ArgMatches<'_>,
+    id: &str,
+    other: &str,
+    new: &str,
+) -> Result<Option<Text>, AllocError>
+    ensures { IfOk result (λ path.
+        path ≡ old_in id.now other.now new.now (rows_of (found_of arguments.now))) }
+{
+    if !has_text(arguments, id) && has_text(arguments, other) {
+        Ok(Some(text_of(alloc, arguments, new)?))
+    } else {
+        optional(alloc, arguments, id)
+    }
 }
 
 // Of the two last files of a replay the certificate is the first, where there are two.

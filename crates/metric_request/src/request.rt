@@ -24,6 +24,8 @@ pub enum Task {
     Draw,
     /// Print what a change of a catalogue or a config does.
     Diff,
+    /// Write all of this as a page for people.
+    Report,
     /// Print a catalogue of format 3 as the catalogue of format 2 that it means.
     Expand,
 }
@@ -31,7 +33,7 @@ pub enum Task {
 /// The paths of the files that a command reads and writes.
 #[derive(Debug, Drop)]
 pub struct Files {
-    /// Where the old catalogue is, where the command compares two.
+    /// Where the old catalogue is, where the command compares two. There is an old config then too.
     pub old_catalogue: Option<Text>,
     /// Where the old config is, where the command compares two.
     pub old_config: Option<Text>,

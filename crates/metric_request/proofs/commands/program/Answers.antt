@@ -6,4 +6,5 @@ returns c =
     let replay = c.with_command-program.ensures _ _ c.second.ensures c.replay.ensures.app c.replay.ensures.local in
     let draw = c.with_command-program-2.ensures _ _ replay c.draw.ensures.app c.draw.ensures.local in
     let diff = c.with_command-program-3.ensures _ _ draw c.diff.ensures.app c.diff.ensures.local in
-    c.with_command.ensures _ _ diff c.expand.ensures.app c.expand.ensures.local
+    let report = c.with_command-program-4.ensures _ _ diff c.report.ensures.app c.report.ensures.local in
+    c.with_command.ensures _ _ report c.expand.ensures.app c.expand.ensures.local
