@@ -2,3 +2,4 @@ pub mod Devices
 pub mod OnlyReaders
 pub mod PageEnds
 pub mod Sides
+pub mod Reports

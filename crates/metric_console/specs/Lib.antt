@@ -13,5 +13,6 @@ pub mod Paging
 pub mod PageLines
 pub mod Tables
 pub mod Comparing
+pub mod Reporting
 pub mod Runs
 pub mod Told

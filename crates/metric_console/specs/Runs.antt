@@ -9,25 +9,28 @@ use Rattle.metric_request.specs.declared.request.Files.{Files}
 use Rattle.metric_request.specs.declared.request.Request.{Request}
 use Rattle.metric_request.specs.declared.request.Task.{Task}
 use Rattle.metric_request.specs.declared.request.Task.TheVariants.{Replay, Diff, Expand}
+use Rattle.metric_request.specs.declared.request.Task.TheVariants as tasks
 use Rattle.metric_exposition.specs.declared.dialect.Dialect.{Dialect}
 use Rattle.metric_commands.specs.Commands.{SinkRun}
 use Rattle.metric_commands.specs.declared.fault.KitFault.TheVariants.{Memory}
 use Rattle.metric_console.specs.Answers.{IsAnswer, IsAnswerFault}
 use Rattle.metric_console.specs.Comparing.{RunsDiff}
-use Rattle.metric_console.specs.Readings.{AreTexts, IsHeld}
 use Rattle.metric_console.specs.Delivered.{IsDelivered, IsDeliveredAnswer, answer_status}
 use Rattle.metric_console.specs.Faults.{IsDeviceFault, IsRefusal, status_of}
 use Rattle.metric_console.specs.Folders.{MadeFile}
 use Rattle.metric_console.specs.Inputs.{IsReplayIn, input_of}
 use Rattle.metric_console.specs.Paging.{ReplaysPage, dialect_of}
+use Rattle.metric_console.specs.Readings.{AreTexts, IsHeld}
+use Rattle.metric_console.specs.Reporting.{IsReport, RefusesReport}
 use Rattle.metric_console.specs.declared.answer.Answer.{Answer}
 use Rattle.metric_console.specs.declared.fault.ConsoleFault.{ConsoleFault}
 use Rattle.metric_console.specs.declared.fault.ConsoleFault.TheVariants.{Unread, Header, Kit, Page}
 use Rattle.metric_console.specs.declared.fault.ConsoleFault.TheVariants.{Overwrites, Unwritten}
 use Rattle.metric_console.specs.declared.fault.ConsoleFault.TheVariants as faults
 use Rattle.metric_console.specs.declared.fault.Role.{Role}
-use Rattle.metric_console.specs.declared.fault.Role.TheVariants.{Catalogue}
+use Rattle.metric_console.specs.declared.fault.Role.TheVariants.{Catalogue, Config, OldCatalogue, OldConfig}
 use Rattle.metric_console.specs.declared.parts.Texts.{Texts}
+use Rattle.metric_console.specs.declared.report.Report.{Report}
 
 -- The files that a folder has made, and the bytes that a sink holds, before and after.
 pub record Writing : Type 0 where
@@ -138,7 +141,25 @@ pub record RunsAnswer (request : Request) (parts : Parts) (writing : Writing)
   pub untouched : IfErr end (λ fault. IsRefusal fault → IsUntouched writing)
   pub unmade : OnErr end (writing.made_after ≡ writing.made)
 
--- A replay is run, a comparison made, and each other command answered.
+-- A report is written whole and once.
+pub record Reports (request : Request) (texts : Texts) (writing : Writing) (status : ℕ)
+    : Type 0 where
+  pub report : Report
+  pub is_report : IsReport request texts report
+  pub page : List ℕ
+  pub delivered : IsDelivered request.files.output page writing.made writing.made_after
+      writing.contents writing.contents_after
+  pub is_status : status ≡ 0
+
+-- A report is written, or refused; where it is refused, nothing is made and nothing written.
+pub record RunsReport (request : Request) (texts : Texts) (writing : Writing)
+    (end : Result ℕ ConsoleFault) : Type 0 where
+  pub ok : IfOk end (Reports request texts writing)
+  pub first : IfErr end (RefusesReport texts)
+  pub untouched : IfErr end (λ fault. IsRefusal fault → IsUntouched writing)
+  pub unmade : OnErr end (writing.made_after ≡ writing.made)
+
+-- A replay is run, a comparison made, a report written, and each other command answered.
 pub record RunsTexts (request : Request) (texts : Texts) (writing : Writing) (sink : SinkRun)
     (end : Result ℕ ConsoleFault) : Type 0 where
   pub replayed : request.task ≡ Replay
@@ -146,7 +167,8 @@ pub record RunsTexts (request : Request) (texts : Texts) (writing : Writing) (si
   pub compared : request.task ≡ Diff
       → RunsDiff request texts writing.contents writing.contents_after end
       × (writing.made_after ≡ writing.made)
-  pub answered : request.task ≢ Replay → request.task ≢ Diff
+  pub reported : request.task ≡ tasks.Report → RunsReport request texts writing end
+  pub answered : request.task ≢ Replay → request.task ≢ Diff → request.task ≢ tasks.Report
       → RunsAnswer request texts.parts writing end
 
 -- The texts of the files, with what running the command on them comes to.
@@ -156,20 +178,36 @@ pub record RunsRead (held : List ℕ → Option (List ℕ)) (request : Request) 
   pub are_texts : AreTexts held request.files texts
   pub runs : RunsTexts request texts writing sink end
 
--- the path of a file that a command with an output reads
-abbrev pub input_path : Role → Files → List ℕ
-input_path Catalogue files = files.catalogue
-input_path _ files = files.config
+-- Two paths lead to one file, as far as the folder knows.
+abbrev pub IsOneFile : (List ℕ → List ℕ → Option Bool) → List ℕ → List ℕ → Type 0
+IsOneFile same output path = IfSome (same output path) (λ known. known ≡ true)
+
+-- A path leads to an old file of this role.
+abbrev pub IsOld : (List ℕ → List ℕ → Option Bool) → List ℕ → Files → Role → Type 0
+IsOld same output files OldCatalogue = IsSomeAnd files.old_catalogue (IsOneFile same output)
+IsOld same output files OldConfig = IsSomeAnd files.old_config (IsOneFile same output)
+IsOld same output files _ = ⊥
+
+-- A path leads to the file of a role that is read.
+abbrev pub IsInput : (List ℕ → List ℕ → Option Bool) → List ℕ → Files → Role → Type 0
+IsInput same output files Catalogue = IsOneFile same output files.catalogue
+IsInput same output files Config = IsOneFile same output files.config
+IsInput same output files role = IsOld same output files role
 
 -- The output is that file, as far as the folder knows.
 abbrev pub IsOverwriting : (List ℕ → List ℕ → Option Bool) → Files → Role → Type 0
-IsOverwriting same files role = IsSomeAnd files.output
-    (λ path. IfSome (same path (input_path role files)) (λ known. known ≡ true))
+IsOverwriting same files role = IsSomeAnd files.output (λ path. IsInput same path files role)
+
+-- A path is that of an old file.
+abbrev pub NamesOld : List ℕ → Files → Type 0
+NamesOld output files =
+    IsSomeAnd files.old_catalogue (λ path. path ≡ output)
+    ⊎ IsSomeAnd files.old_config (λ path. path ≡ output)
 
 -- The path of the output is that of a file that is read.
 abbrev pub NamesInput : Files → Type 0
-NamesInput files =
-    IsSomeAnd files.output (λ path. (path ≡ files.catalogue) ⊎ (path ≡ files.config))
+NamesInput files = IsSomeAnd files.output
+    (λ path. (path ≡ files.catalogue) ⊎ ((path ≡ files.config) ⊎ NamesOld path files))
 
 -- The output is a file that is read, or a file cannot be read.
 abbrev pub IsUnstarted : (List ℕ → List ℕ → Option Bool) → Files → ConsoleFault → Type 0

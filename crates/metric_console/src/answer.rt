@@ -42,6 +42,7 @@ pub(crate) fn answer_of(
     requires other { task ≢ Task.Replay }
     requires single { task ≢ Task.Diff }
     requires long { task ≢ Task.Expand }
+    requires answer { task ≢ Task.Report }
     requires certificate { task ≡ Task.Check → IsSome parts.now.certificate }
     ensures ok { IfOk result (IsAnswer task request.now parts.now) }
     ensures first { IfErr result (λ fault. IsAnswerFault task fault parts.now) }
@@ -53,7 +54,7 @@ pub(crate) fn answer_of(
         Task::Headroom => roomed(alloc, parts),
         Task::Lint => noted(alloc, request, parts),
         Task::Draw => drawn(alloc, parts),
-        Task::Replay | Task::Diff | Task::Expand => unreachable!(),
+        Task::Replay | Task::Diff | Task::Report | Task::Expand => unreachable!(),
     }
 }
 

@@ -3,7 +3,7 @@ ghost use Rattle.std.specs.Prelude.{◌≡◌, IfErr, IfOk};
 ghost use Rattle.metric_commands.specs.Claims.{IsClaimFault};
 ghost use Rattle.metric_commands.specs.Declarations.{IsDeclaredFault};
 ghost use Rattle.metric_changes.specs.Breaking.{is_breaking};
-ghost use Rattle.metric_changes.specs.Changes.{plan};
+ghost use Rattle.metric_changes.specs.Changes.{plan, plan_of};
 ghost use Rattle.metric_console.specs.Answers.{AreRooms};
 ghost use Rattle.metric_console.specs.Comparing.{IsClaim, IsCompared, IsComparison, IsOldFault, RefusesDiff, RefusesPair, diff_status};
 ghost use Rattle.metric_console.specs.Faults.{IsDeviceFault};
@@ -74,8 +74,12 @@ pub(crate) fn comparison_of(alloc: Global, texts: &Texts) -> Result<Comparison, 
     }
 }
 
-// What differs between old parts and new ones.
-fn compared(
+/// What differs between old parts and new ones.
+///
+/// # Errors
+///
+/// The first fault of the old parts, as [`ConsoleFault::Old`], or of the new ones; and [`KitFault::Memory`].
+pub(crate) fn compared(
     alloc: Global,
     old_parts: &Parts<'_>,
     parts: &Parts<'_>,
@@ -129,7 +133,7 @@ fn claim_of(alloc: Global, parts: &Parts<'_>) -> Result<Claim, KitFault>
 
 /// What is compared, with its streams.
 fn side_of<'s>(rooms: &'s Rooms, streams: &'s StreamList) -> Side<'s>
-    ensures { plan result.catalogue.now result.config.now result.streams.now result.rooms.now
+    ensures { plan_of result
         ≡ plan rooms.now.declared.catalogue rooms.now.declared.config streams.now rooms.now.rooms }
 {
     Side {

@@ -65,7 +65,12 @@ fn write_answer<F: Folder, W: Sink>(
 {
     match answer {
         Answer::Certificate(text) | Answer::Picture(text) => {
-            put(&request.files.output, text, folder, sink)
+            put(
+                &request.files.output,
+                text.as_str().as_bytes(),
+                folder,
+                sink,
+            )
         }
         _ => Ok(print_answer(alloc, sink, request, texts, answer, columns)?),
     }
@@ -102,10 +107,10 @@ fn status_of(denied: &[Text], answer: &Answer) -> u8
     }
 }
 
-// Writes a text to the file at a path, or else to the sink.
+/// Writes a text to the file at a path, or else to the sink.
 pub(crate) fn put<F: Folder, W: Sink>(
     path: &Option<Text>,
-    text: &Text,
+    text: &[u8],
     folder: &mut F,
     sink: &mut W,
 ) -> Result<(), ConsoleFault>
@@ -115,11 +120,11 @@ pub(crate) fn put<F: Folder, W: Sink>(
     ensures device { IfErr result IsDeliveryFault }
 {
     match path {
-        Some(path) => match folder.write(path.as_str(), text.as_str().as_bytes()) {
+        Some(path) => match folder.write(path.as_str(), text) {
             Ok(()) => Ok(()),
             Err(cause) => Err(ConsoleFault::Unwritten { cause }),
         },
-        None => Ok(print(sink, text.as_str())?),
+        None => Ok(print_bytes(sink, text)?),
     }
 }
 
@@ -128,16 +133,23 @@ pub(crate) fn print<W: Sink>(sink: &mut W, text: &str) -> Result<(), KitFault>
     ensures put { OnOk result (Appends (W.contents sink.old) (W.contents sink.new) text.now) }
     ensures device { IfErr result IsDeviceFault }
 {
-    match print_text(sink, text) {
+    print_bytes(sink, text.as_bytes())
+}
+
+fn print_bytes<W: Sink>(sink: &mut W, bytes: &[u8]) -> Result<(), KitFault>
+    ensures put { OnOk result (Appends (W.contents sink.old) (W.contents sink.new) bytes.now) }
+    ensures device { IfErr result IsDeviceFault }
+{
+    match write_out(sink, bytes) {
         Ok(()) => Ok(()),
         Err(broken) => Err(of_device(broken)),
     }
 }
 
-fn print_text<W: Sink>(sink: &mut W, text: &str) -> Result<(), Broken>
-    ensures { OnOk result (Appends (W.contents sink.old) (W.contents sink.new) text.now) }
+fn write_out<W: Sink>(sink: &mut W, bytes: &[u8]) -> Result<(), Broken>
+    ensures { OnOk result (Appends (W.contents sink.old) (W.contents sink.new) bytes.now) }
 {
-    write_all(sink, text.as_bytes())?;
+    write_all(sink, bytes)?;
     sink.flush()?;
     Ok(())
 }

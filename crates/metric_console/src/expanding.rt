@@ -76,8 +76,7 @@ fn expand_source<F: Folder, W: Sink, E: Sink>(
 {
     match expand(alloc, source.as_str()) {
         Ok(printed) => {
-            let printed = Text::from_string(printed);
-            match put(&request.files.output, &printed, folder, sink) {
+            match put(&request.files.output, printed.as_bytes(), folder, sink) {
                 Ok(()) => 0,
                 Err(fault) => stop(alloc, request, None, fault, errors),
             }
@@ -114,7 +113,10 @@ fn told_short(
 ) -> Result<String, AllocError> {
     if fault == ShortFault::NotToml {
         let source = source_of(&files.catalogue, source);
-        return spelled(alloc, diagnose_catalogue(alloc, source, CatalogueFault::NotToml));
+        return spelled(
+            alloc,
+            diagnose_catalogue(alloc, source, CatalogueFault::NotToml),
+        );
     }
     let path = files.catalogue.as_str();
     let words = told(alloc, source.as_str(), fault)?;

@@ -1,24 +1,27 @@
 //! A request, run.
-ghost use Rattle.std.specs.Prelude.{◌≡◌, ◌≢◌, IfErr, IfOk, MatchOption, None, OnErr, is_some, not};
+ghost use Rattle.std.specs.Prelude.{◌≡◌, ◌≢◌, IfErr, IfOk, IsSomeAnd, MatchOption, None, OnErr, false, is_some, not, true};
 ghost use Rattle.metric_console.specs.Inputs.{input_of};
 ghost use Rattle.metric_console.specs.Comparing.{Compares, RefusesDiff};
 ghost use Rattle.metric_console.specs.Faults.{IsDeviceFault, IsRefusal};
 ghost use Rattle.metric_commands.specs.Commands.{sink_run};
 ghost use Rattle.metric_console.specs.Paging.{dialect_of};
-ghost use Rattle.metric_console.specs.Runs.{Answers, EndsPlain, EndsScript, IsOverwriting, IsReplayEnd, NamesInput, RefusesFor, Replays, RunsCommand, RunsRequest};
-ghost use Rattle.metric_console.specs.Runs.{RunsTexts, known_by, writing};
+ghost use Rattle.metric_console.specs.Runs.{Answers, EndsPlain, EndsScript, IsOld, IsOneFile, IsOverwriting, IsReplayEnd, NamesInput, NamesOld, RefusesFor, Replays, RunsCommand, RunsRequest};
+ghost use Rattle.metric_console.specs.Runs.{Reports, RunsTexts, known_by, writing};
+ghost use Rattle.metric_console.specs.Reporting.{RefusesReport};
 ghost use Rattle.metric_console.specs.Told.{IsLineEnd};
 
 use crate::answer::answer_of;
 use crate::change_sheet::ChangeSheet;
 use crate::comparing::{Comparison, comparison_of, diff_status};
-use crate::delivering::{deliver, print, print_sheet};
+use crate::delivering::{deliver, print, print_sheet, put};
 use crate::expanding::run_expand;
 use crate::fault::{ConsoleFault, Role};
 use crate::folder::{Folder, Unread};
 use crate::paging::{dialect_of, replay_as_page};
 use crate::parts::{Texts, texts_of};
 use crate::replaying::{has_header, input_of, replay_in_form};
+use crate::report::report_of;
+use crate::report_page::report_page;
 use crate::telling::{stop, tell_line, warn};
 use metric_base::Text;
 use metric_commands::KitFault;
@@ -118,7 +121,32 @@ fn overwritten<F: Folder>(folder: &F, files: &Files) -> Option<Role>
     } else if folder.is_same(output.as_str(), files.config.as_str()) {
         Some(Role::Config)
     } else {
+        overwritten_old(folder, output.as_str(), files)
+    }
+}
+
+// Which of the old files, where there are some, a path leads to.
+fn overwritten_old<F: Folder>(folder: &F, output: &str, files: &Files) -> Option<Role>
+    ensures { MatchOption result (NamesOld output.now files.now → ⊥)
+        (IsOld (F.same folder.now) output.now files.now) }
+{
+    if is_at(folder, output, &files.old_catalogue) {
+        Some(Role::OldCatalogue)
+    } else if is_at(folder, output, &files.old_config) {
+        Some(Role::OldConfig)
+    } else {
         None
+    }
+}
+
+// Whether a path leads to a file that the request may lack.
+fn is_at<F: Folder>(folder: &F, output: &str, path: &Option<Text>) -> bool
+    ensures known { result ≡ true → IsSomeAnd path.now (IsOneFile (F.same folder.now) output.now) }
+    ensures own { result ≡ false → IsSomeAnd path.now (λ own. own ≡ output.now) → ⊥ }
+{
+    match path {
+        Some(path) => folder.is_same(output, path.as_str()),
+        None => false,
     }
 }
 
@@ -141,6 +169,8 @@ fn run_texts<F: Folder, W: Sink, E: Sink>(
         run_replay(alloc, request, texts, sink)
     } else if request.task == Task::Diff {
         run_diff(alloc, request, texts, columns, sink)
+    } else if request.task == Task::Report {
+        run_report(alloc, request, texts, folder, sink)
     } else {
         run_answer(alloc, request, texts, columns, folder, sink, errors)
     }
@@ -160,6 +190,7 @@ fn run_answer<F: Folder, W: Sink, E: Sink>(
     requires other { request.now.task ≢ Task.Replay }
     requires single { request.now.task ≢ Task.Diff }
     requires long { request.now.task ≢ Task.Expand }
+    requires answer { request.now.task ≢ Task.Report }
     ensures ok { IfOk result (Answers request.now texts.now.parts
         (writing F.made W.contents folder.old folder.new sink.old sink.new)) }
     ensures first { IfErr result (RefusesFor request.now.task texts.now.parts) }
@@ -211,6 +242,27 @@ fn print_comparison<W: Sink>(
         return print(sink, "nothing differs\n");
     }
     print_sheet(alloc, sink, &sheet, request.options, columns)
+}
+
+// Writes a report. The exit status.
+#[tactic(auto, using(crate::proofs::Devices::delivery_is_no_refusal, crate::proofs::Reports::delivery_refuses))]
+fn run_report<F: Folder, W: Sink>(
+    alloc: Global,
+    request: &Request,
+    texts: &Texts,
+    folder: &mut F,
+    sink: &mut W,
+) -> Result<u8, ConsoleFault>
+    ensures ok { IfOk result (Reports request.now texts.now
+        (writing F.made W.contents folder.old folder.new sink.old sink.new)) }
+    ensures first { IfErr result (RefusesReport texts.now) }
+    ensures unmade { OnErr result (F.made folder.new ≡ F.made folder.old) }
+    ensures unwritten { IfErr result (λ fault. IsRefusal fault → sink.new ≡ sink.old) }
+{
+    let report = report_of(alloc, request, texts)?;
+    let page = report_page(alloc, request, texts, &report)?;
+    put(&request.files.output, page.as_slice(), folder, sink)?;
+    Ok(0)
 }
 
 // The fault that a request has no such file.

@@ -224,6 +224,17 @@ fn within_of(sets: u128, is_listed: bool, total: u128, limit: u32) -> Within
     }
 }
 
+/// How many series a stream may have without its limit: as its keys allow, and as often as its instrument may be recorded.
+pub(crate) fn series_of(
+    alloc: Global,
+    catalogue: &Catalogue,
+    totals: &[u128],
+    stream: &Stream,
+) -> Result<u128, AllocError> {
+    let (sets, _) = sets_of(alloc, catalogue, stream)?;
+    Ok(sets.min(total_at(totals, stream.instrument)))
+}
+
 // What a table of so many series takes at most, in bytes, as far as it was measured.
 fn table_bytes(series: u128, stream: &Stream) -> u128 {
     match &stream.aggregation {

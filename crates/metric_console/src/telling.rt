@@ -41,7 +41,7 @@ pub(crate) fn tell_line<W: Sink, E: Sink>(fault: LineFault, sink: &mut W, errors
     match fault {
         LineFault::Told(text) => match print(sink, text.as_str()) {
             Ok(()) => 0,
-            Err(_) => UNWRITTEN,
+            Err(_) => unwritten(errors),
         },
         LineFault::Usage(text) => misused(text.as_str(), errors),
         LineFault::Nothing => misused("no command is named; try 'wormweekly --help'\n", errors),
@@ -71,6 +71,14 @@ fn words_of(misuse: Misuse) -> &'static str {
         Misuse::EmptyKey => "error: '--resource' has an attribute without a key\n",
         Misuse::RepeatedKey => "error: '--resource' has two attributes of one key\n",
     }
+}
+
+// Tells that help was not written.
+fn unwritten<E: Sink>(errors: &mut E) -> u8
+    ensures { result ≡ 5 }
+{
+    let _told = print(errors, "standard output: a write failed\n");
+    UNWRITTEN
 }
 
 // Tells a misuse.
