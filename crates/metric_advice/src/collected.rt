@@ -12,8 +12,8 @@ use metric_contents::Kind;
 use metric_views::{Config, Stream, StreamAggregation, Temporality, is_of_kind};
 use std::alloc::AllocError;
 
-/// Puts the remarks on readers last: each that has no stream though there are instruments, and each that has delta streams of what
-/// has a level; then that there is no reader.
+/// Puts the remarks on readers last: each that has no stream though there are instruments, and each that has delta
+/// streams of what has a level; then that there is no reader.
 pub(crate) fn add_collected(
     remarks: &mut Items<Remark>,
     catalogue: &Catalogue,

@@ -1,5 +1,5 @@
-//! What an operator and a service want to know before they run: how often each instrument may be recorded, what looks like a
-//! mistake in a catalogue and a config, what a refusal is about, and where a fault stands in its text.
+//! What an operator and a service want to know before they run: how often each instrument may be recorded, what looks
+//! like a mistake in a catalogue and a config, what a refusal is about, and where a fault stands in its text.
 //!
 //! `specs/Limits.antt` and `specs/Headrooms.antt` say what a headroom is, `specs/Remarks.antt` what is remarked, and
 //! `specs/Explanations.antt` what a refusal is about.

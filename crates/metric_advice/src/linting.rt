@@ -23,13 +23,14 @@ use metric_resolve::{Warning, resolve};
 use metric_views::{Config, Settings};
 use std::alloc::{AllocError, Global};
 
-/// Everything that looks like a mistake in a catalogue and a config, in this order: unfit views and collisions, as `resolve` tells
-/// them; then of each view whether it selects nothing, each key of `keep` and of `exclude` that no selected instrument declares,
-/// boundaries without effect, whether it says nothing, and each key that it keeps and excludes; then of each instrument whether
-/// nobody can record on it, whether it allows nothing or one value alone, each value that no allowed combination has, and budgets and
-/// spare together above its headroom; then each stream of which one bucket takes all; then of each recorder whether it has no budget,
-/// and that there is no recorder; then of each reader whether it has no stream, and delta streams of up-down counters and of gauges,
-/// and that there is no reader. Fails only where memory is refused.
+/// Everything that looks like a mistake in a catalogue and a config, in this order: unfit views and collisions, as
+/// `resolve` tells them; then of each view whether it selects nothing, each key of `keep` and of `exclude` that no
+/// selected instrument declares, boundaries without effect, whether it says nothing, and each key that it keeps and
+/// excludes; then of each instrument whether nobody can record on it, whether it allows nothing or one value alone,
+/// each value that no allowed combination has, and budgets and spare together above its headroom; then each stream of
+/// which one bucket takes all; then of each recorder whether it has no budget, and that there is no recorder; then of
+/// each reader whether it has no stream, and delta streams of up-down counters and of gauges, and that there is no
+/// reader. Fails only where memory is refused.
 pub fn lint(
     alloc: Global,
     catalogue: &Catalogue,

@@ -6,8 +6,8 @@ use crate::limit::Limit;
 use metric_contents::Kind;
 use std::fmt;
 
-/// What looks like a mistake in a catalogue and a config that are read. Views, instruments, streams, readers and recorders have
-/// their numbers.
+/// What looks like a mistake in a catalogue and a config that are read. Views, instruments, streams, readers and
+/// recorders have their numbers.
 #[derive(Clone, Copy, Debug, PartialEq, Eq, Drop)]
 pub enum Remark {
     /// The view selects the instrument and itself names an aggregation that does not fit it.
@@ -43,7 +43,8 @@ pub enum Remark {
         /// The number of the view.
         view: u32,
     },
-    /// The view has no criterion and no setting, so that each instrument gets a stream by it and nothing else is changed.
+    /// The view has no criterion and no setting, so that each instrument gets a stream by it and nothing else is
+    /// changed.
     SaysNothing {
         /// The number of the view.
         view: u32,
@@ -65,7 +66,8 @@ pub enum Remark {
         /// The number of the instrument.
         instrument: u32,
     },
-    /// The instrument allows one value alone, which tells nothing: of what is added up only 0, since another one counts.
+    /// The instrument allows one value alone, which tells nothing: of what is added up only 0, since another one
+    /// counts.
     OneValue {
         /// The number of the instrument.
         instrument: u32,
@@ -103,8 +105,9 @@ pub enum Remark {
         /// The number of the reader.
         reader: u32,
     },
-    /// The reader has delta streams of instruments of a kind that has a level: up-down counters, of which it tells by how much they
-    /// rose or fell and never where they stand, or gauges, of which it tells nothing that was not recorded anew.
+    /// The reader has delta streams of instruments of a kind that has a level: up-down counters, of which it tells by
+    /// how much they rose or fell and never where they stand, or gauges, of which it tells nothing that was not
+    /// recorded anew.
     LevelDelta {
         /// The number of the reader.
         reader: u32,

@@ -36,8 +36,8 @@ name = 'last.1'
 temporality = { counter = 'delta' }
 ";
 
-/// Measures audits. Each reader's batches are made once more from the entries, so beside an entry stands a look-up for each
-/// reader.
+/// Measures audits. Each reader's batches are made once more from the entries, so beside an entry stands a look-up for
+/// each reader.
 pub(crate) fn measure<R: Wait + Clock>(rt: &R, bench: &mut Bench) -> anyhow::Result<()> {
     bench.begin("an audit, a batch each 1000, 4 readers", "series");
     for series in SERIES {

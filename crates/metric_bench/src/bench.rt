@@ -112,7 +112,8 @@ impl Bench {
         self.table.push("\n");
     }
 
-    /// Ends the table by a line with the number in which the results of all works are. Fails where the table is not whole.
+    /// Ends the table by a line with the number in which the results of all works are. Fails where the table is not
+    /// whole.
     pub(crate) fn end(&mut self) -> anyhow::Result<()> {
         let tally = self.tally;
         let added = writeln!(self.table.text, "\ntally {tally}");
@@ -175,8 +176,8 @@ impl Table {
         self.push(COLUMNS);
     }
 
-    // A line without its end, by what one operation takes, in thousandths: what was measured, its size, the figure and its
-    // unit, that of the floor, how many times the floor it is, and what the floor is.
+    // A line without its end, by what one operation takes, in thousandths: what was measured, its size, the figure and
+    // its unit, that of the floor, how many times the floor it is, and what the floor is.
     fn push_row(&mut self, row: &Row, floor: Floor, each: u64) {
         let times = each.saturating_mul(100) / floor.each.max(1);
         let cells = [

@@ -1,9 +1,9 @@
 //! Measures what recording, collecting, checking and replaying cost, beside floors measured in the same run.
 //!
-//! Without words it does nothing. `metric_bench all` measures everything; `record`, `histogram`, `collect`,
-//! `encode`, `threads`, `check`, `replay`, `audit` and `memory` a part. `--series`, `--attributes`, `--threads` and `--events` set sizes.
-//! Each figure names its unit, and is the least of several repetitions; of what threads do at once it is the median.
-//! `allocations` measures nothing: it makes recordings between marks, for `tools/watch-allocations`.
+//! Without words it does nothing. `metric_bench all` measures everything; `record`, `histogram`, `collect`, `encode`,
+//! `threads`, `check`, `replay`, `audit` and `memory` a part. `--series`, `--attributes`, `--threads` and `--events`
+//! set sizes. Each figure names its unit, and is the least of several repetitions; of what threads do at once it is the
+//! median. `allocations` measures nothing: it makes recordings between marks, for `tools/watch-allocations`.
 #![tactic(auto)]
 
 mod allocations;

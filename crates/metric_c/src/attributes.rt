@@ -11,8 +11,8 @@ use metric_names::ValueRef;
 use std::alloc::Global;
 use std::str::{from_utf8, from_utf8_unchecked};
 
-/// An attribute without its texts, which stand beside it, those of all attributes one after the other: how long its key's
-/// text is; what kind of value it has (0: a text of this length, 1: a whole number, 2: no, 3: yes).
+/// An attribute without its texts, which stand beside it, those of all attributes one after the other: how long its
+/// key's text is; what kind of value it has (0: a text of this length, 1: a whole number, 2: no, 3: yes).
 #[repr(C)]
 #[derive(Clone, Copy, Drop)]
 pub struct Attribute {

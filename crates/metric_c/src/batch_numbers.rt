@@ -13,7 +13,8 @@ use metric_aggregate::PointValue;
 use metric_hosted::HostedReader;
 use std::alloc::Global;
 
-/// Writes the boundaries of the stream at a place, if there is room for all of them; how many there are, the stream says.
+/// Writes the boundaries of the stream at a place, if there is room for all of them; how many there are, the stream
+/// says.
 #[unsafe(no_mangle)]
 pub extern "C" fn wormweekly_boundaries(
     alloc: Global,

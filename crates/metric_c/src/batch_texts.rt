@@ -17,8 +17,8 @@ use metric_names::AttrValue;
 use metric_views::Stream;
 use std::alloc::Global;
 
-/// Writes a text of the stream at a place of the batch, if there is room for all of it, and its length: its name (0), unit (1)
-/// or description (2); its meter's name (3), version (4) or schema URL (5).
+/// Writes a text of the stream at a place of the batch, if there is room for all of it, and its length: its name (0),
+/// unit (1) or description (2); its meter's name (3), version (4) or schema URL (5).
 #[unsafe(no_mangle)]
 pub extern "C" fn wormweekly_stream_text(
     alloc: Global,
@@ -68,8 +68,8 @@ pub extern "C" fn wormweekly_key(
     code
 }
 
-/// Writes the value that an entry of a set key names for a key of the stream at a place: as an attribute without its key, and
-/// its text, if there is room for all of it; only the attribute where there is none.
+/// Writes the value that an entry of a set key names for a key of the stream at a place: as an attribute without its
+/// key, and its text, if there is room for all of it; only the attribute where there is none.
 #[unsafe(no_mangle)]
 pub extern "C" fn wormweekly_value(
     alloc: Global,

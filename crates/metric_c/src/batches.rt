@@ -13,7 +13,8 @@ use metric_hosted::HostedReader;
 use metric_views::{Stream, StreamAggregation, Temporality};
 use std::alloc::Global;
 
-/// The batch as a whole: the number of its instrument, how many streams it has, and from when to when it is, in nanoseconds.
+/// The batch as a whole: the number of its instrument, how many streams it has, and from when to when it is, in
+/// nanoseconds.
 #[repr(C)]
 #[derive(Clone, Copy, Drop)]
 pub struct BatchOut {
@@ -23,9 +24,9 @@ pub struct BatchOut {
     pub time: u64,
 }
 
-/// A stream of it: its number in the plan; the kind of its instrument (0 counter, 1 up-down counter, 2 histogram, 3 gauge);
-/// how its points are made (0 sum, 1 last value, 2 histogram); 1 where it is delta, else 0; how many boundaries and points it
-/// has.
+/// A stream of it: its number in the plan; the kind of its instrument (0 counter, 1 up-down counter, 2 histogram, 3
+/// gauge); how its points are made (0 sum, 1 last value, 2 histogram); 1 where it is delta, else 0; how many boundaries
+/// and points it has.
 #[repr(C)]
 #[derive(Clone, Copy, Drop)]
 pub struct StreamOut {
@@ -37,8 +38,9 @@ pub struct StreamOut {
     pub points: u64,
 }
 
-/// A point of a stream: its set key, and 1 where it is of a series, 0 where it is the overflow point; the sum or the last
-/// value, and 1 where there is one; of a histogram how many values, the least and the greatest, and how many buckets.
+/// A point of a stream: its set key, and 1 where it is of a series, 0 where it is the overflow point; the sum or the
+/// last value, and 1 where there is one; of a histogram how many values, the least and the greatest, and how many
+/// buckets.
 #[repr(C)]
 #[derive(Clone, Copy, Drop)]
 pub struct PointOut {

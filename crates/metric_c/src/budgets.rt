@@ -51,8 +51,8 @@ fn write_budget(held: &Hosted, own: &HostedRecorder, out: &mut Budget) -> u32
     }
 }
 
-/// Writes how many recordings may be granted to the recorders of an instrument beside their budgets, and how many of them
-/// are left.
+/// Writes how many recordings may be granted to the recorders of an instrument beside their budgets, and how many of
+/// them are left.
 #[unsafe(no_mangle)]
 pub extern "C" fn wormweekly_spare(
     alloc: Global,

@@ -20,8 +20,8 @@ use metric_setup::vouched_plan;
 use std::alloc::Global;
 use std::str::from_utf8;
 
-/// Opens the instruments of a catalogue and a config as [`wormweekly_open_run`](crate::wormweekly_open_run) does, where a
-/// certificate shows that they are safe. It is checked, whoever made it.
+/// Opens the instruments of a catalogue and a config as [`wormweekly_open_run`](crate::wormweekly_open_run) does, where
+/// a certificate shows that they are safe. It is checked, whoever made it.
 #[unsafe(no_mangle)]
 pub extern "C" fn wormweekly_open_certified_run(
     alloc: Global,

@@ -68,8 +68,8 @@ fn collect_kept(
     Ok(())
 }
 
-/// Writes the text of the batch that a reader keeps, if there is room for all of it, and its length. It is empty before a
-/// batch. The reader keeps the batch, so the text can be asked for again with more room.
+/// Writes the text of the batch that a reader keeps, if there is room for all of it, and its length. It is empty before
+/// a batch. The reader keeps the batch, so the text can be asked for again with more room.
 #[unsafe(no_mangle)]
 pub extern "C" fn wormweekly_text(
     alloc: Global,

@@ -19,9 +19,9 @@ use metric_plan::Plan;
 use metric_text::{push_numbered, push_text};
 use std::alloc::{AllocError, Global};
 
-/// Writes what a recording of a value with attributes on the instrument of a number is refused for, of what it says: the instrument,
-/// and its first mistake with the key, the value or the range, if there is room for all of it, and its length. The text is empty
-/// where all that it says is in order. Nothing is recorded.
+/// Writes what a recording of a value with attributes on the instrument of a number is refused for, of what it says:
+/// the instrument, and its first mistake with the key, the value or the range, if there is room for all of it, and its
+/// length. The text is empty where all that it says is in order. Nothing is recorded.
 #[unsafe(no_mangle)]
 pub extern "C" fn wormweekly_explain(
     alloc: Global,

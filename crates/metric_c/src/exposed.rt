@@ -12,8 +12,8 @@ use metric_exposure::{ExposureFault, expose};
 use metric_hosted::HostedReader;
 use std::alloc::{AllocError, Global};
 
-/// Tells whether the streams of a reader can stand in a page for Prometheus, so that no sample of the page would be lost, or
-/// taken for another. A fault is written as far as there is room, with its whole length.
+/// Tells whether the streams of a reader can stand in a page for Prometheus, so that no sample of the page would be
+/// lost, or taken for another. A fault is written as far as there is room, with its whole length.
 #[unsafe(no_mangle)]
 pub extern "C" fn wormweekly_expose(
     alloc: Global,

@@ -10,9 +10,9 @@ use metric_advice::{Headroom, Limit, headrooms};
 use metric_plan::Plan;
 use std::alloc::{AllocError, Global};
 
-/// How often an instrument may be recorded, all recorders together: as often as the catalogue declares, with what it spares; the
-/// most that is safe while all else stays as it is; and what one more would break: a count (0), two sums 2^64 apart (1), the
-/// least (2) or the greatest i64 (3), or the series of the stream of a number (4; 0 else).
+/// How often an instrument may be recorded, all recorders together: as often as the catalogue declares, with what it
+/// spares; the most that is safe while all else stays as it is; and what one more would break: a count (0), two sums
+/// 2^64 apart (1), the least (2) or the greatest i64 (3), or the series of the stream of a number (4; 0 else).
 #[repr(C)]
 #[derive(Clone, Copy, Drop)]
 pub struct HeadroomOut {
@@ -22,8 +22,8 @@ pub struct HeadroomOut {
     pub stream: u64,
 }
 
-/// Writes how often each instrument of the plan that a recorder is of may be recorded, in order, if there is room for all of
-/// them.
+/// Writes how often each instrument of the plan that a recorder is of may be recorded, in order, if there is room for
+/// all of them.
 #[unsafe(no_mangle)]
 pub extern "C" fn wormweekly_headrooms(
     alloc: Global,

@@ -1,9 +1,9 @@
 //! The instruments of a certified plan, for a host that calls them by C.
 //!
-//! A host keeps a handle for each instrument, each recorder and each reader: a struct of one pointer, null before it is opened
-//! and after it is freed. Each call is total: a handle that is null, a buffer that is too short and bytes that are no UTF-8
-//! are answers. The host keeps a mutex for each instrument, and makes each call on it under that; a recorder or a reader
-//! belongs to one thread at a time.
+//! A host keeps a handle for each instrument, each recorder and each reader: a struct of one pointer, null before it is
+//! opened and after it is freed. Each call is total: a handle that is null, a buffer that is too short and bytes that
+//! are no UTF-8 are answers. The host keeps a mutex for each instrument, and makes each call on it under that; a
+//! recorder or a reader belongs to one thread at a time.
 //!
 //! | Answer | What it says |
 //! |---|---|

@@ -19,9 +19,9 @@ use std::str::from_utf8;
 // So many remarks are told, since the place of each is looked for in the texts.
 const MOST_REMARKS: usize = 100;
 
-/// Writes a line for each remark on a catalogue and a config, as `wormweekly lint` tells them, where there is room for all of them,
-/// and their length: at most a hundred, and how many more there are. A fault is written in their place as far as there is room, with its
-/// whole length. That the two are not safe together is a remark.
+/// Writes a line for each remark on a catalogue and a config, as `wormweekly lint` tells them, where there is room for
+/// all of them, and their length: at most a hundred, and how many more there are. A fault is written in their place as
+/// far as there is room, with its whole length. That the two are not safe together is a remark.
 #[unsafe(no_mangle)]
 pub extern "C" fn wormweekly_lint(
     alloc: Global,

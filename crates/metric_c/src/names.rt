@@ -14,8 +14,8 @@ use metric_plan::Plan;
 use metric_views::Config;
 use std::alloc::Global;
 
-/// Writes a name of the plan that a recorder is of, if there is room for all of it, and its length: of the instrument of a
-/// number (0), of that one's meter (1), of the recorder (2) or of the reader (3) of a number.
+/// Writes a name of the plan that a recorder is of, if there is room for all of it, and its length: of the instrument
+/// of a number (0), of that one's meter (1), of the recorder (2) or of the reader (3) of a number.
 #[unsafe(no_mangle)]
 pub extern "C" fn wormweekly_name(
     alloc: Global,

@@ -12,8 +12,8 @@ use crate::recorder_handle::RecorderHandle;
 use metric_hosted::HostedRecorder;
 use std::alloc::Global;
 
-/// Opens the next run of the plan that a recorder is of, since a start in nanoseconds, in the run of a number, into other
-/// handles, and writes how many there are. The run that is there goes on.
+/// Opens the next run of the plan that a recorder is of, since a start in nanoseconds, in the run of a number, into
+/// other handles, and writes how many there are. The run that is there goes on.
 #[unsafe(no_mangle)]
 pub extern "C" fn wormweekly_next_run(
     alloc: Global,

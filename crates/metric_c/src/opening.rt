@@ -30,10 +30,10 @@ pub struct Counts {
     pub readers: usize,
 }
 
-/// Opens the instruments of the certified plan of a catalogue and a config, since a start in nanoseconds, in the run of a
-/// number, with a seat for each recorder and each reader, and writes how many there are. Where there are too few handles, one
-/// that holds something, or a fault, nothing is opened. A fault is told as in `wormweekly lint`, with its file and its place, as far as
-/// there is room, with its whole length.
+/// Opens the instruments of the certified plan of a catalogue and a config, since a start in nanoseconds, in the run of
+/// a number, with a seat for each recorder and each reader, and writes how many there are. Where there are too few
+/// handles, one that holds something, or a fault, nothing is opened. A fault is told as in `wormweekly lint`, with its
+/// file and its place, as far as there is room, with its whole length.
 #[unsafe(no_mangle)]
 pub extern "C" fn wormweekly_open_run(
     alloc: Global,

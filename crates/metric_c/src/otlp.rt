@@ -16,9 +16,10 @@ use metric_otlp::{push_line, push_request};
 use metric_resource::Resource;
 use std::alloc::{AllocError, Global};
 
-/// Writes the batch that a reader keeps in the OpenTelemetry protocol, with the attributes of what produces the metrics, if
-/// there is room for all of it, and its length: as a message `ExportMetricsServiceRequest` (`json` 0), or as a line of JSON
-/// (1). It is empty before a batch, and where the batch has no points. Requests one after the other are one request.
+/// Writes the batch that a reader keeps in the OpenTelemetry protocol, with the attributes of what produces the
+/// metrics, if there is room for all of it, and its length: as a message `ExportMetricsServiceRequest` (`json` 0), or
+/// as a line of JSON (1). It is empty before a batch, and where the batch has no points. Requests one after the other
+/// are one request.
 #[unsafe(no_mangle)]
 pub extern "C" fn wormweekly_otlp(
     alloc: Global,

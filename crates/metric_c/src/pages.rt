@@ -19,9 +19,10 @@ use metric_hosted::HostedReader;
 use metric_resource::Resource;
 use std::alloc::{AllocError, Global};
 
-/// Writes the lines of the batch that a reader keeps in a format of a number, if there is room for all of them, and their
-/// length: the text format 0.0.4 (0), OpenMetrics 1.0 (1), or that with lines `_created` (2). There are none before a batch.
-/// A page is the lines of a resource, those of the batches of all instruments, and in OpenMetrics the line `# EOF`.
+/// Writes the lines of the batch that a reader keeps in a format of a number, if there is room for all of them, and
+/// their length: the text format 0.0.4 (0), OpenMetrics 1.0 (1), or that with lines `_created` (2). There are none
+/// before a batch. A page is the lines of a resource, those of the batches of all instruments, and in OpenMetrics the
+/// line `# EOF`.
 #[unsafe(no_mangle)]
 pub extern "C" fn wormweekly_prometheus(
     alloc: Global,
@@ -97,8 +98,8 @@ fn page_lines(alloc: Global, own: &HostedReader, dialect: Dialect) -> Result<Vec
     Ok(out)
 }
 
-/// Writes the lines of a resource in a format of a number, under the same rule. One without attributes has none, and one whose
-/// attributes can't be the labels of one line is refused.
+/// Writes the lines of a resource in a format of a number, under the same rule. One without attributes has none, and
+/// one whose attributes can't be the labels of one line is refused.
 #[unsafe(no_mangle)]
 pub extern "C" fn wormweekly_prometheus_target(
     alloc: Global,

@@ -17,7 +17,8 @@ use metric_contents::Attr;
 use metric_hosted::{Hosted, HostedRecorder, Measurement};
 use std::alloc::Global;
 
-/// Finds the set key of attributes for the instrument of a number, and writes it; the value stays. Nothing else changes.
+/// Finds the set key of attributes for the instrument of a number, and writes it; the value stays. Nothing else
+/// changes.
 #[unsafe(no_mangle)]
 pub extern "C" fn wormweekly_prepare(
     alloc: Global,

@@ -10,8 +10,8 @@ use crate::recorder_handle::RecorderHandle;
 use metric_hosted::{FinishFault, Hosted, HostedRecorder, SeatTold, Total};
 use std::alloc::Global;
 
-/// What an instrument comes to: how many recordings, and the sum of their values, as 128 bits without the sign, and 1 where
-/// it is below 0, else 0.
+/// What an instrument comes to: how many recordings, and the sum of their values, as 128 bits without the sign, and 1
+/// where it is below 0, else 0.
 #[repr(C)]
 #[derive(Clone, Copy, Drop)]
 pub struct TotalOut {
@@ -22,8 +22,8 @@ pub struct TotalOut {
 }
 
 /// Compares an instrument with what all its recorders were told, in any order, and writes its total, which is exactly
-/// that. Refused, it writes nothing, and answers for the first handle whose seat tells nothing, else for what all of them
-/// tell.
+/// that. Refused, it writes nothing, and answers for the first handle whose seat tells nothing, else for what all of
+/// them tell.
 #[unsafe(no_mangle)]
 pub extern "C" fn wormweekly_settle(
     alloc: Global,

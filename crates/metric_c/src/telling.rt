@@ -14,7 +14,8 @@ use metric_setup::SetupFault;
 use metric_text::{push_numbered, push_text};
 use std::alloc::{AllocError, Global};
 
-/// The text of a fault of a catalogue, a config and, where there is one, a certificate. There is none of want of memory.
+/// The text of a fault of a catalogue, a config and, where there is one, a certificate. There is none of want of
+/// memory.
 pub(crate) fn told_fault(
     alloc: Global,
     catalogue: &str,

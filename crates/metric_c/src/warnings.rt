@@ -14,8 +14,8 @@ use metric_plan::Plan;
 use metric_resolve::{Warning, resolve};
 use std::alloc::{AllocError, Global};
 
-/// Writes a line for each view of the plan that a recorder is of that does not fit an instrument, and for each collision of
-/// streams (Metrics SDK, View), if there is room for all of them, and their length.
+/// Writes a line for each view of the plan that a recorder is of that does not fit an instrument, and for each
+/// collision of streams (Metrics SDK, View), if there is room for all of them, and their length.
 #[unsafe(no_mangle)]
 pub extern "C" fn wormweekly_warnings(
     alloc: Global,

@@ -2,8 +2,8 @@
 ghost use Rattle.std.specs.Prelude.{◌≡◌};
 ghost use Rattle.metric_changes.specs.Breaking.{breaks, is_breaking};
 
-/// What differs between an old catalogue and config and new ones. Streams, instruments and keys have their numbers, each in its own
-/// file.
+/// What differs between an old catalogue and config and new ones. Streams, instruments and keys have their numbers,
+/// each in its own file.
 #[derive(Clone, Copy, Debug, PartialEq, Eq, Drop)]
 pub enum Change {
     /// The old stream is none of the new ones.
@@ -91,8 +91,8 @@ pub enum StreamPart {
 }
 
 impl Change {
-    /// Whether it breaks what is built on the streams, as dashboards and alerts: a stream or a key goes, or the spelling of a name, a
-    /// unit or a type is another one.
+    /// Whether it breaks what is built on the streams, as dashboards and alerts: a stream or a key goes, or the
+    /// spelling of a name, a unit or a type is another one.
     pub fn is_breaking(&self) -> bool
         ensures { result ≡ is_breaking self.now }
     {

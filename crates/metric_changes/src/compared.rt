@@ -8,10 +8,11 @@ use crate::side::Side;
 use metric_base::Items;
 use std::alloc::{AllocError, Global};
 
-/// What differs between an old catalogue and config and new ones, in this order: each old stream that is none of the new ones, or in
-/// what parts it differs from the new one; the new streams that are none of the old ones; and the same of instruments. Streams are
-/// the same where their readers have one name, their meters one name, version and schema URL, and they one name without case
-/// (Metrics data model, identity); of several the first counts. Takes n log n for n streams. Fails only where memory is refused.
+/// What differs between an old catalogue and config and new ones, in this order: each old stream that is none of the
+/// new ones, or in what parts it differs from the new one; the new streams that are none of the old ones; and the same
+/// of instruments. Streams are the same where their readers have one name, their meters one name, version and schema
+/// URL, and they one name without case (Metrics data model, identity); of several the first counts. Takes n log n for n
+/// streams. Fails only where memory is refused.
 pub fn changes(alloc: Global, old: Side<'_>, new: Side<'_>) -> Result<Items<Change>, AllocError>
     ensures { IfOk result (λ changes. changes ≡
         changes_of (plan_of old.entry) (plan_of new.entry)) }

@@ -1,5 +1,5 @@
-//! What a change of a catalogue or a config does: streams and instruments that come, go or differ, keys that go, and budgets
-//! that differ; and which of that breaks what is built on the streams.
+//! What a change of a catalogue or a config does: streams and instruments that come, go or differ, keys that go, and
+//! budgets that differ; and which of that breaks what is built on the streams.
 //!
 //! `specs/Known.antt` says what a stream is known by in both, and `specs/Changes.antt` what the changes are.
 #![tactic(auto)]

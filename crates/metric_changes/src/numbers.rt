@@ -41,7 +41,8 @@ impl Numbered for Meter {
     }
 }
 
-/// Of each new one the number of the old one that is the same, else one that no old one has. At most 64 are there of each.
+/// Of each new one the number of the old one that is the same, else one that no old one has. At most 64 are there of
+/// each.
 pub(crate) fn numbers<T: Numbered>(
     alloc: Global,
     olds: &[T],

@@ -15,8 +15,8 @@ use std::alloc::{AllocError, Global};
 /// What a run tells of one instrument: by it the instrument's journal is audited.
 #[derive(Drop)]
 pub(crate) struct Account {
-    /// The slips of each recorder: one for each of its accepted recordings, in order, with the set key that its attributes
-    /// name.
+    /// The slips of each recorder: one for each of its accepted recordings, in order, with the set key that its
+    /// attributes name.
     pub slips: Vec<Items<Slip>>,
     /// The places of the replies that are its batches, in order.
     pub places: Vec<usize>,

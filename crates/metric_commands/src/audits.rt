@@ -76,9 +76,9 @@ fn audit_each(
     Ok(())
 }
 
-/// The replies to events on a core that has run nothing since a start, where want of memory is none of them. The journal of
-/// each instrument is audited with the slips that the events make and the batches among the replies. No audit fails, so
-/// only memory is refused.
+/// The replies to events on a core that has run nothing since a start, where want of memory is none of them. The
+/// journal of each instrument is audited with the slips that the events make and the batches among the replies. No
+/// audit fails, so only memory is refused.
 pub(crate) fn audited_replies(
     alloc: Global,
     core: &mut Core<Audited>,

@@ -80,13 +80,13 @@ impl Command for Make {
     ghost unremembered = { λ _ _. tt };
 }
 
-/// The text of the certificate for what the parts declare, which `Certificate::read` answers with the certificate that `make`
-/// gives.
+/// The text of the certificate for what the parts declare, which `Certificate::read` answers with the certificate that
+/// `make` gives.
 ///
 /// # Errors
 ///
-/// The first fault, in this order: those of [`declared_of`]; [`KitFault::Make`]. [`KitFault::Memory`] may stand in the place of
-/// any.
+/// The first fault, in this order: those of [`declared_of`]; [`KitFault::Make`]. [`KitFault::Memory`] may stand in the
+/// place of any.
 pub fn certificate_text(alloc: Global, parts: &Parts<'_>) -> Result<String, KitFault>
     ensures ok { IfOk result (λ text. IsCertified parts.now (string_bytes text)) }
     ensures first { IfErr result (λ fault. IsMakeFault fault parts.now) }

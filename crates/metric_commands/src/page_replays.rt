@@ -35,9 +35,9 @@ pub struct PageForm<'a, E> {
     pub tail: &'a [u8],
 }
 
-/// [`replay`](crate::replay) without an audit, which writes one page: what it begins with, the last batch that the reader
-/// collected of each instrument in the order of the catalogue, each in an encoding, and what it ends with. Memory holds all
-/// replies.
+/// [`replay`](crate::replay) without an audit, which writes one page: what it begins with, the last batch that the
+/// reader collected of each instrument in the order of the catalogue, each in an encoding, and what it ends with.
+/// Memory holds all replies.
 ///
 /// # Errors
 ///
@@ -143,8 +143,8 @@ fn push_last<E: Encoding>(
     }
 }
 
-// The last batch of a reader and an instrument among some replies. A catalogue has 512 instruments at most, so that all of
-// them are found in so many turns over the replies.
+// The last batch of a reader and an instrument among some replies. A catalogue has 512 instruments at most, so that all
+// of them are found in so many turns over the replies.
 fn last_batch<'a>(replies: &'a [Reply], reader: u32, instrument: u32) -> Option<&'a Batch>
     ensures { option_copied result ≡ last_batch reader instrument replies.now }
 {

@@ -26,8 +26,8 @@ pub struct Declared {
 ///
 /// # Errors
 ///
-/// The first fault, in this order: [`KitFault::Catalogue`]; [`KitFault::Config`]. [`KitFault::Memory`] may stand in the place of
-/// both.
+/// The first fault, in this order: [`KitFault::Catalogue`]; [`KitFault::Config`]. [`KitFault::Memory`] may stand in the
+/// place of both.
 pub fn declared_of(alloc: Global, parts: &Parts<'_>) -> Result<Declared, KitFault>
     ensures ok { IfOk result (λ declared.
         IsDeclared parts.now declared.catalogue declared.config) }

@@ -17,10 +17,10 @@ use std::alloc::Global;
 use std::sync::Wait;
 use std::thread::Threads;
 
-/// Runs the command that a command line asks for, from a source and into a sink, tells on `errors` by one line why it stops, and
-/// gives the program's exit status: 0 where the command is done, 1 where the input is refused, 2 where the words name no
-/// command, 3 where the input is unreadable, 4 without memory, 5 where the sink failed. The status stands whatever becomes of
-/// the line. Where there is no command, nothing is read and nothing written but the line.
+/// Runs the command that a command line asks for, from a source and into a sink, tells on `errors` by one line why it
+/// stops, and gives the program's exit status: 0 where the command is done, 1 where the input is refused, 2 where the
+/// words name no command, 3 where the input is unreadable, 4 without memory, 5 where the sink failed. The status stands
+/// whatever becomes of the line. Where there is no command, nothing is read and nothing written but the line.
 pub fn run_line<R: Threads + Wait + Sync, S: Source, W: Sink, E: Sink>(
     rt: &R,
     alloc: Global,

@@ -52,8 +52,8 @@ pub fn replay<R: Source, W: Sink>(
     }
 }
 
-/// [`replay`] without an audit, which writes batches alone: the bytes of each in an encoding, in the order of the replies, and
-/// nothing of any other reply.
+/// [`replay`] without an audit, which writes batches alone: the bytes of each in an encoding, in the order of the
+/// replies, and nothing of any other reply.
 ///
 /// # Errors
 ///

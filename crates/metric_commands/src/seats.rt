@@ -30,13 +30,13 @@ pub struct SeatsRun {
 }
 
 /// Lets each recorder of a certified plan record, and each reader collect, in a thread of its own, over any book, as
-/// [`threads_run`](crate::threads_run) does. After the threads have ended it hands out what they came to: where the books keep
-/// their entries, all that an audit of each instrument since the start 0 asks for.
+/// [`threads_run`](crate::threads_run) does. After the threads have ended it hands out what they came to: where the
+/// books keep their entries, all that an audit of each instrument since the start 0 asks for.
 ///
 /// # Errors
 ///
-/// [`KitFault::Memory`], also where memory was refused in a thread or a thread could not be started, after the others have
-/// ended; [`KitFault::Finish`] where what the recorders were told could not be settled.
+/// [`KitFault::Memory`], also where memory was refused in a thread or a thread could not be started, after the others
+/// have ended; [`KitFault::Finish`] where what the recorders were told could not be settled.
 pub fn run_seats<R: Threads + Wait + Sync, B: Book + Send + Sync>(
     rt: &R,
     alloc: Global,

@@ -92,8 +92,8 @@ fn push_if_made(slips: &mut [Items<Slip>], made: Option<MadeSlip>) -> Result<(),
     }
 }
 
-/// Puts the slip that an event with its reply makes on an instrument last among those of its recorder: one for an accepted
-/// recording, with the set key that its attributes name.
+/// Puts the slip that an event with its reply makes on an instrument last among those of its recorder: one for an
+/// accepted recording, with the set key that its attributes name.
 #[tactic(auto, using(crate::proofs::AccountLaws::account_laws))]
 pub(crate) fn add_slip(
     slips: &mut [Items<Slip>],

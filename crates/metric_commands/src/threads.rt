@@ -18,17 +18,18 @@ use std::alloc::Global;
 use std::sync::Wait;
 use std::thread::Threads;
 
-/// Lets each recorder of an input record, and each reader collect, in a thread of its own: a recorder
-/// on each instrument in order, so many times, the greatest value of its range with the first declared value of each required
-/// key; a reader all instruments at the times 1 to 8 (Metrics SDK, concurrency requirements). Recordings beyond a budget, and
-/// those of a combination that an instrument does not allow, are passed over. After the threads have ended it writes what each
-/// instrument comes to. A refused input writes nothing.
+/// Lets each recorder of an input record, and each reader collect, in a thread of its own: a recorder on each
+/// instrument in order, so many times, the greatest value of its range with the first declared value of each required
+/// key; a reader all instruments at the times 1 to 8 (Metrics SDK, concurrency requirements). Recordings beyond a
+/// budget, and those of a combination that an instrument does not allow, are passed over. After the threads have ended
+/// it writes what each instrument comes to. A refused input writes nothing.
 ///
 /// # Errors
 ///
-/// [`KitFault::Read`] and [`KitFault::Write`] where the source or the sink failed, [`KitFault::Memory`] also where memory
-/// was refused in a thread or a thread could not be started, after the others have ended, and else the first fault that
-/// the input has. The last of them are those of the certificate's check; after the threads [`KitFault::Finish`] may come.
+/// [`KitFault::Read`] and [`KitFault::Write`] where the source or the sink failed, [`KitFault::Memory`] also where
+/// memory was refused in a thread or a thread could not be started, after the others have ended, and else the first
+/// fault that the input has. The last of them are those of the certificate's check; after the threads
+/// [`KitFault::Finish`] may come.
 pub fn threads_run<R: Threads + Wait + Sync, S: Source, W: Sink>(
     rt: &R,
     alloc: Global,

@@ -36,8 +36,8 @@ enum Done {
 pub(crate) struct Worked {
     /// The seats of the recorders.
     pub recorders: Vec<Recorder>,
-    /// The batches that the readers were told, those of one reader in order. None where the books keep no entries: no audit
-    /// would need them.
+    /// The batches that the readers were told, those of one reader in order. None where the books keep no entries: no
+    /// audit would need them.
     pub batches: Vec<Batch>,
 }
 

@@ -58,8 +58,8 @@ impl Drop for Comparison {
 ///
 /// # Errors
 ///
-/// The first fault of the old files, as [`ConsoleFault::Old`], or of the new ones; [`ConsoleFault::Unread`] where the request names no
-/// old files; and [`KitFault::Memory`].
+/// The first fault of the old files, as [`ConsoleFault::Old`], or of the new ones; [`ConsoleFault::Unread`] where the
+/// request names no old files; and [`KitFault::Memory`].
 #[tactic(auto, using(crate::proofs::Sides::pair_refused))]
 pub(crate) fn comparison_of(alloc: Global, texts: &Texts) -> Result<Comparison, ConsoleFault>
     ensures ok { IfOk result (IsCompared texts.now) }

@@ -27,7 +27,8 @@ const REMARKED: u8 = 1;
 ///
 /// # Errors
 ///
-/// [`ConsoleFault::Unwritten`] where the folder failed, [`KitFault::Write`] where the sink did, and [`KitFault::Memory`].
+/// [`ConsoleFault::Unwritten`] where the folder failed, [`KitFault::Write`] where the sink did, and
+/// [`KitFault::Memory`].
 pub(crate) fn deliver<F: Folder, W: Sink>(
     alloc: Global,
     request: &Request,

@@ -17,8 +17,8 @@ use metric_request::{Files, Request};
 use metric_short::{ShortFault, expand, told};
 use std::alloc::{AllocError, Global};
 
-/// Expands the catalogue of a request, writes the expansion where the request wants it, and tells on `errors` why it stops. The
-/// exit status.
+/// Expands the catalogue of a request, writes the expansion where the request wants it, and tells on `errors` why it
+/// stops. The exit status.
 pub(crate) fn run_expand<F: Folder, W: Sink, E: Sink>(
     alloc: Global,
     request: &Request,

@@ -17,8 +17,8 @@ pub(crate) struct Exposure {
     pub fault: ExposureFault,
 }
 
-/// What these ways out would lose of the streams of each reader that they can serve. A way out that can serve none would lose all,
-/// and each reader is told of.
+/// What these ways out would lose of the streams of each reader that they can serve. A way out that can serve none
+/// would lose all, and each reader is told of.
 pub(crate) fn exposures_of(
     alloc: Global,
     catalogue: &Catalogue,

@@ -6,8 +6,8 @@ use metric_advice::Limit;
 use metric_bounds::{high, is_i64, low};
 use metric_contents::Instrument;
 
-/// What does not fit 64 bits where a backend adds up an instrument of so many recordings, those of all processes together:
-/// their count or, where a stream keeps sums, the least or the greatest sum.
+/// What does not fit 64 bits where a backend adds up an instrument of so many recordings, those of all processes
+/// together: their count or, where a stream keeps sums, the least or the greatest sum.
 pub(crate) fn fleet_limit(count: u128, instrument: &Instrument, is_summed: bool) -> Option<Limit>
     ensures fits { result ≡ None → Fits count (IsTrue is_summed) instrument.now }
     ensures unfit { IfSome result (λ _. Fits count (IsTrue is_summed) instrument.now → ⊥) }

@@ -88,8 +88,8 @@ impl Unwritten {
 
 /// Where files are read by their paths, and written.
 ///
-/// Contracts see the text that is under a path, where the folder knows it, whether two paths lead to one file, where it knows
-/// that, and the files that were made, in order, where it knows these.
+/// Contracts see the text that is under a path, where the folder knows it, whether two paths lead to one file, where it
+/// knows that, and the files that were made, in order, where it knows these.
 pub trait Folder {
     ghost held: { Self → List ℕ → Option (List ℕ) };
 

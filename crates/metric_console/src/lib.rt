@@ -1,8 +1,9 @@
 //! The commands of `wormweekly`, over any folder of files and any sinks.
 //!
-//! [`run_request`] is the whole program but for its devices. Each command first reads its files, and then makes its answer or
-//! stops with the first fault, before it writes anything; only a replay writes while it runs, as `metric_commands` does. Its parts
-//! are read, made and checked by the calls of the commands of `metric_kit`, and the contracts cite the definitions of these.
+//! [`run_request`] is the whole program but for its devices. Each command first reads its files, and then makes its
+//! answer or stops with the first fault, before it writes anything; only a replay writes while it runs, as
+//! `metric_commands` does. Its parts are read, made and checked by the calls of the commands of `metric_kit`, and the
+//! contracts cite the definitions of these.
 #![tactic(auto)]
 
 mod answer;

@@ -17,8 +17,8 @@ use std::alloc::{AllocError, Global};
 /// So many remarks are told, since the place of each is looked for in the texts.
 pub(crate) const MOST_NOTES: usize = 100;
 
-/// Writes the first remarks, as text or as lines of JSON: those on the two files, then what ways out would lose, and last how many
-/// more there are.
+/// Writes the first remarks, as text or as lines of JSON: those on the two files, then what ways out would lose, and
+/// last how many more there are.
 pub(crate) fn print_notes<W: Sink>(
     alloc: Global,
     sink: &mut W,

@@ -26,8 +26,8 @@ pub(crate) fn reader_asked(
     }
 }
 
-// The number of the reader of a name, where the first is of a number. It calls itself at most as often as there are readers,
-// of which a config has 16 at most.
+// The number of the reader of a name, where the first is of a number. It calls itself at most as often as there are
+// readers, of which a config has 16 at most.
 fn reader_named(name: &str, number: u32, readers: &[Reader]) -> Result<u32, PageFault>
     requires { number + length readers.now ≤ 16 }
     ensures { result ≡ reader_named name.now number readers.now }

@@ -61,9 +61,9 @@ impl Encoding for Lines {
     }
 }
 
-/// Replays an input of parts, and prints the page of what a reader collected last of each instrument, with the attributes of
-/// the resource. A replay is refused before it begins where these can't be the labels of one line, where the reader is not
-/// known, and where a server would not hold each sample of it.
+/// Replays an input of parts, and prints the page of what a reader collected last of each instrument, with the
+/// attributes of the resource. A replay is refused before it begins where these can't be the labels of one line, where
+/// the reader is not known, and where a server would not hold each sample of it.
 pub(crate) fn replay_as_page<W: Sink>(
     alloc: Global,
     request: &Request,

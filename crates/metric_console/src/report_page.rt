@@ -34,7 +34,8 @@ meter { width: 6em }
 </style>
 ";
 
-/// The page of a report. Each text of the files stands in it as a text, whatever it has. Fails only where memory is refused.
+/// The page of a report. Each text of the files stands in it as a text, whatever it has. Fails only where memory is
+/// refused.
 pub(crate) fn report_page(
     alloc: Global,
     request: &Request,

@@ -224,7 +224,8 @@ fn within_of(sets: u128, is_listed: bool, total: u128, limit: u32) -> Within
     }
 }
 
-/// How many series a stream may have without its limit: as its keys allow, and as often as its instrument may be recorded.
+/// How many series a stream may have without its limit: as its keys allow, and as often as its instrument may be
+/// recorded.
 pub(crate) fn series_of(
     alloc: Global,
     catalogue: &Catalogue,

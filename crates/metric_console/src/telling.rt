@@ -34,7 +34,8 @@ const UNWRITTEN: u8 = 5;
 // So many warnings are told, since the place of each is looked for in the texts.
 const MOST_WARNINGS: usize = 100;
 
-/// Tells why a command line asks for nothing, and gives the exit status. Help and the version go to `sink`, and are done.
+/// Tells why a command line asks for nothing, and gives the exit status. Help and the version go to `sink`, and are
+/// done.
 pub(crate) fn tell_line<W: Sink, E: Sink>(fault: LineFault, sink: &mut W, errors: &mut E) -> u8
     ensures { IsLineEnd fault (W.contents sink.old) (W.contents sink.new) result }
 {

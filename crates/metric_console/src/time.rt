@@ -12,8 +12,8 @@ const YEAR: u128 = 31_557_600;
 // From so many days on hours are left out.
 const MANY_DAYS: u128 = 10;
 
-/// How long so many recordings last at a rate a second, which is not 0, in the largest unit and the next one: `0.1 s`, `4 h 15 min`,
-/// `177 days`. Fails only where memory is refused.
+/// How long so many recordings last at a rate a second, which is not 0, in the largest unit and the next one: `0.1 s`,
+/// `4 h 15 min`, `177 days`. Fails only where memory is refused.
 pub(crate) fn lasting(alloc: Global, recordings: u128, rate: u128) -> Result<String, AllocError> {
     let rate = rate.max(1);
     let seconds = recordings / rate;

@@ -9,8 +9,8 @@ use metric_cert::CertFault;
 use metric_plan::CheckFault;
 use std::alloc::{AllocError, Global};
 
-/// What a person is told of a fault of a certificate's text. It has a position only where the text is no TOML: where that breaks
-/// off. Fails only where memory is refused.
+/// What a person is told of a fault of a certificate's text. It has a position only where the text is no TOML: where
+/// that breaks off. Fails only where memory is refused.
 pub fn diagnose_certificate<'t>(
     alloc: Global,
     source: NamedText<'t>,
@@ -30,8 +30,8 @@ pub fn diagnose_certificate<'t>(
 const SHAPE: &str =
     "the tables are not those of a certificate: it was altered, or is of another format; make it anew";
 
-/// What a person is told of a certificate that was read and is not accepted: that it is of other files or was altered, and what the
-/// check compared. It has no position. Fails only where memory is refused.
+/// What a person is told of a certificate that was read and is not accepted: that it is of other files or was altered,
+/// and what the check compared. It has no position. Fails only where memory is refused.
 pub fn diagnose_check<'t>(
     alloc: Global,
     source: NamedText<'t>,

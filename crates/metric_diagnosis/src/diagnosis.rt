@@ -8,15 +8,16 @@ use crate::sources::NamedText;
 use metric_advice::Position;
 use std::fmt;
 
-/// A fault with its place and its cause, told for people. As a text it is one line, `catalogue.toml:14:1: ` and the cause.
+/// A fault with its place and its cause, told for people. As a text it is one line, `catalogue.toml:14:1: ` and the
+/// cause.
 #[derive(Drop)]
 pub struct Diagnosis<'t, F> {
     /// The fault, as the library answered it.
     pub fault: F,
     /// The name of the file that the fault is in.
     pub file: &'t str,
-    /// Where the field of the fault stands, or the table that a remark is of or that lacks a field, or where a text breaks off
-    /// that is no TOML; nothing where that is not found.
+    /// Where the field of the fault stands, or the table that a remark is of or that lacks a field, or where a text
+    /// breaks off that is no TOML; nothing where that is not found.
     pub position: Option<Position>,
     /// The line at the position, without its end; empty where there is no position.
     pub line: &'t str,

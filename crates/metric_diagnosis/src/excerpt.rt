@@ -13,8 +13,9 @@ const BEFORE: usize = 60;
 // What stands for characters that are left out.
 const CUT: &str = "..";
 
-/// A line of a text with its number, and a mark below a place in it. As a text it is two lines, of which each ends with a line
-/// feed, or empty. Of a long line some 120 characters round the mark are shown. Control characters are shown as symbols.
+/// A line of a text with its number, and a mark below a place in it. As a text it is two lines, of which each ends with
+/// a line feed, or empty. Of a long line some 120 characters round the mark are shown. Control characters are shown as
+/// symbols.
 #[derive(Clone, Copy)]
 pub struct Excerpt<'t> {
     position: Option<Position>,

@@ -1,13 +1,13 @@
 //! Where a table, a field or an entry of a list stands in a TOML text.
 //!
-//! One pass over the words and marks of the text, along the headers, keys and brackets that lead to the place. What is not on the way is
-//! skipped by counting its brackets.
+//! One pass over the words and marks of the text, along the headers, keys and brackets that lead to the place. What is
+//! not on the way is skipped by counting its brackets.
 use crate::lexer::{Lexer, Word};
 use crate::way::Way;
 use std::alloc::{AllocError, Global};
 
-// The byte at which a place begins: the name of the field of the last level, or where that has a number, the table or the entry. Nothing
-// where it is not found, or where a name on the way is spelled by escapes. The text is right TOML.
+// The byte at which a place begins: the name of the field of the last level, or where that has a number, the table or
+// the entry. Nothing where it is not found, or where a name on the way is spelled by escapes. The text is right TOML.
 pub(crate) fn find(alloc: Global, text: &str, way: Way<'_>) -> Result<Option<usize>, AllocError> {
     if way.count() == 0 {
         return Ok(Some(0));

@@ -10,8 +10,8 @@
 //! | `lint`, each remark | `diagnose_remark` |
 //! | `exposure_faults`, each fault | `diagnose_exposure` |
 //!
-//! Each call takes the fault with the texts that it is of, and gives a `Diagnosis` of it, which keeps the fault itself. Printed, it is
-//! one line, and its `excerpt` shows the place:
+//! Each call takes the fault with the texts that it is of, and gives a `Diagnosis` of it, which keeps the fault itself.
+//! Printed, it is one line, and its `excerpt` shows the place:
 //!
 //! ```text
 //! catalogue.toml:10:1: instrument 1 "jobs": unknown kind "guage"; expected counter, up_down_counter, histogram or gauge; did you mean gauge?
@@ -19,7 +19,8 @@
 //!       | ^
 //! ```
 //!
-//! `specs/Marks.antt`, `specs/Places.antt` and `specs/Exposures.antt` say where a fault stands; what the words say, no contract does.
+//! `specs/Marks.antt`, `specs/Places.antt` and `specs/Exposures.antt` say where a fault stands; what the words say, no
+//! contract does.
 #![tactic(auto)]
 
 mod buckets;

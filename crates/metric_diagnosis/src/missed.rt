@@ -114,7 +114,8 @@ fn misses<'t>(
     Some((count, first?))
 }
 
-// The criteria but the name, where an instrument misses them. Each is named, so that a new one is not left out unnoticed.
+// The criteria but the name, where an instrument misses them. Each is named, so that a new one is not left out
+// unnoticed.
 fn missed_by<'t>(
     criteria: &Criteria,
     meter: &'t Meter,

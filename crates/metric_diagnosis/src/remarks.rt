@@ -16,12 +16,13 @@ use metric_catalogue::{Catalogue, CataloguePlace};
 use metric_views::{ConfigPlace, View};
 use std::alloc::{AllocError, Global};
 
-/// What a person is told of a remark of `lint`: the place of the view, the recorder or the instrument that it is about, and what
-/// looks like a mistake. The file is the catalogue for recorders, budgets and values, else the config. A reader that has no stream, or
-/// delta streams of what has a level, has its own place. Two streams of one identity stand
-/// at the view of the later one, else of the first; budgets that give a stream more series than its limit, at its view, else at its
-/// reader; buckets that tell nothing, at the view or the instrument; that there is no recorder or no reader, at the top. Of a remark that `lint` does not give on this pair the words may
-/// be less exact. Fails only where memory is refused.
+/// What a person is told of a remark of `lint`: the place of the view, the recorder or the instrument that it is about,
+/// and what looks like a mistake. The file is the catalogue for recorders, budgets and values, else the config. A
+/// reader that has no stream, or delta streams of what has a level, has its own place. Two streams of one identity
+/// stand at the view of the later one, else of the first; budgets that give a stream more series than its limit, at its
+/// view, else at its reader; buckets that tell nothing, at the view or the instrument; that there is no recorder or no
+/// reader, at the top. Of a remark that `lint` does not give on this pair the words may be less exact. Fails only where
+/// memory is refused.
 pub fn diagnose_remark<'t>(
     alloc: Global,
     pair: Pair<'t>,

@@ -12,8 +12,8 @@ use metric_provider::{Gate, Measurement, Provider};
 use std::marker::{Model, PhantomData};
 use std::sync::Wait;
 
-/// Attributes that are bound to an instrument of one kind: its number, the set key of the attributes, and the fingerprint of the
-/// plan. It is 32 bytes that own nothing, so it is copied and kept wherever recordings are made.
+/// Attributes that are bound to an instrument of one kind: its number, the set key of the attributes, and the
+/// fingerprint of the plan. It is 32 bytes that own nothing, so it is copied and kept wherever recordings are made.
 #[derive(Clone, Copy)]
 pub struct Bound<K> {
     plan: u64,
@@ -96,8 +96,8 @@ impl<K> Bound<K> {
 
 impl<K: Adds> Bound<K> {
     /// Adds a value to the series of the attributes (Metrics API, Add): [`Seat::record_set`] at the instrument's number
-    /// with the set key, with its refusals. A provider of another plan than the attributes' answers `Stranger` before the lock is
-    /// taken; the seat is then as it was, and counts nothing.
+    /// with the set key, with its refusals. A provider of another plan than the attributes' answers `Stranger` before
+    /// the lock is taken; the seat is then as it was, and counts nothing.
     #[inline(always)]
     pub fn add<R: Wait, S: Seat, B: Book, G: Gate>(
         &self,
@@ -124,9 +124,9 @@ impl<K: Adds> Bound<K> {
 }
 
 impl<K: Records> Bound<K> {
-    /// Records a value with the attributes (Metrics API, Record): [`Seat::record_set`] at the instrument's number with the
-    /// set key, with its refusals. A provider of another plan than the attributes' answers `Stranger` before the lock is taken;
-    /// the seat is then as it was, and counts nothing.
+    /// Records a value with the attributes (Metrics API, Record): [`Seat::record_set`] at the instrument's number with
+    /// the set key, with its refusals. A provider of another plan than the attributes' answers `Stranger` before the
+    /// lock is taken; the seat is then as it was, and counts nothing.
     #[inline(always)]
     pub fn record<R: Wait, S: Seat, B: Book, G: Gate>(
         &self,

@@ -15,8 +15,9 @@ use std::marker::{Model, PhantomData};
 use std::sync::Wait;
 use thiserror::Error;
 
-/// Recordings of one instrument with bound attributes, which are made under one lock. Threads that record on one instrument wait
-/// for its lock and for little else, so lists are what makes them faster (`docs/PERFORMANCE.md`, "by set keys").
+/// Recordings of one instrument with bound attributes, which are made under one lock. Threads that record on one
+/// instrument wait for its lock and for little else, so lists are what makes them faster (`docs/PERFORMANCE.md`, "by
+/// set keys").
 #[derive(Drop)]
 pub struct BoundList<K> {
     plan: u64,
@@ -72,8 +73,8 @@ impl<K> BoundList<K> {
     ///
     /// # Errors
     ///
-    /// `OtherInstrument` exactly where the attributes are bound to another instrument than the list's, or in another plan, else
-    /// nothing but `Memory`. The list is then as it was.
+    /// `OtherInstrument` exactly where the attributes are bound to another instrument than the list's, or in another
+    /// plan, else nothing but `Memory`. The list is then as it was.
     pub fn push(&mut self, bound: &Bound<K>, value: i64) -> Result<(), ListFault>
         ensures put { let last = measurement_of bound.now.set value in
             let all = self.old.all ++ last ∷ [] in
@@ -150,9 +151,10 @@ impl<K> BoundList<K> {
 
 impl<K: Adds> BoundList<K> {
     /// Adds the values in order and under one lock, up to the first that is refused (Metrics API, Add):
-    /// [`Seat::record_sets`] at the instrument's number, with its fault. What was made is taken out of the list: it is empty then,
-    /// or begins with the refused recording, which can be tried again with those behind it. A provider of another plan than the
-    /// list's answers `Stranger` at 0 before the lock is taken; list and seat are then as they were, and nothing is counted.
+    /// [`Seat::record_sets`] at the instrument's number, with its fault. What was made is taken out of the list: it is
+    /// empty then, or begins with the refused recording, which can be tried again with those behind it. A provider of
+    /// another plan than the list's answers `Stranger` at 0 before the lock is taken; list and seat are then as they
+    /// were, and nothing is counted.
     pub fn add<R: Wait, S: Seat, B: Book, G: Gate>(
         &mut self,
         rt: &R,
@@ -196,9 +198,10 @@ impl<K: Adds> BoundList<K> {
 
 impl<K: Records> BoundList<K> {
     /// Records the values in order and under one lock, up to the first that is refused (Metrics API, Record):
-    /// [`Seat::record_sets`] at the instrument's number, with its fault. What was made is taken out of the list: it is empty then,
-    /// or begins with the refused recording, which can be tried again with those behind it. A provider of another plan than the
-    /// list's answers `Stranger` at 0 before the lock is taken; list and seat are then as they were, and nothing is counted.
+    /// [`Seat::record_sets`] at the instrument's number, with its fault. What was made is taken out of the list: it is
+    /// empty then, or begins with the refused recording, which can be tried again with those behind it. A provider of
+    /// another plan than the list's answers `Stranger` at 0 before the lock is taken; list and seat are then as they
+    /// were, and nothing is counted.
     pub fn record<R: Wait, S: Seat, B: Book, G: Gate>(
         &mut self,
         rt: &R,

@@ -16,8 +16,8 @@ use std::alloc::{AllocError, Global};
 use std::marker::Model;
 use std::sync::Wait;
 
-// What became of an instrument's recordings that were not made: how often each refusal came, by its number, and how many
-// recordings of lists stood behind a refused one.
+// What became of an instrument's recordings that were not made: how often each refusal came, by its number, and how
+// many recordings of lists stood behind a refused one.
 #[derive(Clone, Copy)]
 struct Counts {
     refused: [u64; 15],
@@ -71,11 +71,11 @@ fn number_of(refusal: Refusal) -> usize
     usize::from(refusal.number())
 }
 
-/// A seat of a recorder that counts its refusals by kind and by instrument, and the recordings of lists that were not tried since one
-/// before them was refused. So what was handed in is what was made, what was refused and what was not tried, also where a service goes
-/// on without looking at an answer. Its recordings are those of the seat, and handles, bound attributes and lists take it as they
-/// take that (a [`Seat`]). Kinds are told apart by their numbers ([`Refusal::number`]), and all instruments that the plan does not
-/// have are counted as one.
+/// A seat of a recorder that counts its refusals by kind and by instrument, and the recordings of lists that were not
+/// tried since one before them was refused. So what was handed in is what was made, what was refused and what was not
+/// tried, also where a service goes on without looking at an answer. Its recordings are those of the seat, and handles,
+/// bound attributes and lists take it as they take that (a [`Seat`]). Kinds are told apart by their numbers
+/// ([`Refusal::number`]), and all instruments that the plan does not have are counted as one.
 #[derive(Drop)]
 pub struct Counted {
     seat: Recorder,
@@ -94,8 +94,8 @@ impl Model for Counted {
 }
 
 impl Counted {
-    /// The seat, which was refused nothing of the instruments of a plan. Takes 128 bytes for each instrument and as many for all
-    /// others. Where memory is refused, the seat is handed back.
+    /// The seat, which was refused nothing of the instruments of a plan. Takes 128 bytes for each instrument and as
+    /// many for all others. Where memory is refused, the seat is handed back.
     pub fn new(
         alloc: Global,
         plan: &Plan,
@@ -124,15 +124,16 @@ impl Counted {
         self.seat
     }
 
-    /// How often this refusal, or one of its number, came on the instrument of this number, up to the greatest number of 64 bits.
+    /// How often this refusal, or one of its number, came on the instrument of this number, up to the greatest number
+    /// of 64 bits.
     pub fn refused(&self, instrument: u32, refusal: Refusal) -> u64
         ensures { result ≡ count_in (counts_of self.now.counts instrument).refused refusal }
     {
         self.counts[self.place(instrument)].of(refusal)
     }
 
-    /// How many recordings of lists on the instrument of this number were not tried, since one before them in their list was
-    /// refused, up to the greatest number of 64 bits.
+    /// How many recordings of lists on the instrument of this number were not tried, since one before them in their
+    /// list was refused, up to the greatest number of 64 bits.
     pub fn untried(&self, instrument: u32) -> u64
         ensures { result ≡ (counts_of self.now.counts instrument).untried }
     {
@@ -179,8 +180,8 @@ impl Counted {
         answer
     }
 
-    /// The same of recordings by set keys under one lock: [`Recorder::record_sets`] of the seat. The refusal is counted, and how many
-    /// stand behind it, and it is answered with its place.
+    /// The same of recordings by set keys under one lock: [`Recorder::record_sets`] of the seat. The refusal is
+    /// counted, and how many stand behind it, and it is answered with its place.
     pub fn record_sets<R: Wait, B: Book, G: Gate>(
         &mut self,
         rt: &R,

@@ -2,7 +2,8 @@
 use metric_contents::Kind;
 use thiserror::Error;
 
-/// Why a name, a kind and keys are of no instrument, in the order in which the faults are tried. Places are counted from 0.
+/// Why a name, a kind and keys are of no instrument, in the order in which the faults are tried. Places are counted
+/// from 0.
 #[derive(Clone, Copy, Debug, PartialEq, Eq, Drop, Error)]
 pub enum HandleFault {
     /// No meter of the catalogue has the name.
@@ -11,8 +12,8 @@ pub enum HandleFault {
     /// A meter has the name, and none of those has an instrument of the other name.
     #[error("the meter has no instrument of this name")]
     UnknownInstrument,
-    /// Several meters of the name, of different versions or schema URLs, have an instrument of the other name: the first is
-    /// that of this number. Which one is meant, no name says.
+    /// Several meters of the name, of different versions or schema URLs, have an instrument of the other name: the
+    /// first is that of this number. Which one is meant, no name says.
     #[error("instrument {0} is not the only one of this name in meters of this name")]
     Ambiguous(usize),
     /// The instrument is declared to be of this kind.

@@ -17,10 +17,11 @@ use metric_names::ValueRef;
 use metric_plan::Plan;
 use metric_views::Stream;
 
-/// The value of the point of the stream of this name with exactly these attributes, in any order, in the last of these batches that
-/// has it; nothing where none has. Names are compared without ASCII case, and the attributes are those that the stream keeps. In one
-/// batch the first stream of the name is looked at; two readers that export one name are told apart by their batches alone.
-/// Overflow points are not found, nor is anything in a batch of another plan. It goes over all batches: it is for tests of a service.
+/// The value of the point of the stream of this name with exactly these attributes, in any order, in the last of these
+/// batches that has it; nothing where none has. Names are compared without ASCII case, and the attributes are those
+/// that the stream keeps. In one batch the first stream of the name is looked at; two readers that export one name are
+/// told apart by their batches alone. Overflow points are not found, nor is anything in a batch of another plan. It
+/// goes over all batches: it is for tests of a service.
 pub fn value_of<'a>(
     plan: &Plan,
     batches: &'a [Batch],

@@ -18,9 +18,9 @@ use std::alloc::Global;
 use std::marker::{Model, PhantomData};
 use std::sync::Wait;
 
-/// The handle of an instrument of one kind, found by its name in the catalogue of a plan: the instrument's number in that
-/// catalogue and the plan's fingerprint ([`Plan::fingerprint`]). To another plan and its provider it is a stranger: each call
-/// that brings one compares the two fingerprints first.
+/// The handle of an instrument of one kind, found by its name in the catalogue of a plan: the instrument's number in
+/// that catalogue and the plan's fingerprint ([`Plan::fingerprint`]). To another plan and its provider it is a
+/// stranger: each call that brings one compares the two fingerprints first.
 #[derive(Clone, Copy)]
 pub struct Handle<K> {
     plan: u64,
@@ -87,15 +87,15 @@ impl<K> Handle<K> {
         Ok(self.number)
     }
 
-    /// The attributes, bound to the instrument: they are looked up once, and recordings with them then bring the set key. A
-    /// recording with three attributes at the call looks them up in some 40 ns, 2.5 times what a look-up by a set key costs; a
-    /// bound one leaves that out (`docs/PERFORMANCE.md`, "set key"). Takes no memory.
+    /// The attributes, bound to the instrument: they are looked up once, and recordings with them then bring the set
+    /// key. A recording with three attributes at the call looks them up in some 40 ns, 2.5 times what a look-up by a
+    /// set key costs; a bound one leaves that out (`docs/PERFORMANCE.md`, "set key"). Takes no memory.
     ///
     /// # Errors
     ///
-    /// `Stranger` exactly where the handle is of another plan. Then those of `Catalogue::encode`: `UnknownInstrument` where the
-    /// plan has no instrument of the handle's number, then the first of `DuplicateKey`, `UnknownKey`, `UnknownValue`,
-    /// `MissingKey` and `Combination`.
+    /// `Stranger` exactly where the handle is of another plan. Then those of `Catalogue::encode`: `UnknownInstrument`
+    /// where the plan has no instrument of the handle's number, then the first of `DuplicateKey`, `UnknownKey`,
+    /// `UnknownValue`, `MissingKey` and `Combination`.
     pub fn bind(&self, plan: &Plan, attrs: &[Attr<'_>]) -> Result<Bound<K>, Refusal>
         ensures { result ≡ bound_of plan.now self.now (map given_by attrs.now) }
     {
@@ -117,9 +117,9 @@ impl<K> Handle<K> {
 }
 
 impl<K: Adds> Handle<K> {
-    /// Adds a value to the series of these attributes (Metrics API, Add): [`Seat::record`] at the handle's number, with its
-    /// refusals. A provider of another plan than the handle's answers `Stranger` before the lock is taken; the seat is then as it
-    /// was, and counts nothing.
+    /// Adds a value to the series of these attributes (Metrics API, Add): [`Seat::record`] at the handle's number, with
+    /// its refusals. A provider of another plan than the handle's answers `Stranger` before the lock is taken; the seat
+    /// is then as it was, and counts nothing.
     #[inline(always)]
     pub fn add<R: Wait, S: Seat, B: Book, G: Gate>(
         &self,
@@ -148,8 +148,8 @@ impl<K: Adds> Handle<K> {
 
 impl<K: Records> Handle<K> {
     /// Records a value with these attributes (Metrics API, Record): [`Seat::record`] at the handle's number, with its
-    /// refusals. A provider of another plan than the handle's answers `Stranger` before the lock is taken; the seat is then as it
-    /// was, and counts nothing.
+    /// refusals. A provider of another plan than the handle's answers `Stranger` before the lock is taken; the seat is
+    /// then as it was, and counts nothing.
     #[inline(always)]
     pub fn record<R: Wait, S: Seat, B: Book, G: Gate>(
         &self,

@@ -71,14 +71,15 @@ impl<R: Wait, B: Book, G: Gate> Rooms for RoomsOf<'_, R, B, G> {
 }
 
 impl<R: Wait, S: Recorded, B: Book, G: Gate> At<'_, R, S, B, G> {
-    /// Whether the recorder has room for all recordings of a job, as of a counter and a histogram: then none of them is refused
-    /// for its budget, as long as the seat records nothing else on these instruments. Needs of one instrument are added up. Each
-    /// instrument is asked under its lock, one after the other, since nobody else can take the recorder's room; no two locks are held.
+    /// Whether the recorder has room for all recordings of a job, as of a counter and a histogram: then none of them is
+    /// refused for its budget, as long as the seat records nothing else on these instruments. Needs of one instrument
+    /// are added up. Each instrument is asked under its lock, one after the other, since nobody else can take the
+    /// recorder's room; no two locks are held.
     ///
     /// # Errors
     ///
-    /// The first need for which there is none, with its place: `Budget` where its instrument has less room than the job makes on
-    /// it, else what `Recorder::room` is refused for; `Stranger` where the need is of another plan.
+    /// The first need for which there is none, with its place: `Budget` where its instrument has less room than the job
+    /// makes on it, else what `Recorder::room` is refused for; `Stranger` where the need is of another plan.
     pub fn has_room(&self, job: &[Need]) -> Result<(), SetsFault>
         ensures ok { let tells = TellsNeed self.now.provider.now (S.seat self.now.seat.now) in
             OnOk result (All (HasRoomFor tells job.now) job.now) }

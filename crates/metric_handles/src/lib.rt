@@ -1,11 +1,11 @@
 //! Instruments and seats by name, and attributes that are bound once.
 //!
-//! A number in place of a name is wrong without a word once a file is put in another order. Here names, kinds and keys are
-//! compared with the plan's catalogue once, at the start, and a handle is kept: [`counter`], [`up_down_counter`],
-//! [`histogram`] and [`gauge`] give one, or the first [`HandleFault`]. What a call by a handle does is what the seat's call at
-//! the handle's number does, of a recorder's seat or of another [`Seat`], as a [`Counted`] one. Keys that were compared are not
-//! refused later: that is a law, [`compared_keys_are_recorded`]. `specs/Named.antt` says which instrument a name is of,
-//! `specs/Calls.antt` what a call does, `specs/KeysGiven.antt` what the law says.
+//! A number in place of a name is wrong without a word once a file is put in another order. Here names, kinds and keys
+//! are compared with the plan's catalogue once, at the start, and a handle is kept: [`counter`], [`up_down_counter`],
+//! [`histogram`] and [`gauge`] give one, or the first [`HandleFault`]. What a call by a handle does is what the seat's
+//! call at the handle's number does, of a recorder's seat or of another [`Seat`], as a [`Counted`] one. Keys that were
+//! compared are not refused later: that is a law, [`compared_keys_are_recorded`]. `specs/Named.antt` says which
+//! instrument a name is of, `specs/Calls.antt` what a call does, `specs/KeysGiven.antt` what the law says.
 #![tactic(auto)]
 
 mod at;

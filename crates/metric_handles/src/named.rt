@@ -12,20 +12,21 @@ use metric_catalogue::Catalogue;
 use metric_contents::{Instrument, Key, Kind, Meter};
 use metric_plan::Plan;
 
-/// The handle of a counter of this name in a meter of that name, to which the program is going to give attributes of these keys
-/// (Metrics API, Counter creation). Instrument names are compared without ASCII case; those of meters and keys exactly, as where
-/// views select them.
+/// The handle of a counter of this name in a meter of that name, to which the program is going to give attributes of
+/// these keys (Metrics API, Counter creation). Instrument names are compared without ASCII case; those of meters and
+/// keys exactly, as where views select them.
 ///
 /// Attributes with just these keys, in any order, are then never refused for their keys on this plan
 /// ([`compared_keys_are_bound`](crate::compared_keys_are_bound),
-/// [`compared_keys_are_recorded`](crate::compared_keys_are_recorded)). A program that leaves one out at times asks with the list
-/// without it, too.
+/// [`compared_keys_are_recorded`](crate::compared_keys_are_recorded)). A program that leaves one out at times asks with
+/// the list without it, too.
 ///
 /// # Errors
 ///
-/// The first [`HandleFault`], in the order in which it lists them: of the names, of the kind, and of the keys, each tried over
-/// the whole list before the next. So a catalogue that renames an instrument or a key, takes another kind or declares one more
-/// key that may not be left out is refused before anything is recorded, and one in another order makes no difference.
+/// The first [`HandleFault`], in the order in which it lists them: of the names, of the kind, and of the keys, each
+/// tried over the whole list before the next. So a catalogue that renames an instrument or a key, takes another kind or
+/// declares one more key that may not be left out is refused before anything is recorded, and one in another order
+/// makes no difference.
 pub fn counter(plan: &Plan, meter: &str, name: &str, keys: &[&str]) -> Result<Counter, HandleFault>
     ensures { let keys = map (λ key. key.now) keys.now in
         result ≡ handle_in plan.now kinds.Counter meter.now name.now keys }

@@ -12,8 +12,9 @@ use metric_contents::{Attr, Instrument, Key, Refusal};
 use metric_names::ValueRef;
 use metric_plan::Plan;
 
-/// How often values were replaced before they were recorded: what comes in from outside is told by a count, and no recording is
-/// lost for it. The counts rise by [`Handle::known_or`] and [`Handle::clamped`], and stop at the greatest number of 64 bits.
+/// How often values were replaced before they were recorded: what comes in from outside is told by a count, and no
+/// recording is lost for it. The counts rise by [`Handle::known_or`] and [`Handle::clamped`], and stop at the greatest
+/// number of 64 bits.
 #[derive(Clone, Copy, Debug, PartialEq, Eq, Drop)]
 pub struct Replaced {
     /// How many values of attributes were not declared.
@@ -62,14 +63,14 @@ impl Replaced {
 }
 
 impl<K> Handle<K> {
-    /// The attribute, where the instrument declares its value for its key; else the key with the other value, and the count of
-    /// replaced values rises by one. What comes back is recorded as it is: where the other value is declared, it is not refused
-    /// for this attribute.
+    /// The attribute, where the instrument declares its value for its key; else the key with the other value, and the
+    /// count of replaced values rises by one. What comes back is recorded as it is: where the other value is declared,
+    /// it is not refused for this attribute.
     ///
     /// # Errors
     ///
-    /// `Stranger` where the handle is of another plan, else `UnknownInstrument` where the plan has no instrument of the handle's
-    /// number, `UnknownKey` where this declares no such key. Nothing is counted then.
+    /// `Stranger` where the handle is of another plan, else `UnknownInstrument` where the plan has no instrument of the
+    /// handle's number, `UnknownKey` where this declares no such key. Nothing is counted then.
     pub fn known_or<'a>(
         &self,
         plan: &Plan,
@@ -91,13 +92,13 @@ impl<K> Handle<K> {
         })
     }
 
-    /// The value, where it is in the instrument's range; else the end of the range that is next to it, and the count of replaced
-    /// amounts rises by one.
+    /// The value, where it is in the instrument's range; else the end of the range that is next to it, and the count of
+    /// replaced amounts rises by one.
     ///
     /// # Errors
     ///
-    /// `Stranger` where the handle is of another plan, else `UnknownInstrument` where the plan has no instrument of the handle's
-    /// number. Nothing is counted then.
+    /// `Stranger` where the handle is of another plan, else `UnknownInstrument` where the plan has no instrument of the
+    /// handle's number. Nothing is counted then.
     pub fn clamped(&self, plan: &Plan, replaced: &mut Replaced, value: i64) -> Result<i64, Refusal>
         ensures value { result ≡ nearest_in plan.now self.now value }
         ensures counted { let kept = keeps_amount_in plan.now self.now value in

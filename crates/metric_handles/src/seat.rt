@@ -20,7 +20,8 @@ pub trait Seat {
     // The recorder's seat that is told of the recordings.
     ghost seat: { Self → RecorderValue };
 
-    // What the answer to recordings on an instrument changes beside it, where so many behind a refused one are not tried.
+    // What the answer to recordings on an instrument changes beside it, where so many behind a refused one are not
+    // tried.
     ghost notes: { Self → Self → ℕ → ℕ → Result (Unit {0}) refusals → Type 0 };
 
     /// Makes a recording: [`Recorder::record`], with its refusals.
@@ -53,8 +54,8 @@ pub trait Seat {
             old (seat self.new) instrument value admission result }
         ensures noted { notes self.old self.new instrument 0 result };
 
-    /// Makes recordings by set keys under one lock, up to the first that is refused: [`Recorder::record_sets`], with its
-    /// fault.
+    /// Makes recordings by set keys under one lock, up to the first that is refused: [`Recorder::record_sets`], with
+    /// its fault.
     fn record_sets<R: Wait, B: Book, G: Gate>(
         &mut self,
         rt: &R,

@@ -5,9 +5,9 @@ ghost use Rattle.metric_handles.specs.Seats.{is_reader_named, is_recorder_named,
 use metric_plan::Plan;
 use metric_provider::{Collector, Recorder};
 
-/// Takes the seat of the recorder of this name out of a list, and leaves the others in their order: seats are handed out as
-/// lists in the order of the files. Nothing where the plan has no such recorder or the list no seat of it; the list is then as
-/// it was. Names of recorders are compared exactly, as where a catalogue is read.
+/// Takes the seat of the recorder of this name out of a list, and leaves the others in their order: seats are handed
+/// out as lists in the order of the files. Nothing where the plan has no such recorder or the list no seat of it; the
+/// list is then as it was. Names of recorders are compared exactly, as where a catalogue is read.
 pub fn take_recorder(plan: &Plan, seats: &mut Vec<Recorder>, name: &str) -> Option<Recorder>
     ensures taken { let place = recorder_place plan.now name.now seats.old.items in
         result ≡ taken_of seats.old.items place }

@@ -88,13 +88,13 @@ impl Hosted {
         }
     }
 
-    /// Asks for so many recordings of the recorder of a seat beside its budget, of what is left of the instrument's spare
-    /// budget. The plan is that of the seat. Takes no memory.
+    /// Asks for so many recordings of the recorder of a seat beside its budget, of what is left of the instrument's
+    /// spare budget. The plan is that of the seat. Takes no memory.
     ///
     /// # Errors
     ///
-    /// `Stranger` where the seat is of another run, or of a plan that does not have the instrument's facts; else those of
-    /// [`Hosted::grant`].
+    /// `Stranger` where the seat is of another run, or of a plan that does not have the instrument's facts; else those
+    /// of [`Hosted::grant`].
     pub fn ask(&mut self, plan: &Plan, seat: &RecorderSeat, amount: u64) -> Result<(), Refusal>
         ensures answer { AnswersAsking plan.now self.old seat.now amount result }
         ensures new { let recorder = seat.now.number in

@@ -39,8 +39,9 @@ impl Model for Hosted {
 }
 
 impl Hosted {
-    /// The instrument of this number of a certified plan without recordings, since a start in nanoseconds, in the run of
-    /// this number. The start and the number of the run are the seed of its tables. Fails only where memory is refused.
+    /// The instrument of this number of a certified plan without recordings, since a start in nanoseconds, in the run
+    /// of this number. The start and the number of the run are the seed of its tables. Fails only where memory is
+    /// refused.
     pub fn new(
         alloc: Global,
         plan: &Plan,
@@ -86,13 +87,13 @@ impl Hosted {
         self.slot.close()
     }
 
-    /// Grants a recorder so many recordings beside its budget, of what is left of the instrument's spare budget. Takes no
-    /// memory.
+    /// Grants a recorder so many recordings beside its budget, of what is left of the instrument's spare budget. Takes
+    /// no memory.
     ///
     /// # Errors
     ///
-    /// The first of these: `UnknownRecorder` where the instrument has no such recorder; `Closed`; `NoSpare` where more is
-    /// asked for than is left. A grant of 0 is made also where nothing is left.
+    /// The first of these: `UnknownRecorder` where the instrument has no such recorder; `Closed`; `NoSpare` where more
+    /// is asked for than is left. A grant of 0 is made also where nothing is left.
     pub fn grant(&mut self, recorder: u32, amount: u64) -> Result<(), Refusal>
         ensures answer { AnswersGranting self.old recorder amount result }
         ensures new { OnOk result (self.new ≡ with_granted self.old recorder amount) }
@@ -110,7 +111,8 @@ impl Hosted {
     ///
     /// # Errors
     ///
-    /// - [`FinishFault::Stranger`] where the instrument has no recorder of a seat's number, or two seats are of one recorder.
+    /// - [`FinishFault::Stranger`] where the instrument has no recorder of a seat's number, or two seats are of one
+    ///   recorder.
     /// - [`FinishFault::RecorderMissing`] where a recorder has no seat among them.
     /// - [`FinishFault::AuditMismatch`] where one of the instrument's spent budgets, its count or its sum is another.
     pub fn settle(&self, seats: &[SeatTold]) -> Result<Total, FinishFault>
@@ -155,15 +157,15 @@ impl Hosted {
         seat.record_on(&mut self.slot, plan, number, set, value)
     }
 
-    /// What the reader of a seat is told of the instrument at a time in nanoseconds: its points since its last batch (delta) or since
-    /// the start (cumulative) (Metrics SDK, collect). Where the reader's last batch has a later time, this one has that too.
-    /// The plan is that of the seat.
+    /// What the reader of a seat is told of the instrument at a time in nanoseconds: its points since its last batch
+    /// (delta) or since the start (cumulative) (Metrics SDK, collect). Where the reader's last batch has a later time,
+    /// this one has that too. The plan is that of the seat.
     ///
     /// # Errors
     ///
-    /// The first of these: `Stranger` where the instrument's run is of another number, the seat was made for another number
-    /// of instruments, or the plan has no reader of its number; `UnknownInstrument`; `Stranger` where the instrument's facts
-    /// or its count of the reader's last batch are not the seat's; `Memory`.
+    /// The first of these: `Stranger` where the instrument's run is of another number, the seat was made for another
+    /// number of instruments, or the plan has no reader of its number; `UnknownInstrument`; `Stranger` where the
+    /// instrument's facts or its count of the reader's last batch are not the seat's; `Memory`.
     pub fn collect(
         &mut self,
         alloc: Global,

@@ -13,15 +13,16 @@ use metric_plan::Plan;
 use metric_seat::{FinishFault, Measurement, RecorderSeat, SetsFault};
 
 impl Hosted {
-    /// Makes a recording of a seat (Metrics API, synchronous instruments), and tells the seat of it. The plan is that of the
-    /// seat.
+    /// Makes a recording of a seat (Metrics API, synchronous instruments), and tells the seat of it. The plan is that
+    /// of the seat.
     ///
     /// # Errors
     ///
-    /// The first of these: `Stranger` where the instrument's run is of another number, the seat was made for another number
-    /// of instruments, or the plan has no recorder of its number; `UnknownInstrument`; those of the attributes in their
-    /// order, the last of them `Combination`; `ValueRange`; `Stranger` where the instrument's facts or its number of the recorder's recordings are not the
-    /// seat's; `Closed`; `Budget`; `Memory`, which never comes where all streams of the instrument are by product.
+    /// The first of these: `Stranger` where the instrument's run is of another number, the seat was made for another
+    /// number of instruments, or the plan has no recorder of its number; `UnknownInstrument`; those of the attributes
+    /// in their order, the last of them `Combination`; `ValueRange`; `Stranger` where the instrument's facts or its
+    /// number of the recorder's recordings are not the seat's; `Closed`; `Budget`; `Memory`, which never comes where
+    /// all streams of the instrument are by product.
     pub fn record(
         &mut self,
         plan: &Plan,
@@ -43,7 +44,8 @@ impl Hosted {
         self.record_known(plan, seat, set, &value)
     }
 
-    /// Makes a recording of a set key that [`RecorderSeat::prepare`] answered for the instrument, and tells the seat of it.
+    /// Makes a recording of a set key that [`RecorderSeat::prepare`] answered for the instrument, and tells the seat of
+    /// it.
     ///
     /// # Errors
     ///
@@ -113,8 +115,8 @@ impl Hosted {
         self.record_set(plan, seat, one.set, one.value)
     }
 
-    /// What the recorder of a seat was told of the instrument. A seat of another run, or of a plan that does not have the
-    /// instrument's facts, is a [`FinishFault::Stranger`].
+    /// What the recorder of a seat was told of the instrument. A seat of another run, or of a plan that does not have
+    /// the instrument's facts, is a [`FinishFault::Stranger`].
     pub fn told_of(&self, plan: &Plan, seat: &RecorderSeat) -> Result<SeatTold, FinishFault>
         ensures { TellsOf plan.now self.now seat.now result }
     {

@@ -1,10 +1,10 @@
 //! Calls that a watcher refuses memory: each allocation inside one call in turn, by `tools/refuse-each`.
 //!
-//! `CALL BOOK DATA` prepares the call with memory enough, makes it between two allocations of a size that marks them, and
-//! prints three parts: what it answered (`first`), what the same call then answers, with what the first handed back where it
-//! handed something back (`second`), and what the state comes to (`state`). A fourth word `once` leaves the second call out, and
-//! of `run` a number leaves the event of that number, from 1, out of the first.
-//! Without words each call is made over each book and each data, and a line tells whether it answered as is due.
+//! `CALL BOOK DATA` prepares the call with memory enough, makes it between two allocations of a size that marks them,
+//! and prints three parts: what it answered (`first`), what the same call then answers, with what the first handed back
+//! where it handed something back (`second`), and what the state comes to (`state`). A fourth word `once` leaves the
+//! second call out, and of `run` a number leaves the event of that number, from 1, out of the first. Without words each
+//! call is made over each book and each data, and a line tells whether it answered as is due.
 
 mod answers;
 mod calls;

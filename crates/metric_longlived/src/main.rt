@@ -1,6 +1,6 @@
-//! A service that lives long, to copy from: budgets with a spare that workers ask for, runs that roll over, and a queue that
-//! outlives them over an exporter whose device is out for a while. What was exported adds up to what was recorded: no window is
-//! lost, and none is exported twice.
+//! A service that lives long, to copy from: budgets with a spare that workers ask for, runs that roll over, and a queue
+//! that outlives them over an exporter whose device is out for a while. What was exported adds up to what was recorded:
+//! no window is lost, and none is exported twice.
 #![tactic(auto)]
 
 mod ledger;
@@ -94,7 +94,8 @@ fn main(rt: HostRuntime) -> Result<()> {
     Ok(())
 }
 
-// One run, and then the next one begins, also while the device is out: the queue keeps what it has. What the run came to is told.
+// One run, and then the next one begins, also while the device is out: the queue keeps what it has. What the run came
+// to is told.
 fn live_on<R: Threads + Wait + Clock + Sync + AllocGlobal>(
     rt: &R,
     service: Service,
@@ -149,8 +150,8 @@ fn sum_of(totals: &Totals) -> i128 {
     }
 }
 
-// One run: the workers record, while the reader exports every millisecond, and a last time when they have ended. Its seat is there
-// still where that was refused.
+// One run: the workers record, while the reader exports every millisecond, and a last time when they have ended. Its
+// seat is there still where that was refused.
 fn live<R: Threads + Wait + Clock + Sync + AllocGlobal>(
     rt: &R,
     service: Service,

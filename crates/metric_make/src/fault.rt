@@ -2,8 +2,8 @@
 use std::alloc::AllocError;
 use thiserror::Error;
 
-/// Why a catalogue and a config get no certificate: the first part of safety that fails, with what it is about, or want of memory.
-/// Instruments are numbered as in the catalogue, readers as in the config, and streams as they are resolved.
+/// Why a catalogue and a config get no certificate: the first part of safety that fails, with what it is about, or want
+/// of memory. Instruments are numbered as in the catalogue, readers as in the config, and streams as they are resolved.
 #[derive(Clone, Copy, Debug, PartialEq, Eq, Drop, Error)]
 pub enum MakeFault {
     /// Two streams have one identity (Metrics data model, identity).

@@ -23,9 +23,9 @@ use metric_resolve::{
 use metric_views::{Config, Stream};
 use std::alloc::{AllocError, Global};
 
-/// A certificate that a catalogue and a config are safe, or the first part of safety that fails, with what it is about: two
-/// streams have one identity; then of each instrument `CountRange`, `AmountRange`, `SumLow` and `SumHigh`;
-/// then a stream may have more series than its limit.
+/// A certificate that a catalogue and a config are safe, or the first part of safety that fails, with what it is about:
+/// two streams have one identity; then of each instrument `CountRange`, `AmountRange`, `SumLow` and `SumHigh`; then a
+/// stream may have more series than its limit.
 ///
 /// A reason is the first criterion that is given and fails, in the order in which `Criterion` lists them,
 /// else what `why` answers of the name pattern. A stream is bounded by product where that is within its

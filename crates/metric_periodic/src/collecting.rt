@@ -11,8 +11,8 @@ use metric_provider::{AllFault, Collector, Gate, Provider};
 use std::alloc::{AllocError, Global};
 use std::sync::Wait;
 
-/// Collects of each instrument once, in order, and goes on where one is refused, as for want of memory: so a refused instrument
-/// hides no other. [`Collector::collect_all`] ends at the first refusal.
+/// Collects of each instrument once, in order, and goes on where one is refused, as for want of memory: so a refused
+/// instrument hides no other. [`Collector::collect_all`] ends at the first refusal.
 ///
 /// # Errors
 ///

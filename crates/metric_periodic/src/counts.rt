@@ -3,11 +3,11 @@ ghost use Rattle.std.specs.Prelude.{ℕ};
 
 use std::sync::atomic::{AtomicU64, Ordering};
 
-/// What a periodic reader has done so far, for other threads to read while it runs. Threads share it by reference; each count
-/// stops at 2^64 - 1.
+/// What a periodic reader has done so far, for other threads to read while it runs. Threads share it by reference; each
+/// count stops at 2^64 - 1.
 ///
-/// The reader sets the counts after each collection, when the batches of that were handed on. A thread may read one count
-/// before and another after that.
+/// The reader sets the counts after each collection, when the batches of that were handed on. A thread may read one
+/// count before and another after that.
 #[derive(Drop)]
 pub struct RunningCounts {
     exported: AtomicU64,
@@ -58,8 +58,8 @@ impl RunningCounts {
 /// Who is told the counts of a running reader. As a trait, so that a run cannot but tell them, all and each in
 /// its place.
 pub(crate) trait Listener {
-    // That it was told these counts: of the batches that the exporter took, of those and of the shutdown that failed, of those
-    // that it keeps, of the collections that were refused, and of the flushes that failed.
+    // That it was told these counts: of the batches that the exporter took, of those and of the shutdown that failed,
+    // of those that it keeps, of the collections that were refused, and of the flushes that failed.
     ghost told: { Self → ℕ → ℕ → ℕ → ℕ → ℕ → Type 0 };
 
     fn tell(&self, exported: u64, failed: u64, delayed: u64, refused: u64, unflushed: u64)

@@ -16,7 +16,7 @@ pub struct RefusedInstrument {
 pub struct Collection {
     /// The batches that have points, in the order of the instruments.
     pub batches: Vec<Batch>,
-    /// The instruments that were refused, in order. The seat has seen nothing new of these: their next window begins where
-    /// their last one ended.
+    /// The instruments that were refused, in order. The seat has seen nothing new of these: their next window begins
+    /// where their last one ended.
     pub refused: Vec<RefusedInstrument>,
 }

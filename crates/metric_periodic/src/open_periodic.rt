@@ -18,11 +18,11 @@ use std::alloc::Global;
 use std::marker::Model;
 use std::sync::Wait;
 
-/// A periodic reader that leaves its exporter open at the end of a run, and goes on with it in the next one, its counts too: for
-/// a service that rolls over. It asks its ticker a limited number of times in each run.
+/// A periodic reader that leaves its exporter open at the end of a run, and goes on with it in the next one, its counts
+/// too: for a service that rolls over. It asks its ticker a limited number of times in each run.
 ///
-/// Unlike a [`Periodic`](crate::Periodic) it hands on no batch without points, and where an instrument is refused, as for want of
-/// memory, it collects the others; the next turn tries that one again, and no window is lost.
+/// Unlike a [`Periodic`](crate::Periodic) it hands on no batch without points, and where an instrument is refused, as
+/// for want of memory, it collects the others; the next turn tries that one again, and no window is lost.
 #[derive(Drop)]
 pub struct OpenPeriodic<E> {
     exports: Exports<E>,
@@ -59,12 +59,12 @@ impl<E: MetricExporter> OpenPeriodic<E> {
         }
     }
 
-    /// Collects at each tick of each instrument, hands on each batch with points in order, and then flushes the exporter. An
-    /// export that fails is not tried again, but by an exporter that keeps its batches.
+    /// Collects at each tick of each instrument, hands on each batch with points in order, and then flushes the
+    /// exporter. An export that fails is not tried again, but by an exporter that keeps its batches.
     ///
-    /// When the ticker stops, or was asked as often as it may be, a last collection is made, at the moment of the last tick, 0
-    /// where there was none; then the exporter tries once more what it keeps, and is flushed. It stays open. The counts that
-    /// other threads read go on from those of the runs before.
+    /// When the ticker stops, or was asked as often as it may be, a last collection is made, at the moment of the last
+    /// tick, 0 where there was none; then the exporter tries once more what it keeps, and is flushed. It stays open.
+    /// The counts that other threads read go on from those of the runs before.
     pub fn run<R: Wait, B: Book, G: Gate, T: Ticker<R>>(
         self,
         rt: &R,

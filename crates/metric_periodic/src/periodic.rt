@@ -69,9 +69,9 @@ impl<E: MetricExporter> Periodic<E> {
     /// handed on. An export that fails is not tried again. Contracts see that each turn makes one collection, at
     /// the moment of its tick, calls the exporter once for each batch that the collection gave, and flushes it once.
     ///
-    /// When the ticker stops, or was asked as often as it may be, a last collection is made, at the
-    /// moment of the last tick, 0 where there was none; then the exporter tries once more what it keeps, and is shut down, which
-    /// flushes it.
+    /// When the ticker stops, or was asked as often as it may be, a last collection is made, at the moment of the last
+    /// tick, 0 where there was none; then the exporter tries once more what it keeps, and is shut down, which flushes
+    /// it.
     pub fn run<R: Wait, B: Book, G: Gate, T: Ticker<R>>(
         self,
         rt: &R,

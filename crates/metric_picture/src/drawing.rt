@@ -24,8 +24,8 @@ const INSTRUMENTS: usize = 0;
 
 const VIEWS: usize = 1;
 
-/// The text of a picture of a catalogue and a config, as an SVG: instruments, the views that select them, and the streams that
-/// these give each reader, or that come by default. Fails only where memory is refused.
+/// The text of a picture of a catalogue and a config, as an SVG: instruments, the views that select them, and the
+/// streams that these give each reader, or that come by default. Fails only where memory is refused.
 pub fn draw(alloc: Global, catalogue: &Catalogue, config: &Config) -> Result<String, AllocError> {
     let streams = resolve(alloc, catalogue, config)?;
     let diagram = diagram_of(alloc, catalogue, config, &streams)?;

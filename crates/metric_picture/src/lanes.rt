@@ -5,7 +5,8 @@ use crate::slots::Slots;
 use metric_views::Stream;
 use std::alloc::{AllocError, Global};
 
-/// The boxes of views, and below them a lane for each box of instruments with default streams: of each such box, its lane.
+/// The boxes of views, and below them a lane for each box of instruments with default streams: of each such box, its
+/// lane.
 pub(crate) fn with_lanes(
     alloc: Global,
     views: Vec<Node>,

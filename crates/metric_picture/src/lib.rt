@@ -1,7 +1,7 @@
 //! The picture of a catalogue and a config: its instruments, views and streams, and which gives which, as an SVG.
 //!
-//! A few instruments have a box each; of many, those of a meter and a kind share one, and so do the streams of a reader and a
-//! view, with their number. Streams that collide are red. Links of default streams pass below the views.
+//! A few instruments have a box each; of many, those of a meter and a kind share one, and so do the streams of a reader
+//! and a view, with their number. Streams that collide are red. Links of default streams pass below the views.
 #![tactic(auto)]
 
 mod clashes;

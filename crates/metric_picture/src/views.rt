@@ -47,8 +47,8 @@ pub(crate) fn tone_of(settings: &Settings) -> Tone {
     }
 }
 
-// What the view asks of an instrument beside its name, which is in the title. Each criterion is named, so that a new one
-// is not left out unnoticed.
+// What the view asks of an instrument beside its name, which is in the title. Each criterion is named, so that a new
+// one is not left out unnoticed.
 fn add_criteria(alloc: Global, node: &mut Node, criteria: &Criteria) -> Result<(), AllocError> {
     let Criteria {
         instrument_name: _,
@@ -81,8 +81,8 @@ fn add_text(
     Ok(())
 }
 
-// What the view changes but for the description, which is too long for a box. Each setting is named, so that a new one is not
-// left out unnoticed.
+// What the view changes but for the description, which is too long for a box. Each setting is named, so that a new one
+// is not left out unnoticed.
 fn add_settings(alloc: Global, node: &mut Node, settings: &Settings) -> Result<(), AllocError> {
     let Settings {
         stream_name,

@@ -6,10 +6,11 @@ use crate::provider::Provider;
 use metric_book::Book;
 use metric_safety::laws::journals_are_bounded;
 
-/// Whatever threads have done, and whatever the book, each batch that a seat collects of the provider has bounded series: those
-/// of a stream report the recordings that the batch covers, and are no more than the keys allow, or the combinations where the
-/// instrument lists them, and than these recordings, none of them the overflow series (Metrics SDK, cardinality limits), with
-/// counts and sums that add up, and each number by the range and the number of recordings. The function does nothing.
+/// Whatever threads have done, and whatever the book, each batch that a seat collects of the provider has bounded
+/// series: those of a stream report the recordings that the batch covers, and are no more than the keys allow, or the
+/// combinations where the instrument lists them, and than these recordings, none of them the overflow series (Metrics
+/// SDK, cardinality limits), with counts and sums that add up, and each number by the range and the number of
+/// recordings. The function does nothing.
 pub fn batches_are_bounded<B: Book, G: Gate>(provider: &Provider<B, G>)
     ensures { AreBatchesBounded provider.now }
 {

@@ -59,14 +59,15 @@ impl Collector {
         self.seat.seen(instrument)
     }
 
-    /// What the reader is told of an instrument at a time in nanoseconds: its points since its last batch (delta) or since
-    /// the start (cumulative) (Metrics SDK, collect). Where the reader's last batch has a later time, this one has that too.
+    /// What the reader is told of an instrument at a time in nanoseconds: its points since its last batch (delta) or
+    /// since the start (cumulative) (Metrics SDK, collect). Where the reader's last batch has a later time, this one
+    /// has that too.
     ///
     /// # Errors
     ///
-    /// `Stranger` where the seat's run is of another number, the seat was made for another number of instruments, or the plan
-    /// has no reader of its number; `UnknownInstrument`. Then, under the instrument's lock, `Stranger` where what is found
-    /// there is not what the seat has seen, and `Memory`.
+    /// `Stranger` where the seat's run is of another number, the seat was made for another number of instruments, or
+    /// the plan has no reader of its number; `UnknownInstrument`. Then, under the instrument's lock, `Stranger` where
+    /// what is found there is not what the seat has seen, and `Memory`.
     pub fn collect<R: Wait, B: Book, G: Gate>(
         &mut self,
         rt: &R,
@@ -91,8 +92,9 @@ impl Collector {
     ///
     /// # Errors
     ///
-    /// The first refusal of [`Collector::collect`], with its instrument; instrument 0 where it is a `Stranger` before any lock.
-    /// Where there is no memory for the list itself, it is `Memory` at instrument 0, and nothing was collected.
+    /// The first refusal of [`Collector::collect`], with its instrument; instrument 0 where it is a `Stranger` before
+    /// any lock. Where there is no memory for the list itself, it is `Memory` at instrument 0, and nothing was
+    /// collected.
     pub fn collect_all<R: Wait, B: Book, G: Gate>(
         &mut self,
         rt: &R,

@@ -42,8 +42,8 @@ impl std::error::Error for AllFault {}
 pub enum RollFault {
     /// The next run was to have the number of this one, by which their seats are told apart.
     SameRun,
-    /// The next run was to start before this time in nanoseconds, the greatest of a reader's last batch, or the start of
-    /// this run before one: its windows would lie in those of this run.
+    /// The next run was to start before this time in nanoseconds, the greatest of a reader's last batch, or the start
+    /// of this run before one: its windows would lie in those of this run.
     Early(u64),
     /// The provider is not finished, or there was no memory for the next one.
     Finish(FinishFault),

@@ -21,15 +21,15 @@ use std::alloc::{AllocError, Global};
 use std::sync::{Mutex, Wait};
 
 impl<B: Book, G: Gate> Provider<B, G> {
-    /// Ends the provider, by the seats of all its recorders in any order. What its instruments come to is exactly what the
-    /// recorders were told. Where its books keep their entries, the journals and the slips are copied: the journals are those
-    /// behind the locks, oldest first, and the slips of each recorder are exactly its entries in each journal, each once and
-    /// in order. Where it is not ended, provider and seats are handed back.
+    /// Ends the provider, by the seats of all its recorders in any order. What its instruments come to is exactly what
+    /// the recorders were told. Where its books keep their entries, the journals and the slips are copied: the journals
+    /// are those behind the locks, oldest first, and the slips of each recorder are exactly its entries in each
+    /// journal, each once and in order. Where it is not ended, provider and seats are handed back.
     ///
     /// # Errors
     ///
-    /// - [`FinishFault::Stranger`] where a seat's run is of another number, a seat was made for another number of instruments,
-    ///   the plan has no recorder of its number, or two seats are of one recorder.
+    /// - [`FinishFault::Stranger`] where a seat's run is of another number, a seat was made for another number of
+    ///   instruments, the plan has no recorder of its number, or two seats are of one recorder.
     /// - [`FinishFault::RecorderMissing`] where a recorder has no seat among them.
     /// - [`FinishFault::AuditMismatch`] where an instrument's facts, one of its spent budgets, its count, its sum or a
     ///   recorder's entries are others.
@@ -72,7 +72,8 @@ impl<B: Book, G: Gate> Provider<B, G> {
         }
     }
 
-    /// [`Provider::finish`], which hands the plan and the gate out too, so that a provider can be started of them again.
+    /// [`Provider::finish`], which hands the plan and the gate out too, so that a provider can be started of them
+    /// again.
     ///
     /// # Errors
     ///

@@ -50,8 +50,8 @@ pub(crate) struct Inside<'a, R, B: Book, G> {
     pub instrument: u32,
 }
 
-// Each call takes the lock once, makes its step, and calls the gate before it lets go. What becomes of the slot is known of
-// no lock; tests see it.
+// Each call takes the lock once, makes its step, and calls the gate before it lets go. What becomes of the slot is
+// known of no lock; tests see it.
 impl<R: Wait, B: Book, G: Gate> Held<B> for Inside<'_, R, B, G> {
     ghost records = { λ _ _ _ _ _ _ _. Unit {0} };
 

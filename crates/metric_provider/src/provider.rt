@@ -121,14 +121,14 @@ impl<B: Book, G: Gate> Provider<B, G> {
         close_held(&mut self.inside(rt, instrument), &self.plan, instrument)
     }
 
-    /// Grants a recorder so many recordings on an instrument beside its budget, of what is left of the instrument's spare
-    /// budget. Whoever has the provider may call it for any recorder. Takes no memory.
+    /// Grants a recorder so many recordings on an instrument beside its budget, of what is left of the instrument's
+    /// spare budget. Whoever has the provider may call it for any recorder. Takes no memory.
     ///
     /// # Errors
     ///
-    /// `UnknownInstrument` exactly where the plan has no instrument of this number, else `UnknownRecorder` exactly where it
-    /// has no such recorder; else, under the instrument's lock, `Closed`, or `NoSpare` where more is asked for than is
-    /// left. A grant of 0 is made also where nothing is left.
+    /// `UnknownInstrument` exactly where the plan has no instrument of this number, else `UnknownRecorder` exactly
+    /// where it has no such recorder; else, under the instrument's lock, `Closed`, or `NoSpare` where more is asked for
+    /// than is left. A grant of 0 is made also where nothing is left.
     pub fn grant<R: Wait>(
         &self,
         rt: &R,

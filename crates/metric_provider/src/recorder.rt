@@ -55,10 +55,10 @@ impl Recorder {
     }
 
     /// The set key of a recording of this value on the instrument of this number that the seat may make, or the first
-    /// refusal: `Stranger` where the seat's run is of another number, the seat was made for another number of instruments,
-    /// or the plan has no recorder of its number; `UnknownInstrument`, those of the attributes in their order, the last of
-    /// them `Combination` where they are none of the instrument's allowed combinations, and `ValueRange`. Takes no memory and
-    /// no lock.
+    /// refusal: `Stranger` where the seat's run is of another number, the seat was made for another number of
+    /// instruments, or the plan has no recorder of its number; `UnknownInstrument`, those of the attributes in their
+    /// order, the last of them `Combination` where they are none of the instrument's allowed combinations, and
+    /// `ValueRange`. Takes no memory and no lock.
     pub fn admits<B: Book, G: Gate>(
         &self,
         provider: &Provider<B, G>,
@@ -75,15 +75,15 @@ impl Recorder {
             .admit(provider.plan(), provider.run(), instrument, attrs, &value)
     }
 
-    /// Makes a recording (Metrics API, synchronous instruments), and tells the seat of it. Where the book keeps its entries
-    /// (`B::KEEPS_ENTRIES`), the seat keeps a slip of it: the set key that the attributes name, and the value.
+    /// Makes a recording (Metrics API, synchronous instruments), and tells the seat of it. Where the book keeps its
+    /// entries (`B::KEEPS_ENTRIES`), the seat keeps a slip of it: the set key that the attributes name, and the value.
     ///
     /// # Errors
     ///
-    /// Those of [`Recorder::admits`]. Where the book keeps its entries, `Stranger` where the seat was made to keep no slips, and
-    /// `Memory` where there is none for the slip. Then, under the instrument's lock, `Stranger` where what is found there is not
-    /// what the seat was told, `Closed`, `Budget`, and `Memory`, which never comes where the book says that recordings on the
-    /// instrument take none. No recording is refused for a sum.
+    /// Those of [`Recorder::admits`]. Where the book keeps its entries, `Stranger` where the seat was made to keep no
+    /// slips, and `Memory` where there is none for the slip. Then, under the instrument's lock, `Stranger` where what
+    /// is found there is not what the seat was told, `Closed`, `Budget`, and `Memory`, which never comes where the book
+    /// says that recordings on the instrument take none. No recording is refused for a sum.
     pub fn record<R: Wait, B: Book, G: Gate>(
         &mut self,
         rt: &R,
@@ -116,9 +116,10 @@ impl Recorder {
     ///
     /// # Errors
     ///
-    /// `Stranger` and `UnknownInstrument` as of [`Recorder::admits`], `UnknownValue` where the set key is not one of the
-    /// instrument's: it names a value that a key does not declare, or none of a required key; then `Combination` where it is
-    /// none of the instrument's allowed combinations, and `ValueRange`. Then those that [`Recorder::record`] names after those of [`Recorder::admits`].
+    /// `Stranger` and `UnknownInstrument` as of [`Recorder::admits`], `UnknownValue` where the set key is not one of
+    /// the instrument's: it names a value that a key does not declare, or none of a required key; then `Combination`
+    /// where it is none of the instrument's allowed combinations, and `ValueRange`. Then those that
+    /// [`Recorder::record`] names after those of [`Recorder::admits`].
     pub fn record_set<R: Wait, B: Book, G: Gate>(
         &mut self,
         rt: &R,
@@ -144,16 +145,16 @@ impl Recorder {
             .record_one(&mut held, plan, run, instrument, set, &value)
     }
 
-    /// Makes recordings of one instrument by their set keys (Metrics API, synchronous instruments), in order and under one
-    /// lock, up to the first that is refused: no other thread records on the instrument between them. The seat is told of
-    /// exactly those before the refused one, and has slips of them where it keeps any. An empty list is accepted of any
-    /// seat. Takes no memory of its own but for slips.
+    /// Makes recordings of one instrument by their set keys (Metrics API, synchronous instruments), in order and under
+    /// one lock, up to the first that is refused: no other thread records on the instrument between them. The seat is
+    /// told of exactly those before the refused one, and has slips of them where it keeps any. An empty list is
+    /// accepted of any seat. Takes no memory of its own but for slips.
     ///
     /// # Errors
     ///
-    /// The first refusal of [`Recorder::record_set`], as if they were made one by one, with its place in the list. What that
-    /// tests before the lock is tested of all of them before the lock; where there is no memory for all slips, the first
-    /// recording is refused.
+    /// The first refusal of [`Recorder::record_set`], as if they were made one by one, with its place in the list. What
+    /// that tests before the lock is tested of all of them before the lock; where there is no memory for all slips, the
+    /// first recording is refused.
     pub fn record_sets<R: Wait, B: Book, G: Gate>(
         &mut self,
         rt: &R,
@@ -193,7 +194,8 @@ impl Recorder {
         self.seat.accepted(instrument)
     }
 
-    /// Asks for so many recordings on an instrument beside the budget, of what is left of the instrument's spare budget.
+    /// Asks for so many recordings on an instrument beside the budget, of what is left of the instrument's spare
+    /// budget.
     ///
     /// # Errors
     ///

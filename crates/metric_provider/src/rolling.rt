@@ -22,20 +22,21 @@ use std::alloc::Global;
 use std::sync::Wait;
 
 impl<B: Book, G: Gate> Provider<B, G> {
-    /// Ends the provider by the seats of all its recorders, as [`Provider::finish`] does, and starts the next one of the same
-    /// plan, since a time in nanoseconds: with full budgets, new seats, and the number of another run. So a service lives for
-    /// ever on bounded budgets, and its readers see a new start time, as after a restart.
+    /// Ends the provider by the seats of all its recorders, as [`Provider::finish`] does, and starts the next one of
+    /// the same plan, since a time in nanoseconds: with full budgets, new seats, and the number of another run. So a
+    /// service lives for ever on bounded budgets, and its readers see a new start time, as after a restart.
     ///
-    /// All memory for the next run is taken before the one that is there ends: where it does not end, it goes on, and provider
-    /// and seats are handed back. Its readers' seats serve it alone: let each collect a last time before, since what was
-    /// recorded after a reader's last batch is in the totals only.
+    /// All memory for the next run is taken before the one that is there ends: where it does not end, it goes on, and
+    /// provider and seats are handed back. Its readers' seats serve it alone: let each collect a last time before,
+    /// since what was recorded after a reader's last batch is in the totals only.
     ///
     /// # Errors
     ///
     /// - [`RollFault::SameRun`] where the next run has the number of this one.
-    /// - [`RollFault::Early`] where it starts before the last batch of a reader of this one, with the greatest time of these,
-    ///   or that at which this one started.
-    /// - [`RollFault::Finish`] with a fault of [`Provider::finish`]; its `Memory` also where there is none for the next run.
+    /// - [`RollFault::Early`] where it starts before the last batch of a reader of this one, with the greatest time of
+    ///   these, or that at which this one started.
+    /// - [`RollFault::Finish`] with a fault of [`Provider::finish`]; its `Memory` also where there is none for the next
+    ///   run.
     pub fn roll_over<R: Wait>(
         self,
         rt: &R,
@@ -174,8 +175,8 @@ fn is_same_run(next: NextRun, run: u64) -> bool
     next.run == run
 }
 
-// What the provider comes to and the parts of the next one, where the seats are those of all recorders of this run of the plan.
-// The instruments leave their locks last, when the memory for all else was taken.
+// What the provider comes to and the parts of the next one, where the seats are those of all recorders of this run of
+// the plan. The instruments leave their locks last, when the memory for all else was taken.
 fn seated_parts<B: Book>(
     alloc: Global,
     plan: &Plan,

@@ -14,8 +14,8 @@ use metric_seat::{FinishFault, Total, has_each, total_of_all, total_of_some};
 use metric_slot::Slot;
 use std::alloc::Global;
 
-/// What recorders were told of each instrument, where each has the facts of the plan for its place, its numbers are what
-/// the recorders were told, and the entries that its book keeps are those of which they have slips; else
+/// What recorders were told of each instrument, where each has the facts of the plan for its place, its numbers are
+/// what the recorders were told, and the entries that its book keeps are those of which they have slips; else
 /// `AuditMismatch`. The only other fault is `Memory`. Where a recorder of the plan has no seat among them, nothing is
 /// known of what it was told, and the counts and sums of the instruments are compared with nothing.
 pub fn settle<B: Book>(

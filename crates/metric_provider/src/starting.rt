@@ -18,7 +18,8 @@ use std::sync::Wait;
 /// A provider of a certified plan without recordings, since a start in nanoseconds, with a seat for each recorder and
 /// each reader, in order. Seats serve the number of the run that they were made for: give each provider one of its own,
 /// since seats of one run and of plans of the same sizes are told apart by nothing else. Where the books keep their
-/// entries, the seats of the recorders keep slips. The seed of books that hash is made of the start and the number of the run. Where memory is refused, the plan and the gate are handed back.
+/// entries, the seats of the recorders keep slips. The seed of books that hash is made of the start and the number of
+/// the run. Where memory is refused, the plan and the gate are handed back.
 pub fn start<R: Wait, B: Book, G: Gate>(
     _rt: &R,
     alloc: Global,
@@ -96,8 +97,8 @@ fn new_slots<B: Book>(
     Ok(slots)
 }
 
-// The slots in order, each behind a lock of its own. They stand 128 bytes apart; there is room for one more, so that the
-// last one is as far from the next block of the heap.
+// The slots in order, each behind a lock of its own. They stand 128 bytes apart; there is room for one more, so that
+// the last one is as far from the next block of the heap.
 fn locked<B: Book>(alloc: Global, slots: Vec<Slot<B>>) -> Result<Vec<Locked<B>>, AllocError>
     ensures { IfOk result (λ locked. vec_len locked ≡ vec_len slots) }
 {

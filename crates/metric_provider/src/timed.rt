@@ -7,8 +7,8 @@ use metric_book::Book;
 use metric_slot::Slot;
 use std::sync::{Mutex, Wait};
 
-/// What tells a time under its lock. As a trait, so that each of many cannot but be asked: what it tells is known by the call
-/// alone.
+/// What tells a time under its lock. As a trait, so that each of many cannot but be asked: what it tells is known by
+/// the call alone.
 pub(crate) trait Timed {
     // It told this time.
     ghost tells: { Self → ℕ → Type 0 };

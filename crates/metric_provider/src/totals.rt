@@ -17,7 +17,8 @@ pub struct Totals {
     /// The accepted recordings of each instrument, in order, oldest first. Each list is empty where the books keep no
     /// entries.
     pub journals: Vec<Items<Entry>>,
-    /// The slips of each recorder on each instrument, both in order. Each list is empty where the books keep no entries.
+    /// The slips of each recorder on each instrument, both in order. Each list is empty where the books keep no
+    /// entries.
     pub slips: Vec<Items<Items<Slip>>>,
 }
 

@@ -13,17 +13,18 @@ use metric_provider::{Collector, FinishFault, Finished, Gate, Provider, Recorder
 use std::alloc::Global;
 use std::sync::Wait;
 
-/// Ends a service: each reader that is given collects a last time at a moment, of each instrument, so that a refused one hides no
-/// other; its batches with points are handed on to an exporter in order, up to the first that it neither takes nor keeps; then
-/// the exporter tries once more what it keeps and is flushed, and the provider is finished by the seats of all its recorders,
-/// whatever was refused before. The exporter stays open.
+/// Ends a service: each reader that is given collects a last time at a moment, of each instrument, so that a refused
+/// one hides no other; its batches with points are handed on to an exporter in order, up to the first that it neither
+/// takes nor keeps; then the exporter tries once more what it keeps and is flushed, and the provider is finished by the
+/// seats of all its recorders, whatever was refused before. The exporter stays open.
 ///
 /// # Errors
 ///
-/// An [`EndFault`] has each cause, and hands back what is left: batches that nobody took and nobody keeps, the plan by which
-/// they can be exported later, the seats of the readers, and the provider with the seats of its recorders where it is not
-/// finished. What the exporter keeps still is not handed back: it is the exporter's. Where there is no memory to tell how the
-/// readers end, the exporter is only asked to send what it keeps and flushed, and the fault of the provider is `Memory`.
+/// An [`EndFault`] has each cause, and hands back what is left: batches that nobody took and nobody keeps, the plan by
+/// which they can be exported later, the seats of the readers, and the provider with the seats of its recorders where
+/// it is not finished. What the exporter keeps still is not handed back: it is the exporter's. Where there is no memory
+/// to tell how the readers end, the exporter is only asked to send what it keeps and flushed, and the fault of the
+/// provider is `Memory`.
 pub fn shutdown_all<R: Wait, B: Book, G: Gate, E: MetricExporter>(
     rt: &R,
     alloc: Global,
@@ -97,7 +98,8 @@ fn told<B: Book, G: Gate>(
     })
 }
 
-// What the provider comes to and its plan, or itself with the seats of its recorders: also where not all readers were asked.
+// What the provider comes to and its plan, or itself with the seats of its recorders: also where not all readers were
+// asked.
 fn finished<R: Wait, B: Book, G: Gate>(
     rt: &R,
     alloc: Global,

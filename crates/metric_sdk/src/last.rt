@@ -27,7 +27,8 @@ pub(crate) struct LastEnds {
     pub unflushed: Option<ExportFault>,
 }
 
-/// Lets each reader collect a last time, hands on what that gives, lets the exporter try once more what it keeps, and flushes it.
+/// Lets each reader collect a last time, hands on what that gives, lets the exporter try once more what it keeps, and
+/// flushes it.
 pub(crate) fn end_all<R: Wait, B: Book, G: Gate, E: MetricExporter>(
     rt: &R,
     alloc: Global,
@@ -54,7 +55,8 @@ pub(crate) fn end_all<R: Wait, B: Book, G: Gate, E: MetricExporter>(
     }
 }
 
-// Lets each reader collect a last time, and hands on what that gives. How each ended, or all where there is no memory to tell.
+// Lets each reader collect a last time, and hands on what that gives. How each ended, or all where there is no memory
+// to tell.
 fn ask_all<R: Wait, B: Book, G: Gate, E: MetricExporter>(
     rt: &R,
     alloc: Global,

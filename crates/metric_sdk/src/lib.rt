@@ -1,76 +1,82 @@
-//! One door for a service: all that it needs, in the order in which it meets it. What a call costs was measured on one machine
-//! and stands in whole in `docs/PERFORMANCE.md`.
+//! One door for a service: all that it needs, in the order in which it meets it. What a call costs was measured on one
+//! machine and stands in whole in `docs/PERFORMANCE.md`.
 //!
-//! 1. **Open.** Two texts declare a service: a catalogue says what may be recorded, a config which metric readers and views there
-//!    are. [`open`] reads them, makes a certificate that no limit and no number can overflow, checks it, and starts: a
-//!    [`MeterProvider`] with the seat of each recorder and each reader, in the order of the texts, or the first [`SetupFault`].
-//!    [`open_certified`] takes a certificate that somebody else made, whom it does not trust. [`now`] gives the moment of the
-//!    start, the one [`Runs`] of a process the number of the run.
-//! 2. **Names.** [`counter`], [`up_down_counter`], [`histogram`] and [`gauge`] find an instrument of the plan by the names of its
-//!    meter and its own, and compare its kind and its keys with what the service is going to record: a [`Handle`] of that kind
-//!    ([`Counter`] and so on), or a [`HandleFault`] before anything was recorded. [`take_recorder`] and [`take_reader`] take a
-//!    seat out of those that `open` gave.
-//! 3. **Recording.** A thread records with a [`Recorder`]: by a handle's `add` or `record`, with the [`Attr`]s, each a key with a
-//!    [`ValueRef`], and the value. What is not counted is answered by a [`Refusal`], also attributes of which each is
-//!    declared, but not together ([`Refusal::Combination`] of the allowed [`Combinations`]); [`explain_refusal`] gives its
-//!    [`Explanation`]. Nothing is counted in another series, and no new series appears. `Recorder::accepted` tells what the
-//!    seat was [`Told`] of, [`left`] what is left of its budget. A [`Counted`] seat counts its refusals, and handles take it
-//!    as they take a recorder's (a [`Seat`]); `known_or` and `clamped` of a handle put a declared value in the place of one
-//!    that is not, counted by a [`Replaced`]. `seat.at(&rt, &provider)` of [`AnySeat`] is an [`At`], a seat with what it
-//!    records on: its `add` and `record` name the rest alone, and `during` counts work as under way until it ends, however it
-//!    does, where the seat is [`Recorded`].
-//! 4. **Bound attributes.** `Handle::bind` looks attributes up once; the [`Bound`] that it gives records without a look-up,
-//!    and a [`BoundList`] hands on many under one lock. Below both are set keys: `Recorder::admits` gives the [`SetKey`] of
-//!    attributes, `Recorder::record_set` records by it, and `Recorder::record_sets` a list of [`Measurement`]s, up to a
-//!    [`SetsFault`]. `Bound::timer` gives a [`Timer`], with the [`TimeUnit`] that its histogram is declared in, or a
-//!    [`TimerFault`]; `timed` of an `At` records by it how long work took, or tells a [`TimedFault`].
-//! 5. **Export.** [`Periodic`] collects at each [`Tick`] of a [`Ticker`], a [`ClockTicker`] until its [`StopFlag`] is set or a
-//!    [`ListTicker`]; it hands each batch on to a [`MetricExporter`], as a [`TextExporter`] is, flushes that after each
-//!    collection, and at its end collects a last time. What it did, and the [`StopCause`] of its ticker, is a [`PeriodicEnd`]; what
-//!    it has done so far other threads read of its [`RunningCounts`]; `StopFlag::wake` lets it export now. An [`Encoding`] says what a batch is as
-//!    bytes, [`Plain`] its text, [`OtlpLines`] the lines that the OpenTelemetry Collector reads of a file, [`OtlpBytes`] what
-//!    an OTLP receiver takes, both with the attributes of a [`Resource`] (or a [`ResourceFault`]); `TextExporter::of` and
-//!    `ReopeningExporter::of` write in any. An exporter's fault is an [`ExportFault`]: a [`Queued`] keeps what was refused and
-//!    tries it again before the next, so that the window of a delta reader is not lost, and a [`ReopeningExporter`] opens its
-//!    sink anew; other threads read the [`QueueCounts`] of a [`ToldQueue`]. An [`OpenPeriodic`] leaves its exporter open at its
-//!    [`OpenEnd`], and goes on in the next run; in it, and by [`collect_each`], a [`RefusedInstrument`] of a [`Collection`]
-//!    hides no other. [`export_each`] hands a list on and tells what was [`Handed`], [`has_points`] what need not be. An
-//!    exporter of one's own refuses a batch of another plan by [`own_plan`], and takes one apart: it has the [`StreamPoints`]
-//!    of each [`Stream`], a [`Point`] the [`PointValue`] of one series, whose [`attributes`] the plan knows. By hand: a [`Collector`] collects the [`Batch`] of
-//!    one instrument or of all, up to an [`AllFault`], and [`write_batch`] writes its text, [`write_encoded`] its bytes.
-//!    For Prometheus an [`Exposition`] has the lines of a page in a [`Dialect`], and a [`PageExporter`] hands the whole page to
-//!    [`Pages`] after each collection, as to a file that node_exporter reads; two attributes of a resource of one label are a
-//!    [`TargetFault`]. Before anything is recorded, [`expose`] tells whether a server would hold each sample of a reader's
-//!    pages, and [`expose_to_otlp`] whether each boundary leaves as it is, or the first [`ExposureFault`].
+//! 1. **Open.** Two texts declare a service: a catalogue says what may be recorded, a config which metric readers and
+//!    views there are. [`open`] reads them, makes a certificate that no limit and no number can overflow, checks it,
+//!    and starts: a [`MeterProvider`] with the seat of each recorder and each reader, in the order of the texts, or the
+//!    first [`SetupFault`]. [`open_certified`] takes a certificate that somebody else made, whom it does not trust.
+//!    [`now`] gives the moment of the start, the one [`Runs`] of a process the number of the run.
+//! 2. **Names.** [`counter`], [`up_down_counter`], [`histogram`] and [`gauge`] find an instrument of the plan by the
+//!    names of its meter and its own, and compare its kind and its keys with what the service is going to record: a
+//!    [`Handle`] of that kind ([`Counter`] and so on), or a [`HandleFault`] before anything was recorded.
+//!    [`take_recorder`] and [`take_reader`] take a seat out of those that `open` gave.
+//! 3. **Recording.** A thread records with a [`Recorder`]: by a handle's `add` or `record`, with the [`Attr`]s, each a
+//!    key with a [`ValueRef`], and the value. What is not counted is answered by a [`Refusal`], also attributes of
+//!    which each is declared, but not together ([`Refusal::Combination`] of the allowed [`Combinations`]);
+//!    [`explain_refusal`] gives its [`Explanation`]. Nothing is counted in another series, and no new series appears.
+//!    `Recorder::accepted` tells what the seat was [`Told`] of, [`left`] what is left of its budget. A [`Counted`] seat
+//!    counts its refusals, and handles take it as they take a recorder's (a [`Seat`]); `known_or` and `clamped` of a
+//!    handle put a declared value in the place of one that is not, counted by a [`Replaced`]. `seat.at(&rt, &provider)`
+//!    of [`AnySeat`] is an [`At`], a seat with what it records on: its `add` and `record` name the rest alone, and
+//!    `during` counts work as under way until it ends, however it does, where the seat is [`Recorded`].
+//! 4. **Bound attributes.** `Handle::bind` looks attributes up once; the [`Bound`] that it gives records without a
+//!    look-up, and a [`BoundList`] hands on many under one lock. Below both are set keys: `Recorder::admits` gives the
+//!    [`SetKey`] of attributes, `Recorder::record_set` records by it, and `Recorder::record_sets` a list of
+//!    [`Measurement`]s, up to a [`SetsFault`]. `Bound::timer` gives a [`Timer`], with the [`TimeUnit`] that its
+//!    histogram is declared in, or a [`TimerFault`]; `timed` of an `At` records by it how long work took, or tells a
+//!    [`TimedFault`].
+//! 5. **Export.** [`Periodic`] collects at each [`Tick`] of a [`Ticker`], a [`ClockTicker`] until its [`StopFlag`] is
+//!    set or a [`ListTicker`]; it hands each batch on to a [`MetricExporter`], as a [`TextExporter`] is, flushes that
+//!    after each collection, and at its end collects a last time. What it did, and the [`StopCause`] of its ticker, is
+//!    a [`PeriodicEnd`]; what it has done so far other threads read of its [`RunningCounts`]; `StopFlag::wake` lets it
+//!    export now. An [`Encoding`] says what a batch is as bytes, [`Plain`] its text, [`OtlpLines`] the lines that the
+//!    OpenTelemetry Collector reads of a file, [`OtlpBytes`] what an OTLP receiver takes, both with the attributes of a
+//!    [`Resource`] (or a [`ResourceFault`]); `TextExporter::of` and `ReopeningExporter::of` write in any. An exporter's
+//!    fault is an [`ExportFault`]: a [`Queued`] keeps what was refused and tries it again before the next, so that the
+//!    window of a delta reader is not lost, and a [`ReopeningExporter`] opens its sink anew; other threads read the
+//!    [`QueueCounts`] of a [`ToldQueue`]. An [`OpenPeriodic`] leaves its exporter open at its [`OpenEnd`], and goes on
+//!    in the next run; in it, and by [`collect_each`], a [`RefusedInstrument`] of a [`Collection`] hides no other.
+//!    [`export_each`] hands a list on and tells what was [`Handed`], [`has_points`] what need not be. An exporter of
+//!    one's own refuses a batch of another plan by [`own_plan`], and takes one apart: it has the [`StreamPoints`] of
+//!    each [`Stream`], a [`Point`] the [`PointValue`] of one series, whose [`attributes`] the plan knows. By hand: a
+//!    [`Collector`] collects the [`Batch`] of one instrument or of all, up to an [`AllFault`], and [`write_batch`]
+//!    writes its text, [`write_encoded`] its bytes. For Prometheus an [`Exposition`] has the lines of a page in a
+//!    [`Dialect`], and a [`PageExporter`] hands the whole page to [`Pages`] after each collection, as to a file that
+//!    node_exporter reads; two attributes of a resource of one label are a [`TargetFault`]. Before anything is
+//!    recorded, [`expose`] tells whether a server would hold each sample of a reader's pages, and [`expose_to_otlp`]
+//!    whether each boundary leaves as it is, or the first [`ExposureFault`].
 //! 6. **End.** [`shutdown_all`] lets readers collect a last time, exports what they give, flushes, and finishes the
 //!    provider; an [`EndFault`] has each cause, and hands back what is left, with the plan to export it by.
 //!    `Provider::finish` alone gives the [`Totals`], a [`Total`] for each instrument, exactly what the recorders were
 //!    told, or a [`FinishFault`]; `Provider::finish_keeping` also the plan, and `Provider::finish_partly` ends where a
-//!    recorder's seat was lost, with what is [`Partly`] known. Calls that hand things back have them in a tuple with the
-//!    fault: `?` makes a [`ServiceFault`] of each.
+//!    recorder's seat was lost, with what is [`Partly`] known. Calls that hand things back have them in a tuple with
+//!    the fault: `?` makes a [`ServiceFault`] of each.
 //! 7. **A long life.** Budgets end: [`headrooms`] tells how often each instrument may be recorded, its [`Headroom`]. So
-//!    `Provider::roll_over` ends a run and starts the next one of the same plan, with new seats and full budgets, or hands
-//!    all back with a [`RollFault`]; [`roll_over_all`] does so with the readers and their exporter, up to a [`RollLeft`].
-//!    For what no recorder's budget foresees an instrument may have a spare: while the run goes on, `Provider::grant`
-//!    gives some of it to any recorder, and by `Recorder::ask` a recorder whose budget is spent ([`Refusal::Budget`]) asks
-//!    for some itself, until nothing is left ([`Refusal::NoSpare`]). `Recorder::room` tells what a recorder has left with its
-//!    grants, `Provider::spare_left` what is left of a spare, and `has_room` of an `At` whether there is room for each [`Need`]
-//!    of a job that makes several recordings, so that it is begun only where it can be made whole. The certificate vouches for
-//!    the budgets and the spare together.
+//!    `Provider::roll_over` ends a run and starts the next one of the same plan, with new seats and full budgets, or
+//!    hands all back with a [`RollFault`]; [`roll_over_all`] does so with the readers and their exporter, up to a
+//!    [`RollLeft`]. For what no recorder's budget foresees an instrument may have a spare: while the run goes on,
+//!    `Provider::grant` gives some of it to any recorder, and by `Recorder::ask` a recorder whose budget is spent
+//!    ([`Refusal::Budget`]) asks for some itself, until nothing is left ([`Refusal::NoSpare`]). `Recorder::room` tells
+//!    what a recorder has left with its grants, `Provider::spare_left` what is left of a spare, and `has_room` of an
+//!    `At` whether there is room for each [`Need`] of a job that makes several recordings, so that it is begun only
+//!    where it can be made whole. The certificate vouches for the budgets and the spare together.
 //! 8. **Files that are wrong.** [`lint`] gives a [`Remark`] on each thing in the files that looks like a mistake;
-//!    [`locate_in_catalogue`] and [`locate_in_config`] give the [`Position`] of a fault, and a [`MakeFault`] has the streams or
-//!    the instrument for which there is no certificate. For people a [`Diagnosis`] says in one line where a fault is and why, with
-//!    an [`Excerpt`] of the text: [`diagnose_catalogue`] and [`diagnose_config`] of a [`NamedText`], [`diagnose_make`] and
-//!    [`diagnose_remark`] of a [`Pair`] of them, [`diagnose_certificate`] and [`diagnose_check`] of a certificate.
+//!    [`locate_in_catalogue`] and [`locate_in_config`] give the [`Position`] of a fault, and a [`MakeFault`] has the
+//!    streams or the instrument for which there is no certificate. For people a [`Diagnosis`] says in one line where a
+//!    fault is and why, with an [`Excerpt`] of the text: [`diagnose_catalogue`] and [`diagnose_config`] of a
+//!    [`NamedText`], [`diagnose_make`] and [`diagnose_remark`] of a [`Pair`] of them, [`diagnose_certificate`] and
+//!    [`diagnose_check`] of a certificate.
 //! 9. **By steps.** What `open` does: [`Catalogue::read`] and [`Config::read`], each up to its first fault, a
 //!    [`CatalogueFault`] or a [`ViewFault`] with its place; [`make`] gives a [`Certificate`], or a [`MakeFault`];
-//!    `Certificate::write` and `Certificate::read` take it from one machine to another; [`check`] trusts nobody and gives the
-//!    certified [`Plan`], or a [`CheckFault`]; [`start`] makes the [`Provider`] of a plan. [`certified_plan`] and
-//!    [`vouched_plan`] give the plan of texts. What all of it comes to is one law, [`certified_runs_are_exact`]. Wherever a value has a [`Text`] or an [`Items`], it is a `String` or a `Vec` that
-//!    contracts see as a text or a list: read it by `as_str` and `as_slice`.
+//!    `Certificate::write` and `Certificate::read` take it from one machine to another; [`check`] trusts nobody and
+//!    gives the certified [`Plan`], or a [`CheckFault`]; [`start`] makes the [`Provider`] of a plan. [`certified_plan`]
+//!    and [`vouched_plan`] give the plan of texts. What all of it comes to is one law, [`certified_runs_are_exact`].
+//!    Wherever a value has a [`Text`] or an [`Items`], it is a `String` or a `Vec` that contracts see as a text or a
+//!    list: read it by `as_str` and `as_slice`.
 //! 10. **Other books.** A provider is generic over the book that keeps the recordings of an instrument, and over a
 //!    [`Gate`], by which a test holds threads inside a lock. Services take [`Marked`] and [`NoGate`];
-//!    [`batches_are_bounded`] says of each batch, over every book, what [`tables_are_bounded`] says of running tables. A
+//!    [`batches_are_bounded`] says of each batch, over every book, what [`tables_are_bounded`] says of running tables.
+//! A
 //!    service that has to prove its numbers to somebody, for billing or after an incident, starts with [`Audited`]:
 //!    beside the tables it keeps each recording, 32 bytes in the list of its instrument and 24 in the seat of its
 //!    recorder, so it takes memory as long as a run lasts, and some time more for each of them. Its totals have the

@@ -14,14 +14,15 @@ use metric_setup::{SetupFault, certified_plan, vouched_plan};
 use std::alloc::Global;
 use std::sync::Wait;
 
-/// A provider of a catalogue and a config that are given as TOML, with a seat for each recorder and each reader, in the order of
-/// the two: both texts are read, a certificate is made and checked, and the provider starts at a time in nanoseconds (as
-/// [`now`](crate::now) gives it), as the next run of a process. By its number seats tell their provider from all others, so
-/// all providers of a process are opened with one [`Runs`].
+/// A provider of a catalogue and a config that are given as TOML, with a seat for each recorder and each reader, in the
+/// order of the two: both texts are read, a certificate is made and checked, and the provider starts at a time in
+/// nanoseconds (as [`now`](crate::now) gives it), as the next run of a process. By its number seats tell their provider
+/// from all others, so all providers of a process are opened with one [`Runs`].
 ///
 /// # Errors
 ///
-/// Those of [`certified_plan`]; [`SetupFault::Memory`] also where there is no memory for the provider. No number is given then.
+/// Those of [`certified_plan`]; [`SetupFault::Memory`] also where there is no memory for the provider. No number is
+/// given then.
 pub fn open<R: Wait>(
     rt: &R,
     alloc: Global,

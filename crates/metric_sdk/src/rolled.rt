@@ -32,8 +32,8 @@ pub struct Unrolled<B: Book, G: Gate> {
 /// What is left of a roll-over that was refused something, with each cause.
 #[derive(Drop)]
 pub struct RollLeft<B: Book, G: Gate> {
-    /// The next run, or the provider and the seats of its recorders. Either has the plan, by which what was not exported can be
-    /// exported.
+    /// The next run, or the provider and the seats of its recorders. Either has the plan, by which what was not
+    /// exported can be exported.
     pub rolled: Result<Rolled<B, G>, Unrolled<B, G>>,
     /// How each reader ended, in order. Their seats go on where the provider does.
     pub readers: Vec<ReaderEnd>,
@@ -46,8 +46,8 @@ pub struct RollLeft<B: Book, G: Gate> {
 }
 
 impl<B: Book, G: Gate> RollLeft<B, G> {
-    /// The next run, where the provider rolled over and nothing is handed back: the exporter keeps all that it did not send, so
-    /// the service goes on. Else this again.
+    /// The next run, where the provider rolled over and nothing is handed back: the exporter keeps all that it did not
+    /// send, so the service goes on. Else this again.
     pub fn into_next(self) -> Result<Rolled<B, G>, RollLeft<B, G>>
         ensures next { IfOk result (λ next. (self.rolled ≡ Ok next)
             × (list_all is_exported self.readers.items ≡ true)) }

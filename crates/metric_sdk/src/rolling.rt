@@ -14,20 +14,20 @@ use metric_provider::{Collector, Gate, Provider, Recorder, Rolled};
 use std::alloc::Global;
 use std::sync::Wait;
 
-/// Ends a run of a service and begins the next one: each reader that is given collects a last time at a moment, its batches are
-/// handed on to an exporter, which then tries once more what it keeps and is flushed, as [`shutdown_all`](crate::shutdown_all)
-/// says. Then the provider rolls over, and the next run starts at that moment with new seats of all recorders and readers. The
-/// exporter stays open, and what it keeps stays with it.
+/// Ends a run of a service and begins the next one: each reader that is given collects a last time at a moment, its
+/// batches are handed on to an exporter, which then tries once more what it keeps and is flushed, as
+/// [`shutdown_all`](crate::shutdown_all) says. Then the provider rolls over, and the next run starts at that moment
+/// with new seats of all recorders and readers. The exporter stays open, and what it keeps stays with it.
 ///
-/// A reader that has collected already, as an [`OpenPeriodic`](crate::OpenPeriodic) does at its end, is not given again; a seat
-/// that it hands back is.
+/// A reader that has collected already, as an [`OpenPeriodic`](crate::OpenPeriodic) does at its end, is not given
+/// again; a seat that it hands back is.
 ///
 /// # Errors
 ///
-/// A [`RollLeft`] has each cause, and hands back what is left. Batches that nobody took and nobody keeps do not keep the run from
-/// ending: they can be exported later, by the plan of the provider. Where the last collection of a reader was refused an
-/// instrument, or the provider does not roll over, the run goes on: provider and all seats are handed back, those of readers
-/// with their last batches seen, so that no recording is lost and none is collected twice.
+/// A [`RollLeft`] has each cause, and hands back what is left. Batches that nobody took and nobody keeps do not keep
+/// the run from ending: they can be exported later, by the plan of the provider. Where the last collection of a reader
+/// was refused an instrument, or the provider does not roll over, the run goes on: provider and all seats are handed
+/// back, those of readers with their last batches seen, so that no recording is lost and none is collected twice.
 pub fn roll_over_all<R: Wait, B: Book, G: Gate, E: MetricExporter>(
     rt: &R,
     alloc: Global,

@@ -7,8 +7,8 @@ use std::io;
 use std::marker::Model;
 use std::time::{Clock, SystemTime, UNIX_EPOCH};
 
-/// The system's clock in nanoseconds since 1970, as a [`ClockTicker`](crate::ClockTicker) gives it: 2^64 - 1 where there are more,
-/// after the year 2554. Of the clock nothing is proved.
+/// The system's clock in nanoseconds since 1970, as a [`ClockTicker`](crate::ClockTicker) gives it: 2^64 - 1 where
+/// there are more, after the year 2554. Of the clock nothing is proved.
 ///
 /// # Errors
 ///
@@ -27,10 +27,11 @@ fn nanoseconds_at(time: SystemTime) -> u64
     }
 }
 
-/// Numbers for runs. Seats of two providers with one number are told apart by nothing, so a process makes one `Runs`, with which
-/// [`open`](crate::open) opens each provider, and takes the number of each roll-over from it: 1, 2, 3 and so on. That they rise by
-/// one is proved; that a process has but one `Runs` is up to the process. 2^64 - 1 is given again after it was given; no process
-/// gets there, and [`Provider::roll_over`](crate::Provider::roll_over) refuses the number of the run that is going.
+/// Numbers for runs. Seats of two providers with one number are told apart by nothing, so a process makes one `Runs`,
+/// with which [`open`](crate::open) opens each provider, and takes the number of each roll-over from it: 1, 2, 3 and so
+/// on. That they rise by one is proved; that a process has but one `Runs` is up to the process. 2^64 - 1 is given again
+/// after it was given; no process gets there, and [`Provider::roll_over`](crate::Provider::roll_over) refuses the
+/// number of the run that is going.
 ///
 /// Contracts see the number that was given last, 0 before the first.
 #[derive(Debug, Drop)]

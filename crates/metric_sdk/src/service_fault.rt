@@ -12,8 +12,8 @@ use metric_views::Config;
 use std::alloc::AllocError;
 use thiserror::Error;
 
-/// Why a call of a service failed. `?` makes it of every fault of a call that hands things back beside its fault, and of the plain
-/// faults; what was handed back is let go, so where it is to be kept, look into the error first.
+/// Why a call of a service failed. `?` makes it of every fault of a call that hands things back beside its fault, and
+/// of the plain faults; what was handed back is let go, so where it is to be kept, look into the error first.
 #[derive(Clone, Copy, Debug, PartialEq, Eq, Drop, Error)]
 pub enum ServiceFault {
     /// Two texts, or three, come to no certified plan.

@@ -9,8 +9,8 @@ use metric_contents::{Attr, Refusal, SetKey};
 use metric_facts::{Facts, is_full_set};
 use metric_plan::Plan;
 
-/// The set key of a recording that the plan declares, or the first refusal: `UnknownInstrument`, those of the attributes in
-/// their order, the last of them `Combination`, and `ValueRange`.
+/// The set key of a recording that the plan declares, or the first refusal: `UnknownInstrument`, those of the
+/// attributes in their order, the last of them `Combination`, and `ValueRange`.
 pub(crate) fn declared_set(
     plan: &Plan,
     instrument: u32,

@@ -18,11 +18,11 @@ use metric_history::Batch;
 use metric_slot::{Slot, Told};
 use std::alloc::Global;
 
-/// An instrument with a book of type `B`, on which recorders record. As a trait, so that a seat cannot but call it: what
-/// recordings came to is known by the call alone, and so are the recorder, the set keys and the values of them.
+/// An instrument with a book of type `B`, on which recorders record. As a trait, so that a seat cannot but call it:
+/// what recordings came to is known by the call alone, and so are the recorder, the set keys and the values of them.
 pub trait Held<B: Book> {
-    // What recordings in a row come to: the instrument before and after them, the facts and what the recorder was told, which
-    // are brought, the recorder's number, the recordings, and their answer.
+    // What recordings in a row come to: the instrument before and after them, the facts and what the recorder was told,
+    // which are brought, the recorder's number, the recordings, and their answer.
     ghost records: { Self → Self → declared_facts → tellings → ℕ → List measurements
         → Result (Unit {0}) faults → Type 0 };
 

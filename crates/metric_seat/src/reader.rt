@@ -12,8 +12,8 @@ use std::alloc::{AllocError, Global};
 use std::marker::Model;
 
 /// The seat of one reader in one run of a plan: with it a thread collects (Metrics SDK, collect). It keeps how many
-/// recordings of each instrument the reader's last batch counted, so that the windows of a delta reader leave no gap and
-/// no overlap.
+/// recordings of each instrument the reader's last batch counted, so that the windows of a delta reader leave no gap
+/// and no overlap.
 ///
 /// A call that takes a plan and a run takes those of the instrument that is collected.
 #[derive(Drop)]
@@ -32,8 +32,8 @@ impl Model for ReaderSeat {
 }
 
 impl ReaderSeat {
-    /// The seat of the reader of this number in the run of this number, which has seen nothing, for so many instruments.
-    /// Fails only where memory is refused.
+    /// The seat of the reader of this number in the run of this number, which has seen nothing, for so many
+    /// instruments. Fails only where memory is refused.
     pub fn new(
         alloc: Global,
         run: u64,
@@ -61,15 +61,15 @@ impl ReaderSeat {
         self.seen.get(instrument as usize).copied()
     }
 
-    /// What the reader is told of an instrument at a time in nanoseconds, in one call of what holds it: its points since its
-    /// last batch (delta) or since the start (cumulative) (Metrics SDK, collect). Where the reader's last batch has a later
-    /// time, this one has that too.
+    /// What the reader is told of an instrument at a time in nanoseconds, in one call of what holds it: its points
+    /// since its last batch (delta) or since the start (cumulative) (Metrics SDK, collect). Where the reader's last
+    /// batch has a later time, this one has that too.
     ///
     /// # Errors
     ///
-    /// `Stranger` where the run is of another number, the seat was made for another number of instruments, or the plan has
-    /// no reader of its number; `UnknownInstrument`. Then `Stranger` where what is found is not what the seat has seen, and
-    /// `Memory`.
+    /// `Stranger` where the run is of another number, the seat was made for another number of instruments, or the plan
+    /// has no reader of its number; `UnknownInstrument`. Then `Stranger` where what is found is not what the seat has
+    /// seen, and `Memory`.
     pub fn collect<H: Collected>(
         &mut self,
         held: &mut H,
@@ -99,7 +99,8 @@ impl ReaderSeat {
         held.collect(alloc, facts, seen, number, now)
     }
 
-    /// Whether the seat is of this run of the plan: of its number, made for as many instruments, and of one of its readers.
+    /// Whether the seat is of this run of the plan: of its number, made for as many instruments, and of one of its
+    /// readers.
     pub fn is_of(&self, plan: &Plan, run: u64) -> bool
         ensures { result ≡ is_collector_of (provider_of plan.now run) self.now }
     {

@@ -26,8 +26,8 @@ use std::marker::Model;
 // another seat may write, wherever the allocator puts the two; so they share no lines of cache.
 const ROOM_BEHIND: usize = 8;
 
-/// The seat of one recorder in one run of a plan: with it a thread records (Metrics API, synchronous instruments). It keeps
-/// what the recorder was told of its accepted recordings, and where the books keep their entries, a slip of each.
+/// The seat of one recorder in one run of a plan: with it a thread records (Metrics API, synchronous instruments). It
+/// keeps what the recorder was told of its accepted recordings, and where the books keep their entries, a slip of each.
 ///
 /// A call that takes a plan and a run takes those of the instrument that is recorded on.
 #[derive(Drop)]
@@ -85,9 +85,9 @@ impl RecorderSeat {
         self.number
     }
 
-    /// Makes recordings of one instrument by their set keys, in order and in one call of what holds it, up to the first that
-    /// is refused. The seat is told of exactly those before the refused one, and has slips of them where it keeps any. An empty
-    /// list is accepted of any seat. Takes no memory of its own but for slips.
+    /// Makes recordings of one instrument by their set keys, in order and in one call of what holds it, up to the first
+    /// that is refused. The seat is told of exactly those before the refused one, and has slips of them where it keeps
+    /// any. An empty list is accepted of any seat. Takes no memory of its own but for slips.
     ///
     /// # Errors
     ///
@@ -155,12 +155,13 @@ impl RecorderSeat {
     }
 
     /// Makes recordings that the seat may make on what holds their instrument, in one call of it, and tells the seat of
-    /// them, up to the first that is refused. Where the book keeps its entries, the seat has a slip of each that was made.
+    /// them, up to the first that is refused. Where the book keeps its entries, the seat has a slip of each that was
+    /// made.
     ///
     /// # Errors
     ///
-    /// The first refusal, with its place: where the book keeps its entries, `Stranger` where the seat was made to keep no
-    /// slips, and `Memory` where there is none for the slips; then those of what holds the instrument.
+    /// The first refusal, with its place: where the book keeps its entries, `Stranger` where the seat was made to keep
+    /// no slips, and `Memory` where there is none for the slips; then those of what holds the instrument.
     #[inline(always)]
     pub fn record_each<B: Book, H: Held<B>>(
         &mut self,
@@ -191,7 +192,8 @@ impl RecorderSeat {
         self.record_noted(held, plan, run, instrument, all)
     }
 
-    // The same where slips are kept: each has its slip before the instrument is touched, and those not told of lose theirs.
+    // The same where slips are kept: each has its slip before the instrument is touched, and those not told of lose
+    // theirs.
     fn record_noted<B: Book, H: Held<B>>(
         &mut self,
         held: &mut H,
@@ -254,7 +256,8 @@ impl RecorderSeat {
         held.record_each(facts, so_far, by, all)
     }
 
-    /// Makes a recording that the seat may make on the slot of its instrument, and tells the seat of it, without a slip.
+    /// Makes a recording that the seat may make on the slot of its instrument, and tells the seat of it, without a
+    /// slip.
     ///
     /// # Errors
     ///
@@ -317,8 +320,8 @@ impl RecorderSeat {
         notes.strike_out(count);
     }
 
-    /// The slips of the recorder's accepted recordings on an instrument, in order; none where the seat keeps none, and none
-    /// for an unknown instrument.
+    /// The slips of the recorder's accepted recordings on an instrument, in order; none where the seat keeps none, and
+    /// none for an unknown instrument.
     pub fn slips(&self, instrument: u32) -> &[Slip]
         ensures { result.now ≡ slips_at self.now instrument }
     {
@@ -349,7 +352,8 @@ impl RecorderSeat {
             .unwrap_or(nothing)
     }
 
-    /// Whether the seat is of this run of the plan: of its number, made for as many instruments, and of one of its recorders.
+    /// Whether the seat is of this run of the plan: of its number, made for as many instruments, and of one of its
+    /// recorders.
     pub fn is_of(&self, plan: &Plan, run: u64) -> bool
         ensures { result ≡ is_recorder_of (provider_of plan.now run) self.now }
     {
@@ -358,8 +362,9 @@ impl RecorderSeat {
             && self.told.len() == plan.all_facts().len()
     }
 
-    /// The set key of attributes for the instrument of this number, or the first refusal of `UnknownInstrument` and those of
-    /// the attributes in their order. Who records one set of attributes often finds its key once. Takes no memory.
+    /// The set key of attributes for the instrument of this number, or the first refusal of `UnknownInstrument` and
+    /// those of the attributes in their order. Who records one set of attributes often finds its key once. Takes no
+    /// memory.
     pub fn prepare(
         &self,
         plan: &Plan,
@@ -373,9 +378,10 @@ impl RecorderSeat {
     }
 
     /// The set key of a recording of this value on the instrument of this number that the seat may make, or the first
-    /// refusal: `Stranger` where the run is of another number, the seat was made for another number of instruments, or the
-    /// plan has no recorder of its number; `UnknownInstrument`, those of the attributes in their order, the last of them
-    /// `Combination` where they are none of the instrument's allowed combinations, and `ValueRange`. Takes no memory.
+    /// refusal: `Stranger` where the run is of another number, the seat was made for another number of instruments, or
+    /// the plan has no recorder of its number; `UnknownInstrument`, those of the attributes in their order, the last of
+    /// them `Combination` where they are none of the instrument's allowed combinations, and `ValueRange`. Takes no
+    /// memory.
     pub fn admit(
         &self,
         plan: &Plan,
@@ -401,9 +407,9 @@ impl RecorderSeat {
         declared_set(plan, instrument, attrs, value)
     }
 
-    /// The same of a set key that a caller brings back: `Stranger` and `UnknownInstrument` as of [`RecorderSeat::admit`],
-    /// `UnknownValue` where the set key is not one of the instrument's, `Combination` where it is none of its allowed
-    /// combinations, and `ValueRange`.
+    /// The same of a set key that a caller brings back: `Stranger` and `UnknownInstrument` as of
+    /// [`RecorderSeat::admit`], `UnknownValue` where the set key is not one of the instrument's, `Combination` where it
+    /// is none of its allowed combinations, and `ValueRange`.
     pub fn admit_key(
         &self,
         plan: &Plan,
@@ -426,8 +432,8 @@ impl RecorderSeat {
         declared_key(plan, instrument, set, value)
     }
 
-    /// Whether the seat may make each of these recordings, or the first refusal of [`RecorderSeat::admit_key`], with its
-    /// place. An empty list is accepted of any seat.
+    /// Whether the seat may make each of these recordings, or the first refusal of [`RecorderSeat::admit_key`], with
+    /// its place. An empty list is accepted of any seat.
     pub fn admit_each(
         &self,
         plan: &Plan,

@@ -68,8 +68,8 @@ pub fn total_of_all<B: Book, S: Tells>(
 }
 
 /// What the seats of some recorders were told of an instrument that has as many recordings of each as it was told of,
-/// where that has 64 bits and its sum 128. Of the other recorders nothing is known, so that nothing is compared with the
-/// instrument's count and sum.
+/// where that has 64 bits and its sum 128. Of the other recorders nothing is known, so that nothing is compared with
+/// the instrument's count and sum.
 pub fn total_of_some<B: Book, S: Tells>(
     cell: &Cell<B>,
     seats: &[S],

@@ -1,7 +1,8 @@
-//! A service to copy from: workers record in threads of their own, while two readers export. What the one named `all` collects is
-//! added to a file of lines that the OpenTelemetry Collector reads; what is `new` is written as lines of JSON, by an exporter of the
-//! service's own (`json_lines`). It fails where the totals at its end are not what the workers counted.
-//! `metric_service CATALOGUE CONFIG FILE` starts only where the catalogue and the config are safe together.
+//! A service to copy from: workers record in threads of their own, while two readers export. What the one named `all`
+//! collects is added to a file of lines that the OpenTelemetry Collector reads; what is `new` is written as lines of
+//! JSON, by an exporter of the service's own (`json_lines`). It fails where the totals at its end are not what the
+//! workers counted. `metric_service CATALOGUE CONFIG FILE` starts only where the catalogue and the config are safe
+//! together.
 #![tactic(auto)]
 
 mod json;
@@ -23,7 +24,8 @@ use std::sync::Wait;
 use std::thread::{Threads, for_each_mut, join};
 use std::time::Clock;
 
-// Pretended requests: the route, the status, milliseconds and bytes. No route /admin is declared, and no status 500 for /cart.
+// Pretended requests: the route, the status, milliseconds and bytes. No route /admin is declared, and no status 500 for
+// /cart.
 const SERVED: [[(&str, i64, i64, i64); 2]; 4] = [
     [("/", 200, 3, 12_000), ("/", 404, 1, 90)],
     [("/cart", 200, 12, 4_500), ("/admin", 404, 1, 90)],
@@ -177,7 +179,8 @@ fn serve<R: Threads + Wait + Clock + Sync + AllocGlobal>(
     Ok((workers, failed))
 }
 
-// Exports every so many milliseconds, for 136 years or more, and a last time when the workers have ended. Tells what failed.
+// Exports every so many milliseconds, for 136 years or more, and a last time when the workers have ended. Tells what
+// failed.
 fn export_by<R: Wait + Clock + AllocGlobal, E: MetricExporter + Drop>(
     rt: &R,
     exporter: E,

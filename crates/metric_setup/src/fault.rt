@@ -7,9 +7,9 @@ use metric_views::ViewFault;
 use std::alloc::AllocError;
 use thiserror::Error;
 
-/// Why a catalogue and a config come to no certified plan: the first fault of the catalogue, then that of the config; then the
-/// first part of safety that fails, or, where somebody else has made the certificate, its first fault and then the first that its
-/// check finds; or want of memory.
+/// Why a catalogue and a config come to no certified plan: the first fault of the catalogue, then that of the config;
+/// then the first part of safety that fails, or, where somebody else has made the certificate, its first fault and then
+/// the first that its check finds; or want of memory.
 #[derive(Clone, Copy, Debug, PartialEq, Eq, Drop, Error)]
 pub enum SetupFault {
     /// The catalogue is none.

@@ -1,5 +1,5 @@
-//! From texts to plans: a catalogue, a config and a certificate are read, a certificate is made or checked, and the first
-//! fault is told. Services and commands both stand on it.
+//! From texts to plans: a catalogue, a config and a certificate are read, a certificate is made or checked, and the
+//! first fault is told. Services and commands both stand on it.
 #![tactic(auto)]
 
 mod fault;

@@ -35,8 +35,8 @@ pub fn plan_by(
 ///
 /// # Errors
 ///
-/// [`SetupFault::Check`] of [`CheckFault::CountRange`] where its budgets cannot be counted. [`SetupFault::Memory`] may stand in
-/// its place.
+/// [`SetupFault::Check`] of [`CheckFault::CountRange`] where its budgets cannot be counted. [`SetupFault::Memory`] may
+/// stand in its place.
 pub fn trial_of(alloc: Global, catalogue: Catalogue, config: Config) -> Result<Plan, SetupFault>
     ensures { Tries result catalogue config }
 {

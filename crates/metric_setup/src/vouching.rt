@@ -8,15 +8,15 @@ use crate::reading::{catalogue_of, certificate_of, config_of};
 use metric_plan::Plan;
 use std::alloc::Global;
 
-/// The plan of a catalogue and a config that are given as TOML, with a certificate that somebody else made, whom nobody trusts:
-/// all three are read, and the certificate is checked. Where the plan comes, no limit and no number can overflow, whatever is
-/// recorded within the budgets.
+/// The plan of a catalogue and a config that are given as TOML, with a certificate that somebody else made, whom nobody
+/// trusts: all three are read, and the certificate is checked. Where the plan comes, no limit and no number can
+/// overflow, whatever is recorded within the budgets.
 ///
 /// # Errors
 ///
 /// The first fault, in this order: [`SetupFault::Catalogue`]; [`SetupFault::Config`]; [`SetupFault::Certificate`];
-/// [`SetupFault::Check`] where the certificate does not show that the two are safe. [`SetupFault::Memory`] may stand in the place
-/// of any.
+/// [`SetupFault::Check`] where the certificate does not show that the two are safe. [`SetupFault::Memory`] may stand in
+/// the place of any.
 pub fn vouched_plan(
     alloc: Global,
     catalogue_text: &str,

@@ -50,7 +50,8 @@ fn widen(alloc: Global, widths: &mut [usize], row: &[Cell]) -> Result<(), AllocE
     Ok(())
 }
 
-// The widest that a column may be, so that all columns are together not wider than `most`; the least width, where none does.
+// The widest that a column may be, so that all columns are together not wider than `most`; the least width, where none
+// does.
 fn cap_of(widths: &[usize], most: usize) -> usize {
     for less in 0..MOST - LEAST {
         let cap = MOST - less;

@@ -8,7 +8,8 @@ use crate::sheet::Sheet;
 use metric_io::{Sink, write_all};
 use std::alloc::{AllocError, Global};
 
-/// Writes a line for each row: an object of JSON, whose fields have the names of the titles. A cell with nothing is `null`.
+/// Writes a line for each row: an object of JSON, whose fields have the names of the titles. A cell with nothing is
+/// `null`.
 ///
 /// # Errors
 ///

@@ -9,8 +9,8 @@ use crate::sheet::Sheet;
 use metric_io::{Sink, write_all};
 use std::alloc::{AllocError, Global};
 
-/// Writes a table: a line of titles, and a line for each row. Columns are as wide as what stands in them, or cut so that a
-/// line has at most `most` letters, where that can be; with 0 nothing is cut. What is cut ends in `…`.
+/// Writes a table: a line of titles, and a line for each row. Columns are as wide as what stands in them, or cut so
+/// that a line has at most `most` letters, where that can be; with 0 nothing is cut. What is cut ends in `…`.
 ///
 /// # Errors
 ///

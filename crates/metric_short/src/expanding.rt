@@ -29,9 +29,10 @@ const MOST_RECORDERS: u32 = 64;
 ///
 /// # Errors
 ///
-/// The first fault of the walk: the top table; each declared key; each meter and each of its instruments; each recorder. In a
-/// table first a field that has no place there, then the fields in the order of the format. A text without a fault may still
-/// be no catalogue: what the formats have alike is as it stands, and the reader of format 2 has its faults.
+/// The first fault of the walk: the top table; each declared key; each meter and each of its instruments; each
+/// recorder. In a table first a field that has no place there, then the fields in the order of the format. A text
+/// without a fault may still be no catalogue: what the formats have alike is as it stands, and the reader of format 2
+/// has its faults.
 pub fn expand(alloc: Global, text: &str) -> Result<String, ShortFault>
     ensures ok { IfOk result (λ printed. IsExpansion text.now (string_bytes printed)) }
     ensures first { IfErr result (λ fault. fault ≢ ShortFault.Memory

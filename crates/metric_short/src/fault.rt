@@ -7,8 +7,8 @@ use std::alloc::AllocError;
 use std::fmt;
 use thiserror::Error;
 
-/// The table that has a fault, of the tables of its kind in the order of the file, from 0. Instruments are numbered through
-/// all meters.
+/// The table that has a fault, of the tables of its kind in the order of the file, from 0. Instruments are numbered
+/// through all meters.
 #[derive(Clone, Copy, Debug, PartialEq, Eq, Drop)]
 pub enum ShortPlace {
     /// The top table.

@@ -40,8 +40,8 @@ pub struct Full {
     pub is_expanded: bool,
 }
 
-/// The catalogue that every reader knows: what a text of format 3 means, and each other text itself. So what is made of a short
-/// catalogue is what is made of its expansion.
+/// The catalogue that every reader knows: what a text of format 3 means, and each other text itself. So what is made of
+/// a short catalogue is what is made of its expansion.
 ///
 /// # Errors
 ///

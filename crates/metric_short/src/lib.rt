@@ -1,8 +1,8 @@
-//! Catalogues of format 3, which are shorter to write: keys are declared once and named by instruments, one table stands for
-//! several recorders, and budgets go by the names of instruments, with a default.
+//! Catalogues of format 3, which are shorter to write: keys are declared once and named by instruments, one table
+//! stands for several recorders, and budgets go by the names of instruments, with a default.
 //!
-//! [`expand`] gives the catalogue of format 2 that such a text means. `specs/Meaning.antt` says what it means, as a table
-//! of TOML, and `specs/Expansions.antt` what is refused, in which order.
+//! [`expand`] gives the catalogue of format 2 that such a text means. `specs/Meaning.antt` says what it means, as a
+//! table of TOML, and `specs/Expansions.antt` what is refused, in which order.
 #![tactic(auto)]
 
 mod expanding;

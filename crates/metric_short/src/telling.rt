@@ -4,7 +4,8 @@ use crate::near::nearest;
 use std::alloc::{AllocError, Global};
 use toml::{Table, Value};
 
-/// A fault of a text in words, without the name of the file: `recorder 0 "worker": budget "jobs": no instrument has this name`.
+/// A fault of a text in words, without the name of the file: `recorder 0 "worker": budget "jobs": no instrument has
+/// this name`.
 pub fn told(alloc: Global, text: &str, fault: ShortFault) -> Result<String, AllocError> {
     match fault {
         ShortFault::NotToml => String::from_str(alloc, "not valid TOML"),

@@ -1,5 +1,6 @@
-//! A job to copy from: what a nightly backup has done is written as a page that the textfile collector of node_exporter reads, and
-//! Prometheus scrapes with it. `metric_textfile FILE` replaces FILE, whose name has to end with `.prom`, and prints what it holds.
+//! A job to copy from: what a nightly backup has done is written as a page that the textfile collector of node_exporter
+//! reads, and Prometheus scrapes with it. `metric_textfile FILE` replaces FILE, whose name has to end with `.prom`, and
+//! prints what it holds.
 #![tactic(auto)]
 
 use anyhow::{Context, Result, bail};
@@ -49,7 +50,8 @@ const FILES: [(&str, i64); 4] = [
     ("copied", 5_000_000),
 ];
 
-// A file that is replaced as a whole: a page is written beside it and moved there, so that who reads never sees a part of one.
+// A file that is replaced as a whole: a page is written beside it and moved there, so that who reads never sees a part
+// of one.
 #[derive(Drop)]
 struct TextFile<'a> {
     rt: &'a HostRuntime,

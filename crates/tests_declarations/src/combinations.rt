@@ -69,8 +69,8 @@ fn told_with<R: Abort>(rt: &R, alloc: Global, format: &str, fields: &str, more: 
 
 const ONE_MORE: &str = "[[meter.instrument.key]]\nname = 'a'\nvalues = [1]";
 
-// The format, the name and the rows of an instrument, more keys, and the rows that are read or the first fault; some have a
-// later one too.
+// The format, the name and the rows of an instrument, more keys, and the rows that are read or the first fault; some
+// have a later one too.
 const TOLD: &[(&str, &str, &str, &str)] = &[
     ("2", "name = 'c'", "", "- - "),
     ("2", "name = 'c'\nallowed = []", "", "- [] "),

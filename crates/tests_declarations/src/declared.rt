@@ -12,8 +12,8 @@ pub(crate) struct Declared {
     pub(crate) config: Config,
 }
 
-/// The catalogue and the config that two texts are. Promises nothing of either, so that no test is proved by the parts of
-/// their texts.
+/// The catalogue and the config that two texts are. Promises nothing of either, so that no test is proved by the parts
+/// of their texts.
 pub(crate) fn read_both<R: Abort>(
     rt: &R,
     alloc: Global,

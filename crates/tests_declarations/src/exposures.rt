@@ -13,8 +13,8 @@ const READER: &str = "format = 1\n[[reader]]\nname = 'r'\n";
 
 const DELTA: &str = "format = 1\n[[reader]]\nname = 'r'\ntemporality = { counter = 'delta' }\n";
 
-// The meters of a catalogue, a config, and what is told of the reader 0: the names under which its streams are seen, and
-// the faults for pages. A model in another language found them, of which two servers took the pages.
+// The meters of a catalogue, a config, and what is told of the reader 0: the names under which its streams are seen,
+// and the faults for pages. A model in another language found them, of which two servers took the pages.
 const CASES: &[(&str, &str, &str)] = &[
     // delta
     (
@@ -200,8 +200,8 @@ instrument_name = 'c'
 stream_name = 'h.sum'
 ";
 
-// Several faults of a stream, in their order; a stream that collides with a later one's sample; the first of several that
-// claim a name; keys that a view leaves out.
+// Several faults of a stream, in their order; a stream that collides with a later one's sample; the first of several
+// that claim a name; keys that a view leaves out.
 const ALL: &[(&str, &str, &str)] = &[
     (
         "meter = [{ name = 'm', instrument = [{ name = 'a.count', kind = 'gauge', range = [0, 9] }, { name = 'a', kind = 'histogram', range = [0, 9], boundaries = [-9007199254740993, 0], key = [{ name = 'é', values = [true, 'true'] }, { name = 'le', values = [1] }, { name = 'LE', values = ['', 'x'], optional = true }] }, { name = 'total', kind = 'counter', range = [0, 9] }] }]",

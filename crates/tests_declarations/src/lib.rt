@@ -1,8 +1,8 @@
-//! Tests of the crates of declarations and certificates: patterns, catalogues, configs, the streams that they give, their
-//! picture, and what certifies them.
+//! Tests of the crates of declarations and certificates: patterns, catalogues, configs, the streams that they give,
+//! their picture, and what certifies them.
 //!
-//! A module tests one crate through its public surface. It has what no clause says: examples from outside, printed texts,
-//! and that a call succeeds while memory is there.
+//! A module tests one crate through its public surface. It has what no clause says: examples from outside, printed
+//! texts, and that a call succeeds while memory is there.
 #![tactic(auto)]
 
 #[cfg(test)]

@@ -118,8 +118,8 @@ const PLACES: &str =
 219, 220, 221, 222, 223, 224, 225, 226, 227, 228, 229, 230, 231, 232, 233, 234, 235, 236, 237, 238, 239, 240, \
 241, 242, 243, 244, 245, 246, 247, 248, 249, 250, 251, 252, 253, 254]";
 
-// The last character of the pattern, and what is repeated in the reason: each star takes as little as it can, and the last
-// takes the rest; and all places of the stars are reached before each letter, but never the end.
+// The last character of the pattern, and what is repeated in the reason: each star takes as little as it can, and the
+// last takes the rest; and all places of the stars are reached before each letter, but never the end.
 const STARS: &[(&str, &str, &str, usize, &str)] = &[
     ("*", "true true takes [", "0, ", 254, "255]"),
     ("b", "false true rows", PLACES, 256, ""),

@@ -203,7 +203,8 @@ fn told_of<R: Abort>(rt: &R, alloc: Global, text: &str) -> String {
     }
 }
 
-// What takes the place of which piece of the short text, and what is told then. Where a neighbour is accepted, it stands next.
+// What takes the place of which piece of the short text, and what is told then. Where a neighbour is accepted, it
+// stands next.
 const REFUSED: &[(&str, &str, &str)] = &[
     (
         "format = 3",

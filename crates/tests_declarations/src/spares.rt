@@ -35,7 +35,8 @@ fn told<R: Abort>(rt: &R, alloc: Global, format: &str, fields: &str) -> String {
     }
 }
 
-// The format, more fields of the second instrument, and the spares that are read or the first fault; some have a later one too.
+// The format, more fields of the second instrument, and the spares that are read or the first fault; some have a later
+// one too.
 const TOLD: &[(&str, &str, &str)] = &[
     ("2", "name = 'c'", "[0, 0, 0]"),
     ("2", "name = 'c'\nspare = 0", "[0, 0, 0]"),

@@ -60,8 +60,8 @@ fn what_nobody_keeps_is_handed_back(rt: HostRuntime) {
 
 const TICKS: &[Tick] = &[Tick::At(10), Tick::At(20), Tick::Stop(30, StopCause::Flag)];
 
-// A recording, runs of one reader over two runs of the provider, and one queue: what is exported are the two recordings, each
-// once, and no batch without points.
+// A recording, runs of one reader over two runs of the provider, and one queue: what is exported are the two
+// recordings, each once, and no batch without points.
 #[test]
 fn a_reader_outlives_its_run(rt: HostRuntime) {
     let alloc = rt.alloc();

@@ -34,8 +34,8 @@ temporality = { counter = 'delta' }
 
 const TICKS: &[Tick] = &[Tick::At(10), Tick::At(20), Tick::Stop(30, StopCause::Flag)];
 
-// An exporter whose calls of these numbers, counted from 1, fail. It keeps the time of each batch that it takes, with how many
-// points the first stream has.
+// An exporter whose calls of these numbers, counted from 1, fail. It keeps the time of each batch that it takes, with
+// how many points the first stream has.
 #[derive(Drop)]
 pub(crate) struct Failing {
     pub(crate) taken: Vec<(u64, usize)>,
@@ -125,10 +125,10 @@ fn end_of<R: Abort + Wait, E: MetricExporter + Drop>(
     Periodic::new(exporter, 9).run(rt, alloc, &provider, collector, &mut ticker)
 }
 
-// How many batches a queue keeps at most, and which calls of the exporter below it fail. Then the batches that this one took;
-// how many exports of the queue went out at once, were refused and were kept; and how many batches went out, are kept, were
-// dropped, and were refused and not kept. After a try that failed the next export is let pass, and the reader's end tries at
-// once.
+// How many batches a queue keeps at most, and which calls of the exporter below it fail. Then the batches that this one
+// took; how many exports of the queue went out at once, were refused and were kept; and how many batches went out, are
+// kept, were dropped, and were refused and not kept. After a try that failed the next export is let pass, and the
+// reader's end tries at once.
 struct Case {
     most: usize,
     fails_at: &'static [u64],
@@ -233,8 +233,8 @@ fn a_queue_tries_again_in_order(rt: HostRuntime) {
     }
 }
 
-// Which of ten exports in a row make calls of an exporter below that takes nothing: the first, and then one after each pause of
-// 1 and 3 exports; the next pause is of 7.
+// Which of ten exports in a row make calls of an exporter below that takes nothing: the first, and then one after each
+// pause of 1 and 3 exports; the next pause is of 7.
 const CALLED: &[u64] = &[1, 1, 2, 2, 2, 2, 3, 3, 3, 3];
 
 #[test]
@@ -379,8 +379,8 @@ collected 20 0
 collected 30 0
 ";
 
-// The rooms of the sinks, how many exports of a queue went out at once, were refused and were kept, and what the last sink
-// holds.
+// The rooms of the sinks, how many exports of a queue went out at once, were refused and were kept, and what the last
+// sink holds.
 const REOPENED: &[(&[usize], (u64, u64, u64), &str)] = &[
     (&[1_000], (3, 0, 0), ALL),
     (&[20, 1_000], (1, 0, 2), ALL),

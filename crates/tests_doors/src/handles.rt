@@ -419,7 +419,8 @@ fn handles_record_what_they_say(rt: HostRuntime) {
     assert_equal(&rt, out.as_str(), SOLD);
 }
 
-// Values of a key and of the range, beside what is declared; a key that the instrument does not declare is no value to replace.
+// Values of a key and of the range, beside what is declared; a key that the instrument does not declare is no value to
+// replace.
 #[test]
 fn what_is_not_declared_is_replaced_and_counted(rt: HostRuntime) {
     let plan = certified_plan(rt.alloc(), SHOP, READERS).or_fail(&rt);

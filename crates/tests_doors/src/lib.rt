@@ -1,7 +1,7 @@
 //! Tests of the doors of a service: instruments and seats by name, exports that fail, and a life of many runs.
 //!
-//! A module has what no clause says: that a call succeeds while memory is there, what it prints, and what stands behind a
-//! lock. Most tests are one loop over a table.
+//! A module has what no clause says: that a call succeeds while memory is there, what it prints, and what stands behind
+//! a lock. Most tests are one loop over a table.
 #![tactic(auto)]
 
 #[cfg(test)]

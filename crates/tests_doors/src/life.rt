@@ -323,8 +323,8 @@ fn a_service_goes_over_into_its_next_run(rt: HostRuntime) {
     assert_equal(&rt, told.as_str(), ROLLED);
 }
 
-// How many of the two recorders' seats are kept, how much room the sink of the exporter has, whose flushes fail, and what is
-// told.
+// How many of the two recorders' seats are kept, how much room the sink of the exporter has, whose flushes fail, and
+// what is told.
 struct End {
     kept: usize,
     room: Option<usize>,

@@ -9,8 +9,9 @@ use std::alloc::Global;
 use std::process::Abort;
 use std::sync::Wait;
 
-// How many batches a queue keeps at most, which calls of the exporter below it fail, and the number of the next run, where the
-// first one has 1. Then what is told, and what the exporter took in the end: each recording once, the first at 10, the second at 20.
+// How many batches a queue keeps at most, which calls of the exporter below it fail, and the number of the next run,
+// where the first one has 1. Then what is told, and what the exporter took in the end: each recording once, the first
+// at 10, the second at 20.
 struct Case {
     most: usize,
     fails_at: &'static [u64],

@@ -57,7 +57,8 @@ instrument_name = 'wait'
 aggregation = 'drop'
 ";
 
-// The number, the least and the greatest value, keys, budgets, whether readers are delta, the listed combinations, and streams.
+// The number, the least and the greatest value, keys, budgets, whether readers are delta, the listed combinations, and
+// streams.
 const SHOWN: &str = "\
 [0, 0, 9] [KeyFacts { values: 2, optional: false }, KeyFacts { values: 1, optional: true }] [7, 9, 0, 0] [false, true] [[2, 1, 0, 0, 0, 0, 0, 0], [1, 0, 0, 0, 0, 0, 0, 0]] 0 1 4 5
 [1, -9, 5] [] [0, 0, 0, 1] [true, true] 2 6

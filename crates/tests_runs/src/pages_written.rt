@@ -1,4 +1,5 @@
-//! Pages of whole runs, as a model of its own writes them. Servers held each sample of those of the input with every kind.
+//! Pages of whole runs, as a model of its own writes them. Servers held each sample of those of the input with every
+//! kind.
 
 /// The page of the input with every kind in the text format.
 pub(crate) const RICH_TEXT: &str = "# HELP target_info Target metadata

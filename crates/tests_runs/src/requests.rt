@@ -1,4 +1,5 @@
-//! Requests of the OpenTelemetry protocol: the batches of whole runs in bytes and as lines of JSON, and their resources.
+//! Requests of the OpenTelemetry protocol: the batches of whole runs in bytes and as lines of JSON, and their
+//! resources.
 use crate::asserted::{OrFail, assert_equal};
 use crate::inputs::{Parts, RUNS};
 use crate::requests_written::{RICH_WRITTEN, WRITTEN, Written};

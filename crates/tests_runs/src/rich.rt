@@ -1,4 +1,5 @@
-//! An input with each kind of instrument, texts that are escaped, and numbers at the ends of what doubles and 64 bits hold.
+//! An input with each kind of instrument, texts that are escaped, and numbers at the ends of what doubles and 64 bits
+//! hold.
 use crate::inputs::Parts;
 
 const CATALOGUE: &str = "%% catalogue

@@ -13,8 +13,8 @@ use std::process::Abort;
 use std::sync::Wait;
 use std::thread::Threads;
 
-// Two counters; three more, each with one allowed combination: the first values of the required keys, their last values, and the
-// first values of all keys. Two recorders with ten recordings of each.
+// Two counters; three more, each with one allowed combination: the first values of the required keys, their last
+// values, and the first values of all keys. Two recorders with ten recordings of each.
 const CATALOGUE: &str = "format = 2
 [[meter]]
 name = 'm'
@@ -48,8 +48,8 @@ const TWELVE_EACH: ThreadsOptions = ThreadsOptions { each: 12 };
 // How often the threads run.
 const RUNS: u32 = 200;
 
-// What each instrument comes to: its recordings, the times of the batches that the readers were told, those of one reader after those
-// of the other, and what its audit answers.
+// What each instrument comes to: its recordings, the times of the batches that the readers were told, those of one
+// reader after those of the other, and what its audit answers.
 const TOLD: &str = "20 recordings of 60, batches at 1 2 3 4 5 6 7 8 1 2 3 4 5 6 7 8: done
 20 recordings of 60, batches at 1 2 3 4 5 6 7 8 1 2 3 4 5 6 7 8: done
 20 recordings of 60, batches at 1 2 3 4 5 6 7 8 1 2 3 4 5 6 7 8: done

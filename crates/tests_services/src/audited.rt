@@ -1,4 +1,5 @@
-//! Runs of seats over books that keep their entries, audited at their end by the journals and slips that are handed out.
+//! Runs of seats over books that keep their entries, audited at their end by the journals and slips that are handed
+//! out.
 use crate::agreement::script_of;
 use crate::asserted::{OrFail, assert_equal};
 use crate::samples::{BOTH, PAIR};
@@ -14,8 +15,8 @@ use std::alloc::Global;
 use std::process::Abort;
 use std::sync::Wait;
 
-// An instrument, what happens on it, and what its audit tells: the entries by their recorders, the slips of both recorders,
-// and the answer.
+// An instrument, what happens on it, and what its audit tells: the entries by their recorders, the slips of both
+// recorders, and the answer.
 const SCRIPTS: &[(u32, &str, &str)] = &[
     (
         0,

@@ -37,9 +37,9 @@ impl<R> Clock for SteppingClock<'_, R> {
     }
 }
 
-// The milliseconds of the period and how many ticks there are at most, what the clock tells, the ticks that are given, and how
-// often the waits read the clock: at its start, one reading later, and from there on every third, until the period has gone
-// by; there are two readings between.
+// The milliseconds of the period and how many ticks there are at most, what the clock tells, the ticks that are given,
+// and how often the waits read the clock: at its start, one reading later, and from there on every third, until the
+// period has gone by; there are two readings between.
 struct Case {
     period: u64,
     most: u64,
@@ -130,8 +130,8 @@ fn a_run_starts_at_the_clocks_moment(rt: HostRuntime) {
     }
 }
 
-// Whether a tick is asked for, whether the flag is set, and how often a wait of 3 milliseconds then reads the clock: the tick ends
-// no wait, the flag each.
+// Whether a tick is asked for, whether the flag is set, and how often a wait of 3 milliseconds then reads the clock:
+// the tick ends no wait, the flag each.
 const WAITS: &[(bool, bool, u64)] = &[
     (false, false, 5),
     (true, false, 5),

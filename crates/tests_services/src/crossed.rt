@@ -39,8 +39,8 @@ enum End {
     RollOver,
 }
 
-// The seats that are brought to the end of a run of number 1: those of another provider, of the run of a number, after a
-// script, none where there are to be none; and what that is refused for.
+// The seats that are brought to the end of a run of number 1: those of another provider, of the run of a number, after
+// a script, none where there are to be none; and what that is refused for.
 struct Brought {
     run: u64,
     script: &'static str,

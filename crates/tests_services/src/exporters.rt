@@ -17,8 +17,8 @@ enum Call {
     ShutDown,
 }
 
-// How much room the sink has and whether flushes work, the calls of an exporter of texts, what it then holds, and what is
-// told: the answers, the exporter's state, and whether it holds that.
+// How much room the sink has and whether flushes work, the calls of an exporter of texts, what it then holds, and what
+// is told: the answers, the exporter's state, and whether it holds that.
 struct Run {
     room: Option<usize>,
     flushes: bool,

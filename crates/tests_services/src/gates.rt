@@ -1,5 +1,5 @@
-//! What is done inside a lock: a step that is held there, and a recording of another instrument or of the same meanwhile; and
-//! that each step of a provider is told there.
+//! What is done inside a lock: a step that is held there, and a recording of another instrument or of the same
+//! meanwhile; and that each step of a provider is told there.
 use crate::asserted::{OrFail, assert_equal};
 use crate::samples::{MAIN, PAIR};
 use metric_contents::Refusal;
@@ -19,8 +19,8 @@ const TURNS: u32 = 1_000_000;
 // How often at what is not: each look hands the processor on, and on a busy machine takes long.
 const HELD_TURNS: u32 = 1_000;
 
-// How many steps were made, whether the first instrument was entered, whether the second thread was answered, and whether a
-// step that was held saw another one or that answer; how many steps are held, and how often each looks.
+// How many steps were made, whether the first instrument was entered, whether the second thread was answered, and
+// whether a step that was held saw another one or that answer; how many steps are held, and how often each looks.
 #[derive(Drop)]
 struct Flags {
     steps: AtomicU64,
@@ -204,8 +204,8 @@ fn answers<R: Abort + Threads + Wait + Sync>(
     }
 }
 
-// The step of the first thread, the instrument of the second one's recording with its answer, and whether that is made while
-// the first one is held: for a list, at its last recording.
+// The step of the first thread, the instrument of the second one's recording with its answer, and whether that is made
+// while the first one is held: for a list, at its last recording.
 struct Case {
     step: Step,
     instrument: u32,
@@ -292,7 +292,8 @@ fn record_all<R: Abort + Wait>(rt: &R, provider: &Listed<'_>, seat: &mut Recorde
     seat.record_sets(rt, provider, 0, &[one, one]).or_fail(rt);
 }
 
-// Makes a step of each kind: recordings, a collection of the second instrument, the end of the first, and a grant on the second.
+// Makes a step of each kind: recordings, a collection of the second instrument, the end of the first, and a grant on
+// the second.
 fn make_steps<R: Abort + Wait>(
     rt: &R,
     alloc: Global,

@@ -2,7 +2,8 @@
 //! readers.
 //!
 //! A module has what no clause says: that a seat's call makes its step, that what is given is called through its trait,
-//! and that a call succeeds while memory is there. Most tests have what they are told written as one text, case by case.
+//! and that a call succeeds while memory is there. Most tests have what they are told written as one text, case by
+//! case.
 #![tactic(auto)]
 
 #[cfg(test)]

@@ -22,8 +22,8 @@ record 1 1 0
 record 1 0 2
 ";
 
-// The recorders of whom seats are brought, the number of the run of another provider whose first seat comes with them, if one
-// does, and what is told with running tables.
+// The recorders of whom seats are brought, the number of the run of another provider whose first seat comes with them,
+// if one does, and what is told with running tables.
 struct There {
     seats: &'static [u32],
     other: Option<u64>,

@@ -31,8 +31,8 @@ stream reader=\"D\" meter=\"m\" version=\"\" schema=\"\" name=\"A\" unit=\"\" de
 point {} start=0 time=10 value=3
 ";
 
-// Of which provider the delta reader collects: its own; one of another run, which refuses it at once; or one of two counters
-// that refuses it at the second one.
+// Of which provider the delta reader collects: its own; one of another run, which refuses it at once; or one of two
+// counters that refuses it at the second one.
 #[derive(Clone, Copy)]
 enum Of {
     Own,
@@ -40,8 +40,8 @@ enum Of {
     Half,
 }
 
-// The provider, the ticks, how many turns there are at most, how much room the sink has and whether flushes work, the text
-// that is held of the first batch and that of the rest, and what is told of the end.
+// The provider, the ticks, how many turns there are at most, how much room the sink has and whether flushes work, the
+// text that is held of the first batch and that of the rest, and what is told of the end.
 struct Run {
     of: Of,
     ticks: &'static [Tick],
@@ -233,8 +233,8 @@ fn word_of(stopped: Option<StopCause>) -> &'static str {
     }
 }
 
-// Writes the counts of an end, why the ticker stopped the run, whether the reader is handed back, and whether these texts
-// are held.
+// Writes the counts of an end, why the ticker stopped the run, whether the reader is handed back, and whether these
+// texts are held.
 fn write_end<R: Abort>(out: &mut String, rt: &R, end: &End, run: &Run) {
     write_numbers(
         out,

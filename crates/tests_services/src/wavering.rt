@@ -16,8 +16,8 @@ use std::alloc::Global;
 use std::process::Abort;
 use std::sync::Wait;
 
-// An exporter whose export of one number, counted from 1, fails. It keeps the time of each batch that it takes, with how
-// many points the first stream has.
+// An exporter whose export of one number, counted from 1, fails. It keeps the time of each batch that it takes, with
+// how many points the first stream has.
 #[derive(Drop)]
 struct WaveringExporter {
     taken: Vec<(u64, usize)>,

@@ -28,8 +28,8 @@ impl Ended {
     }
 }
 
-/// Ends the provider, and compares its totals with what each recorder was told and what each reader saw. Where the books keep
-/// entries, all batches are audited.
+/// Ends the provider, and compares its totals with what each recorder was told and what each reader saw. Where the
+/// books keep entries, all batches are audited.
 pub(crate) fn settle<R: Wait, B: Book>(
     rt: &R,
     alloc: Global,

@@ -56,8 +56,8 @@ const NAMES: [&str; INSTRUMENTS] = [
     "name = 'budget'\nkind = 'counter'\nrange = [0, 9]\n",
 ];
 
-// How many values each of the two keys has: of the list and of the budget more series than the limit, so that these bound
-// the streams and not the product.
+// How many values each of the two keys has: of the list and of the budget more series than the limit, so that these
+// bound the streams and not the product.
 const SIZES: [(u32, u32); INSTRUMENTS] = [
     (10, 3),
     (100, 100),
@@ -70,8 +70,8 @@ const SIZES: [(u32, u32); INSTRUMENTS] = [
 // The one that lists its combinations.
 const LISTED: usize = 1;
 
-// What each recorder may record on each instrument without a grant. All recorders together have at most the limit of 2,000 of the
-// last one.
+// What each recorder may record on each instrument without a grant. All recorders together have at most the limit of
+// 2,000 of the last one.
 const BUDGETS: [u64; INSTRUMENTS] = [
     1_000_000_000,
     1_000_000_000,

@@ -89,7 +89,8 @@ impl Watcher {
         })
     }
 
-    /// Collects all instruments again and again, a last time after all recorders have ended. The first thing that is off.
+    /// Collects all instruments again and again, a last time after all recorders have ended. The first thing that is
+    /// off.
     pub(crate) fn watch<R: Wait + Clock, B: Book>(
         &mut self,
         rt: &R,

@@ -95,8 +95,8 @@ fn plan_of(alloc: Global, setup: &Setup) -> anyhow::Result<Plan>
     Ok(certified_plan(alloc, setup.catalogue.as_str(), CONFIG)?)
 }
 
-// The recorders come first: where a thread can not be started, its work is done after that of those before it, and readers go on
-// until all recorders have ended.
+// The recorders come first: where a thread can not be started, its work is done after that of those before it, and
+// readers go on until all recorders have ended.
 fn runners_of(
     alloc: Global,
     recorders: Vec<Recorder>,

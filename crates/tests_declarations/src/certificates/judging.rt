@@ -73,8 +73,8 @@ fn altered_of<R: Abort>(rt: &R, alloc: Global, sample: &Sample) -> Vec<String> {
     altered(rt, alloc, text.as_str())
 }
 
-// How many certificates of samples are judged wrongly, each altered in one place everywhere. A sample of which none is accepted, or
-// none refused, counts as one.
+// How many certificates of samples are judged wrongly, each altered in one place everywhere. A sample of which none is
+// accepted, or none refused, counts as one.
 fn misjudged<R: Abort>(rt: &R, alloc: Global, samples: &[Sample]) -> u32 {
     let mut misjudged: u32 = 0;
     for sample in samples {

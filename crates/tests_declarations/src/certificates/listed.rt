@@ -4,7 +4,8 @@ use crate::certificates::samples::Sample;
 // At most two series of each stream.
 const TWO_EACH: &str = "format = 1\nreader = [{ name = 'main' }]\nview = [{ limit = 2 }]";
 
-// Two keys of two values each, of which two combinations are allowed. As many recordings are too, and the list comes first.
+// Two keys of two values each, of which two combinations are allowed. As many recordings are too, and the list comes
+// first.
 pub(crate) const PAIRS: Sample = Sample {
     catalogue: r#"
 format = 2
@@ -95,8 +96,8 @@ bound = [{ instrument = 0, total = "0", amount = "0", low = "0", high = "0" }]
 order = [{ reader = 0, streams = [0, 1] }]"#,
 };
 
-// Keys that may be left out, rows that are not in order and that fall together where a key is not kept, an instrument that
-// lists no combinations but has a spare, and one that allows none.
+// Keys that may be left out, rows that are not in order and that fall together where a key is not kept, an instrument
+// that lists no combinations but has a spare, and one that allows none.
 pub(crate) const MIXED: Sample = Sample {
     catalogue: r#"
 format = 2
