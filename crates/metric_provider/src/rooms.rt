@@ -15,6 +15,7 @@ use metric_book::Book;
 use metric_contents::Refusal;
 use metric_facts::Facts;
 use metric_plan::Plan;
+use metric_seat::Tells;
 use metric_slot::{Slot, Told};
 use std::sync::{Mutex, Wait};
 
