@@ -257,7 +257,11 @@ const REFUSED: &[(&str, &str, &str)] = &[
         "key = [1, 2, 3, 4, 5, 6, 7, 8, 9]",
         "instrument 0 \"hits\": field \"key\" is too long; at most 8 keys are allowed",
     ),
-    ("key = [\"code\", \"route\"]", "key = [1, 2, 3, 4, 5, 6, 7, 8]", "none"),
+    (
+        "key = [\"code\", \"route\"]",
+        "key = [1, 2, 3, 4, 5, 6, 7, 8]",
+        "none",
+    ),
     (
         "count = 2",
         "count = 0",
@@ -319,7 +323,12 @@ fn what_is_wrong_is_told_with_its_place(rt: HostRuntime) {
 // A text is read as it stands unless its format is 3.
 #[test]
 fn only_a_short_catalogue_is_expanded(rt: HostRuntime) {
-    for (text, due) in [(SHORT, true), (LONG, false), ("format = 1", false), ("[a", false)] {
+    for (text, due) in [
+        (SHORT, true),
+        (LONG, false),
+        ("format = 1", false),
+        ("[a", false),
+    ] {
         assert_equal(&rt, is_short(rt.alloc(), text).or_fail(&rt), due);
         let owned = Text::new(rt.alloc(), text).or_fail(&rt);
         let full = in_full(rt.alloc(), owned).or_fail(&rt);
@@ -336,7 +345,10 @@ fn large(alloc: Global, letters: usize, instruments: u32) -> Result<String, Allo
     }
     text.push_str("\"]\n[[meter]]\nname = \"m\"\n")?;
     for number in 0..instruments {
-        write!(text, "[[meter.instrument]]\nname = \"i{number}\"\nkey = [\"k\", \"k\", \"k\", \"k\", \"k\", \"k\", \"k\", \"k\"]\n")?;
+        write!(
+            text,
+            "[[meter.instrument]]\nname = \"i{number}\"\nkey = [\"k\", \"k\", \"k\", \"k\", \"k\", \"k\", \"k\", \"k\"]\n"
+        )?;
     }
     Ok(text)
 }
@@ -346,9 +358,21 @@ fn what_a_small_file_comes_to_is_bounded(rt: HostRuntime) {
     // 8 keys of 4,080 and 16 bytes for each of 256 instruments are 8,388,608 bytes.
     for (letters, instruments, due) in [
         (510, 256, "none"),
-        (510, 257, "field \"key\": the values of all keys that instruments name have more than 8388608 bytes together"),
-        (512, 1, "key 0 \"k\": field \"values\" is too long; at most 1000 values, each of 1023 characters, are allowed"),
-        (1, 513, "meter 0 \"m\": field \"instrument\" is too long; at most 512 instruments are allowed"),
+        (
+            510,
+            257,
+            "field \"key\": the values of all keys that instruments name have more than 8388608 bytes together",
+        ),
+        (
+            512,
+            1,
+            "key 0 \"k\": field \"values\" is too long; at most 1000 values, each of 1023 characters, are allowed",
+        ),
+        (
+            1,
+            513,
+            "meter 0 \"m\": field \"instrument\" is too long; at most 512 instruments are allowed",
+        ),
     ] {
         let text = large(rt.alloc(), letters, instruments).or_fail(&rt);
         let told = told_of(&rt, rt.alloc(), text.as_str());
