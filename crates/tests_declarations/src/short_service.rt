@@ -205,6 +205,6 @@ fn a_short_service_is_the_long_one(rt: HostRuntime) {
     let told = catalogue::told(&rt, rt.alloc(), full.text.as_str());
     let due = catalogue::told(&rt, rt.alloc(), long.as_str());
     assert_equal(&rt, told.as_str(), due.as_str());
-    assert_equal(&rt, long.as_str().lines().count(), 223);
+    assert_equal(&rt, long.as_str().lines().count(), 182);
     assert_equal(&rt, SHORT.lines().count() < 80, true);
 }

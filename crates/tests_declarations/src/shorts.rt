@@ -285,8 +285,8 @@ const REFUSED: &[(&str, &str, &str)] = &[
     ),
     (
         "wait = 7",
-        "waits = 7",
-        "recorder 0 \"worker\": budget \"waits\": no instrument has this name; did you mean \"wait\"?",
+        "waitt = 7",
+        "recorder 0 \"worker\": budget \"waitt\": no instrument has this name; did you mean \"wait\"?",
     ),
     (
         "wait = 7",
