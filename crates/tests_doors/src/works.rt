@@ -86,6 +86,12 @@ fn open_seats<R: Abort + Wait>(rt: &R, alloc: Global) -> Seats {
     }
 }
 
+// The seat of the recorder of a number, of those that are there.
+fn take_seat<R: Abort>(rt: &R, seats: &mut Vec<Recorder>, number: usize) -> Recorder {
+    seats.truncate(number.saturating_add(1));
+    seats.pop().expect(rt, "no such seat")
+}
+
 // What a seat does: it adds to orders of a country, or is granted so many on an instrument.
 enum Step {
     Add(&'static str, i64),
@@ -111,7 +117,7 @@ fn what_is_left_counts_grants(rt: HostRuntime) {
     let alloc = rt.alloc();
     let (provider, mut seats) = open_seats(&rt, alloc);
     let orders = counter(provider.plan(), "shop", "orders", &["country"]).or_fail(&rt);
-    let mut seat = seats.remove(0);
+    let mut seat = take_seat(&rt, &mut seats, 0);
     for (step, wanted) in STEPS {
         let answer = match step {
             Step::Add(country, value) => {
@@ -132,7 +138,7 @@ fn what_is_left_counts_grants(rt: HostRuntime) {
         assert_equal(&rt, told.as_str(), wanted);
     }
     let (other, mut strangers) = open_seats(&rt, alloc);
-    let stranger = strangers.remove(1);
+    let stranger = take_seat(&rt, &mut strangers, 1);
     let unknown = [
         seat.room(&rt, &provider, 9),
         provider.spare_left(&rt, 9),
@@ -194,7 +200,7 @@ fn a_count_comes_back(rt: HostRuntime) {
     let alloc = rt.alloc();
     for (recorder, name, lo, granted, wanted) in COUNTED {
         let (provider, mut seats) = open_seats(&rt, alloc);
-        let mut seat = seats.remove(*recorder);
+        let mut seat = take_seat(&rt, &mut seats, *recorder);
         let active = up_down_counter(provider.plan(), "shop", name, &[]).or_fail(&rt);
         let bound = active.bind(provider.plan(), &[]).or_fail(&rt);
         seat.ask(&rt, &provider, active.number(), *granted)
@@ -211,6 +217,14 @@ fn strange<R: Abort>(rt: &R, alloc: Global) -> Plan {
     certified_plan(alloc, OTHER, READERS).or_fail(rt)
 }
 
+// A seat that counts its refusals.
+fn counted<R: Abort>(rt: &R, alloc: Global, plan: &Plan, seat: Recorder) -> Counted {
+    match Counted::new(alloc, plan, seat) {
+        Ok(seat) => seat,
+        Err((_seat, refused)) => Err(refused).or_fail(rt),
+    }
+}
+
 #[test]
 fn a_count_comes_back_where_work_fails(rt: HostRuntime) {
     let alloc = rt.alloc();
@@ -219,11 +233,7 @@ fn a_count_comes_back_where_work_fails(rt: HostRuntime) {
     let orders = counter(plan, "shop", "orders", &["country"]).or_fail(&rt);
     let active = up_down_counter(plan, "shop", "active", &[]).or_fail(&rt);
     let bound = active.bind(plan, &[]).or_fail(&rt);
-    let seat = match Counted::new(alloc, plan, seats.remove(0)) {
-        Ok(seat) => seat,
-        Err((_, refused)) => Err(refused).or_fail(&rt),
-    };
-    let mut seat = seat;
+    let mut seat = counted(&rt, alloc, plan, take_seat(&rt, &mut seats, 0));
     let mut at = seat.at(&rt, &provider);
     let mut replaced = Replaced::none();
     let (failed, counted) = at.during(&bound, |seat| {
@@ -283,7 +293,7 @@ fn a_duration_is_recorded_in_the_unit_of_its_instrument(rt: HostRuntime) {
     ];
     assert_equal(&rt, units, wanted);
     let timer = timer_of(&rt, plan, plan, "shop", "took").or_fail(&rt);
-    let mut seat = seats.remove(0);
+    let mut seat = take_seat(&rt, &mut seats, 0);
     let mut at = seat.at(&rt, &provider);
     let refused = Err(TimedFault::Refused(Refusal::Budget));
     for wanted in [Ok(()), Ok(()), refused] {
@@ -324,7 +334,7 @@ fn a_job_has_room_for_all_of_it_or_none(rt: HostRuntime) {
     let orders = counter(plan, "shop", "orders", &["country"]).or_fail(&rt);
     let took = histogram(plan, "shop", "took", &[]).or_fail(&rt);
     let strange = histogram(&other, "other", "took", &[]).or_fail(&rt);
-    let mut seat = seats.remove(0);
+    let mut seat = take_seat(&rt, &mut seats, 0);
     let at = seat.at(&rt, &provider);
     for (job, wanted) in JOBS {
         let mut needs = Vec::new(alloc);
