@@ -31,7 +31,7 @@ pub record Collects (now : ℕ) (old new : HostedValue) (before after : HostedRe
   pub reports : ReportsBatch StandsMarked old.cell before.seat.number now batch
   pub stands : KeepsJournal StandsMarked old.cell new.cell
   pub is : new ≡ with_collected old before.seat.number batch.time new.cell.book
-  pub seen : after.seat ≡ with_seen before.seat (number_of old) batch.mark
+  pub seen : after.seat ≡ with_seen before.seat (number_of old) batch
 
 -- the text of the batch that a reader keeps, none before one
 abbrev pub text_of : HostedReader → List ℕ

@@ -78,17 +78,18 @@ abbrev pub new_recorders : PlanValue → ℕ → List (Option HostedRecorder)
 new_recorders plan run =
     map (new_recorder_of plan run) (range_with_len 0 (length plan.facts.contents.recorders))
 
--- the seat of a reader that has seen nothing
-abbrev pub new_reader_of : PlanValue → ℕ → ℕ → Option HostedReader
-new_reader_of plan run number =
+-- the seat of a reader that has seen nothing of a run, which started then
+abbrev pub new_reader_of : PlanValue → ℕ → ℕ → ℕ → Option HostedReader
+new_reader_of plan start run number =
     Some (record {
       plan = plan;
-      seat = new_collector run (length plan.facts.instruments) number;
+      seat = new_collector run start (length plan.facts.instruments) number;
       last = None;
     })
 
-abbrev pub new_readers : PlanValue → ℕ → List (Option HostedReader)
-new_readers plan run = map (new_reader_of plan run) (range_with_len 0 (length plan.config.readers))
+abbrev pub new_readers : PlanValue → ℕ → ℕ → List (Option HostedReader)
+new_readers plan start run =
+    map (new_reader_of plan start run) (range_with_len 0 (length plan.config.readers))
 
 -- What the handles of a host hold.
 pub record AllHeld : Type 0 where
@@ -115,7 +116,7 @@ pub record Begins (plan : PlanValue) (start run : ℕ) (before after : AllHeld) 
   pub new : AreNewInstruments plan start run made
   pub instruments : AreFirst made before.instruments after.instruments
   pub recorders : AreFirst (new_recorders plan run) before.recorders after.recorders
-  pub readers : AreFirst (new_readers plan run) before.readers after.readers
+  pub readers : AreFirst (new_readers plan start run) before.readers after.readers
 
 -- A run of the plan begins, and this is how many of each it has.
 pub record BeginsOf (plan : PlanValue) (start run : ℕ) (counts : Counts) (before after : AllHeld)

@@ -239,11 +239,11 @@ fn new_run(alloc: Global, plan: &Shared<Plan>, start: u64, run: u64) -> Result<N
     ensures recorders { IfOk result (λ made.
         recorders_in made.recorders.items ≡ new_recorders plan.now run) }
     ensures readers { IfOk result (λ made.
-        readers_in made.readers.items ≡ new_readers plan.now run) }
+        readers_in made.readers.items ≡ new_readers plan.now start run) }
 {
     let instruments = new_instruments(alloc, plan.get(), start, run)?;
     let recorders = new_recorders(alloc, plan, run)?;
-    let readers = new_readers(alloc, plan, run)?;
+    let readers = new_readers(alloc, plan, start, run)?;
     Ok(NewRun {
         instruments,
         recorders,
@@ -293,15 +293,16 @@ fn new_recorders(
 fn new_readers(
     alloc: Global,
     plan: &Shared<Plan>,
+    start: u64,
     run: u64,
 ) -> Result<Vec<ReaderHandle>, AllocError>
-    ensures { IfOk result (λ all. readers_in all.items ≡ new_readers plan.now run) }
+    ensures { IfOk result (λ all. readers_in all.items ≡ new_readers plan.now start run) }
 {
     let instruments = plan.get().all_facts().len();
     let count = plan.get().config().readers().len() as u32;
     let mut all = Vec::new(alloc);
     for number in 0..count {
-        let seat = ReaderSeat::new(alloc, run, number, instruments)?;
+        let seat = ReaderSeat::new(alloc, run, start, number, instruments)?;
         let plan = plan.copy(alloc)?;
         let last = None;
         let held = Box::new(alloc, HostedReader { plan, seat, last })?;

@@ -1,5 +1,5 @@
 //! The state of one instrument.
-ghost use Rattle.std.specs.Prelude.{◌≡◌, ◌≢◌, ◌≤◌, ◌<◌, ◌+◌, ◌-◌, ◌^◌, pos, neg_ℤ, ◌+ℤ◌, ◌≤ℤ◌, Some, [], true, length, slice_get, slice_index, sum, IfOk, IfErr, OnOk, OnErr};
+ghost use Rattle.std.specs.Prelude.{◌≡◌, ◌≢◌, ◌≤◌, ◌<◌, ◌+◌, ◌-◌, ◌^◌, pos, neg_ℤ, ◌+ℤ◌, ◌≤ℤ◌, Some, [], true, length, slice_get, slice_index, slice_index_or, sum, IfOk, IfErr, OnOk, OnErr};
 ghost use Rattle.metric_core.specs.Cells.{CellKept, CellStands, latest, new_cell};
 ghost use Rattle.metric_core.specs.CellAnswers.{AnswersClose, AnswersGrant, AnswersRecording, GainsEntry, KeepsJournal, ReportsBatch, TellsEntries, budget_of, entry_of, with_batch, with_entry, with_grant};
 ghost use Rattle.metric_facts.specs.Facts.{in_bounds, is_allowed_set};
@@ -297,6 +297,21 @@ impl<B: Book> Cell<B> {
         ensures past { result ≤ self.now.count }
     {
         self.marks.get(reader as usize).copied().unwrap_or(0)
+    }
+
+    /// When its run started, in nanoseconds.
+    pub fn start(&self) -> u64
+        ensures { result ≡ self.now.start }
+    {
+        self.start
+    }
+
+    /// The time in nanoseconds of the reader's last batch; the start before one.
+    pub fn time_of(&self, reader: u32) -> u64
+        ensures { result ≡ slice_index_or self.now.times reader self.now.start }
+    {
+        let time = self.times.get(reader as usize).copied();
+        time.unwrap_or(self.start)
     }
 
     /// The greatest time in nanoseconds of a last batch of its readers; its start before one.

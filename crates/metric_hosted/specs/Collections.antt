@@ -7,10 +7,9 @@ use Rattle.metric_history.specs.declared.batch.Batch.{Batch}
 use Rattle.metric_marked.specs.Marks.{MarkedValue}
 use Rattle.metric_plan.specs.Plans.{PlanValue}
 use Rattle.metric_seat.specs.Collections.{IsNextBatch, collectable}
-use Rattle.metric_seat.specs.Seats.{CollectorValue}
+use Rattle.metric_seat.specs.Seats.{CollectorValue, seen_at}
 use Rattle.metric_slot.specs.SlotAnswers.{RefusesReader}
 use Rattle.metric_hosted.specs.Hosts.{HostedValue, number_of, run_of}
-use Rattle.std.specs.Prelude.{slice_index}
 
 -- the facts of the instrument by a plan, of which a seat may collect, or the first refusal
 abbrev pub allowance_of : PlanValue → HostedValue → CollectorValue → Result Facts Refusal
@@ -23,9 +22,9 @@ abbrev pub AnswersReading : Result Facts Refusal → HostedValue → CollectorVa
 AnswersReading (Err first) h seat now (Err refusal) = refusal ≡ first
 AnswersReading (Err first) h seat now (Ok batch) = ⊥
 AnswersReading (Ok own) h seat now (Ok batch) =
-    IsNextBatch own seat.number (slice_index seat.seen (number_of h)) now batch
+    IsNextBatch own seat.start seat.number (seen_at seat (number_of h)) now batch
 AnswersReading (Ok own) h seat now (Err refusal) =
-    RefusesReader h.cell own (slice_index seat.seen (number_of h)) seat.number refusal
+    RefusesReader h.cell own seat.start (seen_at seat (number_of h)) seat.number refusal
 
 -- the instrument after a batch of a reader with this time, in which the
 -- book has moved the reader's mark

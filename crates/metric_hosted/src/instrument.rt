@@ -165,7 +165,7 @@ impl Hosted {
     ///
     /// The first of these: `Stranger` where the instrument's run is of another number, the seat was made for another
     /// number of instruments, or the plan has no reader of its number; `UnknownInstrument`; `Stranger` where the
-    /// instrument's facts or its count of the reader's last batch are not the seat's; `Memory`.
+    /// instrument's facts, its start or the reader's last batch of it are not the seat's; `Memory`.
     pub fn collect(
         &mut self,
         alloc: Global,
@@ -182,7 +182,7 @@ impl Hosted {
         ensures stands { OnOk result (
             KeepsJournal StandsMarked self.old.cell self.new.cell) }
         ensures seen { IfOk result (λ batch.
-            seat.new ≡ with_seen seat.old (number_of self.old) batch.mark) }
+            seat.new ≡ with_seen seat.old (number_of self.old) batch) }
         ensures seat_err { OnErr result (seat.new ≡ seat.old) }
         ensures err { OnErr result (self.new ≡ self.old) }
     {

@@ -11,7 +11,7 @@ use Rattle.metric_seat.specs.Seats.{CollectorValue, ProviderValue}
 -- one collection, by what it ensures
 pub collected_one : (p : ProviderValue) (now instrument : ℕ) (old new : CollectorValue) (answer : Result Batch Refusal)
     → AnswersCollector (collectable p old instrument) old instrument now answer
-    → IfOk answer (λ batch. new ≡ with_seen old instrument batch.mark) → OnErr answer (new ≡ old) → CollectsOne p now instrument old new answer
+    → IfOk answer (λ batch. new ≡ with_seen old instrument batch) → OnErr answer (new ≡ old) → CollectsOne p now instrument old new answer
 collected_one p now instrument old new (Ok batch) told seen kept = (told, seen)
 collected_one p now instrument old new (Err refusal) told seen kept = (told, kept)
 

@@ -15,7 +15,7 @@ abbrev pub CollectsOne : ProviderValue → ℕ → ℕ → CollectorValue → Co
     → Result Batch Refusal → Type 0
 CollectsOne p now instrument old new (Ok batch) =
     AnswersCollector (collectable p old instrument) old instrument now (Ok batch)
-    × (new ≡ with_seen old instrument batch.mark)
+    × (new ≡ with_seen old instrument batch)
 CollectsOne p now instrument old new (Err refusal) =
     AnswersCollector (collectable p old instrument) old instrument now (Err refusal)
     × (new ≡ old)

@@ -12,6 +12,7 @@ use Rattle.metric_history.specs.Windows.{window}
 use Rattle.metric_provider.specs.BatchBounds.{IsBatchBounded}
 use Rattle.metric_seat.specs.Collections.{IsNextBatch}
 use Rattle.metric_safety.specs.SafeFacts.{IsSafeFacts}
+use Rattle.metric_slot.specs.declared.seen.Seen.{Seen}
 use Rattle.metric_safety.specs.WindowBounds.{BoundsJournals, IsBounded}
 
 all_at : (P : NumberedStream → Type 0) (streams : List NumberedStream) (k : ℕ) (s : NumberedStream) → All P streams → slice_get streams k ≡ Some s → P s
@@ -21,14 +22,15 @@ window_length : (delta : Bool) (seen : ℕ) (journal : List Entry) → length (w
 window_length true seen journal = length-drop seen journal
 window_length false seen journal = omega arith
 
-pub batch_bounded : (own : Facts) (reader seen now : ℕ) (batch : Batch) → BoundsJournals → IsSafeFacts own → IsNextBatch own reader seen now batch → IsBatchBounded own reader batch
-batch_bounded own reader seen now batch law safe next =
+pub batch_bounded : (own : Facts) (start reader : ℕ) (seen : Seen) (now : ℕ) (batch : Batch) → BoundsJournals → IsSafeFacts own → IsNextBatch own start reader seen now batch
+    → IsBatchBounded own reader batch
+batch_bounded own start reader seen now batch law safe next =
     let told = next.journal in
     let whole : List Entry = told.journal in
     let delta : Bool = is_delta own reader in
     record {
-      window = window delta seen whole;
-      counted = window_length delta seen whole ∙ ap (λ (n : ℕ). n - (if delta then seen else 0)) told.counted ∙ ap (λ (n : ℕ). batch.mark - n) (sym next.continues.from);
+      window = window delta seen.mark whole;
+      counted = window_length delta seen.mark whole ∙ ap (λ (n : ℕ). n - (if delta then seen.mark else 0)) told.counted ∙ ap (λ (n : ℕ). batch.mark - n) (sym next.continues.from);
       streams = told.streams;
-      bounded = λ k s found. all_at (λ (r : NumberedStream). IsBounded own r.stream (window delta seen whole)) own.streams k s (law own whole delta seen safe told.admitted) found;
+      bounded = λ k s found. all_at (λ (r : NumberedStream). IsBounded own r.stream (window delta seen.mark whole)) own.streams k s (law own whole delta seen.mark safe told.admitted) found;
     }

@@ -1,6 +1,6 @@
 -- One collection after the other.
 use Rattle.std.proofs.Common.{◌≡◌, ◌<◌, ℕ, zero, suc, ◌+◌, ◌-◌, Bool, true, false, ◌&&◌, List, [], ◌∷◌, ◌++◌, Option, Some, None, Result, Ok, Err, length, map, drop, refl, sym, ap, subst, ◌∙◌, length-append, length-drop, arith}
-use Rattle.std.specs.Prelude.{slice_get, slice_index, slice_set, ◌==◌, nat_lt}
+use Rattle.std.specs.Prelude.{slice_get, slice_index_or, slice_set, ◌==◌, nat_lt}
 use Rattle.std.proofs.lemmas.Bool.{and_parts, eqb-true}
 use Rattle.std.proofs.lemmas.List.{length-map}
 use Rattle.std.proofs.lemmas.Option.{same_Some}
@@ -10,14 +10,16 @@ use Rattle.metric_contents.specs.declared.refusal.Refusal.{Refusal}
 use Rattle.metric_history.specs.declared.batch.Batch.{Batch}
 use Rattle.metric_facts.specs.declared.facts.Facts.{Facts}
 use Rattle.metric_seat.specs.Collections.{AnswersCollector, AnswersEach, IsNextBatch, IsRefusedAt, collectable, with_all_seen, with_seen}
-use Rattle.metric_seat.specs.Seats.{CollectorValue, ProviderValue, is_collector_of}
+use Rattle.metric_seat.specs.Seats.{CollectorValue, ProviderValue, is_collector_of, seen_at}
+use Rattle.metric_slot.specs.declared.seen.Seen.{Seen}
+use Rattle.metric_slot.specs.Sightings.{nothing_seen, seen_of}
 
 -- what an answered collection tells of its seat and its instrument
 pub record IsCollected (p : ProviderValue) (seat : CollectorValue) (instrument now : ℕ) (batch : Batch) : Type 0 where
   pub own : Facts
   pub found : slice_get p.plan.facts.instruments instrument ≡ Some own
   pub long : length seat.seen ≡ length p.plan.facts.instruments
-  pub next : IsNextBatch own seat.number (slice_index seat.seen instrument) now batch
+  pub next : IsNextBatch own seat.start seat.number (seen_at seat instrument) now batch
 
 seat_long : (p : ProviderValue) (seat : CollectorValue) → is_collector_of p seat ≡ true → length seat.seen ≡ length p.plan.facts.instruments
 seat_long p seat of =
@@ -39,27 +41,28 @@ collected p seat instrument now batch answer = of (is_collector_of p seat) refl 
     of true own answer = found (slice_get p.plan.facts.instruments instrument) refl own answer
     of false own answer = absurd answer
 
-past : {X : Type 0} (f : X → ℕ) (xs : List X) → slice_index (map f xs ++ []) (length xs) ≡ 0
-past f [] = refl
-past f (x ∷ xs) = past f xs
+past : {X Y : Type 0} (f : X → Y) (xs : List X) (y : Y) → slice_index_or (map f xs ++ []) (length xs) y ≡ y
+past f [] y = refl
+past f (x ∷ xs) y = past f xs y
 
-seen_at : (done : List Batch) (seen : List ℕ) → slice_index (map (λ (b : Batch). b.mark) done ++ drop (length done) seen) (length done) ≡ slice_index seen (length done)
-seen_at [] seen = refl
-seen_at (d ∷ done) [] = past (λ (b : Batch). b.mark) done
-seen_at (d ∷ done) (x ∷ seen) = seen_at done seen
+next_seen : (done : List Batch) (seen : List Seen) (before : Seen)
+    → slice_index_or (map seen_of done ++ drop (length done) seen) (length done) before ≡ slice_index_or seen (length done) before
+next_seen [] seen before = refl
+next_seen (d ∷ done) [] before = past seen_of done before
+next_seen (d ∷ done) (x ∷ seen) before = next_seen done seen before
 
-seen_more : (done : List Batch) (seen : List ℕ) (batch : Batch) → length done < length seen
-    → slice_set (map (λ (b : Batch). b.mark) done ++ drop (length done) seen) (length done) batch.mark
-    ≡ map (λ (b : Batch). b.mark) (done ++ batch ∷ []) ++ drop (length (done ++ batch ∷ [])) seen
+seen_more : (done : List Batch) (seen : List Seen) (batch : Batch) → length done < length seen
+    → slice_set (map seen_of done ++ drop (length done) seen) (length done) (seen_of batch)
+    ≡ map seen_of (done ++ batch ∷ []) ++ drop (length (done ++ batch ∷ [])) seen
 seen_more [] [] batch below = absurd (omega arith)
 seen_more [] (x ∷ seen) batch below = refl
 seen_more (d ∷ done) [] batch below = absurd (omega arith)
-seen_more (d ∷ done) (x ∷ seen) batch below = ap (λ (rest : List ℕ). d.mark ∷ rest) (seen_more done seen batch (omega arith))
+seen_more (d ∷ done) (x ∷ seen) batch below = ap (λ (rest : List Seen). seen_of d ∷ rest) (seen_more done seen batch (omega arith))
 
 -- the seat that has seen one batch more
 pub all_seen_more : (seat : CollectorValue) (done : List Batch) (batch : Batch) → length done < length seat.seen
-    → with_seen (with_all_seen seat done) (length done) batch.mark ≡ with_all_seen seat (done ++ batch ∷ [])
-all_seen_more seat done batch below = ap (λ (seen : List ℕ). record seat { seen = seen }) (seen_more done seat.seen batch below)
+    → with_seen (with_all_seen seat done) (length done) batch ≡ with_all_seen seat (done ++ batch ∷ [])
+all_seen_more seat done batch below = ap (λ (seen : List Seen). record seat { seen = seen }) (seen_more done seat.seen batch below)
 
 -- what holds of each element, and of one more at its place
 pub at_each_push : {X : Type 0} (P : ℕ → X → Type 0) (xs : List X) (x : X) → ((i : ℕ) (y : X) → slice_get xs i ≡ Some y → P i y) → P (length xs) x
@@ -77,18 +80,19 @@ first_length p seat now [] below each = refl
 first_length p seat now (d ∷ done) below each =
     let from = collected p seat 0 now d (each 0 d refl) in
     let parts : length (with_all_seen seat (d ∷ done)).seen ≡ length (d ∷ done) + (length seat.seen - length (d ∷ done)) =
-    length-append (map (λ (b : Batch). b.mark) (d ∷ done)) (drop (length (d ∷ done)) seat.seen)
-    ∙ ap (λ (n : ℕ). n + length (drop (length (d ∷ done)) seat.seen)) (length-map (d ∷ done) (λ (b : Batch). b.mark))
+    length-append (map seen_of (d ∷ done)) (drop (length (d ∷ done)) seat.seen)
+    ∙ ap (λ (n : ℕ). n + length (drop (length (d ∷ done)) seat.seen)) (length-map (d ∷ done) seen_of)
     ∙ ap (λ (n : ℕ). length (d ∷ done) + n) (length-drop (length (d ∷ done)) seat.seen) in
     omega (arith, parts, from.long, below)
 
-moved : (allowed : Result Facts Refusal) (later seat : CollectorValue) (i now : ℕ) (result : Result Batch Refusal) → later.number ≡ seat.number
-    → slice_index later.seen i ≡ slice_index seat.seen i → AnswersCollector allowed later i now result → AnswersCollector allowed seat i now result
-moved (Err first) later seat i now (Err refusal) number seen answer = answer
-moved (Err first) later seat i now (Ok batch) number seen answer = absurd answer
-moved (Ok own) later seat i now (Ok batch) number seen answer =
-    subst (λ (n : ℕ). IsNextBatch own seat.number n now batch) seen (subst (λ (n : ℕ). IsNextBatch own n (slice_index later.seen i) now batch) number answer)
-moved (Ok own) later seat i now (Err refusal) number seen answer = answer
+moved : (allowed : Result Facts Refusal) (start number : ℕ) (all none : List Seen) (run i now : ℕ) (result : Result Batch Refusal)
+    → slice_index_or all i (nothing_seen start) ≡ slice_index_or none i (nothing_seen start)
+    → AnswersCollector allowed (record { run = run; start = start; number = number; seen = all }) i now result
+    → AnswersCollector allowed (record { run = run; start = start; number = number; seen = none }) i now result
+moved (Err first) start number all none run i now (Err refusal) same answer = answer
+moved (Err first) start number all none run i now (Ok batch) same answer = absurd answer
+moved (Ok own) start number all none run i now (Ok batch) same answer = subst (λ (seen : Seen). IsNextBatch own start number seen now batch) same answer
+moved (Ok own) start number all none run i now (Err refusal) same answer = answer
 
 own_as_first : (p : ProviderValue) (seat : CollectorValue) (now : ℕ) (done : List Batch) → length done < length p.plan.facts.instruments
     → AnswersEach p seat now done → is_collector_of p (with_all_seen seat done) ≡ is_collector_of p seat
@@ -104,9 +108,9 @@ as_first p first seat now done i result count seen known each answer =
     let later : CollectorValue = with_all_seen first done in
     let here : AnswersCollector (collectable p later i) later i now result =
     subst (λ (s : CollectorValue). AnswersCollector (collectable p s i) s i now result) seen answer in
-    let mark : slice_index later.seen i ≡ slice_index first.seen i =
-    subst (λ (n : ℕ). slice_index later.seen n ≡ slice_index first.seen n) count (seen_at done first.seen) in
-    moved (collectable p first i) later first i now result refl mark
+    let same : seen_at later i ≡ seen_at first i =
+    subst (λ (n : ℕ). seen_at later n ≡ seen_at first n) count (next_seen done first.seen (nothing_seen first.start)) in
+    moved (collectable p first i) first.start first.number later.seen first.seen first.run i now result same
     (subst (λ (b : Bool). AnswersCollector (require b Stranger >>= λ _. require_some (slice_get p.plan.facts.instruments i) UnknownInstrument) later i now result)
     (own_as_first p first now done below each) here)
 
@@ -126,7 +130,7 @@ pub record IsOneMore (p : ProviderValue) (first after : CollectorValue) (now : �
 
 pub one_more : (p : ProviderValue) (first seat after : CollectorValue) (now : ℕ) (done new : List Batch) (batch : Batch) (instrument : ℕ) → length done ≡ instrument
     → seat ≡ with_all_seen first done → AnswersEach p first now done → new ≡ done ++ batch ∷ [] → instrument < length p.plan.facts.instruments
-    → AnswersCollector (collectable p seat instrument) seat instrument now (Ok batch) → after ≡ with_seen seat instrument batch.mark
+    → AnswersCollector (collectable p seat instrument) seat instrument now (Ok batch) → after ≡ with_seen seat instrument batch
     → IsOneMore p first after now new
 one_more p first seat after now done new batch instrument count seen before is known answer then =
     let here : AnswersCollector (collectable p first instrument) first instrument now (Ok batch) =
@@ -139,8 +143,8 @@ one_more p first seat after now done new batch instrument count seen before is k
       each = subst (λ (all : List Batch). AnswersEach p first now all) (sym is)
           (at_each_push (λ (i : ℕ) (b : Batch). AnswersCollector (collectable p first i) first i now (Ok b)) done batch before last);
       seen = then
-          ∙ ap (λ (s : CollectorValue). with_seen s instrument batch.mark) seen
-          ∙ ap (λ (n : ℕ). with_seen (with_all_seen first done) n batch.mark) (sym count)
+          ∙ ap (λ (s : CollectorValue). with_seen s instrument batch) seen
+          ∙ ap (λ (n : ℕ). with_seen (with_all_seen first done) n batch) (sym count)
           ∙ all_seen_more first done batch below
           ∙ ap (λ (all : List Batch). with_all_seen first all) (sym is);
     }

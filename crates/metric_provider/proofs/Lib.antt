@@ -5,4 +5,5 @@ pub mod JournalLaws
 pub mod GainLaws
 pub mod RollLaws
 pub mod BatchLaws
+pub mod WindowLaws
 mod RoomLaws

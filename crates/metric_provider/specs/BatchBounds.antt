@@ -8,6 +8,7 @@ use Rattle.metric_history.specs.Points.{reported}
 use Rattle.metric_seat.specs.Collections.{IsNextBatch}
 use Rattle.metric_seat.specs.Seats.{ProviderValue}
 use Rattle.metric_safety.specs.WindowBounds.{IsBounded}
+use Rattle.metric_slot.specs.declared.seen.Seen.{Seen}
 
 -- # bounded batch (SDK, cardinality limits) [IsBatchBounded, AreBatchesBounded]
 -- Its streams report as many recordings as it covers, and what each has of them is bounded by how
@@ -22,7 +23,7 @@ pub record IsBatchBounded (own : Facts) (reader : ℕ) (batch : Batch) : Type 0 
 -- each batch that a seat is told of an instrument of the provider is
 abbrev pub AreBatchesBounded : ProviderValue → Type 0
 AreBatchesBounded p =
-    (instrument reader seen now : ℕ) (own : Facts) (batch : Batch)
+    (instrument start reader now : ℕ) (seen : Seen) (own : Facts) (batch : Batch)
     → slice_get p.plan.facts.instruments instrument ≡ Some own
-    → IsNextBatch own reader seen now batch
+    → IsNextBatch own start reader seen now batch
     → IsBatchBounded own reader batch

@@ -6,6 +6,7 @@ pub mod Granting
 pub mod Totals
 pub mod Locked
 pub mod BatchBounds
+pub mod Windows
 pub mod Rolling
 pub mod Faults
 pub mod Rooms

@@ -1,5 +1,6 @@
 //! What every batch of a provider keeps.
 ghost use Rattle.metric_provider.specs.BatchBounds.{AreBatchesBounded};
+ghost use Rattle.metric_provider.specs.Windows.{WindowsMeet};
 
 use crate::gate::Gate;
 use crate::provider::Provider;
@@ -16,4 +17,12 @@ pub fn batches_are_bounded<B: Book, G: Gate>(provider: &Provider<B, G>)
 {
     provider.is_vouched_for();
     journals_are_bounded();
+}
+
+/// The windows of a reader meet: a batch of an instrument begins where and when the reader's batch before that ended
+/// (delta), or with the run (cumulative), so that no recording and no moment is left out or told twice (Metrics SDK,
+/// temporality). The function does nothing.
+pub fn windows_meet()
+    ensures { WindowsMeet }
+{
 }

@@ -1,7 +1,9 @@
 //! The seat of a reader with a provider.
 ghost use Rattle.std.specs.Prelude.{◌≡◌, [], true, length, slice_get, IfOk, IfErr, OnErr, OnOk};
+ghost use Rattle.std.specs.Option.{option_map};
 ghost use Rattle.metric_seat.specs.Collections.{AllRefused, AnswersCollector, AnswersEach, collectable, with_all_seen, with_seen};
 ghost use Rattle.metric_seat.specs.Seats.{is_collector_of, new_collector, provider_of};
+ghost use Rattle.metric_slot.specs.declared.seen.Seen.{Seen as sightings};
 
 use crate::fault::AllFault;
 use crate::gate::Gate;
@@ -15,8 +17,9 @@ use std::alloc::{AllocError, Global};
 use std::marker::Model;
 use std::sync::Wait;
 
-/// The seat of one reader: with it a thread collects (Metrics SDK, collect). It keeps how many recordings of each
-/// instrument the reader's last batch counted, so that the windows of a delta reader leave no gap and no overlap.
+/// The seat of one reader: with it a thread collects (Metrics SDK, collect). It keeps when the run started, and for
+/// each instrument how many recordings the reader's last batch counted, and its time: so the windows of a delta reader
+/// leave no gap and no overlap, and those of a cumulative one begin with the run.
 #[derive(Drop)]
 pub struct Collector {
     seat: ReaderSeat,
@@ -31,16 +34,17 @@ impl Model for Collector {
 }
 
 impl Collector {
-    // The seat of the reader of this number, which has seen nothing.
+    // The seat of the reader of this number, which has seen nothing of a run that started at this time.
     pub(crate) fn new(
         alloc: Global,
         run: u64,
+        start: u64,
         number: u32,
         instruments: usize,
     ) -> Result<Collector, AllocError>
-        ensures { IfOk result (λ seat. seat ≡ new_collector run instruments number) }
+        ensures { IfOk result (λ seat. seat ≡ new_collector run start instruments number) }
     {
-        let seat = ReaderSeat::new(alloc, run, number, instruments)?;
+        let seat = ReaderSeat::new(alloc, run, start, number, instruments)?;
         Ok(Collector { seat })
     }
 
@@ -54,7 +58,8 @@ impl Collector {
     /// How many recordings of an instrument the reader's last batch counted, 0 before one; nothing for an unknown
     /// instrument.
     pub fn seen(&self, instrument: u32) -> Option<u64>
-        ensures { result ≡ slice_get self.now.seen instrument }
+        ensures { let mark = λ (seen : sightings). seen.mark in
+            result ≡ option_map mark (slice_get self.now.seen instrument) }
     {
         self.seat.seen(instrument)
     }
@@ -78,7 +83,7 @@ impl Collector {
     ) -> Result<Batch, Refusal>
         ensures answer { let allowed = collectable provider.now self.old instrument in
             AnswersCollector allowed self.old instrument now result }
-        ensures seen { IfOk result (λ batch. self.new ≡ with_seen self.old instrument batch.mark) }
+        ensures seen { IfOk result (λ batch. self.new ≡ with_seen self.old instrument batch) }
         ensures err { OnErr result (self.new ≡ self.old) }
     {
         let plan = provider.plan();

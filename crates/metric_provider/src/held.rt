@@ -16,7 +16,7 @@ use metric_contents::Refusal;
 use metric_facts::Facts;
 use metric_history::Batch;
 use metric_seat::{Collected, Held, Measurement, SetsFault};
-use metric_slot::{Slot, Told};
+use metric_slot::{Seen, Slot, Told};
 use std::alloc::Global;
 use std::sync::{Mutex, Wait};
 
@@ -105,13 +105,14 @@ impl<R: Wait, B: Book, G: Gate> Governed for Inside<'_, R, B, G> {
 }
 
 impl<R: Wait, B: Book, G: Gate> Collected for Inside<'_, R, B, G> {
-    ghost collects = { λ _ _ _ _ _ _ _. Unit {0} };
+    ghost collects = { λ _ _ _ _ _ _ _ _. Unit {0} };
 
     fn collect(
         &mut self,
         alloc: Global,
         facts: &Facts,
-        seen: &mut u64,
+        start: u64,
+        seen: &mut Seen,
         reader: u32,
         now: u64,
     ) -> Result<Batch, Refusal> {
@@ -120,7 +121,7 @@ impl<R: Wait, B: Book, G: Gate> Collected for Inside<'_, R, B, G> {
         };
         let slot: &Mutex<Slot<B>> = locked;
         let mut guard = slot.lock(self.rt);
-        let answer = guard.collect(alloc, facts, seen, reader, now);
+        let answer = guard.collect(alloc, facts, start, seen, reader, now);
         self.gate.inside(self.rt, self.instrument);
         answer
     }

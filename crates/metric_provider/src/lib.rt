@@ -21,13 +21,13 @@ mod starting;
 mod timed;
 mod totals;
 
-pub use bounds::batches_are_bounded;
+pub use bounds::{batches_are_bounded, windows_meet};
 pub use collector::Collector;
 pub use fault::{AllFault, RollFault};
 pub use gate::{Gate, NoGate};
 pub use metric_book::Slip;
 pub use metric_seat::{FinishFault, Measurement, SetsFault, Total};
-pub use metric_slot::{Slot, Told};
+pub use metric_slot::{Seen, Slot, Told};
 pub use provider::Provider;
 pub use recorder::Recorder;
 pub use settling::settle;

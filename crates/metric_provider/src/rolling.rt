@@ -55,7 +55,7 @@ impl<B: Book, G: Gate> Provider<B, G> {
         ensures next_recorders { IfOk result (λ rolled.
             rolled.recorders.items ≡ new_recorders B.KEEPS_ENTRIES run self.plan) }
         ensures next_collectors { IfOk result (λ rolled.
-            rolled.collectors.items ≡ new_collectors run self.plan) }
+            rolled.collectors.items ≡ new_collectors run start self.plan) }
         ensures seated { OnOk result (seated self recorders.items ≡ Ok tt) }
         ensures other_run { OnOk result ((run == self.run) ≡ false) }
         ensures in_time { OnOk result (
@@ -121,7 +121,7 @@ impl<B: Book, G: Gate> Provider<B, G> {
         ensures next_recorders { IfOk result (λ rolled.
             rolled.recorders.items ≡ new_recorders B.KEEPS_ENTRIES next.run self.plan) }
         ensures next_collectors { IfOk result (λ rolled.
-            rolled.collectors.items ≡ new_collectors next.run self.plan) }
+            rolled.collectors.items ≡ new_collectors next.run next.start self.plan) }
         ensures seated { OnOk result (seated self recorders.items ≡ Ok tt) }
         ensures refused { IfErr result (λ refused.
             RefusesFinish (seated self recorders.items) refused.2) }
@@ -198,7 +198,7 @@ fn seated_parts<B: Book>(
     ensures next_recorders { IfOk result (λ parts.
         parts.recorders.items ≡ new_recorders B.KEEPS_ENTRIES next.run plan.now) }
     ensures next_collectors { IfOk result (λ parts.
-        parts.collectors.items ≡ new_collectors next.run plan.now) }
+        parts.collectors.items ≡ new_collectors next.run next.start plan.now) }
     ensures seated { OnOk result (seated (provider_of plan.now run) recorders.now ≡ Ok tt) }
     ensures refused { IfErr result (λ fault.
         RefusesFinish (seated (provider_of plan.now run) recorders.now) fault) }

@@ -16,7 +16,8 @@ use std::alloc::{AllocError, Global};
 use std::sync::Wait;
 
 /// A provider of a certified plan without recordings, since a start in nanoseconds, with a seat for each recorder and
-/// each reader, in order. Seats serve the number of the run that they were made for: give each provider one of its own,
+/// each reader, in order. The seats of the readers have the start, with which that of each instrument is compared under
+/// its lock: no batch tells another one. Seats serve the number of the run that they were made for: give each provider one of its own,
 /// since seats of one run and of plans of the same sizes are told apart by nothing else. Where the books keep their
 /// entries, the seats of the recorders keep slips. The seed of books that hash is made of the start and the number of
 /// the run. Where memory is refused, the plan and the gate are handed back.
@@ -34,7 +35,7 @@ pub fn start<R: Wait, B: Book, G: Gate>(
         ≡ map (new_recorder B.KEEPS_ENTRIES run (length plan.facts.instruments))
         (range_with_len 0 (length plan.facts.contents.recorders))) }
     ensures collectors { IfOk result (λ made. made.2.items
-        ≡ map (new_collector run (length plan.facts.instruments))
+        ≡ map (new_collector run start (length plan.facts.instruments))
         (range_with_len 0 (length plan.config.readers))) }
     ensures back { IfErr result (λ refused. (refused.0 ≡ plan) × (refused.1 ≡ gate)) }
 {
@@ -60,13 +61,13 @@ pub(crate) fn new_parts<B: Book>(
         ≡ map (new_recorder B.KEEPS_ENTRIES run (length plan.now.facts.instruments))
         (range_with_len 0 (length plan.now.facts.contents.recorders))) }
     ensures collectors { IfOk result (λ made. made.2.items
-        ≡ map (new_collector run (length plan.now.facts.instruments))
+        ≡ map (new_collector run start (length plan.now.facts.instruments))
         (range_with_len 0 (length plan.now.config.readers))) }
 {
     let slots = new_slots(alloc, plan, start, seed_of(start, run))?;
     let slots = locked(alloc, slots)?;
     let recorders = new_recorders(alloc, plan, run, B::KEEPS_ENTRIES)?;
-    let collectors = new_collectors(alloc, plan, run)?;
+    let collectors = new_collectors(alloc, plan, run, start)?;
     Ok((slots, recorders, collectors))
 }
 
@@ -129,17 +130,22 @@ fn new_recorders(
     Ok(seats)
 }
 
-// The seat of each reader, which has seen nothing.
-fn new_collectors(alloc: Global, plan: &Plan, run: u64) -> Result<Vec<Collector>, AllocError>
+// The seat of each reader, which has seen nothing of a run that started at this time.
+fn new_collectors(
+    alloc: Global,
+    plan: &Plan,
+    run: u64,
+    start: u64,
+) -> Result<Vec<Collector>, AllocError>
     ensures { IfOk result (λ seats. seats.items
-        ≡ map (new_collector run (length plan.now.facts.instruments))
+        ≡ map (new_collector run start (length plan.now.facts.instruments))
         (range_with_len 0 (length plan.now.config.readers))) }
 {
     let instruments = plan.all_facts().len();
     let count = plan.config().readers().len() as u32;
     let mut seats = Vec::new(alloc);
     for number in 0..count {
-        seats.push(Collector::new(alloc, run, number, instruments)?)?;
+        seats.push(Collector::new(alloc, run, start, number, instruments)?)?;
     }
     Ok(seats)
 }

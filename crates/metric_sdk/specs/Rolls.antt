@@ -10,16 +10,16 @@ use Rattle.metric_sdk.specs.declared.rolled.Unrollable.TheVariants.{Refused, Unc
 
 -- # roll-over with readers (profile) [IsRolled, IsUnrolled]
 -- The totals of the run that ended, and of another number the provider of the same plan with new
--- seats of all recorders and readers; or why the run goes on: a reader was refused an instrument,
+-- seats of all recorders and readers, which starts then; or why the run goes on: a reader was refused an instrument,
 -- else what refuses to go over.
-pub record IsRolled (keeps : Bool) (p : ProviderValue) (seats : List RecorderValue) (run : ℕ)
-    (totals : Totals) (next : ProviderValue) (recorders : List RecorderValue)
+pub record IsRolled (keeps : Bool) (p : ProviderValue) (seats : List RecorderValue)
+    (start run : ℕ) (totals : Totals) (next : ProviderValue) (recorders : List RecorderValue)
     (collectors : List CollectorValue) : Type 0 where
   pub ends : IsTotal keeps p seats totals
   pub other_run : (run == p.run) ≡ false
   pub provider : next ≡ provider_of p.plan run
   pub recorders_new : recorders ≡ new_recorders keeps run p.plan
-  pub collectors_new : collectors ≡ new_collectors run p.plan
+  pub collectors_new : collectors ≡ new_collectors run start p.plan
 
 -- Why a run goes on, by whether each reader has collected of each instrument, and by what refuses
 -- to roll over: one has not, else the provider refused it.

@@ -74,18 +74,17 @@
 //!    Wherever a value has a [`Text`] or an [`Items`], it is a `String` or a `Vec` that contracts see as a text or a
 //!    list: read it by `as_str` and `as_slice`.
 //! 10. **Other books.** A provider is generic over the book that keeps the recordings of an instrument, and over a
-//!    [`Gate`], by which a test holds threads inside a lock. Services take [`Marked`] and [`NoGate`];
-//!    [`batches_are_bounded`] says of each batch, over every book, what [`tables_are_bounded`] says of running tables.
-//! A
-//!    service that has to prove its numbers to somebody, for billing or after an incident, starts with [`Audited`]:
-//!    beside the tables it keeps each recording, 32 bytes in the list of its instrument and 24 in the seat of its
-//!    recorder, so it takes memory as long as a run lasts, and some time more for each of them. Its totals have the
-//!    journal of each instrument, its recordings as [`Entry`], and the [`Slip`]s of each recorder; [`audit`] tells
-//!    whether these and the batches agree, or an [`AuditFault`].
+//!     [`Gate`], by which a test holds threads inside a lock. Services take [`Marked`] and [`NoGate`];
+//!     [`batches_are_bounded`] says of each batch, over every book, what [`tables_are_bounded`] says of running tables;
+//!     [`windows_meet`] says that no recording and no moment is between two of them, or in both. A service that has to
+//!     prove its numbers to somebody, for billing or after an incident, starts with [`Audited`]: beside the tables it
+//!     keeps each recording, 32 bytes in the list of its instrument and 24 in the seat of its recorder, so it takes
+//!     memory as long as a run lasts, and some time more for each of them. Its totals have the journal of each
+//!     instrument, its recordings as [`Entry`], and the [`Slip`]s of each recorder; [`audit`] tells whether these and
+//!     the batches agree, or an [`AuditFault`].
 //! 11. **Devices.** A [`Sink`] takes bytes, a [`Source`] gives them: [`StdSink`] and [`StdSource`] are those of std,
-//!     [`CutSink`] and [`CutSource`] are of memory, and a [`KeepingExporter`] keeps its batches, in which
-//!     [`value_of`] finds a point, for tests. [`read_all`] and [`write_all`] move a whole
-//!     text.
+//!     [`CutSink`] and [`CutSource`] are of memory, and a [`KeepingExporter`] keeps its batches, in which [`value_of`]
+//!     finds a point, for tests. [`read_all`] and [`write_all`] move a whole text.
 #![tactic(auto)]
 
 mod ended;
@@ -278,6 +277,7 @@ pub use metric_provider::Total;
 pub use metric_provider::Totals;
 pub use metric_provider::batches_are_bounded;
 pub use metric_provider::start;
+pub use metric_provider::windows_meet;
 pub use metric_resource::Resource;
 pub use metric_resource::ResourceFault;
 pub use metric_setup::SetupFault;

@@ -39,7 +39,7 @@ pub fn open<R: Wait>(
     ensures recorders { IfOk result (λ opened.
         opened.1.items ≡ new_recorders false opened.0.run opened.0.plan) }
     ensures collectors { IfOk result (λ opened.
-        opened.2.items ≡ new_collectors opened.0.run opened.0.plan) }
+        opened.2.items ≡ new_collectors opened.0.run now opened.0.plan) }
     ensures first { IfErr result (λ fault.
         IsFirstFault fault catalogue_text.now config_text.now) }
 {
@@ -69,7 +69,7 @@ pub fn open_certified<R: Wait>(
     ensures recorders { IfOk result (λ opened.
         opened.1.items ≡ new_recorders false opened.0.run opened.0.plan) }
     ensures collectors { IfOk result (λ opened.
-        opened.2.items ≡ new_collectors opened.0.run opened.0.plan) }
+        opened.2.items ≡ new_collectors opened.0.run now opened.0.plan) }
     ensures first { IfErr result (λ fault.
         IsFirstClaimFault fault catalogue_text.now config_text.now certificate_text.now) }
 {
@@ -91,7 +91,7 @@ fn started<R: Wait>(
     ensures recorders { let run = next_count runs.old in
         IfOk result (λ opened. opened.1.items ≡ new_recorders false run plan) }
     ensures collectors { let run = next_count runs.old in
-        IfOk result (λ opened. opened.2.items ≡ new_collectors run plan) }
+        IfOk result (λ opened. opened.2.items ≡ new_collectors run now plan) }
     ensures given { OnOk result (runs.new ≡ next_count runs.old) }
     ensures not_given { OnErr result (runs.new ≡ runs.old) }
     ensures memory { IfErr result (λ fault. fault ≡ SetupFault.Memory) }

@@ -38,7 +38,7 @@ pub fn roll_over_all<R: Wait, B: Book, G: Gate, E: MetricExporter>(
     now: u64,
     run: u64,
 ) -> Result<Rolled<B, G>, RollLeft<B, G>>
-    ensures rolled { IfOk result (λ next. IsRolled B.KEEPS_ENTRIES provider recorders.items run
+    ensures rolled { IfOk result (λ next. IsRolled B.KEEPS_ENTRIES provider recorders.items now run
         next.totals next.provider next.recorders.items next.collectors.items) }
     ensures ended { OnOk result (let exports = IsExport E.export_gives E.text E.contents
         E.failures E.state provider.plan in
@@ -46,7 +46,7 @@ pub fn roll_over_all<R: Wait, B: Book, G: Gate, E: MetricExporter>(
         let flushes = IsFlush E.flush_gives E.text E.contents E.failures E.state in
         EndsClean provider now exports retries flushes exporter.old exporter.new readers.items) }
     ensures left { IfErr result (λ left. MatchResult left.rolled
-        (λ next. IsRolled B.KEEPS_ENTRIES provider recorders.items run
+        (λ next. IsRolled B.KEEPS_ENTRIES provider recorders.items now run
         next.totals next.provider next.recorders.items next.collectors.items)
         (λ unrolled. (unrolled.provider ≡ provider)
         × (unrolled.recorders.items ≡ recorders.items)
@@ -114,7 +114,7 @@ fn rolled<R: Wait, B: Book, G: Gate>(
     run: u64,
 ) -> Result<Rolled<B, G>, Unrolled<B, G>>
     ensures rolled { MatchResult result
-        (λ next. IsRolled B.KEEPS_ENTRIES provider recorders.items run
+        (λ next. IsRolled B.KEEPS_ENTRIES provider recorders.items start run
         next.totals next.provider next.recorders.items next.collectors.items)
         (λ unrolled. (unrolled.provider ≡ provider)
         × (unrolled.recorders.items ≡ recorders.items)

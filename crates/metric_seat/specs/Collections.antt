@@ -1,6 +1,6 @@
 -- What a reader's calls answer.
-use Rattle.std.specs.Prelude.{◌≡◌, ◌⊎◌, ◌<◌, ◌≤◌, ℕ, ◌++◌, List, Result, Ok, Err, Some, true, drop}
-use Rattle.std.specs.Prelude.{length, map, slice_get, slice_index, slice_set}
+use Rattle.std.specs.Prelude.{◌≡◌, ◌⊎◌, ◌<◌, ℕ, ◌++◌, List, Result, Ok, Err, Some, true, drop}
+use Rattle.std.specs.Prelude.{length, map, max, slice_get, slice_set}
 use Rattle.metric_base.specs.Steps.{◌>>=◌, require, require_some}
 use Rattle.metric_contents.specs.declared.refusal.Refusal.{Refusal}
 use Rattle.metric_contents.specs.declared.refusal.Refusal.TheVariants.{Stranger, UnknownInstrument}
@@ -8,8 +8,10 @@ use Rattle.metric_contents.specs.declared.refusal.Refusal.TheVariants.{Memory}
 use Rattle.metric_history.specs.declared.batch.Batch.{Batch}
 use Rattle.metric_facts.specs.declared.facts.Facts.{Facts}
 use Rattle.metric_safety.specs.WindowBounds.{IsReportWithin}
+use Rattle.metric_slot.specs.declared.seen.Seen.{Seen}
+use Rattle.metric_slot.specs.Sightings.{seen_of}
 use Rattle.metric_slot.specs.SlotAnswers.{Continues, ReportsJournal}
-use Rattle.metric_seat.specs.Seats.{CollectorValue, ProviderValue, is_collector_of}
+use Rattle.metric_seat.specs.Seats.{CollectorValue, ProviderValue, is_collector_of, seen_at}
 
 -- the facts of an instrument that a seat may collect of a provider, or the first refusal
 abbrev pub collectable : ProviderValue → CollectorValue → ℕ → Result Facts Refusal
@@ -18,13 +20,15 @@ collectable p seat instrument =
     require_some (slice_get p.plan.facts.instruments instrument) UnknownInstrument
 
 -- # next batch (SDK, collect) [IsNextBatch, AnswersEach]
--- It begins where the reader's last one ended (delta) or at the start (cumulative), at no earlier
--- time than was asked for, and reports recordings that the instrument may have accepted, as many as
--- it counts; so it is within the bounds of what it covers.
-pub record IsNextBatch (own : Facts) (reader seen now : ℕ) (batch : Batch) : Type 0 where
-  pub continues : Continues own reader seen batch
-  pub time : now ≤ batch.time
-  pub journal : ReportsJournal own reader seen batch
+-- It begins where and when the reader's last one ended (delta) or at the start of the run
+-- (cumulative), at the time that was asked for or, where that is later, at that of the last one, and
+-- reports recordings that the instrument may have accepted, as many as it counts; so it is within
+-- the bounds of what it covers.
+pub record IsNextBatch (own : Facts) (start reader : ℕ) (seen : Seen) (now : ℕ) (batch : Batch)
+    : Type 0 where
+  pub continues : Continues own start reader seen batch
+  pub time : batch.time ≡ max now seen.time
+  pub journal : ReportsJournal own reader seen.mark batch
   pub within : IsReportWithin own batch.from batch.mark batch.streams
 
 -- what refuses a collection under the lock
@@ -40,12 +44,13 @@ abbrev pub AnswersCollector : Result Facts Refusal → CollectorValue → ℕ �
 AnswersCollector (Err first) seat instrument now (Err refusal) = refusal ≡ first
 AnswersCollector (Err first) seat instrument now (Ok batch) = ⊥
 AnswersCollector (Ok own) seat instrument now (Ok batch) =
-    IsNextBatch own seat.number (slice_index seat.seen instrument) now batch
+    IsNextBatch own seat.start seat.number (seen_at seat instrument) now batch
 AnswersCollector (Ok own) seat instrument now (Err refusal) = RefusesCollection refusal
 
 -- the seat that has seen a batch of an instrument
-abbrev pub with_seen : CollectorValue → ℕ → ℕ → CollectorValue
-with_seen seat instrument mark = record seat { seen = slice_set seat.seen instrument mark }
+abbrev pub with_seen : CollectorValue → ℕ → Batch → CollectorValue
+with_seen seat instrument batch =
+    record seat { seen = slice_set seat.seen instrument (seen_of batch) }
 
 -- each batch is what a collection of the instrument of its place at a time is answered
 abbrev pub AnswersEach : ProviderValue → CollectorValue → ℕ → List Batch → Type 0
@@ -56,7 +61,7 @@ AnswersEach p seat now batches =
 -- the seat that has seen a batch of each of the first instruments
 abbrev pub with_all_seen : CollectorValue → List Batch → CollectorValue
 with_all_seen seat batches = record seat {
-  seen = map (λ (batch : Batch). batch.mark) batches ++ drop (length batches) seat.seen;
+  seen = map seen_of batches ++ drop (length batches) seat.seen;
 }
 
 -- A collection of an instrument at a time is answered this refusal. The plan has the

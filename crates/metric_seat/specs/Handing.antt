@@ -1,26 +1,27 @@
 -- What a seat hands on to what holds an instrument.
 use Rattle.std.specs.Prelude.{◌≡◌, ◌⊎◌, ℕ, ℤ, Bool, true, List, [], ◌∷◌, Result, Ok, Err}
-use Rattle.std.specs.Prelude.{IfSome, slice_get, slice_index}
+use Rattle.std.specs.Prelude.{IfSome, slice_get}
 use Rattle.metric_contents.specs.declared.refusal.Refusal.{Refusal}
 use Rattle.metric_facts.specs.declared.facts.Facts.{Facts}
 use Rattle.metric_history.specs.declared.batch.Batch.{Batch}
 use Rattle.metric_plan.specs.Plans.{PlanValue}
+use Rattle.metric_slot.specs.declared.seen.Seen.{Seen}
 use Rattle.metric_slot.specs.declared.told.Told.{Told}
 use Rattle.metric_seat.specs.declared.fault.SetsFault.{SetsFault}
 use Rattle.metric_seat.specs.declared.keys.Measurement.{Measurement}
 use Rattle.metric_seat.specs.KeyRecordings.{measurement_of}
 use Rattle.metric_seat.specs.Recordings.{RefusesSlip, told_at}
-use Rattle.metric_seat.specs.Seats.{CollectorValue, RecorderValue}
+use Rattle.metric_seat.specs.Seats.{CollectorValue, RecorderValue, seen_at}
 
 -- what recordings in a row come to: the instrument before and after them, the facts and what the
 -- recorder was told, which are brought, the recorder's number, the recordings, and their answer
 abbrev pub Records : Type 0 → Type 1
 Records H = H → H → Facts → Told → ℕ → List Measurement → Result (Unit {0}) SetsFault → Type 0
 
--- what a collection comes to: the instrument before and after it, the facts and what the reader has
--- seen, which are brought, the reader's number, the time, and its answer
+-- what a collection comes to: the instrument before and after it, the facts, the start of the run
+-- and what the reader has seen, which are brought, the reader's number, the time, and its answer
 abbrev pub Collects : Type 0 → Type 1
-Collects H = H → H → Facts → ℕ → ℕ → ℕ → Result Batch Refusal → Type 0
+Collects H = H → H → Facts → ℕ → Seen → ℕ → ℕ → Result Batch Refusal → Type 0
 
 -- # handed on (profile) [HandsOn, Hands, HandsOne, HandsReading]
 -- What holds the instrument was called with these recordings, for the seat's recorder, with the
@@ -72,4 +73,4 @@ abbrev pub HandsReading : {H : Type 0} → Collects H → Result Facts Refusal �
     → H → H → ℕ → Result Batch Refusal → Type 0
 HandsReading {H} collects (Err first) seat instrument old new now result = new ≡ old
 HandsReading {H} collects (Ok own) seat instrument old new now result =
-    collects old new own (slice_index seat.seen instrument) seat.number now result
+    collects old new own seat.start (seen_at seat instrument) seat.number now result

@@ -8,6 +8,7 @@ use Rattle.metric_core.specs.Cells.{CellValue}
 use Rattle.metric_facts.specs.declared.facts.Facts.{Facts}
 use Rattle.metric_history.specs.declared.batch.Batch.{Batch}
 use Rattle.metric_plan.specs.Plans.{PlanValue}
+use Rattle.metric_slot.specs.declared.seen.Seen.{Seen}
 use Rattle.metric_slot.specs.SlotAnswers.{AnswersRecorder, RefusesReader}
 use Rattle.metric_seat.specs.Recordings.{told_at}
 use Rattle.metric_seat.specs.Seats.{RecorderValue}
@@ -39,9 +40,9 @@ pub record IsReported {B : Type 0} (standing : B → Standing) (old new : CellVa
 
 -- # collection of a slot (SDK, collect) [CollectsSlot, IsReported]
 -- The batch of the reader's window; refused, exactly what the slot refuses, and nothing changed.
-abbrev pub CollectsSlot : {B : Type 0} → (B → Standing) → CellValue B → CellValue B → Facts → ℕ → ℕ
-    → ℕ → Result Batch Refusal → Type 0
-CollectsSlot {B} standing old new own seen reader now (Ok batch) =
+abbrev pub CollectsSlot : {B : Type 0} → (B → Standing) → CellValue B → CellValue B → Facts → ℕ
+    → Seen → ℕ → ℕ → Result Batch Refusal → Type 0
+CollectsSlot {B} standing old new own start seen reader now (Ok batch) =
     IsReported standing old new reader now batch
-CollectsSlot {B} standing old new own seen reader now (Err refusal) =
-    RefusesReader old own seen reader refusal × (new ≡ old)
+CollectsSlot {B} standing old new own start seen reader now (Err refusal) =
+    RefusesReader old own start seen reader refusal × (new ≡ old)

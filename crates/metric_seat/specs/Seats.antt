@@ -3,7 +3,9 @@ use Rattle.std.specs.Prelude.{ℕ, Bool, ◌&&◌, List, [], length, nat_lt, rep
 use Rattle.std.specs.Prelude.{◌==◌, if◌then◌else◌}
 use Rattle.metric_book.specs.declared.slip.Slip.{Slip}
 use Rattle.metric_plan.specs.Plans.{PlanValue}
+use Rattle.metric_slot.specs.declared.seen.Seen.{Seen}
 use Rattle.metric_slot.specs.declared.told.Told.{Told}
+use Rattle.metric_slot.specs.Sightings.{nothing_seen}
 
 -- the plan, and the number of the run
 pub record ProviderValue : Type 0 where
@@ -18,12 +20,13 @@ pub record RecorderValue : Type 0 where
   pub told : List Told
   pub slips : List (List Slip)
 
--- the number of the run, that of the reader, and how many recordings of each
--- instrument its last batch counted
+-- the number of the run and its start, the number of the reader, and what it has seen of each
+-- instrument
 pub record CollectorValue : Type 0 where
   pub run : ℕ
+  pub start : ℕ
   pub number : ℕ
-  pub seen : List ℕ
+  pub seen : List Seen
 
 abbrev pub provider_of : PlanValue → ℕ → ProviderValue
 provider_of plan run = record { plan = plan; run = run }
@@ -50,10 +53,18 @@ new_recorder keeps run instruments number = record {
 abbrev pub slips_at : RecorderValue → ℕ → List Slip
 slips_at seat instrument = slice_index_or seat.slips instrument []
 
--- the seat of a reader that has seen nothing
-abbrev pub new_collector : ℕ → ℕ → ℕ → CollectorValue
-new_collector run instruments number =
-    record { run = run; number = number; seen = replicate instruments 0 }
+-- the seat of a reader that has seen nothing of a run, which started then
+abbrev pub new_collector : ℕ → ℕ → ℕ → ℕ → CollectorValue
+new_collector run start instruments number = record {
+  run = run;
+  start = start;
+  number = number;
+  seen = replicate instruments (nothing_seen start);
+}
+
+-- what it has seen of the instrument of a number: nothing of one that there is not
+abbrev pub seen_at : CollectorValue → ℕ → Seen
+seen_at seat instrument = slice_index_or seat.seen instrument (nothing_seen seat.start)
 
 -- # seat of a provider (profile) [is_recorder_of, is_collector_of]
 -- It is of the same run, of a recorder (a reader) of the plan, and made for as many instruments;

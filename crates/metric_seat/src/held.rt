@@ -7,7 +7,9 @@ ghost use Rattle.metric_seat.specs.Collections.{IsNextBatch, RefusesCollection};
 ghost use Rattle.metric_seat.specs.KeyRecordings.{IsRecordable, IsRefusedUnder, told_each};
 ghost use Rattle.metric_seat.specs.declared.fault.SetsFault.{SetsFault as faults};
 ghost use Rattle.metric_seat.specs.declared.keys.Measurement.{Measurement as measurements};
+ghost use Rattle.metric_slot.specs.declared.seen.Seen.{Seen as sightings};
 ghost use Rattle.metric_slot.specs.declared.told.Told.{Told as tellings};
+ghost use Rattle.metric_slot.specs.Sightings.{seen_of};
 
 use crate::fault::SetsFault;
 use crate::keys::Measurement;
@@ -15,7 +17,7 @@ use metric_book::Book;
 use metric_contents::Refusal;
 use metric_facts::Facts;
 use metric_history::Batch;
-use metric_slot::{Slot, Told};
+use metric_slot::{Seen, Slot, Told};
 use std::alloc::Global;
 
 /// An instrument with a book of type `B`, on which recorders record. As a trait, so that a seat cannot but call it:
@@ -45,41 +47,45 @@ pub trait Held<B: Book> {
 
 /// An instrument of which readers collect. As a trait, so that a seat cannot but call it, as [`Held`].
 pub trait Collected {
-    // What a collection comes to: the instrument before and after it, the facts and what the reader has seen, which are
-    // brought, the reader's number, the time, and its answer.
-    ghost collects: { Self → Self → declared_facts → ℕ → ℕ → ℕ → Result batches refusals → Type 0 };
+    // What a collection comes to: the instrument before and after it, the facts, the start of the run and what the reader
+    // has seen, which are brought, the reader's number, the time, and its answer.
+    ghost collects: { Self → Self → declared_facts → ℕ → sightings → ℕ → ℕ
+        → Result batches refusals → Type 0 };
 
-    /// Makes a collection at a time in nanoseconds, which the reader has then seen.
+    /// Makes a collection at a time in nanoseconds, in a run that started at another; the reader has then seen it.
     fn collect(
         &mut self,
         alloc: Global,
         facts: &Facts,
-        seen: &mut u64,
+        start: u64,
+        seen: &mut Seen,
         reader: u32,
         now: u64,
     ) -> Result<Batch, Refusal>
         requires { reader < length facts.now.delta }
-        ensures batch { IfOk result (λ batch. IsNextBatch facts.now reader seen.old now batch) }
-        ensures seen { IfOk result (λ batch. seen.new ≡ batch.mark) }
+        ensures batch { IfOk result (λ batch.
+            IsNextBatch facts.now start reader seen.old now batch) }
+        ensures seen { IfOk result (λ batch. seen.new ≡ seen_of batch) }
         ensures refused { IfErr result (λ refusal. RefusesCollection refusal) }
         ensures seen_err { OnErr result (seen.new ≡ seen.old) }
-        ensures made { collects self.old self.new facts.now seen.old reader now result };
+        ensures made { collects self.old self.new facts.now start seen.old reader now result };
 }
 
 impl<B: Book> Collected for Slot<B> {
     ghost use Rattle.metric_seat.specs.OneSlot.{CollectsSlot};
 
-    ghost collects = { λ old new own seen reader now result.
-        CollectsSlot B.stands old new own seen reader now result };
+    ghost collects = { λ old new own start seen reader now result.
+        CollectsSlot B.stands old new own start seen reader now result };
 
     fn collect(
         &mut self,
         alloc: Global,
         facts: &Facts,
-        seen: &mut u64,
+        start: u64,
+        seen: &mut Seen,
         reader: u32,
         now: u64,
     ) -> Result<Batch, Refusal> {
-        Slot::collect(self, alloc, facts, seen, reader, now)
+        Slot::collect(self, alloc, facts, start, seen, reader, now)
     }
 }

@@ -1,26 +1,30 @@
 //! The seat of a reader.
 ghost use Rattle.std.specs.Prelude.{◌≡◌, slice_get, IfOk, OnErr};
+ghost use Rattle.std.specs.Option.{option_map};
 ghost use Rattle.metric_seat.specs.Collections.{AnswersCollector, collectable, with_seen};
 ghost use Rattle.metric_seat.specs.Handing.{HandsReading};
 ghost use Rattle.metric_seat.specs.Seats.{is_collector_of, new_collector, provider_of};
+ghost use Rattle.metric_slot.specs.declared.seen.Seen.{Seen as sightings};
 
 use crate::held::Collected;
 use metric_contents::Refusal;
 use metric_history::Batch;
 use metric_plan::Plan;
+use metric_slot::Seen;
 use std::alloc::{AllocError, Global};
 use std::marker::Model;
 
-/// The seat of one reader in one run of a plan: with it a thread collects (Metrics SDK, collect). It keeps how many
-/// recordings of each instrument the reader's last batch counted, so that the windows of a delta reader leave no gap
-/// and no overlap.
+/// The seat of one reader in one run of a plan: with it a thread collects (Metrics SDK, collect). It keeps when the run
+/// started, and for each instrument how many recordings the reader's last batch counted, and its time: so the windows
+/// of a delta reader leave no gap and no overlap, and those of a cumulative one begin with the run.
 ///
 /// A call that takes a plan and a run takes those of the instrument that is collected.
 #[derive(Drop)]
 pub struct ReaderSeat {
     run: u64,
+    start: u64,
     number: u32,
-    seen: Vec<u64>,
+    seen: Vec<Seen>,
 }
 
 impl Model for ReaderSeat {
@@ -28,22 +32,33 @@ impl Model for ReaderSeat {
 
     ghost Value = { CollectorValue };
 
-    ghost view = { λ c. record { run = c.run; number = c.number; seen = c.seen.items } };
+    ghost view = { λ c. record {
+      run = c.run;
+      start = c.start;
+      number = c.number;
+      seen = c.seen.items;
+    } };
 }
 
 impl ReaderSeat {
-    /// The seat of the reader of this number in the run of this number, which has seen nothing, for so many
-    /// instruments. Fails only where memory is refused.
+    /// The seat of the reader of this number in the run of this number, which started at a time in nanoseconds, for so
+    /// many instruments; it has seen nothing. Fails only where memory is refused.
     pub fn new(
         alloc: Global,
         run: u64,
+        start: u64,
         number: u32,
         instruments: usize,
     ) -> Result<ReaderSeat, AllocError>
-        ensures { IfOk result (λ seat. seat ≡ new_collector run instruments number) }
+        ensures { IfOk result (λ seat. seat ≡ new_collector run start instruments number) }
     {
-        let seen = vec![in alloc; 0; instruments]?;
-        Ok(ReaderSeat { run, number, seen })
+        let seen = vec![in alloc; Seen::nothing(start); instruments]?;
+        Ok(ReaderSeat {
+            run,
+            start,
+            number,
+            seen,
+        })
     }
 
     /// The number of the reader.
@@ -56,14 +71,15 @@ impl ReaderSeat {
     /// How many recordings of an instrument the reader's last batch counted, 0 before one; nothing for an unknown
     /// instrument.
     pub fn seen(&self, instrument: u32) -> Option<u64>
-        ensures { result ≡ slice_get self.now.seen instrument }
+        ensures { let mark = λ (seen : sightings). seen.mark in
+            result ≡ option_map mark (slice_get self.now.seen instrument) }
     {
-        self.seen.get(instrument as usize).copied()
+        self.seen.get(instrument as usize).map(|seen| seen.mark)
     }
 
     /// What the reader is told of an instrument at a time in nanoseconds, in one call of what holds it: its points
-    /// since its last batch (delta) or since the start (cumulative) (Metrics SDK, collect). Where the reader's last
-    /// batch has a later time, this one has that too.
+    /// since its last batch (delta) or since the start of the run (cumulative) (Metrics SDK, collect). Where the
+    /// reader's last batch has a later time, this one has that too.
     ///
     /// # Errors
     ///
@@ -81,7 +97,7 @@ impl ReaderSeat {
     ) -> Result<Batch, Refusal>
         ensures answer { let allowed = collectable (provider_of plan.now run) self.old instrument in
             AnswersCollector allowed self.old instrument now result }
-        ensures seen { IfOk result (λ batch. self.new ≡ with_seen self.old instrument batch.mark) }
+        ensures seen { IfOk result (λ batch. self.new ≡ with_seen self.old instrument batch) }
         ensures err { OnErr result (self.new ≡ self.old) }
         ensures handed { let allowed = collectable (provider_of plan.now run) self.old instrument in
             HandsReading H.collects allowed self.old instrument held.old held.new now result }
@@ -94,9 +110,9 @@ impl ReaderSeat {
             return Err(Refusal::UnknownInstrument);
         }
         let facts = plan.facts(instrument);
-        let number = self.number;
+        let (start, number) = (self.start, self.number);
         let seen = &mut self.seen[at];
-        held.collect(alloc, facts, seen, number, now)
+        held.collect(alloc, facts, start, seen, number, now)
     }
 
     /// Whether the seat is of this run of the plan: of its number, made for as many instruments, and of one of its

@@ -19,6 +19,7 @@ use Rattle.metric_safety.specs.AdmissionLaws.{admitted, admitted_more}
 use Rattle.metric_safety.specs.SafeFacts.{IsJournal, IsSafeFacts, total}
 use Rattle.metric_safety.specs.WindowBounds.{BoundsReports, FitsJournals, IsReportWithin}
 use Rattle.metric_slot.proofs.BudgetLaws.{amount_room, element_le}
+use Rattle.metric_slot.specs.declared.seen.Seen.{Seen}
 use Rattle.metric_slot.specs.declared.told.Told.{Told}
 use Rattle.metric_slot.specs.SlotAnswers.{AnswersRecorder, Continues, ReportsJournal}
 use Rattle.metric_slot.specs.Slots.{IsOwnReader, IsOwnRecorder}
@@ -94,18 +95,28 @@ batch_within stands c own reader now told law safe k same reports =
     (subst (λ (b : Batch). IsReportWithin c.facts b.from b.mark b.streams) (sym (reports k.journal k.known))
     (law c.facts k.journal reader (slice_index c.marks reader) safe (kept_journal stands c k)))
 
--- what a reader is told is of no earlier time than it was asked for
-pub batch_time : {B : Type 0} (stands : B → Standing) (c : CellValue B) (reader now : ℕ) (told : Batch) → CellKept stands c → ReportsBatch stands c reader now told
-    → now ≤ told.time
-batch_time stands c reader now told k reports =
-    let is : told.time ≡ max now (slice_index_or c.times reader c.start) = ap (λ (b : Batch). b.time) (reports k.journal k.known) in
-    omega (arith, is)
+-- what a reader is told is of the time that it was asked for, or of the last time
+pub batch_time : {B : Type 0} (stands : B → Standing) (c : CellValue B) (own : Facts) (start reader : ℕ) (seen : Seen) (now : ℕ) (told : Batch) → CellKept stands c
+    → IsOwnReader c own start seen reader → ReportsBatch stands c reader now told
+    → told.time ≡ max now seen.time
+batch_time stands c own start reader seen now told k mine reports =
+    ap (λ (b : Batch). b.time) (reports k.journal k.known) ∙ ap (λ (n : ℕ). max now n) mine.time
+
+-- and starts when its last batch was, or when the run did
+pub batch_start : {B : Type 0} (stands : B → Standing) (c : CellValue B) (own : Facts) (start reader : ℕ) (seen : Seen) (now : ℕ) (told : Batch) → CellKept stands c
+    → IsOwnReader c own start seen reader → ReportsBatch stands c reader now told
+    → told.start ≡ (if is_delta own reader then seen.time else start)
+batch_start stands c own start reader seen now told k mine reports =
+    ap (λ (b : Batch). b.start) (reports k.journal k.known)
+    ∙ ap (λ (f : Facts). if is_delta f reader then slice_index_or c.times reader c.start else c.start) mine.facts
+    ∙ ap (λ (n : ℕ). if is_delta own reader then n else c.start) mine.time
+    ∙ ap (λ (n : ℕ). if is_delta own reader then seen.time else n) mine.start
 
 -- what a reader is told is of the recordings of the cell
-pub batch_journal : {B : Type 0} (stands : B → Standing) (c : CellValue B) (own : Facts) (reader seen now : ℕ) (told : Batch)
-    → CellKept stands c → IsOwnReader c own seen reader → ReportsBatch stands c reader now told
-    → ReportsJournal own reader seen told
-batch_journal stands c own reader seen now told k mine reports =
+pub batch_journal : {B : Type 0} (stands : B → Standing) (c : CellValue B) (own : Facts) (start reader : ℕ) (seen : Seen) (now : ℕ) (told : Batch)
+    → CellKept stands c → IsOwnReader c own start seen reader → ReportsBatch stands c reader now told
+    → ReportsJournal own reader seen.mark told
+batch_journal stands c own start reader seen now told k mine reports =
     let is = reports k.journal k.known in
     record {
       journal = k.journal;
@@ -114,16 +125,35 @@ batch_journal stands c own reader seen now told k mine reports =
       streams =
           ap (λ (b : Batch). b.streams) is
           ∙ ap (λ (n : ℕ). reported c.facts reader (window (is_delta c.facts reader) n k.journal)) mine.mark
-          ∙ ap (λ (f : Facts). reported f reader (window (is_delta f reader) seen k.journal)) mine.facts;
+          ∙ ap (λ (f : Facts). reported f reader (window (is_delta f reader) seen.mark k.journal)) mine.facts;
+    }
+
+-- and goes on where that was
+pub batch_continues : {B : Type 0} (stands : B → Standing) (c : CellValue B) (own : Facts) (start reader : ℕ) (seen : Seen) (now : ℕ) (told : Batch) → CellKept stands c
+    → IsOwnReader c own start seen reader → ReportsBatch stands c reader now told
+    → Continues own start reader seen told
+batch_continues stands c own start reader seen now told k mine reports =
+    let is = reports k.journal k.known in
+    let marked : told.mark ≡ length k.journal = ap (λ (b : Batch). b.mark) is in
+    record {
+      plan = ap (λ (b : Batch). b.plan) is ∙ ap (λ (f : Facts). f.plan) mine.facts;
+      reader = ap (λ (b : Batch). b.reader) is;
+      instrument = ap (λ (b : Batch). b.instrument) is ∙ ap (λ (f : Facts). f.instrument) mine.facts;
+      from =
+          ap (λ (b : Batch). b.from) is
+          ∙ ap (λ (f : Facts). if is_delta f reader then slice_index c.marks reader else 0) mine.facts
+          ∙ ap (λ (n : ℕ). if is_delta own reader then n else 0) mine.mark;
+      mark = omega (arith, mine.mark, k.past reader, k.known.counted, marked);
+      start = batch_start stands c own start reader seen now told k mine reports;
     }
 
 -- such a batch is within the bounds
-pub journal_within : (own : Facts) (reader seen : ℕ) (told : Batch) → BoundsReports → IsSafeFacts own → Continues own reader seen told
-    → ReportsJournal own reader seen told → IsReportWithin own told.from told.mark told.streams
-journal_within own reader seen told law safe goes of =
-    let start : ℕ = if is_delta own reader then seen else 0 in
-    let shown : List StreamPoints = reported own reader (window (is_delta own reader) seen of.journal) in
+pub journal_within : (own : Facts) (start reader : ℕ) (seen : Seen) (told : Batch) → BoundsReports → IsSafeFacts own → Continues own start reader seen told
+    → ReportsJournal own reader seen.mark told → IsReportWithin own told.from told.mark told.streams
+journal_within own start reader seen told law safe goes of =
+    let from : ℕ = if is_delta own reader then seen.mark else 0 in
+    let shown : List StreamPoints = reported own reader (window (is_delta own reader) seen.mark of.journal) in
     subst (λ (n : ℕ). IsReportWithin own n told.mark told.streams) (sym goes.from)
-    (subst (λ (n : ℕ). IsReportWithin own start n told.streams) of.counted
-    (subst (λ (all : List StreamPoints). IsReportWithin own start (length of.journal) all) (sym of.streams)
-    (law own of.journal reader seen safe of.admitted)))
+    (subst (λ (n : ℕ). IsReportWithin own from n told.streams) of.counted
+    (subst (λ (all : List StreamPoints). IsReportWithin own from (length of.journal) all) (sym of.streams)
+    (law own of.journal reader seen.mark safe of.admitted)))

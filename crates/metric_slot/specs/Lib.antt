@@ -1,3 +1,4 @@
 pub mod Tellings
+pub mod Sightings
 pub mod Slots
 pub mod SlotAnswers

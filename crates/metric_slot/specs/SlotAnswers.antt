@@ -13,6 +13,7 @@ use Rattle.metric_history.specs.Points.{reported}
 use Rattle.metric_history.specs.Windows.{window}
 use Rattle.metric_safety.specs.SafeFacts.{IsJournal, IsSafeFacts}
 use Rattle.metric_safety.specs.WindowBounds.{IsReportWithin}
+use Rattle.metric_slot.specs.declared.seen.Seen.{Seen}
 use Rattle.metric_slot.specs.declared.told.Told.{Told}
 use Rattle.metric_slot.specs.Slots.{IsOwnReader, IsOwnRecorder}
 
@@ -35,14 +36,15 @@ AnswersGranter c facts amount (Err Stranger) = c.facts ≡ facts → ⊥
 AnswersGranter c facts amount result = (c.facts ≡ facts) × AnswersGrant c amount result
 
 -- # goes on (SDK, collect)
--- A batch begins where the reader's last one ended (delta) or at the start (cumulative), and counts
--- no fewer recordings than were seen.
-pub record Continues (facts : Facts) (of seen : ℕ) (told : Batch) : Type 0 where
+-- A batch begins where and when the reader's last one ended (delta) or at the start of the run
+-- (cumulative), and counts no fewer recordings than were seen.
+pub record Continues (facts : Facts) (start of : ℕ) (seen : Seen) (told : Batch) : Type 0 where
   pub plan : told.plan ≡ facts.plan
   pub reader : told.reader ≡ of
   pub instrument : told.instrument ≡ facts.instrument
-  pub from : told.from ≡ (if is_delta facts of then seen else 0)
-  pub mark : seen ≤ told.mark
+  pub from : told.from ≡ (if is_delta facts of then seen.mark else 0)
+  pub mark : seen.mark ≤ told.mark
+  pub start : told.start ≡ (if is_delta facts of then seen.time else start)
 
 -- A batch reports recordings that the instrument may have accepted, as many as it counts: its
 -- streams are those of the reader, and each has the points of their window, which is those after
@@ -58,13 +60,13 @@ pub record ReportsJournal (facts : Facts) (of seen : ℕ) (told : Batch) : Type 
 -- covers, which are at most the budgets together.
 abbrev pub WithinReports : Type 0
 WithinReports =
-    (own : Facts) (reader seen : ℕ) (told : Batch) → IsSafeFacts own
-    → Continues own reader seen told → ReportsJournal own reader seen told
+    (own : Facts) (start reader : ℕ) (seen : Seen) (told : Batch) → IsSafeFacts own
+    → Continues own start reader seen told → ReportsJournal own reader seen.mark told
     → IsReportWithin own told.from told.mark told.streams
 
 -- what a collection is refused: `Stranger` exactly where the reader's numbers
 -- are not the cell's, else `Memory`
-abbrev pub RefusesReader : {B : Type 0} → CellValue B → Facts → ℕ → ℕ → Refusal → Type 0
-RefusesReader c facts seen reader Stranger = IsOwnReader c facts seen reader → ⊥
-RefusesReader c facts seen reader Memory = IsOwnReader c facts seen reader
-RefusesReader c facts seen reader other = ⊥
+abbrev pub RefusesReader : {B : Type 0} → CellValue B → Facts → ℕ → Seen → ℕ → Refusal → Type 0
+RefusesReader c facts start seen reader Stranger = IsOwnReader c facts start seen reader → ⊥
+RefusesReader c facts start seen reader Memory = IsOwnReader c facts start seen reader
+RefusesReader c facts start seen reader other = ⊥

@@ -1,10 +1,12 @@
 -- What stands behind a lock, and whose a call may be.
 use Rattle.std.specs.Prelude.{◌≡◌, ℕ, IsTrue, List, Some, pos, ◌≤ℤ◌, slice_get, slice_index}
+use Rattle.std.specs.Prelude.{slice_index_or}
 use Rattle.metric_bounds.specs.Amounts.{amount_with}
 use Rattle.metric_core.specs.Cells.{CellValue}
 use Rattle.metric_facts.specs.declared.facts.Facts.{Facts}
 use Rattle.metric_plan.specs.Plans.{IsPlan, PlanValue}
 use Rattle.metric_safety.specs.SafeFacts.{IsSafeFacts}
+use Rattle.metric_slot.specs.declared.seen.Seen.{Seen}
 use Rattle.metric_slot.specs.declared.told.Told.{Told}
 
 -- # certified facts (profile) [IsCertified, AreCertified]
@@ -31,8 +33,11 @@ pub record IsOwnRecorder {B : Type 0} (c : CellValue B) (own : Facts) (told : To
   pub amount : pos told.amount ≤ℤ amount_with told.count own.lo own.hi
 
 -- # own reader (profile)
--- The cell has the facts that the call brings, and the reader's last batch counted as many
--- recordings as it has seen.
-pub record IsOwnReader {B : Type 0} (c : CellValue B) (own : Facts) (seen reader : ℕ) : Type 0 where
+-- The cell has the facts that the call brings and the start of its run, and the reader's last batch
+-- counted as many recordings as it has seen, at the time that it has seen.
+pub record IsOwnReader {B : Type 0} (c : CellValue B) (own : Facts) (start : ℕ) (seen : Seen)
+    (reader : ℕ) : Type 0 where
   pub facts : c.facts ≡ own
-  pub mark : slice_index c.marks reader ≡ seen
+  pub start : c.start ≡ start
+  pub mark : slice_index c.marks reader ≡ seen.mark
+  pub time : slice_index_or c.times reader c.start ≡ seen.time

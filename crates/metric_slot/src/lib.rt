@@ -6,11 +6,13 @@
 #![tactic(auto)]
 
 mod safety;
+mod seen;
 mod slot;
 mod sums;
 mod told;
 
 pub use safety::{certified_facts_are_safe, journal_reports_are_within};
+pub use seen::Seen;
 pub use slot::Slot;
 pub use sums::{is_above, least_sum};
 pub use told::Told;

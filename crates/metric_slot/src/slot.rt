@@ -1,15 +1,17 @@
 //! The cell of one instrument as it stands behind a lock.
-ghost use Rattle.std.specs.Prelude.{◌≡◌, ◌≢◌, ◌↔◌, ◌<◌, ◌≤◌, ◌≤ℤ◌, Some, IsTrue, [], true, length, slice_get, slice_index, IfOk, IfErr, OnOk, OnErr};
+ghost use Rattle.std.specs.Prelude.{◌≡◌, ◌≢◌, ◌↔◌, ◌<◌, ◌≤◌, ◌≤ℤ◌, Some, IsTrue, [], true, length, max, slice_get, slice_index, IfOk, IfErr, OnOk, OnErr};
 ghost use Rattle.metric_core.specs.Cells.{CellKept, CellStands, new_cell};
 ghost use Rattle.metric_core.specs.CellAnswers.{AnswersClose, AnswersGrant, GainsEntry, KeepsJournal, ReportsBatch, entry_of, with_batch, with_entry, with_grant};
 ghost use Rattle.metric_facts.specs.Facts.{in_bounds, is_allowed_set};
 ghost use Rattle.metric_safety.specs.SafeFacts.{IsSafeFacts};
 ghost use Rattle.metric_safety.specs.WindowBounds.{IsReportWithin};
 ghost use Rattle.metric_slot.specs.Slots.{IsCertified, IsOwnReader, IsOwnRecorder};
+ghost use Rattle.metric_slot.specs.Sightings.{seen_of};
 ghost use Rattle.metric_slot.specs.SlotAnswers.{AnswersGranter, AnswersRecorder, Continues, RefusesReader, ReportsJournal};
 ghost use Rattle.metric_slot.specs.Tellings.{HasRoom, told_more};
 
 use crate::safety::certified_facts_are_safe;
+use crate::seen::Seen;
 use crate::told::Told;
 use metric_book::Book;
 use metric_contents::{Refusal, SetKey};
@@ -131,15 +133,17 @@ impl<B: Book> Slot<B> {
         same_facts(self.cell.facts(), facts)
     }
 
-    /// What a reader that has seen so many recordings is told at a time in nanoseconds: its points since its last
-    /// collection (delta) or since the start (cumulative) (Metrics SDK, collect). It has then seen as many as the batch counts. `Stranger`
-    /// comes exactly where the cell's facts are not these, or the reader's last batch did not count what was seen; the
+    /// What a reader that has seen so much is told at a time in nanoseconds, in a run that started at another: its
+    /// points since its last collection (delta) or since the start (cumulative) (Metrics SDK, collect). The batch has
+    /// that time, or the time of the last one where that is later, and has then been seen. `Stranger` comes exactly
+    /// where the cell's facts or its start are not these, or the reader's last batch is not the one that was seen; the
     /// only other refusal is `Memory`.
     pub fn collect(
         &mut self,
         alloc: Global,
         facts: &Facts,
-        seen: &mut u64,
+        start: u64,
+        seen: &mut Seen,
         reader: u32,
         now: u64,
     ) -> Result<Batch, Refusal>
@@ -148,24 +152,27 @@ impl<B: Book> Slot<B> {
         ensures new { IfOk result (λ batch.
             self.new ≡ with_batch self.old reader batch.time self.new.book) }
         ensures stands { OnOk result (KeepsJournal B.stands self.old self.new) }
-        ensures time { IfOk result (λ batch. now ≤ batch.time) }
-        ensures continues { IfOk result (λ batch. Continues facts.now reader seen.old batch) }
-        ensures journal { IfOk result (λ batch. ReportsJournal facts.now reader seen.old batch) }
+        ensures time { IfOk result (λ batch. batch.time ≡ max now seen.old.time) }
+        ensures continues { IfOk result (λ batch.
+            Continues facts.now start reader seen.old batch) }
+        ensures journal { IfOk result (λ batch.
+            ReportsJournal facts.now reader seen.old.mark batch) }
         ensures within { IfOk result (λ batch.
             IsReportWithin facts.now batch.from batch.mark batch.streams) }
-        ensures seen { IfOk result (λ batch. seen.new ≡ batch.mark) }
-        ensures refused { IfErr result (RefusesReader self.old facts.now seen.old reader) }
+        ensures seen { IfOk result (λ batch. seen.new ≡ seen_of batch) }
+        ensures refused { IfErr result (
+            RefusesReader self.old facts.now start seen.old reader) }
         ensures err { OnErr result (self.new ≡ self.old) }
         ensures seen_err { OnErr result (seen.new ≡ seen.old) }
     {
-        if !is_own_reader(&self.cell, facts, *seen, reader) {
+        if !is_own_reader(&self.cell, facts, start, seen, reader) {
             return Err(Refusal::Stranger);
         }
         journals_are_bounded();
         // For the proof alone: what a cell keeps.
         let _ = self.cell.facts();
         let batch = self.cell.collect(alloc, reader, now)?;
-        *seen = batch.mark;
+        *seen = Seen::of(&batch);
         Ok(batch)
     }
 
@@ -271,9 +278,19 @@ fn is_own_recorder<B: Book>(cell: &Cell<B>, facts: &Facts, told: &Told, recorder
     cell.spent(recorder) == told.count && told.is_within(facts)
 }
 
-// Whether the cell has these facts, and the reader's last batch counted what was seen.
-fn is_own_reader<B: Book>(cell: &Cell<B>, facts: &Facts, seen: u64, reader: u32) -> bool
-    ensures { IsTrue result ↔ IsOwnReader cell.now facts.now seen reader }
+// Whether the cell has these facts and this start, and the reader's last batch is the one that was seen.
+fn is_own_reader<B: Book>(
+    cell: &Cell<B>,
+    facts: &Facts,
+    start: u64,
+    seen: &Seen,
+    reader: u32,
+) -> bool
+    ensures { IsTrue result ↔ IsOwnReader cell.now facts.now start seen.now reader }
 {
-    same_facts(cell.facts(), facts) && cell.mark_of(reader) == seen
+    let last = Seen {
+        mark: cell.mark_of(reader),
+        time: cell.time_of(reader),
+    };
+    same_facts(cell.facts(), facts) && cell.start() == start && last == *seen
 }

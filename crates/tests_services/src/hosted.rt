@@ -113,7 +113,7 @@ fn held_of<'a, R: Abort>(rt: &R, alloc: Global, plan: &'a Plan, run: u64) -> Hel
         plan,
         instrument: Hosted::new(alloc, plan, 0, 7, 1).or_fail(rt),
         recorder: RecorderSeat::new(alloc, run, 0, instruments, false).or_fail(rt),
-        reader: ReaderSeat::new(alloc, run, 0, instruments).or_fail(rt),
+        reader: ReaderSeat::new(alloc, run, 7, 0, instruments).or_fail(rt),
     }
 }
 

@@ -7,7 +7,7 @@ use crate::texts::{write_batch, write_numbers};
 use metric_facts::{Facts, is_allowed_set};
 use metric_marked::Marked;
 use metric_plan::Plan;
-use metric_provider::{NoGate, Recorder, Slot, Told, settle, start};
+use metric_provider::{NoGate, Recorder, Seen, Slot, Told, settle, start};
 use metric_sdk::certified_plan;
 use std::alloc::{AllocError, Global};
 use std::process::Abort;
@@ -28,7 +28,13 @@ fn write_recorded<R: Abort>(out: &mut String, rt: &R, slot: &mut Slot<Marked>, f
     writeln!(out, "{answer:?} {told:?}").or_fail(rt);
 }
 
-// Writes the batch of the first reader, and what that has seen.
+// Another start than the slot's with what was seen, and with its start another count and another time.
+fn others_of(seen: Seen) -> [(u64, Seen); 3] {
+    let (mark, time) = (seen.mark, seen.time);
+    [(1, seen), (0, Seen { mark: 0, time }), (0, Seen { mark, time: 9 })]
+}
+
+// Writes the batch of the first reader, and what that has seen; then what it is told that has seen something else.
 fn write_collected<R: Abort>(
     out: &mut String,
     rt: &R,
@@ -39,10 +45,17 @@ fn write_collected<R: Abort>(
     if facts.delta.is_empty() {
         panic!(rt; "no reader");
     }
-    let mut seen = 0;
-    let batch = slot.collect(alloc, facts, &mut seen, 0, 10).or_fail(rt);
+    let mut seen = Seen::nothing(0);
+    let batch = slot.collect(alloc, facts, 0, &mut seen, 0, 10).or_fail(rt);
     write_batch(out, rt, &batch);
-    write_numbers(out, rt, &[("seen ", seen), (" of ", slot.cell().count())]);
+    let count = slot.cell().count();
+    write_numbers(out, rt, &[("seen ", seen.mark), (" of ", count), (" at ", seen.time)]);
+    for (start, seen) in others_of(seen) {
+        let mut told = seen;
+        let answer = slot.collect(alloc, facts, start, &mut told, 0, 20);
+        let is_same = told == seen;
+        writeln!(out, ", {:?} {is_same}", answer.err()).or_fail(rt);
+    }
 }
 
 // Writes the answers to a recording and a collection, and to two ends.
@@ -130,7 +143,7 @@ const SLOTS: &[(bool, &str)] = &[
         true,
         "Ok(()) Told { count: 1, amount: 5 }
 0 0, 0 to 1, 0 to 10: stream 0 [0 0] 5
-seen 1 of 1, ends [Ok(()), Err(Closed)]
+seen 1 of 1 at 10, Some(Stranger) true, Some(Stranger) true, Some(Stranger) true, ends [Ok(()), Err(Closed)]
 3 AuditMismatch
 ",
     ),

@@ -38,7 +38,7 @@ place-requires-in-Ok-2 c =
     let long : length all ≡ count =
     sym (length-map all (λ (handle : ReaderHandle). handle.value))
     ∙ ap length c.in-Ok.ensures.readers
-    ∙ length-map-range_with_len (new_reader_of c.args.plan.now c.args.run) 0 count in
+    ∙ length-map-range_with_len (new_reader_of c.args.plan.now c.args.start c.args.run) 0 count in
     omega (arith, long, (has_room c.counts_of.result _ _ _ (sym c.lacks_handles.ensures ∙ c.if-lacks_handles.false)).2, ap (λ (counts : Counts). counts.readers) c.counts_of.ensures, ap (λ (p : PlanValue). length p.config.readers) c.get.ensures)
 
 pub returns-in-Ok-clause-opened : goal.returns-in-Ok-clause-opened

@@ -3,4 +3,4 @@ use Rattle.metric_slot.proofs.SlotLaws.{journal_within}
 use Rattle.metric_slot.proofs.safety.journal_reports_are_within.Goals as goal
 
 pub returns : goal.returns
-returns c own reader seen told safe goes of = journal_within own reader seen told c.journals_are_bounded.ensures.reports safe goes of
+returns c own start reader seen told safe goes of = journal_within own start reader seen told c.journals_are_bounded.ensures.reports safe goes of
