@@ -217,9 +217,9 @@ impl<B: Book> Cell<B> {
         Ok(())
     }
 
-    /// Grants a recorder so many recordings beside its budget, of what is left of the instrument's spare budget. `Closed`
-    /// comes exactly where the instrument is closed, else `NoSpare` exactly where more is asked for than is left. Takes no
-    /// memory.
+    /// Grants a recorder so many recordings beside its budget, of what is left of the instrument's spare budget.
+    /// `Closed` comes exactly where the instrument is closed, else `NoSpare` exactly where more is asked for than is
+    /// left. Takes no memory.
     pub fn grant(&mut self, recorder: u32, amount: u64) -> Result<(), Refusal>
         requires { recorder < length self.old.facts.budgets }
         ensures answer { AnswersGrant self.old amount result }

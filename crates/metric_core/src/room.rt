@@ -6,8 +6,8 @@ use std::alloc::{AllocError, Global};
 // 128 bytes of numbers: two lines of cache, since a processor fetches them in pairs.
 const SPARE: usize = 16;
 
-// So many times the same number. Behind the list is room that nobody writes, so that what the allocator hands out next lies
-// on other lines of cache: an instrument's recordings do not slow down those of another one.
+// So many times the same number. Behind the list is room that nobody writes, so that what the allocator hands out next
+// lies on other lines of cache: an instrument's recordings do not slow down those of another one.
 pub(crate) fn numbers_apart(
     alloc: Global,
     number: u64,

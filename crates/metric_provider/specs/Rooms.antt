@@ -59,7 +59,8 @@ AnswersRoom is_own None recorder told (Err Stranger) = is_own ≡ false
 AnswersRoom is_own None recorder told (Err other) = ⊥
 AnswersRoom is_own (Some own) recorder told (Ok room) =
     (is_own ≡ true) × IsRoomWithin own recorder told room
-AnswersRoom is_own (Some own) recorder told (Err UnknownRecorder) = length own.budgets ≤ recorder
+AnswersRoom is_own (Some own) recorder told (Err UnknownRecorder) =
+    (is_own ≡ true) × (length own.budgets ≤ recorder)
 AnswersRoom is_own (Some own) recorder told (Err refusal) = refusal ≡ Stranger
 
 -- the same of a spare

@@ -9,9 +9,9 @@ use Rattle.metric_seat.specs.Seats.{CollectorValue, ProviderValue}
 -- # windows that meet (SDK, temporality) [Meets, WindowsMeet]
 -- A reader's batch begins where and when its batch before that ended (delta), or where and when the
 -- run did (cumulative); it counts no fewer recordings and is of no earlier time.
-pub record Meets (own : Facts) (start reader : ℕ) (before after : Batch) : Type 0 where
+pub record Meets (own : Facts) (began reader : ℕ) (before after : Batch) : Type 0 where
   pub from : after.from ≡ (if is_delta own reader then before.mark else 0)
-  pub start : after.start ≡ (if is_delta own reader then before.time else start)
+  pub start : after.start ≡ (if is_delta own reader then before.time else began)
   pub mark : before.mark ≤ after.mark
   pub time : before.time ≤ after.time
 
@@ -22,8 +22,8 @@ WindowsMeet =
     (before after : Batch)
     → slice_get p.plan.facts.instruments instrument ≡ Some own
     → (let asked = collectable p seat instrument in
-      AnswersCollector asked seat instrument first (Ok before))
+    AnswersCollector asked seat instrument first (Ok before))
     → (let seen = with_seen seat instrument before in
-      let asked = collectable p seen instrument in
-      AnswersCollector asked seen instrument later (Ok after))
+    let asked = collectable p seen instrument in
+    AnswersCollector asked seen instrument later (Ok after))
     → Meets own seat.start seat.number before after

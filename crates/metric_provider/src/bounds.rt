@@ -24,5 +24,4 @@ pub fn batches_are_bounded<B: Book, G: Gate>(provider: &Provider<B, G>)
 /// temporality). The function does nothing.
 pub fn windows_meet()
     ensures { WindowsMeet }
-{
-}
+{}

@@ -17,10 +17,10 @@ use std::sync::Wait;
 
 /// A provider of a certified plan without recordings, since a start in nanoseconds, with a seat for each recorder and
 /// each reader, in order. The seats of the readers have the start, with which that of each instrument is compared under
-/// its lock: no batch tells another one. Seats serve the number of the run that they were made for: give each provider one of its own,
-/// since seats of one run and of plans of the same sizes are told apart by nothing else. Where the books keep their
-/// entries, the seats of the recorders keep slips. The seed of books that hash is made of the start and the number of
-/// the run. Where memory is refused, the plan and the gate are handed back.
+/// its lock: no batch tells another one. Seats serve the number of the run that they were made for: give each provider
+/// one of its own, since seats of one run and of plans of the same sizes are told apart by nothing else. Where the
+/// books keep their entries, the seats of the recorders keep slips. The seed of books that hash is made of the start
+/// and the number of the run. Where memory is refused, the plan and the gate are handed back.
 pub fn start<R: Wait, B: Book, G: Gate>(
     _rt: &R,
     alloc: Global,

@@ -47,8 +47,8 @@ pub trait Held<B: Book> {
 
 /// An instrument of which readers collect. As a trait, so that a seat cannot but call it, as [`Held`].
 pub trait Collected {
-    // What a collection comes to: the instrument before and after it, the facts, the start of the run and what the reader
-    // has seen, which are brought, the reader's number, the time, and its answer.
+    // What a collection comes to: the instrument before and after it, the facts, the start of the run and what the
+    // reader has seen, which are brought, the reader's number, the time, and its answer.
     ghost collects: { Self → Self → declared_facts → ℕ → sightings → ℕ → ℕ
         → Result batches refusals → Type 0 };
 

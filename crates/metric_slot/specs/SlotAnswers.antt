@@ -38,13 +38,13 @@ AnswersGranter c facts amount result = (c.facts ≡ facts) × AnswersGrant c amo
 -- # goes on (SDK, collect)
 -- A batch begins where and when the reader's last one ended (delta) or at the start of the run
 -- (cumulative), and counts no fewer recordings than were seen.
-pub record Continues (facts : Facts) (start of : ℕ) (seen : Seen) (told : Batch) : Type 0 where
+pub record Continues (facts : Facts) (began of : ℕ) (seen : Seen) (told : Batch) : Type 0 where
   pub plan : told.plan ≡ facts.plan
   pub reader : told.reader ≡ of
   pub instrument : told.instrument ≡ facts.instrument
   pub from : told.from ≡ (if is_delta facts of then seen.mark else 0)
   pub mark : seen.mark ≤ told.mark
-  pub start : told.start ≡ (if is_delta facts of then seen.time else start)
+  pub start : told.start ≡ (if is_delta facts of then seen.time else began)
 
 -- A batch reports recordings that the instrument may have accepted, as many as it counts: its
 -- streams are those of the reader, and each has the points of their window, which is those after

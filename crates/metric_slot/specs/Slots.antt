@@ -35,9 +35,9 @@ pub record IsOwnRecorder {B : Type 0} (c : CellValue B) (own : Facts) (told : To
 -- # own reader (profile)
 -- The cell has the facts that the call brings and the start of its run, and the reader's last batch
 -- counted as many recordings as it has seen, at the time that it has seen.
-pub record IsOwnReader {B : Type 0} (c : CellValue B) (own : Facts) (start : ℕ) (seen : Seen)
+pub record IsOwnReader {B : Type 0} (c : CellValue B) (own : Facts) (began : ℕ) (seen : Seen)
     (reader : ℕ) : Type 0 where
   pub facts : c.facts ≡ own
-  pub start : c.start ≡ start
+  pub start : c.start ≡ began
   pub mark : slice_index c.marks reader ≡ seen.mark
   pub time : slice_index_or c.times reader c.start ≡ seen.time

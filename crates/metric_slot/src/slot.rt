@@ -85,13 +85,15 @@ impl<B: Book> Slot<B> {
         Ok(Slot { cell })
     }
 
-    /// Makes a recording for a recorder that was told of its earlier ones (Metrics API, synchronous instruments), and tells it
-    /// of this one too. `Stranger` comes exactly where the cell's facts are not these, or its number of the recorder's
-    /// recordings is not the one told, or so many values can not be as far above the least as was told. Else `Closed`
-    /// comes exactly where the instrument is closed, else `Budget` exactly where the recorder has made as many recordings as its budget
-    /// and what it was granted; the only other refusal is `Memory`, which never comes where the book says that recordings take none.
+    /// Makes a recording for a recorder that was told of its earlier ones (Metrics API, synchronous instruments), and
+    /// tells it of this one too. `Stranger` comes exactly where the cell's facts are not these, or its number of the
+    /// recorder's recordings is not the one told, or so many values can not be as far above the least as was told. Else
+    /// `Closed` comes exactly where the instrument is closed, else `Budget` exactly where the recorder has made as many
+    /// recordings as its budget and what it was granted; the only other refusal is `Memory`, which never comes where
+    /// the book says that recordings take none.
     ///
-    /// `is_own` is what [`Slot::is_of`] answers: facts are compared once for all recordings that are made under one lock.
+    /// `is_own` is what [`Slot::is_of`] answers: facts are compared once for all recordings that are made under one
+    /// lock.
     pub fn record(
         &mut self,
         is_own: bool,
@@ -186,9 +188,9 @@ impl<B: Book> Slot<B> {
         self.cell.close()
     }
 
-    /// Grants a recorder so many recordings beside its budget, of what is left of the instrument's spare budget. `Stranger`
-    /// comes exactly where the cell's facts are not these. Else `Closed` comes exactly where the instrument is closed, else
-    /// `NoSpare` exactly where more is asked for than is left. Takes no memory.
+    /// Grants a recorder so many recordings beside its budget, of what is left of the instrument's spare budget.
+    /// `Stranger` comes exactly where the cell's facts are not these. Else `Closed` comes exactly where the instrument
+    /// is closed, else `NoSpare` exactly where more is asked for than is left. Takes no memory.
     pub fn grant(&mut self, facts: &Facts, recorder: u32, amount: u64) -> Result<(), Refusal>
         requires { recorder < length facts.now.budgets }
         ensures answer { AnswersGranter self.old facts.now amount result }

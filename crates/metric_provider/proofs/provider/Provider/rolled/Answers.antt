@@ -46,7 +46,8 @@ returns-in-Ok-clause-next_recorders g c =
     c.in-Ok.ensures.next_recorders ∙ ap (λ (p : ProviderValue). new_recorders g.B.Book.KEEPS_ENTRIES c.args.next.run p.plan) c.into_slots-plan.ensures.value
 
 pub returns-in-Ok-clause-next_collectors : goal.returns-in-Ok-clause-next_collectors
-returns-in-Ok-clause-next_collectors g c = c.in-Ok.ensures.next_collectors ∙ ap (λ (p : ProviderValue). new_collectors c.args.next.run p.plan) c.into_slots-plan.ensures.value
+returns-in-Ok-clause-next_collectors g c =
+    c.in-Ok.ensures.next_collectors ∙ ap (λ (p : ProviderValue). new_collectors c.args.next.run c.args.next.start p.plan) c.into_slots-plan.ensures.value
 
 pub returns-in-Ok-clause-seated : goal.returns-in-Ok-clause-seated
 returns-in-Ok-clause-seated g c =
