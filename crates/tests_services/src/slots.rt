@@ -31,7 +31,11 @@ fn write_recorded<R: Abort>(out: &mut String, rt: &R, slot: &mut Slot<Marked>, f
 // Another start than the slot's with what was seen, and with its start another count and another time.
 fn others_of(seen: Seen) -> [(u64, Seen); 3] {
     let (mark, time) = (seen.mark, seen.time);
-    [(1, seen), (0, Seen { mark: 0, time }), (0, Seen { mark, time: 9 })]
+    [
+        (1, seen),
+        (0, Seen { mark: 0, time }),
+        (0, Seen { mark, time: 9 }),
+    ]
 }
 
 // Writes the batch of the first reader, and what that has seen; then what it is told that has seen something else.
@@ -49,7 +53,11 @@ fn write_collected<R: Abort>(
     let batch = slot.collect(alloc, facts, 0, &mut seen, 0, 10).or_fail(rt);
     write_batch(out, rt, &batch);
     let count = slot.cell().count();
-    write_numbers(out, rt, &[("seen ", seen.mark), (" of ", count), (" at ", seen.time)]);
+    write_numbers(
+        out,
+        rt,
+        &[("seen ", seen.mark), (" of ", count), (" at ", seen.time)],
+    );
     for (start, seen) in others_of(seen) {
         let mut told = seen;
         let answer = slot.collect(alloc, facts, start, &mut told, 0, 20);
