@@ -1,7 +1,7 @@
 -- The instruments of a short catalogue, as budgets name them, and what their keys come to.
-use Rattle.std.specs.Prelude.{ℕ, ◌+◌, ◌-◌, Bool, true, false, not, ◌&&◌, List, [], ◌∷◌, ◌++◌, length, Option}
+use Rattle.std.specs.Prelude.{ℕ, ◌+◌, ◌-◌, Bool, false, not, List, [], ◌++◌, length, Option}
 use Rattle.std.specs.Prelude.{Some, None, Result, Ok, codes, is_some, nat_le}
-use Rattle.std.specs.List.{list_any, position_from}
+use Rattle.std.specs.List.{find, position_from, sum_by}
 use Rattle.toml.specs.Data.{Data, string, Members, get_member}
 use Rattle.metric_base.specs.Steps.{◌>>=◌, require, require_none, in_turn, each}
 use Rattle.metric_table.specs.Fields.{list_of, text_field, tables_field}
@@ -20,12 +20,7 @@ use Rattle.metric_short.specs.Texts.{label_field}
 
 -- the key of an id
 abbrev pub key_with : List ℕ → List ShortKey → Option ShortKey
-key_with id [] = None
-key_with id (key ∷ keys) = found (has_id id key) key (key_with id keys)
-  where
-    found : Bool → ShortKey → Option ShortKey → Option ShortKey
-    found true key rest = Some key
-    found false key rest = rest
+key_with id keys = find (has_id id) keys
 
 -- a text that is the id of no declared key
 abbrev pub is_unknown : List ShortKey → Data → Bool
@@ -41,9 +36,9 @@ abbrev pub entry_weight : List ShortKey → Data → ℕ
 entry_weight keys (string id) = weight_with (key_with id keys)
 entry_weight keys _ = 0
 
-abbrev pub weigh_entries : List ShortKey → ℕ → List Data → ℕ
-weigh_entries keys weight [] = weight
-weigh_entries keys weight (d ∷ ds) = weigh_entries keys (weight + entry_weight keys d) ds
+-- what all entries count for
+abbrev pub weigh_entries : List ShortKey → List Data → ℕ
+weigh_entries keys entries = sum_by (entry_weight keys) entries
 
 -- the values of a list of at most so many, where there is one
 abbrev pub entries_within : ShortSpot → Option Data → Result (List Data) ShortFault
@@ -68,7 +63,7 @@ instrument_of keys meter before table = do
   Ok (record {
     name = name;
     path = meter ++ (codes "/" ++ name);
-    weight = weigh_entries keys 0 entries;
+    weight = weigh_entries keys entries;
   })
 
 abbrev pub nothing_metered : Metered
@@ -87,5 +82,4 @@ with_meter keys before table = do
 -- # room for the keys (profile) [fits]
 -- What the instruments' keys come to is at most so much.
 abbrev pub fits : ℕ → List Declared → Bool
-fits left [] = true
-fits left (d ∷ ds) = nat_le d.weight left && fits (left - d.weight) ds
+fits most declared = nat_le (sum_by (λ d. d.weight) declared) most

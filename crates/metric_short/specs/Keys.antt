@@ -1,7 +1,7 @@
 -- The keys that a short catalogue declares, each under an id.
 use Rattle.std.specs.Prelude.{ℕ, ◌+◌, min, Bool, true, not, List, [], ◌∷◌, ◌++◌, length, Option, Some}
 use Rattle.std.specs.Prelude.{None, Result, Ok, codes, nat_le, unwrap_or, if◌then◌else◌}
-use Rattle.std.specs.List.{list_all, list_any}
+use Rattle.std.specs.List.{list_all, list_any, sum_by}
 use Rattle.std.specs.Str.{bytes_eq}
 use Rattle.toml.specs.Data.{Data, string, table as table_data, Members, no_members, get_member}
 use Rattle.metric_base.specs.Steps.{◌>>=◌, require}
@@ -62,9 +62,9 @@ abbrev pub weight_of : Data → ℕ
 weight_of (string text) = 16 + min (length text) 4092
 weight_of _ = 16
 
-abbrev pub weigh : ℕ → List Data → ℕ
-weigh weight [] = weight
-weigh weight (d ∷ ds) = weigh (weight + weight_of d) ds
+-- what all values count for
+abbrev pub weigh : List Data → ℕ
+weigh values = sum_by weight_of values
 
 -- the values of a declared key, of which no text is too long
 unfoldable pub values_field : ShortSpot → Members → Result (List Data) ShortFault
@@ -102,7 +102,7 @@ key_named at id table = do
   other ← other_field (field_at at fields.Other) table
   Ok (record {
     id = id;
-    weight = weigh 0 (values_with values other);
+    weight = weigh (values_with values other);
     value = key_value name (values_with values other) (get_member (codes "optional") table);
   })
 

@@ -1,6 +1,7 @@
 -- What a short catalogue means: the table of format 2.
-use Rattle.std.specs.Prelude.{ℕ, zero, suc, ℤ, pos, ◌+◌, Bool, true, false, List, [], ◌∷◌, ◌++◌, map, Option, Some, None, codes}
+use Rattle.std.specs.Prelude.{ℕ, ℤ, pos, Bool, true, false, List, [], ◌∷◌, ◌++◌, map, Option, Some, None, codes}
 use Rattle.std.specs.Fmt.{decimal}
+use Rattle.std.specs.List.{enumerate_from, flat_map, range_with_len}
 use Rattle.std.specs.Option.{option_map}
 use Rattle.std.specs.Ordering.{int_eq}
 use Rattle.toml.specs.Data.{Data, string, integer, table as table_data, Members, no_members, get_member}
@@ -54,32 +55,30 @@ budget_meant false number amount = budget_table number amount ∷ []
 
 -- # budgets by number (profile) [budgets_meant]
 -- A budget for each instrument that has one, by its number.
-abbrev pub budgets_meant : ℕ → List ℤ → List Data
-budgets_meant number [] = []
-budgets_meant number (amount ∷ amounts) =
-    budget_meant (int_eq amount (pos 0)) number amount ++ budgets_meant (number + 1) amounts
+abbrev pub budget_at : ℕ × ℤ → List Data
+budget_at numbered = budget_meant (int_eq numbered.1 (pos 0)) numbered.0 numbered.1
+
+abbrev pub budgets_meant : List ℤ → List Data
+budgets_meant amounts = flat_map budget_at (enumerate_from 0 amounts)
 
 -- a recorder of this name
 abbrev pub seat_meant : List ℤ → List ℕ → Data
 seat_meant amounts name =
     table_data (with_member (codes "name") (string name)
-    (with_member (codes "budget") (array_of (budgets_meant 0 amounts)) no_members))
+    (with_member (codes "budget") (array_of (budgets_meant amounts)) no_members))
 
--- so many recorders, whose names end with numbers from this on
-abbrev pub seats_from : List ℤ → List ℕ → ℕ → ℕ → List Data
-seats_from amounts name number zero = []
-seats_from amounts name number (suc left) =
-    seat_meant amounts (name ++ (codes " " ++ decimal number)) ∷ seats_from amounts name (number + 1) left
+-- a recorder whose name ends with a number
+abbrev pub seat_numbered : List ℤ → List ℕ → ℕ → Data
+seat_numbered amounts name number = seat_meant amounts (name ++ (codes " " ++ decimal number))
 
--- # recorders of a count (profile) [seats_meant]
+-- # recorders of a count (profile) [seats_meant, seats_of]
 -- One of the name; or with a count as many, named by numbers from 0.
 abbrev pub seats_of : List ℤ → List ℕ → Option ℕ → List Data
 seats_of amounts name None = seat_meant amounts name ∷ []
-seats_of amounts name (Some count) = seats_from amounts name 0 count
+seats_of amounts name (Some count) = map (seat_numbered amounts name) (range_with_len 0 count)
 
 abbrev pub seats_meant : List Recorded → List Data
-seats_meant [] = []
-seats_meant (r ∷ rs) = seats_of r.amounts r.name r.count ++ seats_meant rs
+seats_meant recorders = flat_map (λ r. seats_of r.amounts r.name r.count) recorders
 
 -- # meaning of a short catalogue (profile)
 -- The table of format 2: its meters with their keys in place of ids, and its recorders, each with its budgets by number.

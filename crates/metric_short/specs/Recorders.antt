@@ -1,7 +1,7 @@
 -- The recorders of a short catalogue, with what each may record on each instrument.
-use Rattle.std.specs.Prelude.{ℕ, ℤ, pos, ◌-◌, Bool, true, false, not, ◌&&◌, ◌||◌, List, []}
-use Rattle.std.specs.Prelude.{◌∷◌, ◌++◌, map, length, Option, Some, None, Result, Ok, codes, is_some, nat_le, unwrap_or, if◌then◌else◌}
-use Rattle.std.specs.List.{list_any, position_from}
+use Rattle.std.specs.Prelude.{ℕ, ℤ, pos, Bool, not, ◌&&◌, ◌||◌, List, []}
+use Rattle.std.specs.Prelude.{◌∷◌, ◌++◌, map, length, Option, Some, None, Result, Ok, codes, is_some, nat_le, nat_lt, unwrap_or}
+use Rattle.std.specs.List.{filter, list_any, position_from, sum_by}
 use Rattle.std.specs.Str.{bytes_eq}
 use Rattle.toml.specs.Data.{Data, integer, Members, no_members, member, get_member}
 use Rattle.metric_base.specs.Steps.{◌>>=◌, require, require_none, require_some, each}
@@ -35,16 +35,9 @@ is_default name = bytes_eq name (codes "*")
 abbrev pub is_stranger : List Declared → List ℕ → Bool
 is_stranger declared name = not (is_default name) && not (list_any (is_named name) declared)
 
--- one more of the instruments has the name, where one was found
-abbrev pub named_again : Bool → List ℕ → List Declared → Bool
-named_again found name [] = false
-named_again found name (d ∷ ds) =
-    if is_named name d then (if found then true else named_again true name ds)
-    else named_again found name ds
-
 -- more than one of the instruments has the name
 abbrev pub named_twice : List ℕ → List Declared → Bool
-named_twice = named_again false
+named_twice name declared = nat_lt 1 (length (filter (is_named name) declared))
 
 -- the table has a budget by the name alone, and one by the name after that of the meter
 abbrev pub is_repeated : Members → Declared → Bool
@@ -140,8 +133,11 @@ recorder_of declared before table = do
   amounts ← budgets_field (field_at at fields.Budget) declared table
   Ok (record { name = name; count = count; amounts = amounts })
 
--- # how many recorders (profile) [seats_fit]
+-- for how many recorders a table stands
+abbrev pub count_of : Recorded → ℕ
+count_of r = unwrap_or r.count 1
+
+-- # how many recorders (profile) [seats_fit, count_of]
 -- The tables stand for at most so many.
 abbrev pub seats_fit : ℕ → List Recorded → Bool
-seats_fit left [] = true
-seats_fit left (r ∷ rs) = nat_le (unwrap_or r.count 1) left && seats_fit (left - unwrap_or r.count 1) rs
+seats_fit most recorders = nat_le (sum_by count_of recorders) most

@@ -1,5 +1,6 @@
 //! The expansion of a short catalogue.
-ghost use Rattle.std.specs.Prelude.{◌≡◌, ◌≢◌, ◌≤◌, All, Err, IfErr, IfOk, length, map, string_bytes};
+ghost use Rattle.std.specs.Prelude.{◌≡◌, ◌≢◌, ◌≤◌, All, Err, IfErr, IfOk, Some, length, map, string_bytes};
+ghost use Rattle.toml.specs.Parse.{parse_document};
 ghost use Rattle.toml.specs.View.{table_view};
 ghost use Rattle.metric_base.specs.Steps.{Gives, GivesBy};
 ghost use Rattle.metric_short.specs.Expansions.{IsExpansion, expansion_of, format_three, instruments_of, keys_of, meaning_of, meaning_with, only_top_fields, recorders_of};
@@ -33,26 +34,33 @@ const MOST_RECORDERS: u32 = 64;
 /// recorder. In a table first a field that has no place there, then the fields in the order of the format. A text
 /// without a fault may still be no catalogue: what the formats have alike is as it stands, and the reader of format 2
 /// has its faults.
+#[tactic(auto, unfolding(crate::specs::Expansions::expansion_of))]
 pub fn expand(alloc: Global, text: &str) -> Result<String, ShortFault>
     ensures ok { IfOk result (λ printed. IsExpansion text.now (string_bytes printed)) }
     ensures first { IfErr result (λ fault. fault ≢ ShortFault.Memory
         → expansion_of text.now ≡ Err fault) }
 {
-    let meaning = expansion_of(alloc, text)?;
-    match toml::table_to_string(alloc, &meaning) {
-        Ok(printed) => Ok(printed),
-        Err(_) => Err(ShortFault::Memory),
+    match toml::table_from_str(alloc, text) {
+        Ok(table) => expand_table(alloc, text, &table),
+        Err(error) if error.is_memory() => Err(ShortFault::Memory),
+        Err(_) => Err(ShortFault::NotToml),
     }
 }
 
+// The expansion of a text that was read as this table.
 #[tactic(auto, unfolding(crate::specs::Expansions::expansion_of))]
-fn expansion_of(alloc: Global, text: &str) -> Result<Table, ShortFault>
-    ensures { GivesBy table_view ShortFault.Memory result (expansion_of text.now) }
+pub(crate) fn expand_table(alloc: Global, text: &str, table: &Table) -> Result<String, ShortFault>
+    requires { parse_document text.now ≡ Some (table_view table.now) }
+    ensures ok { IfOk result (λ printed. IsExpansion text.now (string_bytes printed)) }
+    ensures first { IfErr result (λ fault. fault ≢ ShortFault.Memory
+        → expansion_of text.now ≡ Err fault) }
 {
-    match toml::table_from_str(alloc, text) {
-        Ok(table) => meaning_of(alloc, &table),
-        Err(error) if error.is_memory() => Err(ShortFault::Memory),
-        Err(_) => Err(ShortFault::NotToml),
+    // Only the contract speaks of the text.
+    let _ = text;
+    let meaning = meaning_of(alloc, table)?;
+    match toml::table_to_string(alloc, &meaning) {
+        Ok(printed) => Ok(printed),
+        Err(_) => Err(ShortFault::Memory),
     }
 }
 

@@ -1,15 +1,16 @@
 //! A catalogue of any format, as one of format 1 or 2.
-ghost use Rattle.std.specs.Prelude.{◌≡◌, ◌≢◌, Err, IfErr, IfOk};
+ghost use Rattle.std.specs.Prelude.{◌≡◌, ◌≢◌, Err, IfErr, IfOk, Some, false};
 ghost use Rattle.std.specs.Option.{option_map};
-ghost use Rattle.toml.specs.View.{view};
-ghost use Rattle.metric_short.specs.Expansions.{IsFull, IsFullAs, expansion_of, is_short, is_three};
+ghost use Rattle.toml.specs.Parse.{parse_document};
+ghost use Rattle.toml.specs.View.{table_view, view};
+ghost use Rattle.metric_short.specs.Expansions.{IsFull, expansion_of, is_short, is_three};
 
-use crate::expanding::expand;
+use crate::expanding::expand_table;
 use crate::fault::ShortFault;
 use metric_base::Text;
 use metric_table::member;
 use std::alloc::{AllocError, Global};
-use toml::Value;
+use toml::{Table, Value};
 
 /// Whether a text is TOML whose field `format` is 3.
 pub fn is_short(alloc: Global, text: &str) -> Result<bool, AllocError>
@@ -52,21 +53,37 @@ pub fn in_full(alloc: Global, text: Text) -> Result<Full, ShortFault>
     ensures first { IfErr result (λ fault. fault ≢ ShortFault.Memory
         → expansion_of text ≡ Err fault) }
 {
-    let is_expanded = is_short(alloc, text.as_str())?;
-    let text = if_expanded(alloc, text, is_expanded)?;
-    Ok(Full { text, is_expanded })
+    match toml::table_from_str(alloc, text.as_str()) {
+        Ok(table) => table_in_full(alloc, text, &table),
+        Err(error) if error.is_memory() => Err(ShortFault::Memory),
+        Err(_) => Ok(as_it_stands(text)),
+    }
 }
 
-// The expansion of a text, or the text itself.
-fn if_expanded(alloc: Global, text: Text, is_expanded: bool) -> Result<Text, ShortFault>
-    ensures ok { IfOk result (IsFullAs is_expanded text) }
+// The same of a text that was read as this table.
+fn table_in_full(alloc: Global, text: Text, table: &Table) -> Result<Full, ShortFault>
+    requires { parse_document text ≡ Some (table_view table.now) }
+    ensures ok { IfOk result (λ full. IsFull text full.text) }
+    ensures told { IfOk result (λ full. full.is_expanded ≡ is_short text) }
     ensures first { IfErr result (λ fault. fault ≢ ShortFault.Memory
         → expansion_of text ≡ Err fault) }
 {
-    if is_expanded {
-        let printed = expand(alloc, text.as_str())?;
-        Ok(Text::from_string(printed))
-    } else {
-        Ok(text)
+    if !is_three(member(table, "format")) {
+        return Ok(as_it_stands(text));
+    }
+    let printed = expand_table(alloc, text.as_str(), table)?;
+    Ok(Full {
+        text: Text::from_string(printed),
+        is_expanded: true,
+    })
+}
+
+fn as_it_stands(text: Text) -> Full
+    ensures text { result.text ≡ text }
+    ensures told { result.is_expanded ≡ false }
+{
+    Full {
+        text,
+        is_expanded: false,
     }
 }

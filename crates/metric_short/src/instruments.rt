@@ -146,7 +146,7 @@ pub(crate) fn key_with<'k>(keys: &'k [ShortKey], id: &str) -> Option<&'k ShortKe
 // What the keys of an instrument count for together.
 fn weigh_entries(entries: &[Value], keys: &[ShortKey]) -> u64
     requires { length entries.now ≤ 8 }
-    ensures { result ≡ weigh_entries (map key_view keys.now) 0 (map view entries.now) }
+    ensures { result ≡ weigh_entries (map key_view keys.now) (map view entries.now) }
 {
     let mut weight = 0u64;
     for entry in entries {

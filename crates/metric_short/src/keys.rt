@@ -216,7 +216,7 @@ fn is_text(value: &Value, text: &str) -> bool
 // What the values count for together.
 fn weigh(values: &[Value]) -> u32
     requires { length values.now ≤ 1001 }
-    ensures { result ≡ weigh 0 (map view values.now) }
+    ensures { result ≡ weigh (map view values.now) }
 {
     let mut weight = 0u32;
     for value in values {

@@ -1,9 +1,9 @@
 //! What a short catalogue means: the table of format 2.
-ghost use Rattle.std.specs.Prelude.{◌≡◌, ◌≤◌, ◌++◌, All, codes, map, length, pos, IfOk, OnOk};
+ghost use Rattle.std.specs.Prelude.{◌≡◌, ◌≤◌, ◌++◌, All, codes, map, length, pos, Some, IfOk, OnOk};
 ghost use Rattle.std.specs.Ordering.{int_eq};
 ghost use Rattle.std.specs.Fmt.{decimal};
 ghost use Rattle.toml.specs.View.{table_view, view};
-ghost use Rattle.metric_short.specs.Meaning.{budget_meant, budget_table, budgets_meant, instrument_meant, key_meant, meant, meter_meant, seat_meant, seats_from, seats_meant, seats_of};
+ghost use Rattle.metric_short.specs.Meaning.{budget_meant, budget_table, budgets_meant, instrument_meant, key_meant, meant, meter_meant, seat_meant, seats_meant, seats_of};
 ghost use Rattle.metric_short.specs.Seen.{key_view};
 
 use crate::instruments::key_with;
@@ -97,7 +97,7 @@ fn meters_meant(
 // The budgets of a recorder, each by the number of its instrument.
 fn budgets_meant(alloc: Global, amounts: &[i64]) -> Result<Items<Value>, AllocError>
     requires { length amounts.now ≤ 512 }
-    ensures { IfOk result (λ budgets. map view budgets ≡ budgets_meant 0 amounts.now) }
+    ensures { IfOk result (λ budgets. map view budgets ≡ budgets_meant amounts.now) }
 {
     let mut budgets = Items::new(alloc);
     let mut number = 0u32;
@@ -180,7 +180,7 @@ fn push_numbered(
 ) -> Result<(), AllocError>
     requires { length amounts.now ≤ 512 }
     ensures { OnOk result (map view seats.new
-        ≡ map view seats.old ++ seats_from amounts.now name.now 0 count) }
+        ≡ map view seats.old ++ seats_of amounts.now name.now (Some count)) }
 {
     for number in 0..count {
         let full = numbered(alloc, name, number)?;

@@ -1,8 +1,9 @@
--- what is left is enough for those that are left where all was enough for all
-use Rattle.std.proofs.Common.{◌≡◌, drop}
-use Rattle.metric_short.specs.Recorders.{seats_fit}
+-- what is left is as many as there may be without those so far
+use Rattle.std.proofs.Common.{◌≡◌, ◌+◌, drop}
+use Rattle.std.specs.List.{sum_by}
+use Rattle.metric_short.specs.Recorders.{count_of}
 use Rattle.metric_short.proofs.recorders.seats_fit.Given as goal
 
 abbrev pub invariant-loop-recorder : goal.invariant-loop-recorder
 invariant-loop-recorder l =
-    seats_fit l.left (drop l.recorder-index l.recorders) ≡ seats_fit l.most l.recorders
+    l.left + sum_by count_of l.recorders ≡ l.most + sum_by count_of (drop l.recorder-index l.recorders)
