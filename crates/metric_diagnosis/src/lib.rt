@@ -40,7 +40,6 @@ mod lexer;
 mod marked;
 mod missed;
 mod mistake;
-mod nearest;
 mod places;
 mod reasons;
 mod remarks;

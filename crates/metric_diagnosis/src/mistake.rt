@@ -1,7 +1,7 @@
 //! What is wrong with a field of a catalogue or a config, in words.
-use crate::nearest::nearest;
 use crate::sentence::{write_one, write_part, write_three, write_two};
 use crate::shown::{Quoted, Shown, Words};
+use metric_near::nearest;
 use std::fmt;
 use toml::Value;
 

@@ -12,7 +12,6 @@ mod instruments;
 mod keys;
 mod meaning;
 mod meters;
-mod near;
 mod recorders;
 mod rewriting;
 mod tables;

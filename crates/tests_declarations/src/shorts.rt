@@ -288,6 +288,12 @@ const REFUSED: &[(&str, &str, &str)] = &[
         "waitt = 7",
         "recorder 0 \"worker\": budget \"waitt\": no instrument has this name; did you mean \"wait\"?",
     ),
+    // "hits" is near too, and stands before.
+    (
+        "wait = 7",
+        "waits = 7",
+        "recorder 0 \"worker\": budget \"waits\": no instrument has this name; did you mean \"wait\"?",
+    ),
     (
         "wait = 7",
         "wait = -1",
