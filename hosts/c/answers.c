@@ -618,7 +618,7 @@ static const char NO_CERTIFICATE[] =
     "certificate: the tables are not those of a certificate: it was altered, or is of another format; make it anew";
 static const char OTHER_CERTIFICATE[] =
     "certificate: the certificate is of other files, or was altered: the budgets and the spare of an instrument are another "
-    "number than it says, or too many; make it anew";
+    "number than it says, or too many (instrument 0); make it anew";
 
 /* Remarks: a view that does not fit, and, of a smaller pair, what keeps it from being opened. */
 static const char REMARKS[] =

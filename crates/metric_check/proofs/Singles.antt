@@ -1,5 +1,5 @@
 -- The check of a certificate has one answer only.
-use Rattle.std.proofs.Common.{◌≡◌, ℕ, IsTrue, List, [], ◌∷◌, Option, Some, None, slice_get, refl}
+use Rattle.std.proofs.Common.{◌≡◌, ℕ, ◌+◌, IsTrue, List, [], ◌∷◌, Option, Some, None, slice_get, refl, ap, sym, ◌∙◌}
 use Rattle.metric_contents.specs.declared.contents.Contents.{Contents}
 use Rattle.metric_contents.specs.declared.contents.Instrument.{Instrument}
 use Rattle.metric_contents.specs.declared.contents.Meter.{Meter}
@@ -21,21 +21,28 @@ use Rattle.metric_cert.specs.declared.reason.SelectionReason.{SelectionReason}
 use Rattle.metric_cert.specs.Valid.{all_pairs}
 use Rattle.metric_plan.specs.declared.fault.CheckFault.TheVariants.{PairMissing, BadSets, CountRange, StreamMissing, StreamStrange}
 use Rattle.metric_check.specs.Checked.{FindsOne}
-use Rattle.metric_check.specs.Findings.{BoundFinds, BoundsFind, CheckFinds, EntriesFind, EntryFinds, EvidenceFinds, EvidenceFindsAt, LimitFinds, NumbersFind, NumbersFindAt, OrdersFind, ReasonFinds, ReasonsFind, SetsFind, StreamsFind}
-use Rattle.metric_check.specs.Paired.{EachPaired}
+use Rattle.metric_check.specs.Findings.{BoundFinds, BoundsFind, CheckFinds, EntriesFind, EntryFinds, EvidenceFinds, EvidenceFindsAt, LimitFinds, NumbersFind, NumbersFindAt, OrdersFind, ReasonFinds, ReasonsFind, SetsFind, StreamsFind, of_bound, of_reason, of_stream}
+use Rattle.metric_check.specs.Paired.{EachPaired, Told}
 
 -- one answer is equal to itself alone
 equal_single : {F : Type 0} (value : Option F) → IsSingle (λ found. found ≡ value)
 equal_single None = record { alone = λ f p q. absurd cc; same = λ f g p q. absurd cc }
 equal_single (Some x) = record { alone = λ f p q. absurd cc; same = λ f g p q. cc }
 
-EachPaired-IsSingle : {X Y F : Type 0} (Finds : X → Y → Option F → Type 0) → ((x : X) (y : Y) → IsSingle (Finds x y)) → (missing more : F) (xs : List X) (ys : List Y)
-    → IsSingle (EachPaired Finds missing more xs ys)
-EachPaired-IsSingle Finds single missing more [] [] = equal_single None
-EachPaired-IsSingle Finds single missing more [] (y ∷ ys) = equal_single (Some more)
-EachPaired-IsSingle Finds single missing more (x ∷ xs) [] = equal_single (Some missing)
-EachPaired-IsSingle Finds single missing more (x ∷ xs) (y ∷ ys) =
-    Then-IsSingle (Finds x y) (EachPaired Finds missing more xs ys) (single x y) (EachPaired-IsSingle Finds single missing more xs ys)
+Told-IsSingle : {F G : Type 0} (told : F → G) (Finds : Option F → Type 0) → IsSingle Finds → IsSingle (Told told Finds)
+Told-IsSingle {F} {G} told Finds single = record {
+  alone = λ g p q. single.alone q.fault p q.found;
+  same = λ g h p q. p.is ∙ ap (λ (f : F). told f) (single.same p.fault q.fault p.found q.found) ∙ sym q.is;
+}
+
+EachPaired-IsSingle : {X Y F G : Type 0} (told : ℕ → F → G) (Finds : X → Y → Option F → Type 0) → ((x : X) (y : Y) → IsSingle (Finds x y)) → (missing more : F) (n : ℕ) (xs : List X) (ys : List Y)
+    → IsSingle (EachPaired told Finds missing more n xs ys)
+EachPaired-IsSingle told Finds single missing more n [] [] = equal_single None
+EachPaired-IsSingle told Finds single missing more n [] (y ∷ ys) = equal_single (Some (told n more))
+EachPaired-IsSingle told Finds single missing more n (x ∷ xs) [] = equal_single (Some (told n missing))
+EachPaired-IsSingle told Finds single missing more n (x ∷ xs) (y ∷ ys) =
+    Then-IsSingle (Told (told n) (Finds x y)) (EachPaired told Finds missing more (n + 1) xs ys) (Told-IsSingle (told n) (Finds x y) (single x y))
+    (EachPaired-IsSingle told Finds single missing more (n + 1) xs ys)
 
 EvidenceFinds-IsSingle : (evidence : Evidence) (criteria : Criteria) (meter : Meter) (instrument : Instrument) → IsSingle (EvidenceFinds evidence criteria meter instrument)
 EvidenceFinds-IsSingle (Name (Takes takes)) criteria meter instrument = Then-IsSingle _ _ (Asks-IsSingle _ _) (Asks-IsSingle _ _)
@@ -50,10 +57,10 @@ EvidenceFindsAt-IsSingle evidence None meter instrument = Asks-IsSingle ⊥ Pair
 
 ReasonsFind-IsSingle : (contents : Contents) (config : Config) (reasons : List SelectionReason) → IsSingle (ReasonsFind contents config reasons)
 ReasonsFind-IsSingle contents config reasons =
-    EachPaired-IsSingle (ReasonFinds contents config)
+    EachPaired-IsSingle of_reason (ReasonFinds contents config)
     (λ pair reason. Then-IsSingle _ _ (Asks-IsSingle _ _)
     (EvidenceFindsAt-IsSingle reason.evidence (slice_get config.views reason.view) (meter_at contents reason.instrument) (slice_get contents.instruments reason.instrument)))
-    PairMissing PairMissing (all_pairs contents config) reasons
+    PairMissing PairMissing 0 (all_pairs contents config) reasons
 
 NumbersFind-IsSingle : (number total : ℕ) (instrument : Instrument) (Summed : Type 0) (bound : InstrumentBound) → IsSingle (NumbersFind number total instrument Summed bound)
 NumbersFind-IsSingle number total instrument Summed bound =
@@ -68,12 +75,12 @@ BoundFinds-IsSingle contents streams number None bound = Asks-IsSingle ⊥ Count
 StreamsFind-IsSingle : (contents : Contents) (config : Config) (certificate : Claims) (streams : List Stream) → IsSingle (StreamsFind contents config certificate streams)
 StreamsFind-IsSingle contents config certificate streams =
     Then-IsSingle (EntriesFind streams certificate.streams) _
-    (EachPaired-IsSingle EntryFinds (λ stream entry. Then-IsSingle _ _ (Asks-IsSingle _ _) (Asks-IsSingle _ _)) StreamMissing StreamStrange streams certificate.streams)
+    (EachPaired-IsSingle of_stream EntryFinds (λ stream entry. Then-IsSingle _ _ (Asks-IsSingle _ _) (Asks-IsSingle _ _)) StreamMissing StreamStrange 0 streams certificate.streams)
     (Then-IsSingle (OrdersFind contents config streams certificate.orders) _ (Asks-IsSingle _ _)
     (Then-IsSingle (BoundsFind contents streams certificate.bounds) (SetsFind contents streams certificate.streams)
-    (EachPaired-IsSingle (BoundFinds contents streams)
-    (λ number bound. BoundFinds-IsSingle contents streams number (slice_get contents.instruments number) bound) CountRange CountRange (all_instruments contents) certificate.bounds)
-    (EachPaired-IsSingle (LimitFinds contents) (λ stream entry. Then-IsSingle _ _ (Asks-IsSingle _ _) (Asks-IsSingle _ _)) BadSets BadSets streams certificate.streams)))
+    (EachPaired-IsSingle of_bound (BoundFinds contents streams)
+    (λ number bound. BoundFinds-IsSingle contents streams number (slice_get contents.instruments number) bound) CountRange CountRange 0 (all_instruments contents) certificate.bounds)
+    (EachPaired-IsSingle of_stream (LimitFinds contents) (λ stream entry. Then-IsSingle _ _ (Asks-IsSingle _ _) (Asks-IsSingle _ _)) BadSets BadSets 0 streams certificate.streams)))
 
 pub CheckFinds-IsSingle : (contents : Contents) (config : Config) (certificate : Claims) → IsSingle (CheckFinds contents config certificate)
 CheckFinds-IsSingle contents config certificate =

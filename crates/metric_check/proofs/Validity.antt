@@ -1,5 +1,5 @@
 -- No fault is found exactly where a certificate is valid.
-use Rattle.std.proofs.Common.{◌≡◌, ◌≢◌, ℕ, List, [], ◌∷◌, Option, Some, None, IsSomeAnd, Result, Ok, Err, OnOk, ◌⊎◌, length, slice_get, refl, sym, ap, inl, inr, arith, ◌∙◌}
+use Rattle.std.proofs.Common.{◌≡◌, ◌≢◌, ℕ, ◌+◌, List, [], ◌∷◌, Option, Some, None, IsSomeAnd, Result, Ok, Err, OnOk, ◌⊎◌, length, slice_get, refl, sym, ap, inl, inr, arith, ◌∙◌}
 use Rattle.std.specs.List.{AllZip}
 use Rattle.std.specs.Option.{option_cmp}
 use Rattle.std.specs.Ordering.{nat_cmp, ordering_then}
@@ -28,8 +28,11 @@ use Rattle.metric_cert.specs.declared.stream.StreamSets.{StreamSets}
 use Rattle.metric_cert.specs.Valid.{IsBoundAt, IsBoundOf, IsEntryOf, IsReasonOf, IsTrueOf, IsValid, all_pairs}
 use Rattle.metric_plan.specs.declared.fault.CheckFault.{CheckFault}
 use Rattle.metric_plan.specs.declared.fault.CheckFault.TheVariants.{PairMissing, BadTakes, BadRows, BadMiss, StreamMissing, StreamStrange, BadOrder, BadSets, LimitExceeded, SumLow, SumHigh, CountRange, AmountRange, Memory}
+use Rattle.metric_check.specs.declared.fault.ClaimFault.{ClaimFault}
+use Rattle.metric_check.specs.declared.fault.ClaimPlace.{ClaimPlace}
+use Rattle.metric_check.specs.declared.fault.ClaimPlace.TheVariants.{Nowhere, Orders, Reason, Bound, Stream as OfStream}
 use Rattle.metric_check.specs.Checked.{FindsNothingWhereValid}
-use Rattle.metric_check.specs.Findings.{BoundFinds, BoundsFind, CheckFinds, EntryFinds, EvidenceFindsAt, LimitFinds, NumbersFindAt, ReasonFinds, entry_order}
+use Rattle.metric_check.specs.Findings.{BoundFinds, BoundsFind, CheckFinds, EntryFinds, EvidenceFindsAt, LimitFinds, NumbersFindAt, ReasonFinds, entry_order, of_bound, of_none, of_reason, of_stream}
 use Rattle.metric_check.specs.Known.{AreTotals}
 use Rattle.metric_check.specs.Paired.{EachPaired}
 use Rattle.metric_check.proofs.EvidenceLaws.{AreReasons}
@@ -37,19 +40,19 @@ use Rattle.metric_check.proofs.Singles.{CheckFinds-IsSingle}
 use Rattle.metric_check.proofs.Walks.{range_at, there, zip_at}
 
 -- nothing is found along two lists where each element is as it is due
-pub paired_none : {X Y F : Type 0} (Finds : X → Y → Option F → Type 0) (P : X → Y → Type 0) (missing more : F) → ((x : X) (y : Y) → Finds x y None → P x y)
-    → (xs : List X) (ys : List Y) → EachPaired Finds missing more xs ys None → AllZip P xs ys
-paired_none Finds P missing more each [] [] p = tt
-paired_none Finds P missing more each [] (y ∷ ys) p = absurd cc
-paired_none Finds P missing more each (x ∷ xs) [] p = absurd cc
-paired_none Finds P missing more each (x ∷ xs) (y ∷ ys) p = (each x y p.0, paired_none Finds P missing more each xs ys p.1)
+pub paired_none : {X Y F G : Type 0} (told : ℕ → F → G) (Finds : X → Y → Option F → Type 0) (P : X → Y → Type 0) (missing more : F) → ((x : X) (y : Y) → Finds x y None → P x y)
+    → (n : ℕ) (xs : List X) (ys : List Y) → EachPaired told Finds missing more n xs ys None → AllZip P xs ys
+paired_none told Finds P missing more each n [] [] p = tt
+paired_none told Finds P missing more each n [] (y ∷ ys) p = absurd cc
+paired_none told Finds P missing more each n (x ∷ xs) [] p = absurd cc
+paired_none told Finds P missing more each n (x ∷ xs) (y ∷ ys) p = (each x y p.0, paired_none told Finds P missing more each (n + 1) xs ys p.1)
 
-pub none_paired : {X Y F : Type 0} (Finds : X → Y → Option F → Type 0) (P : X → Y → Type 0) (missing more : F) → ((x : X) (y : Y) → P x y → Finds x y None)
-    → (xs : List X) (ys : List Y) → AllZip P xs ys → EachPaired Finds missing more xs ys None
-none_paired Finds P missing more each [] [] p = refl
-none_paired Finds P missing more each [] (y ∷ ys) p = absurd p
-none_paired Finds P missing more each (x ∷ xs) [] p = absurd p
-none_paired Finds P missing more each (x ∷ xs) (y ∷ ys) p = (each x y p.0, none_paired Finds P missing more each xs ys p.1)
+pub none_paired : {X Y F G : Type 0} (told : ℕ → F → G) (Finds : X → Y → Option F → Type 0) (P : X → Y → Type 0) (missing more : F) → ((x : X) (y : Y) → P x y → Finds x y None)
+    → (n : ℕ) (xs : List X) (ys : List Y) → AllZip P xs ys → EachPaired told Finds missing more n xs ys None
+none_paired told Finds P missing more each n [] [] p = refl
+none_paired told Finds P missing more each n [] (y ∷ ys) p = absurd p
+none_paired told Finds P missing more each n (x ∷ xs) [] p = absurd p
+none_paired told Finds P missing more each n (x ∷ xs) (y ∷ ys) p = (each x y p.0, none_paired told Finds P missing more each (n + 1) xs ys p.1)
 
 both_zip : {X Y : Type 0} (P Q : X → Y → Type 0) (xs : List X) (ys : List Y) → AllZip P xs ys → AllZip Q xs ys → AllZip (λ x y. P x y × Q x y) xs ys
 both_zip P Q [] [] p q = tt
@@ -89,16 +92,16 @@ reason_of contents config pair reason p = record {
   evidence = evidence_true reason.evidence (slice_get config.views reason.view) (meter_at contents reason.instrument) (slice_get contents.instruments reason.instrument) p.1;
 }
 
-of_reason : (contents : Contents) (config : Config) (pair : ℕ × ℕ) (reason : SelectionReason) → IsReasonOf contents config pair reason → ReasonFinds contents config pair reason None
-of_reason contents config pair reason r = (
+from_reason : (contents : Contents) (config : Config) (pair : ℕ × ℕ) (reason : SelectionReason) → IsReasonOf contents config pair reason → ReasonFinds contents config pair reason None
+from_reason contents config pair reason r = (
   (r.view, r.instrument),
   true_evidence reason.evidence (slice_get config.views reason.view) (meter_at contents reason.instrument) (slice_get contents.instruments reason.instrument) r.evidence,
 )
 
 pub reasons_true : (contents : Contents) (config : Config) (reasons : List SelectionReason) (missing more : CheckFault)
-    → EachPaired (ReasonFinds contents config) missing more (all_pairs contents config) reasons None → AreReasons contents config reasons
+    → EachPaired of_reason (ReasonFinds contents config) missing more 0 (all_pairs contents config) reasons None → AreReasons contents config reasons
 reasons_true contents config reasons missing more p =
-    paired_none (ReasonFinds contents config) (IsReasonOf contents config) missing more (reason_of contents config) (all_pairs contents config) reasons p
+    paired_none of_reason (ReasonFinds contents config) (IsReasonOf contents config) missing more (reason_of contents config) 0 (all_pairs contents config) reasons p
 
 -- entries
 then_equal : (a b : Ordering) → ordering_then a b ≡ Equal → (a ≡ Equal) × (b ≡ Equal)
@@ -174,8 +177,8 @@ bound_of contents streams number bound p = by (slice_get contents.instruments nu
       safe = record { counts = p.0.2; amounts = p.1.0.1; low = p.1.1.0.1; high = p.1.1.1.1 };
     }
 
-of_bound : (contents : Contents) (streams : List Stream) (number : ℕ) (bound : InstrumentBound) → IsBoundAt contents streams number bound → BoundFinds contents streams number bound None
-of_bound contents streams number bound p = by (slice_get contents.instruments number) p
+from_bound : (contents : Contents) (streams : List Stream) (number : ℕ) (bound : InstrumentBound) → IsBoundAt contents streams number bound → BoundFinds contents streams number bound None
+from_bound contents streams number bound p = by (slice_get contents.instruments number) p
   where
     by : (o : Option Instrument) → IsSomeAnd o (λ instrument. IsBoundOf contents streams number instrument bound) → NumbersFindAt contents streams number o bound None
     by None p = absurd p
@@ -190,24 +193,24 @@ valid_from_none contents config certificate p =
       streams =
           map_zip (λ stream entry. EntryFinds stream entry None × LimitFinds contents stream entry None) (IsEntryOf contents) (entry_of contents) streams certificate.streams
           (both_zip (λ stream entry. EntryFinds stream entry None) (λ stream entry. LimitFinds contents stream entry None) streams certificate.streams
-          (paired_none EntryFinds (λ stream entry. EntryFinds stream entry None) StreamMissing StreamStrange (λ x y h. h) streams certificate.streams p.1.0)
-          (paired_none (LimitFinds contents) (λ stream entry. LimitFinds contents stream entry None) BadSets BadSets (λ x y h. h) streams certificate.streams p.1.1.1.1));
+          (paired_none of_stream EntryFinds (λ stream entry. EntryFinds stream entry None) StreamMissing StreamStrange (λ x y h. h) 0 streams certificate.streams p.1.0)
+          (paired_none of_stream (LimitFinds contents) (λ stream entry. LimitFinds contents stream entry None) BadSets BadSets (λ x y h. h) 0 streams certificate.streams p.1.1.1.1));
       bounds =
-          paired_none (BoundFinds contents streams) (IsBoundAt contents streams) CountRange CountRange (bound_of contents streams) (all_instruments contents) certificate.bounds p.1.1.1.0;
+          paired_none of_bound (BoundFinds contents streams) (IsBoundAt contents streams) CountRange CountRange (bound_of contents streams) 0 (all_instruments contents) certificate.bounds p.1.1.1.0;
       orders = p.1.1.0;
     }
 
 none_from_valid : (contents : Contents) (config : Config) (certificate : Claims) → IsValid contents config certificate → CheckFinds contents config certificate None
 none_from_valid contents config certificate v =
     let streams = streams_of contents config in (
-      none_paired (ReasonFinds contents config) (IsReasonOf contents config) PairMissing PairMissing (of_reason contents config) (all_pairs contents config) certificate.reasons v.reasons,
+      none_paired of_reason (ReasonFinds contents config) (IsReasonOf contents config) PairMissing PairMissing (from_reason contents config) 0 (all_pairs contents config) certificate.reasons v.reasons,
       (
-        none_paired EntryFinds (IsEntryOf contents) StreamMissing StreamStrange (of_entry contents) streams certificate.streams v.streams,
+        none_paired of_stream EntryFinds (IsEntryOf contents) StreamMissing StreamStrange (of_entry contents) 0 streams certificate.streams v.streams,
         (
           v.orders,
           (
-            none_paired (BoundFinds contents streams) (IsBoundAt contents streams) CountRange CountRange (of_bound contents streams) (all_instruments contents) certificate.bounds v.bounds,
-            none_paired (LimitFinds contents) (IsEntryOf contents) BadSets BadSets (λ stream entry e. ((e.listed, e.sets), e.limited)) streams certificate.streams v.streams,
+            none_paired of_bound (BoundFinds contents streams) (IsBoundAt contents streams) CountRange CountRange (from_bound contents streams) 0 (all_instruments contents) certificate.bounds v.bounds,
+            none_paired of_stream (LimitFinds contents) (IsEntryOf contents) BadSets BadSets (λ stream entry e. ((e.listed, e.sets), e.limited)) 0 streams certificate.streams v.streams,
           ),
         ),
       ),
@@ -219,7 +222,7 @@ finds_nothing_where_valid contents config certificate = (valid_from_none content
 -- bounds in which nothing is found have the totals
 pub totals_known : (contents : Contents) (streams : List Stream) (bounds : List InstrumentBound) → BoundsFind contents streams bounds None → AreTotals contents bounds
 totals_known contents streams bounds p number within =
-    let zip = paired_none (BoundFinds contents streams) (IsBoundAt contents streams) CountRange CountRange (bound_of contents streams) (all_instruments contents) bounds p in
+    let zip = paired_none of_bound (BoundFinds contents streams) (IsBoundAt contents streams) CountRange CountRange (bound_of contents streams) 0 (all_instruments contents) bounds p in
     let long = AllZip-long (IsBoundAt contents streams) (all_instruments contents) bounds zip in
     let count = length-range_with_len 0 (length contents.instruments) in
     let bound = there bounds number (omega (arith, long, count, within)) in
@@ -246,11 +249,31 @@ memory_or_not SumHigh = inr (λ e. cc)
 memory_or_not CountRange = inr (λ e. cc)
 memory_or_not AmountRange = inr (λ e. cc)
 
+nowhere_or_not : (place : ClaimPlace) → (place ≡ Nowhere) ⊎ (place ≢ Nowhere)
+nowhere_or_not Nowhere = inl refl
+nowhere_or_not (Reason n) = inr (λ e. cc)
+nowhere_or_not (OfStream n) = inr (λ e. cc)
+nowhere_or_not (Bound n) = inr (λ e. cc)
+nowhere_or_not Orders = inr (λ e. cc)
+
+-- a fault is want of memory, or it is not
+refused_or_not : (claim : ClaimFault) → (claim ≡ of_none Memory) ⊎ (claim ≢ of_none Memory)
+refused_or_not claim = elim (memory_or_not claim.fault) [
+  | inl memory ↦ elim (nowhere_or_not claim.place) [
+    | inl nowhere ↦ inl (both claim memory nowhere)
+    | inr other ↦ inr (λ e. other (ap (λ (c : ClaimFault). c.place) e))
+  ]
+  | inr other ↦ inr (λ e. other (ap (λ (c : ClaimFault). c.fault) e))
+]
+  where
+    both : (c : ClaimFault) → c.fault ≡ Memory → c.place ≡ Nowhere → c ≡ of_none Memory
+    both c memory nowhere = λ j. record { fault = memory j; place = nowhere j }
+
 -- where a certificate is valid, a fault that is found unless memory was refused is Memory
-pub memory_alone : (contents : Contents) (config : Config) (certificate : Claims) (fault : CheckFault)
-    → (fault ≢ Memory → CheckFinds contents config certificate (Some fault)) → IsValid contents config certificate → fault ≡ Memory
+pub memory_alone : (contents : Contents) (config : Config) (certificate : Claims) (fault : ClaimFault)
+    → (fault ≢ of_none Memory → CheckFinds contents config certificate (Some fault)) → IsValid contents config certificate → fault ≡ of_none Memory
 memory_alone contents config certificate fault found valid =
-    elim (memory_or_not fault) [
+    elim (refused_or_not fault) [
       | inl memory ↦ memory
       | inr other ↦ absurd ((CheckFinds-IsSingle contents config certificate).alone fault (none_from_valid contents config certificate valid) (found other))
     ]

@@ -5,7 +5,7 @@ use Rattle.std.proofs.lemmas.List.FromFn.{get_or-range_with_len, length-range_wi
 use Rattle.std.proofs.lemmas.List.{drop_all}
 use Rattle.std.proofs.lemmas.Option.{get_or_from_slice_get, slice_get-get_or, slice_get_within}
 use Rattle.metric_bounds.specs.First.{Then}
-use Rattle.metric_check.specs.Paired.{EachPaired}
+use Rattle.metric_check.specs.Paired.{EachPaired, IsToldBy, Told}
 
 -- an element of a place that is there
 pub record There {X : Type 0} (xs : List X) (n : ℕ) : Type 0 where
@@ -29,63 +29,65 @@ zip_at R (u ∷ us) (v ∷ vs) zip zero x y at own =
 zip_at R (u ∷ us) (v ∷ vs) zip (suc n) x y at own = zip_at R us vs zip.1 n x y at own
 
 -- What is found from a place on is found in all.
-pub record Onward {X Y F : Type 0} (Finds : X → Y → Option F → Type 0) (missing more : F) (xs : List X) (ys : List Y) (n : ℕ) : Type 0 where
-  pub on : (found : Option F) → EachPaired Finds missing more (drop n xs) (drop n ys) found → EachPaired Finds missing more xs ys found
+pub record Onward {X Y F G : Type 0} (told : ℕ → F → G) (Finds : X → Y → Option F → Type 0) (missing more : F) (xs : List X) (ys : List Y) (n : ℕ) : Type 0 where
+  pub on : (found : Option G) → EachPaired told Finds missing more n (drop n xs) (drop n ys) found → EachPaired told Finds missing more 0 xs ys found
 
 pub drop_at : {X : Type 0} (xs : List X) (n : ℕ) (x : X) → slice_get xs n ≡ Some x → drop n xs ≡ x ∷ drop (n + 1) xs
 drop_at xs n x at =
     drop-cons xs n x (slice_get_within xs n x at)
     ∙ (λ j. get_or_from_slice_get xs n x x at j ∷ drop (sym (add-one n) j) xs)
 
-module _ {X Y F : Type 0} (Finds : X → Y → Option F → Type 0) (missing more : F) (xs : List X) (ys : List Y) where
-  pub onward_first : Onward Finds missing more xs ys 0
+module _ {X Y F G : Type 0} (told : ℕ → F → G) (Finds : X → Y → Option F → Type 0) (missing more : F) (xs : List X) (ys : List Y) where
+  pub onward_first : Onward told Finds missing more xs ys 0
   onward_first = record { on = λ found p. p }
 
-  at_both : (n : ℕ) (x : X) (y : Y) → slice_get xs n ≡ Some x → slice_get ys n ≡ Some y → (found : Option F)
-      → Then (Finds x y) (EachPaired Finds missing more (drop (n + 1) xs) (drop (n + 1) ys)) found
-      → EachPaired Finds missing more (drop n xs) (drop n ys) found
+  at_both : (n : ℕ) (x : X) (y : Y) → slice_get xs n ≡ Some x → slice_get ys n ≡ Some y → (found : Option G)
+      → Then (Told (told n) (Finds x y)) (EachPaired told Finds missing more (n + 1) (drop (n + 1) xs) (drop (n + 1) ys)) found
+      → EachPaired told Finds missing more n (drop n xs) (drop n ys) found
   at_both n x y at own found p =
-      subst (λ (us : List X). EachPaired Finds missing more us (drop n ys) found) (sym (drop_at xs n x at))
-      (subst (λ (vs : List Y). EachPaired Finds missing more (x ∷ drop (n + 1) xs) vs found) (sym (drop_at ys n y own)) p)
+      subst (λ (us : List X). EachPaired told Finds missing more n us (drop n ys) found) (sym (drop_at xs n x at))
+      (subst (λ (vs : List Y). EachPaired told Finds missing more n (x ∷ drop (n + 1) xs) vs found) (sym (drop_at ys n y own)) p)
 
   -- nothing is found at a place
   pub onward_next : (n : ℕ) (x : X) (y : Y) → slice_get xs n ≡ Some x → slice_get ys n ≡ Some y → Finds x y None
-      → Onward Finds missing more xs ys n → Onward Finds missing more xs ys (n + 1)
+      → Onward told Finds missing more xs ys n → Onward told Finds missing more xs ys (n + 1)
   onward_next n x y at own none onward = record { on = λ found p. onward.on found (at_both n x y at own found (by found p)) }
     where
-      by : (found : Option F) → EachPaired Finds missing more (drop (n + 1) xs) (drop (n + 1) ys) found
-          → Then (Finds x y) (EachPaired Finds missing more (drop (n + 1) xs) (drop (n + 1) ys)) found
+      by : (found : Option G) → EachPaired told Finds missing more (n + 1) (drop (n + 1) xs) (drop (n + 1) ys) found
+          → Then (Told (told n) (Finds x y)) (EachPaired told Finds missing more (n + 1) (drop (n + 1) xs) (drop (n + 1) ys)) found
       by None p = (none, p)
       by (Some fault) p = inr (none, p)
 
   -- a fault is found at a place
-  pub onward_fault : (n : ℕ) (x : X) (y : Y) (fault : F) → slice_get xs n ≡ Some x → slice_get ys n ≡ Some y → Finds x y (Some fault)
-      → Onward Finds missing more xs ys n → EachPaired Finds missing more xs ys (Some fault)
+  pub onward_fault : (n : ℕ) (x : X) (y : Y) (fault : G) → slice_get xs n ≡ Some x → slice_get ys n ≡ Some y → Told (told n) (Finds x y) (Some fault)
+      → Onward told Finds missing more xs ys n → EachPaired told Finds missing more 0 xs ys (Some fault)
   onward_fault n x y fault at own found onward = onward.on (Some fault) (at_both n x y at own (Some fault) (inl found))
 
   -- what is due at a place is missing
-  pub onward_missing : (n : ℕ) → n < length xs → length ys ≤ n → Onward Finds missing more xs ys n → EachPaired Finds missing more xs ys (Some missing)
-  onward_missing n within short onward =
+  pub onward_missing : (n : ℕ) (fault : G) → n < length xs → length ys ≤ n → fault ≡ told n missing → Onward told Finds missing more xs ys n
+      → EachPaired told Finds missing more 0 xs ys (Some fault)
+  onward_missing n fault within short is onward =
       let due = there xs n within in
-      onward.on (Some missing)
-      (subst (λ (us : List X). EachPaired Finds missing more us (drop n ys) (Some missing)) (sym (drop_at xs n due.element due.at))
-      (subst (λ (vs : List Y). EachPaired Finds missing more (due.element ∷ drop (n + 1) xs) vs (Some missing)) (sym (drop_all n ys short)) refl))
+      onward.on (Some fault)
+      (subst (λ (us : List X). EachPaired told Finds missing more n us (drop n ys) (Some fault)) (sym (drop_at xs n due.element due.at))
+      (subst (λ (vs : List Y). EachPaired told Finds missing more n (due.element ∷ drop (n + 1) xs) vs (Some fault)) (sym (drop_all n ys short)) (ap (λ (g : G). Some g) is)))
 
   -- nothing is due at a place
-  pub onward_more : (n : ℕ) → length xs ≤ n → n < length ys → Onward Finds missing more xs ys n → EachPaired Finds missing more xs ys (Some more)
-  onward_more n short within onward =
+  pub onward_more : (n : ℕ) (fault : G) → length xs ≤ n → n < length ys → fault ≡ told n more → Onward told Finds missing more xs ys n
+      → EachPaired told Finds missing more 0 xs ys (Some fault)
+  onward_more n fault short within is onward =
       let own = there ys n within in
-      onward.on (Some more)
-      (subst (λ (us : List X). EachPaired Finds missing more us (drop n ys) (Some more)) (sym (drop_all n xs short))
-      (subst (λ (vs : List Y). EachPaired Finds missing more [] vs (Some more)) (sym (drop_at ys n own.element own.at)) refl))
+      onward.on (Some fault)
+      (subst (λ (us : List X). EachPaired told Finds missing more n us (drop n ys) (Some fault)) (sym (drop_all n xs short))
+      (subst (λ (vs : List Y). EachPaired told Finds missing more n [] vs (Some fault)) (sym (drop_at ys n own.element own.at)) (ap (λ (g : G). Some g) is)))
 
   -- both lists have ended
   pub onward_end : (n : ℕ) → length xs ≤ n → length ys ≤ n
-      → Onward Finds missing more xs ys n → EachPaired Finds missing more xs ys None
+      → Onward told Finds missing more xs ys n → EachPaired told Finds missing more 0 xs ys None
   onward_end n short few onward =
       onward.on None
-      (subst (λ (us : List X). EachPaired Finds missing more us (drop n ys) None) (sym (drop_all n xs short))
-      (subst (λ (vs : List Y). EachPaired Finds missing more [] vs None) (sym (drop_all n ys few)) refl))
+      (subst (λ (us : List X). EachPaired told Finds missing more n us (drop n ys) None) (sym (drop_all n xs short))
+      (subst (λ (vs : List Y). EachPaired told Finds missing more n [] vs None) (sym (drop_all n ys few)) refl))
 
 -- the numbers below a bound, at their places
 pub range_at : (n k : ℕ) → k < n → slice_get (range_with_len 0 n) k ≡ Some k
@@ -93,3 +95,7 @@ range_at n k within =
     let long = length-range_with_len 0 n in
     let is : get_or (range_with_len 0 n) k 0 ≡ k = omega (arith, get_or-range_with_len 0 n k 0 within) in
     slice_get-get_or (range_with_len 0 n) k 0 (omega (arith, long)) ∙ ap (λ (m : ℕ). Some m) is
+
+-- what is found at a place, told with it
+pub told_found : {F G : Type 0} (told : F → G) (Finds : Option F → Type 0) (fault : F) → Finds (Some fault) → Told told Finds (Some (told fault))
+told_found told Finds fault found = record { fault = fault; found = found; is = refl }

@@ -6,7 +6,7 @@ use Rattle.metric_views.specs.declared.config.Config.{Config}
 use Rattle.metric_bounds.specs.Safe.{IsSafe}
 use Rattle.metric_cert.specs.declared.claims.Claims.{Claims}
 use Rattle.metric_cert.specs.Valid.{IsValid}
-use Rattle.metric_plan.specs.declared.fault.CheckFault.{CheckFault}
+use Rattle.metric_check.specs.declared.fault.ClaimFault.{ClaimFault}
 use Rattle.metric_check.specs.Findings.{CheckFinds}
 
 -- No fault is found exactly where the certificate is valid.
@@ -18,7 +18,7 @@ FindsNothingWhereValid =
 -- Which fault is found, or that none is, has one answer only.
 abbrev pub FindsOne : Type 0
 FindsOne =
-    (contents : Contents) (config : Config) (certificate : Claims) (found other : Option CheckFault)
+    (contents : Contents) (config : Config) (certificate : Claims) (found other : Option ClaimFault)
     → CheckFinds contents config certificate found
     → CheckFinds contents config certificate other → found ≡ other
 

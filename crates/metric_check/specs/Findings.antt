@@ -1,6 +1,6 @@
--- What the check of a certificate finds: the first fault of the first step that fails. Each
--- step says what it asks, and which fault is found where that fails; it is asked only where the
--- steps before it have found nothing.
+-- What the check of a certificate finds: the first fault of the first step that fails, with the
+-- entry that it is of. Each step says what it asks, and which fault is found where that fails; it is
+-- asked only where the steps before it have found nothing.
 use Rattle.std.specs.Prelude.{◌≡◌, ◌≢◌, ℕ, pos, ◌≤◌, IsTrue, List, Option, Some, None, slice_get}
 use Rattle.std.specs.List.{AllZip}
 use Rattle.std.specs.Option.{option_cmp}
@@ -47,7 +47,31 @@ use Rattle.metric_plan.specs.declared.fault.CheckFault.TheVariants.{
   CountRange,
   AmountRange,
 }
+use Rattle.metric_check.specs.declared.fault.ClaimFault.{ClaimFault}
+use Rattle.metric_check.specs.declared.fault.ClaimPlace.TheVariants as place
 use Rattle.metric_check.specs.Paired.{EachPaired}
+
+-- Places
+
+-- a fault of the reason of a number
+abbrev pub of_reason : ℕ → CheckFault → ClaimFault
+of_reason number fault = record { fault = fault; place = place.Reason number }
+
+-- a fault of the stream of a number
+abbrev pub of_stream : ℕ → CheckFault → ClaimFault
+of_stream number fault = record { fault = fault; place = place.Stream number }
+
+-- a fault of the orders
+abbrev pub of_orders : CheckFault → ClaimFault
+of_orders fault = record { fault = fault; place = place.Orders }
+
+-- a fault of the bound of a number
+abbrev pub of_bound : ℕ → CheckFault → ClaimFault
+of_bound number fault = record { fault = fault; place = place.Bound number }
+
+-- a fault of no entry
+abbrev pub of_none : CheckFault → ClaimFault
+of_none fault = record { fault = fault; place = place.Nowhere }
 
 -- Reasons
 
@@ -86,9 +110,9 @@ ReasonFinds contents config pair reason =
     (meter_at contents reason.instrument) (slice_get contents.instruments reason.instrument))
 
 -- a reason for each pair, by view, then instrument
-abbrev pub ReasonsFind : Contents → Config → List SelectionReason → Option CheckFault → Type 0
+abbrev pub ReasonsFind : Contents → Config → List SelectionReason → Option ClaimFault → Type 0
 ReasonsFind contents config reasons =
-    EachPaired (ReasonFinds contents config) PairMissing PairMissing
+    EachPaired of_reason (ReasonFinds contents config) PairMissing PairMissing 0
     (all_pairs contents config) reasons
 
 -- Streams
@@ -109,16 +133,17 @@ EntryFinds stream entry =
     (Asks (entry_order entry stream ≢ Greater) StreamMissing)
 
 -- an entry for each stream, in order
-abbrev pub EntriesFind : List Stream → List StreamSets → Option CheckFault → Type 0
-EntriesFind streams entries = EachPaired EntryFinds StreamMissing StreamStrange streams entries
+abbrev pub EntriesFind : List Stream → List StreamSets → Option ClaimFault → Type 0
+EntriesFind streams entries =
+    EachPaired of_stream EntryFinds StreamMissing StreamStrange 0 streams entries
 
 -- Orders
 
 -- an order for each reader
 abbrev pub OrdersFind : Contents → Config → List Stream → List ReaderOrder
-    → Option CheckFault → Type 0
+    → Option ClaimFault → Type 0
 OrdersFind contents config streams orders =
-    Asks (AllZip (IsOrderOf contents streams) (all_readers config) orders) BadOrder
+    Asks (AllZip (IsOrderOf contents streams) (all_readers config) orders) (of_orders BadOrder)
 
 -- Bounds
 
@@ -161,9 +186,10 @@ BoundFinds contents streams number bound =
     NumbersFindAt contents streams number (slice_get contents.instruments number) bound
 
 -- a bound for each instrument, in order
-abbrev pub BoundsFind : Contents → List Stream → List InstrumentBound → Option CheckFault → Type 0
+abbrev pub BoundsFind : Contents → List Stream → List InstrumentBound → Option ClaimFault → Type 0
 BoundsFind contents streams bounds =
-    EachPaired (BoundFinds contents streams) CountRange CountRange (all_instruments contents) bounds
+    EachPaired of_bound (BoundFinds contents streams) CountRange CountRange 0
+    (all_instruments contents) bounds
 
 -- Sets
 
@@ -178,23 +204,25 @@ LimitFinds contents stream entry =
     Then (Asks (HasBound contents stream entry) BadSets)
     (Asks (entry.sets ≤ stream.limit) LimitExceeded)
 
-abbrev pub SetsFind : Contents → List Stream → List StreamSets → Option CheckFault → Type 0
-SetsFind contents streams entries = EachPaired (LimitFinds contents) BadSets BadSets streams entries
+abbrev pub SetsFind : Contents → List Stream → List StreamSets → Option ClaimFault → Type 0
+SetsFind contents streams entries =
+    EachPaired of_stream (LimitFinds contents) BadSets BadSets 0 streams entries
 
 -- All steps
 
 -- what the steps after the reasons find, where these are the streams
-abbrev pub StreamsFind : Contents → Config → Claims → List Stream → Option CheckFault → Type 0
+abbrev pub StreamsFind : Contents → Config → Claims → List Stream → Option ClaimFault → Type 0
 StreamsFind contents config certificate streams =
     Then (EntriesFind streams certificate.streams)
     (Then (OrdersFind contents config streams certificate.orders)
     (Then (BoundsFind contents streams certificate.bounds)
     (SetsFind contents streams certificate.streams)))
 
--- # what the check finds (profile)
+-- # what the check finds (profile) [CheckFinds, of_reason, of_stream, of_orders, of_bound]
 -- The first fault of reasons, streams, orders, bounds and sets, each asked only where those before
--- it found nothing.
-abbrev pub CheckFinds : Contents → Config → Claims → Option CheckFault → Type 0
+-- it found nothing. It is told with the entry that it is of: the first of its list that is wrong,
+-- or the number at which one is due and missing, or at which there are more.
+abbrev pub CheckFinds : Contents → Config → Claims → Option ClaimFault → Type 0
 CheckFinds contents config certificate =
     Then (ReasonsFind contents config certificate.reasons)
     (StreamsFind contents config certificate (streams_of contents config))

@@ -5,8 +5,10 @@ ghost use Rattle.metric_bounds.specs.Amounts.{total_of};
 ghost use Rattle.metric_bounds.specs.First.{Reports};
 ghost use Rattle.metric_bounds.specs.Sums.{is_summed};
 ghost use Rattle.metric_resolve.specs.Applying.{all_instruments};
-ghost use Rattle.metric_check.specs.Findings.{BoundFinds, BoundsFind};
+ghost use Rattle.metric_check.specs.Findings.{BoundFinds, BoundsFind, of_bound, of_none};
+ghost use Rattle.metric_check.specs.Paired.{Told};
 
+use crate::fault::{ClaimFault, ClaimPlace};
 use crate::numbers::check_numbers;
 use metric_bounds::{summed, totals};
 use metric_catalogue::Catalogue;
@@ -21,8 +23,9 @@ pub(crate) fn check_bounds(
     catalogue: &Catalogue,
     streams: &[Stream],
     bounds: &[InstrumentBound],
-) -> Result<(), CheckFault>
-    ensures { Reports CheckFault.Memory (BoundsFind catalogue.now streams.now bounds.now) result }
+) -> Result<(), ClaimFault>
+    ensures { Reports (of_none CheckFault.Memory)
+        (BoundsFind catalogue.now streams.now bounds.now) result }
 {
     let instruments = catalogue.instruments();
     let totals = totals(alloc, catalogue)?;
@@ -43,7 +46,7 @@ fn check_all(
     totals: &[u128],
     summed: &[bool],
     bounds: &[InstrumentBound],
-) -> Result<(), CheckFault>
+) -> Result<(), ClaimFault>
     requires totals { totals.now ≡ map (total_of catalogue.now) (all_instruments catalogue.now) }
     requires summed { summed.now ≡ map (is_summed streams.now) (all_instruments catalogue.now) }
     ensures { BoundsFind catalogue.now streams.now bounds.now (result_err result) }
@@ -51,9 +54,9 @@ fn check_all(
     let instruments = catalogue.instruments();
     for (number, bound) in bounds.iter().enumerate() {
         if number >= instruments.len() {
-            return Err(CheckFault::CountRange);
+            return Err(at_bound(number, CheckFault::CountRange));
         }
-        check_bound(
+        check_bound_at(
             catalogue,
             streams,
             number as u32,
@@ -63,9 +66,40 @@ fn check_all(
         )?;
     }
     if bounds.len() < instruments.len() {
-        return Err(CheckFault::CountRange);
+        return Err(at_bound(bounds.len(), CheckFault::CountRange));
     }
     Ok(())
+}
+
+// A fault of the bound of a number.
+fn at_bound(number: usize, fault: CheckFault) -> ClaimFault
+    ensures { result ≡ of_bound number fault }
+{
+    ClaimFault {
+        fault,
+        place: ClaimPlace::Bound(number),
+    }
+}
+
+// The first fault of a bound where that of the instrument of this number is due, told with the number.
+fn check_bound_at(
+    catalogue: &Catalogue,
+    streams: &[Stream],
+    number: u32,
+    total: u128,
+    summed: bool,
+    bound: &InstrumentBound,
+) -> Result<(), ClaimFault>
+    requires known { number < length catalogue.now.instruments }
+    requires total { total ≡ total_of catalogue.now number }
+    requires summed { summed ≡ is_summed streams.now number }
+    ensures { Told (of_bound number) (BoundFinds catalogue.now streams.now number bound.now)
+        (result_err result) }
+{
+    match check_bound(catalogue, streams, number, total, summed, bound) {
+        Ok(()) => Ok(()),
+        Err(fault) => Err(at_bound(number as usize, fault)),
+    }
 }
 
 // The first fault of a bound where that of the instrument of this number is due.

@@ -2,13 +2,15 @@
 ghost use Rattle.std.specs.Prelude.{◌≡◌, ◌≢◌, IfErr, IfOk, OnOk, Some, true};
 ghost use Rattle.metric_bounds.specs.First.{Reports};
 ghost use Rattle.metric_cert.specs.Valid.{IsValid};
-ghost use Rattle.metric_plan.specs.Plans.{plan_of};
+ghost use Rattle.metric_bounds.specs.Safe.{AreSafe};
+ghost use Rattle.metric_plan.specs.Plans.{ProductsFit, plan_of};
 ghost use Rattle.metric_resolve.specs.Resolved.{streams_of};
-ghost use Rattle.metric_check.specs.Findings.{CheckFinds, StreamsFind};
+ghost use Rattle.metric_check.specs.Findings.{CheckFinds, StreamsFind, of_none};
 ghost use Rattle.metric_check.specs.Products.{by_product_of, entry_flags, is_product};
 
 use crate::bounds::check_bounds;
 use crate::entries::check_entries;
+use crate::fault::ClaimFault;
 use crate::limits::check_limits;
 use crate::orders::check_orders;
 use crate::reasons::check_reasons;
@@ -30,21 +32,21 @@ use std::alloc::{AllocError, Global};
 /// `StreamMissing`); the orders of the readers (`BadOrder`); the bounds of each instrument (`CountRange`,
 /// `AmountRange`, `SumLow`, `SumHigh`); the number of series of each stream, and the list of one by list
 /// (`BadSets`, `LimitExceeded`).
-/// The first fault of the first step that fails is answered. `Memory` may stand in place of any. Where
-/// there is no plan, catalogue and config are handed back.
+/// The first fault of the first step that fails is answered, with the first entry that it is of. `Memory`, which is of
+/// no entry, may stand in place of any. Where there is no plan, catalogue and config are handed back.
 pub fn check(
     alloc: Global,
     catalogue: Catalogue,
     config: Config,
     certificate: &Certificate,
-) -> Result<Plan, (Catalogue, Config, CheckFault)>
+) -> Result<Plan, (Catalogue, Config, ClaimFault)>
     ensures plan { IfOk result (λ plan.
         plan ≡ plan_of true (by_product_of certificate.now) catalogue config) }
     ensures valid { OnOk result (IsValid catalogue config certificate.now) }
-    ensures fault { IfErr result (λ refused. refused.2 ≢ CheckFault.Memory
+    ensures fault { IfErr result (λ refused. refused.2 ≢ of_none CheckFault.Memory
         → CheckFinds catalogue config certificate.now (Some refused.2)) }
     ensures memory { IfErr result (λ refused. IsValid catalogue config certificate.now
-        → refused.2 ≡ CheckFault.Memory) }
+        → refused.2 ≡ of_none CheckFault.Memory) }
     ensures back { IfErr result (λ refused. (refused.0 ≡ catalogue) × (refused.1 ≡ config)) }
 {
     // What each catalogue keeps is among the reasons why a valid certificate shows safety.
@@ -55,9 +57,30 @@ pub fn check(
                 streams,
                 by_product,
             } = checked;
-            Plan::certified(alloc, catalogue, config, streams, by_product)
+            certified(alloc, catalogue, config, streams, by_product)
         }
         Err(fault) => Err((catalogue, config, fault)),
+    }
+}
+
+// The plan of streams that are safe. Only want of memory refuses it.
+fn certified(
+    alloc: Global,
+    catalogue: Catalogue,
+    config: Config,
+    streams: StreamList,
+    by_product: Items<bool>,
+) -> Result<Plan, (Catalogue, Config, ClaimFault)>
+    requires streams { streams ≡ streams_of catalogue config }
+    requires safe { AreSafe catalogue streams }
+    requires products { ProductsFit catalogue by_product streams }
+    ensures plan { IfOk result (λ plan. plan ≡ plan_of true by_product catalogue config) }
+    ensures memory { IfErr result (λ refused. refused.2 ≡ of_none CheckFault.Memory) }
+    ensures back { IfErr result (λ refused. (refused.0 ≡ catalogue) × (refused.1 ≡ config)) }
+{
+    match Plan::certified(alloc, catalogue, config, streams, by_product) {
+        Ok(plan) => Ok(plan),
+        Err((catalogue, config, fault)) => Err((catalogue, config, ClaimFault::of_none(fault))),
     }
 }
 
@@ -73,8 +96,8 @@ fn checked_streams(
     catalogue: &Catalogue,
     config: &Config,
     certificate: &Certificate,
-) -> Result<CheckedStreams, CheckFault>
-    ensures found { Reports CheckFault.Memory
+) -> Result<CheckedStreams, ClaimFault>
+    ensures found { Reports (of_none CheckFault.Memory)
         (CheckFinds catalogue.now config.now certificate.now) result }
     ensures streams { IfOk result (λ checked.
         checked.streams ≡ streams_of catalogue.now config.now) }
@@ -126,9 +149,9 @@ fn check_streams(
     config: &Config,
     claims: &Claims,
     streams: &[Stream],
-) -> Result<(), CheckFault>
+) -> Result<(), ClaimFault>
     requires { streams.now ≡ streams_of catalogue.now config.now }
-    ensures { Reports CheckFault.Memory
+    ensures { Reports (of_none CheckFault.Memory)
         (StreamsFind catalogue.now config.now claims.now streams.now) result }
 {
     let entries = claims.streams.as_slice();

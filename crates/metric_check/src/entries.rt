@@ -3,8 +3,10 @@ ghost use Rattle.std.specs.Prelude.{◌≡◌};
 ghost use Rattle.std.specs.Option.{option_cmp};
 ghost use Rattle.std.specs.Ordering.{nat_cmp};
 ghost use Rattle.std.specs.Result.{result_err};
-ghost use Rattle.metric_check.specs.Findings.{EntriesFind, EntryFinds, entry_order};
+ghost use Rattle.metric_check.specs.Findings.{EntriesFind, EntryFinds, entry_order, of_stream};
+ghost use Rattle.metric_check.specs.Paired.{Told};
 
+use crate::fault::{ClaimFault, ClaimPlace};
 use metric_cert::StreamSets;
 use metric_plan::CheckFault;
 use metric_views::Stream;
@@ -12,19 +14,39 @@ use std::cmp::Ordering;
 
 // The first fault of the entries. They stand by reader, instrument and view, of which the default is the
 // first.
-pub(crate) fn check_entries(streams: &[Stream], entries: &[StreamSets]) -> Result<(), CheckFault>
+pub(crate) fn check_entries(streams: &[Stream], entries: &[StreamSets]) -> Result<(), ClaimFault>
     ensures { EntriesFind streams.now entries.now (result_err result) }
 {
     for (number, entry) in entries.iter().enumerate() {
         if number >= streams.len() {
-            return Err(CheckFault::StreamStrange);
+            return Err(at_entry(number, CheckFault::StreamStrange));
         }
-        check_entry(&streams[number], entry)?;
+        check_entry_at(number, &streams[number], entry)?;
     }
     if entries.len() < streams.len() {
-        return Err(CheckFault::StreamMissing);
+        return Err(at_entry(entries.len(), CheckFault::StreamMissing));
     }
     Ok(())
+}
+
+// A fault of the entry of a number.
+pub(crate) fn at_entry(number: usize, fault: CheckFault) -> ClaimFault
+    ensures { result ≡ of_stream number fault }
+{
+    ClaimFault {
+        fault,
+        place: ClaimPlace::Stream(number),
+    }
+}
+
+// The first fault of an entry where that of this stream is due, told with its number.
+fn check_entry_at(number: usize, stream: &Stream, entry: &StreamSets) -> Result<(), ClaimFault>
+    ensures { Told (of_stream number) (EntryFinds stream.now entry.now) (result_err result) }
+{
+    match check_entry(stream, entry) {
+        Ok(()) => Ok(()),
+        Err(fault) => Err(at_entry(number, fault)),
+    }
 }
 
 // The first fault of an entry where that of this stream is due.

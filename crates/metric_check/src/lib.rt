@@ -9,6 +9,7 @@ mod bounds;
 mod certificates;
 mod entries;
 mod evidence;
+mod fault;
 mod laws;
 mod limits;
 mod numbers;
@@ -17,5 +18,6 @@ mod reasons;
 mod selection;
 
 pub use certificates::check;
+pub use fault::{ClaimFault, ClaimPlace};
 pub use laws::{faults_are_single, nothing_is_found_where_valid, valid_is_safe};
 pub use metric_plan::{CheckFault, Plan};

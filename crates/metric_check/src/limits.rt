@@ -4,10 +4,13 @@ ghost use Rattle.metric_bounds.specs.Amounts.{total_of};
 ghost use Rattle.metric_bounds.specs.First.{Reports};
 ghost use Rattle.metric_bounds.specs.Sets.{listed_of};
 ghost use Rattle.metric_resolve.specs.Resolved.{IsKnown};
-ghost use Rattle.metric_check.specs.Findings.{HasBound, LimitFinds, SetsFind};
+ghost use Rattle.metric_check.specs.Findings.{HasBound, LimitFinds, SetsFind, of_none, of_stream};
 ghost use Rattle.metric_cert.specs.Valid.{IsListed};
 ghost use Rattle.metric_check.specs.Known.{AreListed, AreTotals, IsLike};
+ghost use Rattle.metric_check.specs.Paired.{Told};
 
+use crate::entries::at_entry;
+use crate::fault::ClaimFault;
 use metric_bounds::{listed, product};
 use metric_catalogue::Catalogue;
 use metric_cert::{By, InstrumentBound, StreamSets};
@@ -27,26 +30,50 @@ pub(crate) fn check_limits(
     streams: &[Stream],
     entries: &[StreamSets],
     bounds: &[InstrumentBound],
-) -> Result<(), CheckFault>
+) -> Result<(), ClaimFault>
     requires totals { AreTotals catalogue.now bounds.now }
     requires known { All (IsKnown catalogue.now) streams.now }
-    ensures { Reports CheckFault.Memory (SetsFind catalogue.now streams.now entries.now) result }
+    ensures { Reports (of_none CheckFault.Memory)
+        (SetsFind catalogue.now streams.now entries.now) result }
 {
     let mut places: Places = BTreeMap::new(alloc);
     for (number, entry) in entries.iter().enumerate() {
         if number >= streams.len() {
-            return Err(CheckFault::BadSets);
+            return Err(at_entry(number, CheckFault::BadSets));
         }
         let stream = &streams[number];
         let place = places.get(&pair_of(stream));
         let own = earlier_list(catalogue, stream, streams, entries, number, place);
-        check_limit(alloc, catalogue, stream, entry, bounds, own)?;
+        check_limit_at(alloc, catalogue, number, stream, entry, bounds, own)?;
         note_place(&mut places, stream, number)?;
     }
     if entries.len() < streams.len() {
-        return Err(CheckFault::BadSets);
+        return Err(at_entry(entries.len(), CheckFault::BadSets));
     }
     Ok(())
+}
+
+// The fault of an entry, told with its number.
+fn check_limit_at(
+    alloc: Global,
+    catalogue: &Catalogue,
+    number: usize,
+    stream: &Stream,
+    entry: &StreamSets,
+    bounds: &[InstrumentBound],
+    own: Option<&[SetKey]>,
+) -> Result<(), ClaimFault>
+    requires totals { AreTotals catalogue.now bounds.now }
+    requires known { IsKnown catalogue.now stream.now }
+    requires own { IfSome own (λ list. listed_of catalogue.now stream.now ≡ Some list.now) }
+    ensures { Reports (of_none CheckFault.Memory)
+        (Told (of_stream number) (LimitFinds catalogue.now stream.now entry.now)) result }
+{
+    match check_limit(alloc, catalogue, stream, entry, bounds, own) {
+        Ok(()) => Ok(()),
+        Err(CheckFault::Memory) => Err(ClaimFault::of_none(CheckFault::Memory)),
+        Err(fault) => Err(at_entry(number, fault)),
+    }
 }
 
 // The fault of an entry. The list of its stream is made, unless an earlier stream has it.

@@ -8,6 +8,7 @@ ghost use Rattle.metric_resolve.specs.Resolved.{streams_of};
 ghost use Rattle.metric_check.specs.Findings.{OrdersFind};
 ghost use Rattle.metric_check.specs.Rising.{AreOwnOrders, AreTested, IsOwnOrder, RisesTo, named_by};
 
+use crate::fault::{ClaimFault, ClaimPlace};
 use metric_catalogue::Catalogue;
 use metric_cert::ReaderOrder;
 use metric_contents::Meter;
@@ -22,14 +23,17 @@ pub(crate) fn check_orders(
     config: &Config,
     streams: &[Stream],
     orders: &[ReaderOrder],
-) -> Result<(), CheckFault>
+) -> Result<(), ClaimFault>
     requires { streams.now ≡ streams_of catalogue.now config.now }
     ensures { OrdersFind catalogue.now config.now streams.now orders.now (result_err result) }
 {
     if are_orders(catalogue, config, streams, orders) {
         Ok(())
     } else {
-        Err(CheckFault::BadOrder)
+        Err(ClaimFault {
+            fault: CheckFault::BadOrder,
+            place: ClaimPlace::Orders,
+        })
     }
 }
 

@@ -2,9 +2,11 @@
 ghost use Rattle.std.specs.Prelude.{◌≡◌, ◌<◌, ◌∷◌, [], length};
 ghost use Rattle.std.specs.Result.{result_err};
 ghost use Rattle.metric_glob.specs.Matching.{any_text};
-ghost use Rattle.metric_check.specs.Findings.{ReasonFinds, ReasonsFind};
+ghost use Rattle.metric_check.specs.Findings.{ReasonFinds, ReasonsFind, of_reason};
+ghost use Rattle.metric_check.specs.Paired.{Told};
 
 use crate::evidence::check_evidence;
+use crate::fault::{ClaimFault, ClaimPlace};
 use metric_catalogue::Catalogue;
 use metric_cert::SelectionReason;
 use metric_glob::Pattern;
@@ -17,7 +19,7 @@ pub(crate) fn check_reasons(
     catalogue: &Catalogue,
     config: &Config,
     reasons: &[SelectionReason],
-) -> Result<(), CheckFault>
+) -> Result<(), ClaimFault>
     requires { any.now ≡ any_text ∷ [] }
     ensures { ReasonsFind catalogue.now config.now reasons.now (result_err result) }
 {
@@ -25,15 +27,49 @@ pub(crate) fn check_reasons(
     let pairs = config.views().len() * instruments;
     for (place, reason) in reasons.iter().enumerate() {
         if place >= pairs {
-            return Err(CheckFault::PairMissing);
+            return Err(missing_reason(place));
         }
         let (view, instrument) = (place / instruments, place % instruments);
-        check_reason(any, catalogue, config, view, instrument, reason)?;
+        check_reason_at(any, catalogue, config, place, view, instrument, reason)?;
     }
     if reasons.len() < pairs {
-        return Err(CheckFault::PairMissing);
+        return Err(missing_reason(reasons.len()));
     }
     Ok(())
+}
+
+fn missing_reason(place: usize) -> ClaimFault
+    ensures { result ≡ of_reason place CheckFault.PairMissing }
+{
+    ClaimFault {
+        fault: CheckFault::PairMissing,
+        place: ClaimPlace::Reason(place),
+    }
+}
+
+// The first fault of a reason where that of this pair is due, told with its number.
+fn check_reason_at(
+    any: &Pattern,
+    catalogue: &Catalogue,
+    config: &Config,
+    place: usize,
+    view: usize,
+    instrument: usize,
+    reason: &SelectionReason,
+) -> Result<(), ClaimFault>
+    requires any { any.now ≡ any_text ∷ [] }
+    requires view { view < length config.now.views }
+    requires instrument { instrument < length catalogue.now.instruments }
+    ensures { Told (of_reason place)
+        (ReasonFinds catalogue.now config.now (view, instrument) reason.now) (result_err result) }
+{
+    match check_reason(any, catalogue, config, view, instrument, reason) {
+        Ok(()) => Ok(()),
+        Err(fault) => Err(ClaimFault {
+            fault,
+            place: ClaimPlace::Reason(place),
+        }),
+    }
 }
 
 // The first fault of a reason where that of this pair is due.

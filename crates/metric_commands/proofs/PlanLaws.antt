@@ -1,7 +1,6 @@
 -- The faults of a trial's plan, and of a certified one, are those of a replay's plan.
 use Rattle.std.proofs.Common.{◌≡◌, true, false, inl, inr, refl}
 use Rattle.metric_parts.specs.declared.parts.Parts.{Parts}
-use Rattle.metric_plan.specs.declared.fault.CheckFault.TheVariants.{CountRange}
 use Rattle.metric_commands.specs.declared.options.ReplayOptions.{ReplayOptions}
 use Rattle.metric_commands.specs.declared.fault.KitFault.{KitFault}
 use Rattle.metric_commands.specs.declared.fault.KitFault.TheVariants.{Certificate as BadCertificate, Check}
@@ -9,8 +8,7 @@ use Rattle.metric_commands.specs.Claims.{IsClaimFault}
 use Rattle.metric_commands.specs.Replaying.{IsPlanFault, IsTrialFault}
 
 pub tried_fault : (options : ReplayOptions) (fault : KitFault) (read : Parts) → options.trial ≡ true → IsTrialFault fault read → IsPlanFault options fault read
-tried_fault options (Check CountRange) read trial found = inl (trial, refl, found)
-tried_fault options (Check other) read trial found = absurd found
+tried_fault options (Check fault) read trial found = inl (trial, found.0, found.1)
 tried_fault options (BadCertificate fault) read trial found = absurd found
 tried_fault options other read trial found = found
 

@@ -8,7 +8,7 @@ use Rattle.metric_cert.specs.declared.fault.CertFault.{CertFault}
 use Rattle.metric_cert.specs.Certificates.{certificate_from}
 use Rattle.metric_cert.specs.Valid.{IsValid}
 use Rattle.metric_plan.specs.Plans.{PlanValue, plan_of}
-use Rattle.metric_plan.specs.declared.fault.CheckFault.{CheckFault}
+use Rattle.metric_check.specs.declared.fault.ClaimFault.{ClaimFault}
 use Rattle.metric_check.specs.Findings.{CheckFinds}
 use Rattle.metric_check.specs.Products.{by_product_of}
 use Rattle.metric_commands.specs.declared.fault.KitFault.{KitFault}
@@ -41,7 +41,7 @@ pub record IsFaultyCertificate (read : Parts) (fault : CertFault) : Type 0 where
   pub first : IsSomeAnd read.certificate (λ text. certificate_from text ≡ Err fault)
 
 -- The parts are right, and this is the first fault that the certificate's check finds.
-pub record IsRefusedCheck (read : Parts) (fault : CheckFault) : Type 0 where
+pub record IsRefusedCheck (read : Parts) (fault : ClaimFault) : Type 0 where
   pub contents : Contents
   pub config : Setup
   pub certificate : Certificate

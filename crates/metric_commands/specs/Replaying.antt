@@ -15,6 +15,7 @@ use Rattle.metric_views.specs.declared.config.Setup.{Setup}
 use Rattle.metric_plan.specs.Counting.{is_counted}
 use Rattle.metric_plan.specs.Plans.{PlanValue, plan_of}
 use Rattle.metric_plan.specs.declared.fault.CheckFault.TheVariants.{CountRange}
+use Rattle.metric_check.specs.Findings.{of_none}
 use Rattle.metric_history.specs.Legal.{grown}
 use Rattle.metric_history.specs.declared.batch.Batch.{Batch}
 use Rattle.metric_history.specs.declared.event.Event.{Event}
@@ -144,7 +145,7 @@ pub record IsUncounted (read : Parts) : Type 0 where
 
 -- The fault is the first of the catalogue, the config and the count of the budgets.
 abbrev pub IsTrialFault : KitFault → Parts → Type 0
-IsTrialFault (Check CountRange) read = IsUncounted read
+IsTrialFault (Check fault) read = (fault ≡ of_none CountRange) × IsUncounted read
 IsTrialFault fault read = IsDeclaredFault fault read
 
 -- The fault is the first that the parts have before the script is read.
@@ -152,7 +153,7 @@ abbrev pub IsPlanFault : ReplayOptions → KitFault → Parts → Type 0
 IsPlanFault options (BadCertificate fault) read =
     (options.trial ≡ false) × IsFaultyCertificate read fault
 IsPlanFault options (Check fault) read =
-    ((options.trial ≡ true) × (fault ≡ CountRange) × IsUncounted read)
+    ((options.trial ≡ true) × (fault ≡ of_none CountRange) × IsUncounted read)
     ⊎ ((options.trial ≡ false) × IsRefusedCheck read fault)
 IsPlanFault options fault read = IsDeclaredFault fault read
 

@@ -5,10 +5,10 @@ ghost use Rattle.metric_commands.specs.Faults.{status_of};
 use metric_audit::AuditFault;
 use metric_catalogue::CatalogueFault;
 use metric_cert::CertFault;
+use metric_check::ClaimFault;
 use metric_io::{Broken, ReadFault};
 use metric_make::MakeFault;
 use metric_parts::InputFault;
-use metric_plan::CheckFault;
 use metric_provider::FinishFault;
 use metric_setup::SetupFault;
 use metric_views::ViewFault;
@@ -40,7 +40,7 @@ pub enum KitFault {
     /// There is no plan of the catalogue and the config: the certificate does not show that they are safe, or
     /// the budgets of a trial cannot be counted.
     #[error("refused: check {0}")]
-    Check(CheckFault),
+    Check(ClaimFault),
     /// The catalogue and the config are not safe, so there is no certificate.
     #[error("refused: make {0}")]
     Make(MakeFault),

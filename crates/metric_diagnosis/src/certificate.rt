@@ -6,8 +6,9 @@ use crate::sources::NamedText;
 use crate::spot::{Spot, diagnose};
 use crate::toml_fault::{MEMORY, want_of_memory};
 use metric_cert::CertFault;
-use metric_plan::CheckFault;
+use metric_check::{CheckFault, ClaimFault, ClaimPlace};
 use std::alloc::{AllocError, Global};
+use std::fmt;
 
 /// What a person is told of a fault of a certificate's text. It has a position only where the text is no TOML: where
 /// that breaks off. Fails only where memory is refused.
@@ -31,12 +32,13 @@ const SHAPE: &str =
     "the tables are not those of a certificate: it was altered, or is of another format; make it anew";
 
 /// What a person is told of a certificate that was read and is not accepted: that it is of other files or was altered,
-/// and what the check compared. It has no position. Fails only where memory is refused.
+/// what the check compared, and the number of the entry that it stopped at. It has no position. Fails only where memory
+/// is refused.
 pub fn diagnose_check<'t>(
     alloc: Global,
     source: NamedText<'t>,
-    fault: CheckFault,
-) -> Result<Diagnosis<'t, CheckFault>, AllocError>
+    fault: ClaimFault,
+) -> Result<Diagnosis<'t, ClaimFault>, AllocError>
     ensures fault { IfOk result (λ told. told.fault ≡ fault) }
     ensures file { IfOk result (λ told. told.file.now ≡ source.entry.name.now) }
     ensures place { IfOk result (λ told. told.position ≡ None) }
@@ -45,12 +47,30 @@ pub fn diagnose_check<'t>(
     Ok(Diagnosis::new(source, fault, None, words))
 }
 
-fn words_of(alloc: Global, fault: CheckFault) -> Result<String, AllocError> {
-    if matches!(fault, CheckFault::Memory) {
+fn words_of(alloc: Global, claim: ClaimFault) -> Result<String, AllocError> {
+    if matches!(claim.fault, CheckFault::Memory) {
         return want_of_memory(alloc);
     }
-    let compared = compared_by(fault);
-    format!(in alloc; "the certificate is of other files, or was altered: {compared}; make it anew")
+    let compared = compared_by(claim.fault);
+    let entry = Entry(claim.place);
+    format!(in alloc;
+        "the certificate is of other files, or was altered: {compared}{entry}; make it anew"
+    )
+}
+
+// The entry that a fault is of, behind what is told of it.
+#[derive(Drop)]
+struct Entry(ClaimPlace);
+
+impl fmt::Display for Entry {
+    fn fmt<W: fmt::Write>(&self, f: &mut fmt::Formatter<W>) -> fmt::Result {
+        match self.0 {
+            ClaimPlace::Reason(number) => write!(f, " (reason {number})"),
+            ClaimPlace::Stream(number) => write!(f, " (stream {number})"),
+            ClaimPlace::Bound(number) => write!(f, " (instrument {number})"),
+            ClaimPlace::Orders | ClaimPlace::Nowhere => Ok(()),
+        }
+    }
 }
 
 // What the step that finds a fault compares.

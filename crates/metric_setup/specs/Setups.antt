@@ -18,12 +18,12 @@ use Rattle.metric_cert.specs.Valid.{IsValid}
 use Rattle.metric_cert.specs.declared.claims.Claims.{Claims as Certificate}
 use Rattle.metric_cert.specs.declared.fault.CertFault.{CertFault}
 use Rattle.metric_make.specs.declared.fault.MakeFault.{MakeFault}
-use Rattle.metric_check.specs.Findings.{CheckFinds}
+use Rattle.metric_check.specs.Findings.{CheckFinds, of_none}
 use Rattle.metric_check.specs.Products.{by_product_of}
 use Rattle.metric_plan.specs.Counting.{is_counted}
 use Rattle.metric_plan.specs.Plans.{PlanValue, plan_of}
-use Rattle.metric_plan.specs.declared.fault.CheckFault.{CheckFault}
 use Rattle.metric_plan.specs.declared.fault.CheckFault.TheVariants.{CountRange}
+use Rattle.metric_check.specs.declared.fault.ClaimFault.{ClaimFault}
 use Rattle.metric_setup.specs.declared.fault.SetupFault.{SetupFault}
 use Rattle.metric_setup.specs.declared.fault.SetupFault.TheVariants.{Catalogue, Config, Unsafe}
 use Rattle.metric_setup.specs.declared.fault.SetupFault.TheVariants.{Certificate as BadCertificate}
@@ -139,8 +139,9 @@ pub record IsFaultyCertificate (catalogue config certificate : List ℕ) (fault 
   pub declared : IsDeclared catalogue config contents setup
   pub first : certificate_from certificate ≡ Err fault
 
--- The texts are right, and this is the first fault that the certificate's check finds.
-pub record IsRefusedCheck (catalogue config certificate : List ℕ) (fault : CheckFault)
+-- The texts are right, and this is the first fault that the certificate's check finds, with the
+-- entry that it is of.
+pub record IsRefusedCheck (catalogue config certificate : List ℕ) (fault : ClaimFault)
     : Type 0 where
   pub contents : Contents
   pub setup : Setup
@@ -188,6 +189,7 @@ Vouches (Err _) contents setup certificate = ⊥
 abbrev pub Tries : Result PlanValue SetupFault → Contents → Setup → Type 0
 Tries (Ok plan) contents setup =
     (is_counted contents ≡ true) × (plan ≡ plan_of false [] contents setup)
-Tries (Err (Check CountRange)) contents setup = is_counted contents ≡ false
+Tries (Err (Check refused)) contents setup =
+    (refused ≡ of_none CountRange) × (is_counted contents ≡ false)
 Tries (Err Memory) contents setup = Unit {0}
 Tries (Err _) contents setup = ⊥

@@ -1,8 +1,8 @@
 //! Why a service gets no plan.
 use metric_catalogue::CatalogueFault;
 use metric_cert::CertFault;
+use metric_check::ClaimFault;
 use metric_make::MakeFault;
-use metric_plan::CheckFault;
 use metric_views::ViewFault;
 use std::alloc::AllocError;
 use thiserror::Error;
@@ -24,9 +24,10 @@ pub enum SetupFault {
     /// The certificate is none.
     #[error("certificate {0}")]
     Certificate(CertFault),
-    /// The certificate does not show that the catalogue and the config are safe.
+    /// The certificate does not show that the catalogue and the config are safe, or the budgets of a trial cannot be
+    /// counted.
     #[error("check {0}")]
-    Check(CheckFault),
+    Check(ClaimFault),
     /// Memory was refused.
     #[error("memory")]
     Memory,

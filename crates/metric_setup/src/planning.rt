@@ -5,8 +5,8 @@ ghost use Rattle.metric_setup.specs.Setups.{Tries, Vouches};
 use crate::fault::SetupFault;
 use metric_catalogue::Catalogue;
 use metric_cert::Certificate;
-use metric_check::check;
-use metric_plan::{CheckFault, Plan};
+use metric_check::{CheckFault, ClaimFault, check};
+use metric_plan::Plan;
 use metric_views::Config;
 use std::alloc::Global;
 
@@ -14,7 +14,7 @@ use std::alloc::Global;
 ///
 /// # Errors
 ///
-/// [`SetupFault::Check`] with the first fault that its check finds. [`SetupFault::Memory`] may stand in its place.
+/// [`SetupFault::Check`] with the first fault that its check finds, and the first entry that it is of. [`SetupFault::Memory`] may stand in its place.
 pub fn plan_by(
     alloc: Global,
     catalogue: Catalogue,
@@ -26,8 +26,10 @@ pub fn plan_by(
 {
     match check(alloc, catalogue, config, certificate) {
         Ok(plan) => Ok(plan),
-        Err((_, _, CheckFault::Memory)) => Err(SetupFault::Memory),
-        Err((_, _, fault)) => Err(SetupFault::Check(fault)),
+        Err((_, _, refused)) => match refused.fault {
+            CheckFault::Memory => Err(SetupFault::Memory),
+            _ => Err(SetupFault::Check(refused)),
+        },
     }
 }
 
@@ -42,7 +44,9 @@ pub fn trial_of(alloc: Global, catalogue: Catalogue, config: Config) -> Result<P
 {
     match Plan::trial(alloc, catalogue, config) {
         Ok(plan) => Ok(plan),
-        Err((_, _, CheckFault::CountRange)) => Err(SetupFault::Check(CheckFault::CountRange)),
+        Err((_, _, CheckFault::CountRange)) => {
+            Err(SetupFault::Check(ClaimFault::of_none(CheckFault::CountRange)))
+        }
         Err(_) => Err(SetupFault::Memory),
     }
 }

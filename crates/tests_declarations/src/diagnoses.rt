@@ -4,12 +4,12 @@ use crate::declared::{Declared, read_both};
 use metric_advice::lint;
 use metric_catalogue::Catalogue;
 use metric_cert::CertFault;
+use metric_check::{CheckFault, ClaimFault, ClaimPlace};
 use metric_diagnosis::{
     NamedText, Pair, diagnose_catalogue, diagnose_certificate, diagnose_check, diagnose_config,
     diagnose_make, diagnose_remark,
 };
 use metric_make::{MakeFault, make};
-use metric_plan::CheckFault;
 use metric_views::Config;
 use std::alloc::{AllocError, Global};
 use std::process::Abort;
@@ -621,19 +621,43 @@ fn remarks_are_told_with_their_places(rt: HostRuntime) {
 }
 
 // A fault of a certificate, and what is told of it.
-const CHECKS: &[(CheckFault, &str)] = &[
+const CHECKS: &[(CheckFault, ClaimPlace, &str)] = &[
     (
         CheckFault::BadSets,
-        "w.toml: the certificate is of other files, or was altered: a stream may have another number of series than it says; make it anew",
+        ClaimPlace::Stream(3),
+        "w.toml: the certificate is of other files, or was altered: a stream may have another number of series than it says (stream 3); make it anew",
     ),
-    (CheckFault::Memory, "w.toml: out of memory"),
+    (
+        CheckFault::SumLow,
+        ClaimPlace::Bound(1),
+        "w.toml: the certificate is of other files, or was altered: the least sum of an instrument is another than it says, or too low (instrument 1); make it anew",
+    ),
+    (
+        CheckFault::PairMissing,
+        ClaimPlace::Reason(7),
+        "w.toml: the certificate is of other files, or was altered: its reasons are not one for each view and instrument, in order (reason 7); make it anew",
+    ),
+    (
+        CheckFault::BadOrder,
+        ClaimPlace::Orders,
+        "w.toml: the certificate is of other files, or was altered: the streams of a reader are not in the order of their identities; make it anew",
+    ),
+    (
+        CheckFault::Memory,
+        ClaimPlace::Nowhere,
+        "w.toml: out of memory",
+    ),
 ];
 
 #[test]
 fn faults_of_certificates_are_told(rt: HostRuntime) {
     let (name, text, alloc) = ("w.toml", "format = 1", rt.alloc());
-    for (fault, wanted) in CHECKS {
-        let told = diagnose_check(alloc, NamedText { name, text }, *fault).or_fail(&rt);
+    for (fault, place, wanted) in CHECKS {
+        let claim = ClaimFault {
+            fault: *fault,
+            place: *place,
+        };
+        let told = diagnose_check(alloc, NamedText { name, text }, claim).or_fail(&rt);
         let told = format!(in alloc; "{told}").or_fail(&rt);
         assert_equal(&rt, told.as_str(), *wanted);
     }

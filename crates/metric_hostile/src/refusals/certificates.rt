@@ -79,13 +79,25 @@ pub(crate) fn answer_check(
     let certificate = certificate_of(alloc, data)?;
     let Declared { catalogue, config } = declared_of(alloc, data)?;
     mark(alloc);
-    let first = check(alloc, catalogue, config, &certificate);
+    let first = checked(alloc, catalogue, config, &certificate);
     mark(alloc);
     if let Some(back) = push_plan(&mut answers.first, first) {
-        let second = check(alloc, back.catalogue, back.config, &certificate);
+        let second = checked(alloc, back.catalogue, back.config, &certificate);
         push_plan(&mut answers.second, second);
     }
     Ok(())
+}
+
+fn checked(
+    alloc: Global,
+    catalogue: Catalogue,
+    config: Config,
+    certificate: &Certificate,
+) -> Checked {
+    match check(alloc, catalogue, config, certificate) {
+        Ok(plan) => Ok(plan),
+        Err((catalogue, config, refused)) => Err((catalogue, config, refused.fault)),
+    }
 }
 
 /// Tries a catalogue and a config without a certificate.

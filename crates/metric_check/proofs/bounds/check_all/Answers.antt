@@ -1,5 +1,5 @@
 -- a bound too many, or too few; the numbers at a place; and a fault, or none
-use Rattle.std.proofs.Common.{ℕ, Bool, List, false, length, get_or, pos, ap, ◌∙◌, arith}
+use Rattle.std.proofs.Common.{◌≡◌, ℕ, Bool, List, false, length, get_or, pos, ap, ◌∙◌, arith}
 use Rattle.std.proofs.lemmas.List.{length-map}
 use Rattle.std.proofs.lemmas.Option.{slice_get-get_or}
 use Rattle.std.proofs.lemmas.Result.{err_from_is_err_and}
@@ -9,7 +9,7 @@ use Rattle.metric_resolve.specs.Applying.{all_instruments}
 use Rattle.metric_bounds.specs.Amounts.{total_of}
 use Rattle.metric_bounds.specs.Sums.{is_summed}
 use Rattle.metric_plan.specs.declared.fault.CheckFault.TheVariants.{CountRange}
-use Rattle.metric_check.specs.Findings.{BoundFinds}
+use Rattle.metric_check.specs.Findings.{BoundFinds, of_bound}
 use Rattle.metric_check.proofs.Walks.{onward_end, onward_fault, onward_missing, onward_more, onward_next, range_at}
 use Rattle.metric_check.proofs.bounds.check_all.Goals as goal
 
@@ -18,7 +18,8 @@ returns-then-number-instruments c =
     let contents = c.args.catalogue.now in
     let long = length-range_with_len 0 (length contents.instruments) in
     let same = ap length c.instruments-instruments.ensures.instruments in
-    onward_more (BoundFinds contents c.args.streams.now) CountRange CountRange (all_instruments contents) c.args.bounds.now c.loop-number.number (omega arith) (omega arith) c.loop-number.invariant
+    onward_more of_bound (BoundFinds contents c.args.streams.now) CountRange CountRange (all_instruments contents) c.args.bounds.now c.loop-number.number _ (omega arith) (omega arith) c.at_bound.ensures
+    c.loop-number.invariant
 
 pub bounds-totals-number : goal.bounds-totals-number
 bounds-totals-number c =
@@ -36,15 +37,15 @@ bounds-summed-number c =
     let mapped = ap length c.requires.summed ∙ length-map (all_instruments contents) (is_summed c.args.streams.now) in
     omega arith
 
-pub check_bound-requires-clause-total : goal.check_bound-requires-clause-total
-check_bound-requires-clause-total c =
+pub check_bound_at-requires-clause-total : goal.check_bound_at-requires-clause-total
+check_bound_at-requires-clause-total c =
     let contents = c.args.catalogue.now in
     let n = c.loop-number.number in
     let same = ap length c.instruments-instruments.ensures.instruments in
     ap (λ (ts : List ℕ). get_or ts n 0) c.requires.totals ∙ get_or-map-range_with_len (total_of contents) 0 (length contents.instruments) n n 0 (omega arith) (omega arith)
 
-pub check_bound-requires-clause-summed : goal.check_bound-requires-clause-summed
-check_bound-requires-clause-summed c =
+pub check_bound_at-requires-clause-summed : goal.check_bound_at-requires-clause-summed
+check_bound_at-requires-clause-summed c =
     let contents = c.args.catalogue.now in
     let n = c.loop-number.number in
     let same = ap length c.instruments-instruments.ensures.instruments in
@@ -55,17 +56,17 @@ check_bound-requires-clause-summed c =
 none : InstrumentBound
 none = record { instrument = 0; total = 0; amount = 0; low = pos 0; high = pos 0 }
 
-pub returns-in_err-check_bound : goal.returns-in_err-check_bound
+pub returns-in_err-check_bound_at : goal.returns-in_err-check_bound_at
 unfolding none
-returns-in_err-check_bound c =
+returns-in_err-check_bound_at c =
     let contents = c.args.catalogue.now in
     let n = c.loop-number.number in
     let same = ap length c.instruments-instruments.ensures.instruments in
     let bounds = c.args.bounds.now in
     let out = err_from_is_err_and c.from_residual.result c.from_residual.ensures.1 in
     rw (out.1, out.2)
-    (onward_fault (BoundFinds contents c.args.streams.now) CountRange CountRange (all_instruments contents) bounds n n (get_or bounds n none) c.in_err-check_bound.field-0.0
-    (range_at (length contents.instruments) n (omega arith)) (slice_get-get_or bounds n none (omega arith)) c.in_err-check_bound.ensures c.loop-number.invariant)
+    (onward_fault of_bound (BoundFinds contents c.args.streams.now) CountRange CountRange (all_instruments contents) bounds n n (get_or bounds n none) c.in_err-check_bound_at.field-0.0
+    (range_at (length contents.instruments) n (omega arith)) (slice_get-get_or bounds n none (omega arith)) c.in_err-check_bound_at.ensures c.loop-number.invariant)
 
 pub loop-number-preserved : goal.loop-number-preserved
 unfolding none
@@ -74,19 +75,21 @@ loop-number-preserved c =
     let n = c.loop-number.number in
     let same = ap length c.instruments-instruments.ensures.instruments in
     let bounds = c.args.bounds.now in
-    onward_next (BoundFinds contents c.args.streams.now) CountRange CountRange (all_instruments contents) bounds n n (get_or bounds n none)
-    (range_at (length contents.instruments) n (omega arith)) (slice_get-get_or bounds n none (omega arith)) c.in_ok-check_bound.ensures c.loop-number.invariant
+    onward_next of_bound (BoundFinds contents c.args.streams.now) CountRange CountRange (all_instruments contents) bounds n n (get_or bounds n none)
+    (range_at (length contents.instruments) n (omega arith)) (slice_get-get_or bounds n none (omega arith)) c.in_ok-check_bound_at.ensures c.loop-number.invariant
 
 pub returns-then-bounds-instruments : goal.returns-then-bounds-instruments
 returns-then-bounds-instruments c =
     let contents = c.args.catalogue.now in
     let long = length-range_with_len 0 (length contents.instruments) in
     let same = ap length c.instruments-instruments.ensures.instruments in
-    onward_missing (BoundFinds contents c.args.streams.now) CountRange CountRange (all_instruments contents) c.args.bounds.now c.loop-number.number (omega arith) (omega arith) c.loop-number.invariant
+    let ended : length c.args.bounds.now ≡ c.loop-number.number = omega arith in
+    onward_missing of_bound (BoundFinds contents c.args.streams.now) CountRange CountRange (all_instruments contents) c.args.bounds.now c.loop-number.number _ (omega arith) (omega arith)
+    (c.at_bound-then-bounds-instruments.ensures ∙ ap (λ (n : ℕ). of_bound n CountRange) ended) c.loop-number.invariant
 
 pub returns : goal.returns
 returns c =
     let contents = c.args.catalogue.now in
     let long = length-range_with_len 0 (length contents.instruments) in
     let same = ap length c.instruments-instruments.ensures.instruments in
-    onward_end (BoundFinds contents c.args.streams.now) CountRange CountRange (all_instruments contents) c.args.bounds.now c.loop-number.number (omega arith) (omega arith) c.loop-number.invariant
+    onward_end of_bound (BoundFinds contents c.args.streams.now) CountRange CountRange (all_instruments contents) c.args.bounds.now c.loop-number.number (omega arith) (omega arith) c.loop-number.invariant

@@ -1,5 +1,5 @@
 -- a reason too many, or too few; and a fault, or none
-use Rattle.std.proofs.Common.{◌≡◌, ◌<◌, ◌*◌, ◌/◌, ◌%◌, List, length, Some, None, refl, sym, subst, ◌∙◌, arith}
+use Rattle.std.proofs.Common.{◌≡◌, ℕ, ap, ◌<◌, ◌*◌, ◌/◌, ◌%◌, List, length, Some, None, refl, sym, subst, ◌∙◌, arith}
 use Rattle.std.proofs.lemmas.Option.{slice_get_read}
 use Rattle.std.proofs.lemmas.Result.{err_from_is_err_and}
 use Rattle.metric_contents.specs.declared.contents.Contents.{Contents}
@@ -8,7 +8,8 @@ use Rattle.metric_views.specs.declared.config.Config.{Config}
 use Rattle.metric_views.specs.declared.config.View.{View}
 use Rattle.metric_cert.specs.Valid.{all_pairs}
 use Rattle.metric_plan.specs.declared.fault.CheckFault.TheVariants.{PairMissing}
-use Rattle.metric_check.specs.Findings.{ReasonFinds}
+use Rattle.metric_check.specs.Findings.{ReasonFinds, of_reason}
+use Rattle.metric_check.specs.Paired.{Told}
 use Rattle.metric_check.proofs.Pairs.{length-all_pairs, pair_at}
 use Rattle.metric_check.proofs.Walks.{onward_end, onward_fault, onward_missing, onward_more, onward_next}
 use Rattle.metric_check.proofs.reasons.check_reasons.Goals as goal
@@ -23,10 +24,11 @@ returns-then-place-pairs c =
     let contents = c.args.catalogue.now in
     let config = c.args.config.now in
     let pairs = counted contents config c.views.result.now c.instruments-instruments.result.now c.views.ensures.views c.instruments-instruments.ensures.instruments in
-    onward_more (ReasonFinds contents config) PairMissing PairMissing (all_pairs contents config) c.args.reasons.now c.loop-place.place (omega arith) (omega arith) c.loop-place.invariant
+    onward_more of_reason (ReasonFinds contents config) PairMissing PairMissing (all_pairs contents config) c.args.reasons.now c.loop-place.place _ (omega arith) (omega arith) c.missing_reason.ensures
+    c.loop-place.invariant
 
-pub returns-in_err-check_reason : goal.returns-in_err-check_reason
-returns-in_err-check_reason c =
+pub returns-in_err-check_reason_at : goal.returns-in_err-check_reason_at
+returns-in_err-check_reason_at c =
     let contents = c.args.catalogue.now in
     let config = c.args.config.now in
     let reasons = c.args.reasons.now in
@@ -36,14 +38,14 @@ returns-in_err-check_reason c =
     let counts = counted contents config c.views.result.now c.instruments-instruments.result.now c.views.ensures.views c.instruments-instruments.ensures.instruments in
     let all = length-all_pairs contents config in
     let within : place < length config.views * n = omega arith in
-    let own : ReasonFinds contents config (place / length c.instruments-instruments.result.now, place % length c.instruments-instruments.result.now) reason (Some c.in_err-check_reason.field-0.0) =
-    c.in_err-check_reason.ensures in
+    let own : Told (of_reason place) (ReasonFinds contents config (place / length c.instruments-instruments.result.now, place % length c.instruments-instruments.result.now) reason) (Some c.in_err-check_reason_at.field-0.0) =
+    c.in_err-check_reason_at.ensures in
     let found =
-    subst (λ (is : List Instrument). ReasonFinds contents config (place / length is, place % length is) reason (Some c.in_err-check_reason.field-0.0))
+    subst (λ (is : List Instrument). Told (of_reason place) (ReasonFinds contents config (place / length is, place % length is) reason) (Some c.in_err-check_reason_at.field-0.0))
     c.instruments-instruments.ensures.instruments own in
     let out = err_from_is_err_and c.from_residual.result c.from_residual.ensures.1 in
     rw (out.1, out.2)
-    (onward_fault (ReasonFinds contents config) PairMissing PairMissing (all_pairs contents config) reasons place (place / n, place % n) reason c.in_err-check_reason.field-0.0
+    (onward_fault of_reason (ReasonFinds contents config) PairMissing PairMissing (all_pairs contents config) reasons place (place / n, place % n) reason c.in_err-check_reason_at.field-0.0
     (pair_at contents config place within) (slice_get_read reasons (length reasons) place reason refl c.loop-place-test.true c.index-reasons-place.is) found c.loop-place.invariant)
 
 pub loop-place-preserved : goal.loop-place-preserved
@@ -58,10 +60,10 @@ loop-place-preserved c =
     let all = length-all_pairs contents config in
     let within : place < length config.views * n = omega arith in
     let own : ReasonFinds contents config (place / length c.instruments-instruments.result.now, place % length c.instruments-instruments.result.now) reason None =
-    c.in_ok-check_reason.ensures in
+    c.in_ok-check_reason_at.ensures in
     let found =
     subst (λ (is : List Instrument). ReasonFinds contents config (place / length is, place % length is) reason None) c.instruments-instruments.ensures.instruments own in
-    onward_next (ReasonFinds contents config) PairMissing PairMissing (all_pairs contents config) reasons place (place / n, place % n) reason
+    onward_next of_reason (ReasonFinds contents config) PairMissing PairMissing (all_pairs contents config) reasons place (place / n, place % n) reason
     (pair_at contents config place within) (slice_get_read reasons (length reasons) place reason refl c.loop-place-test.true c.index-reasons-place.is) found c.loop-place.invariant
 
 pub returns-then-reasons-pairs : goal.returns-then-reasons-pairs
@@ -69,11 +71,13 @@ returns-then-reasons-pairs c =
     let contents = c.args.catalogue.now in
     let config = c.args.config.now in
     let counts = counted contents config c.views.result.now c.instruments-instruments.result.now c.views.ensures.views c.instruments-instruments.ensures.instruments in
-    onward_missing (ReasonFinds contents config) PairMissing PairMissing (all_pairs contents config) c.args.reasons.now c.loop-place.place (omega arith) (omega arith) c.loop-place.invariant
+    let ended : length c.args.reasons.now ≡ c.loop-place.place = omega arith in
+    onward_missing of_reason (ReasonFinds contents config) PairMissing PairMissing (all_pairs contents config) c.args.reasons.now c.loop-place.place _ (omega arith) (omega arith)
+    (c.missing_reason-then-reasons-pairs.ensures ∙ ap (λ (n : ℕ). of_reason n PairMissing) ended) c.loop-place.invariant
 
 pub returns : goal.returns
 returns c =
     let contents = c.args.catalogue.now in
     let config = c.args.config.now in
     let counts = counted contents config c.views.result.now c.instruments-instruments.result.now c.views.ensures.views c.instruments-instruments.ensures.instruments in
-    onward_end (ReasonFinds contents config) PairMissing PairMissing (all_pairs contents config) c.args.reasons.now c.loop-place.place (omega arith) (omega arith) c.loop-place.invariant
+    onward_end of_reason (ReasonFinds contents config) PairMissing PairMissing (all_pairs contents config) c.args.reasons.now c.loop-place.place (omega arith) (omega arith) c.loop-place.invariant
