@@ -1,4 +1,5 @@
-//! What a config says, mixed into a fingerprint.
+//! What a config says, mixed into a fingerprint. Structs are taken apart, so that a field that is not mixed does not
+//! compile.
 ghost use Rattle.std.specs.Prelude.{◌≡◌};
 ghost use Rattle.metric_plan.specs.ConfigFingerprints.{criteria_mixed, settings_mixed};
 ghost use Rattle.metric_plan.specs.Mixing.{mixed_list, mixed_option, mixed_text};
@@ -13,10 +14,16 @@ impl Mixed for Reader {
     ghost mixed = { reader_mixed };
 
     fn mix(&self, print: u64) -> u64 {
-        let print = self.name.mix(print);
-        let print = self.temporality.mix(print);
-        let print = self.aggregation.mix(print);
-        self.limit.mix(print)
+        let Reader {
+            name,
+            temporality,
+            aggregation,
+            limit,
+        } = self;
+        let print = name.mix(print);
+        let print = temporality.mix(print);
+        let print = aggregation.mix(print);
+        limit.mix(print)
     }
 }
 
@@ -26,10 +33,16 @@ impl<T: Mixed> Mixed for ByKind<T> {
     ghost mixed = { choices_mixed T.mixed };
 
     fn mix(&self, print: u64) -> u64 {
-        let print = self.counter.mix(print);
-        let print = self.up_down_counter.mix(print);
-        let print = self.histogram.mix(print);
-        self.gauge.mix(print)
+        let ByKind {
+            counter,
+            up_down_counter,
+            histogram,
+            gauge,
+        } = self;
+        let print = counter.mix(print);
+        let print = up_down_counter.mix(print);
+        let print = histogram.mix(print);
+        gauge.mix(print)
     }
 }
 
@@ -78,31 +91,49 @@ impl Mixed for View {
     ghost mixed = { view_mixed };
 
     fn mix(&self, print: u64) -> u64 {
-        mix_settings(mix_criteria(print, &self.criteria), &self.settings)
+        let View { criteria, settings } = self;
+        mix_settings(mix_criteria(print, criteria), settings)
     }
 }
 
 fn mix_criteria(print: u64, criteria: &Criteria) -> u64
     ensures { result ≡ criteria_mixed print criteria.now }
 {
-    let print = mix_option(print, &criteria.instrument_name);
-    let print = mix_option(print, &criteria.instrument_type);
-    let print = mix_option(print, &criteria.instrument_unit);
-    let print = mix_option(print, &criteria.meter_name);
-    let print = mix_option(print, &criteria.meter_version);
-    mix_option(print, &criteria.meter_schema_url)
+    let Criteria {
+        instrument_name,
+        instrument_type,
+        instrument_unit,
+        meter_name,
+        meter_version,
+        meter_schema_url,
+    } = criteria;
+    let print = mix_option(print, instrument_name);
+    let print = mix_option(print, instrument_type);
+    let print = mix_option(print, instrument_unit);
+    let print = mix_option(print, meter_name);
+    let print = mix_option(print, meter_version);
+    mix_option(print, meter_schema_url)
 }
 
 fn mix_settings(print: u64, settings: &Settings) -> u64
     ensures { result ≡ settings_mixed print settings.now }
 {
-    let print = mix_option(print, &settings.stream_name);
-    let print = mix_option(print, &settings.description);
-    let print = mix_option(print, &settings.aggregation);
-    let print = mix_option(print, &settings.boundaries);
-    let print = mix_keys(print, &settings.keep);
-    let print = mix_keys(print, &settings.exclude);
-    mix_option(print, &settings.limit)
+    let Settings {
+        stream_name,
+        description,
+        aggregation,
+        boundaries,
+        keep,
+        exclude,
+        limit,
+    } = settings;
+    let print = mix_option(print, stream_name);
+    let print = mix_option(print, description);
+    let print = mix_option(print, aggregation);
+    let print = mix_option(print, boundaries);
+    let print = mix_keys(print, keep);
+    let print = mix_keys(print, exclude);
+    mix_option(print, limit)
 }
 
 // A list of keys, where there is one.

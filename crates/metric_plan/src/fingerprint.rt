@@ -1,4 +1,4 @@
-//! What plans are told apart by.
+//! What plans are told apart by. Structs are taken apart, so that a field that is not mixed does not compile.
 ghost use Rattle.std.specs.Prelude.{◌≡◌};
 ghost use Rattle.metric_plan.specs.Fingerprints.{config_mixed, contents_mixed, described_mixed, fingerprint_of};
 ghost use Rattle.metric_plan.specs.Mixing.{mixed, mixed_list, mixed_option};
@@ -41,9 +41,14 @@ impl Mixed for Meter {
     ghost mixed = { meter_mixed };
 
     fn mix(&self, print: u64) -> u64 {
-        let print = self.name.mix(print);
-        let print = self.version.mix(print);
-        self.schema_url.mix(print)
+        let Meter {
+            name,
+            version,
+            schema_url,
+        } = self;
+        let print = name.mix(print);
+        let print = version.mix(print);
+        schema_url.mix(print)
     }
 }
 
@@ -53,12 +58,26 @@ impl Mixed for Instrument {
     ghost mixed = { instrument_mixed };
 
     fn mix(&self, print: u64) -> u64 {
+        // The fields that are left out here are mixed by the two calls that take the whole.
+        let Instrument {
+            meter: _,
+            name: _,
+            kind: _,
+            unit: _,
+            description: _,
+            lo,
+            hi,
+            advice: _,
+            keys,
+            allowed: _,
+            spare,
+        } = self;
         let print = mix_described(print, self);
-        let print = mix_signed(print, &self.lo);
-        let print = mix_signed(print, &self.hi);
-        let print = mix_list(print, self.keys.as_slice());
+        let print = mix_signed(print, lo);
+        let print = mix_signed(print, hi);
+        let print = mix_list(print, keys.as_slice());
         let print = mix_allowed(print, self);
-        mix_number(print, self.spare)
+        mix_number(print, *spare)
     }
 }
 
@@ -105,9 +124,14 @@ impl Mixed for Key {
     ghost mixed = { key_mixed };
 
     fn mix(&self, print: u64) -> u64 {
-        let print = self.name.mix(print);
-        let print = mix_flag(print, self.optional);
-        mix_list(print, self.values.as_slice())
+        let Key {
+            name,
+            optional,
+            values,
+        } = self;
+        let print = name.mix(print);
+        let print = mix_flag(print, *optional);
+        mix_list(print, values.as_slice())
     }
 }
 
@@ -131,8 +155,9 @@ impl Mixed for Recorder {
     ghost mixed = { recorder_mixed };
 
     fn mix(&self, print: u64) -> u64 {
-        let print = self.name.mix(print);
-        mix_list(print, self.budgets.as_slice())
+        let Recorder { name, budgets } = self;
+        let print = name.mix(print);
+        mix_list(print, budgets.as_slice())
     }
 }
 
@@ -142,6 +167,7 @@ impl Mixed for Budget {
     ghost mixed = { budget_mixed };
 
     fn mix(&self, print: u64) -> u64 {
-        mix_number(mix_number(print, u64::from(self.instrument)), self.amount)
+        let Budget { instrument, amount } = self;
+        mix_number(mix_number(print, u64::from(*instrument)), *amount)
     }
 }
