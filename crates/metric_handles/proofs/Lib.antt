@@ -1,3 +1,5 @@
 pub mod Mapped
 pub mod KeysGiven
 mod WayLaws
+mod JobLaws
+mod EntryLaws

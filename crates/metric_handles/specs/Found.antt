@@ -1,8 +1,8 @@
 -- The value of the point that a name and attributes are of, in a list of batches.
-use Rattle.std.specs.Prelude.{ℕ, Bool, true, false, not, ◌&&◌, ◌==◌, List, [], ◌∷◌, Option, None}
+use Rattle.std.specs.Prelude.{ℕ, Bool, false, not, ◌&&◌, ◌==◌, nat_le, List, length, Option, None}
 use Rattle.std.specs.Prelude.{find, slice_get, option_and_then, if◌then◌else◌}
-use Rattle.std.specs.List.{list_all}
-use Rattle.std.specs.Option.{option_map, option_map_or, option_or}
+use Rattle.std.specs.List.{filter_map, last_or, list_all, zip}
+use Rattle.std.specs.Option.{option_map, option_map_or}
 use Rattle.std.specs.Str.{bytes_eq}
 use Rattle.metric_names.specs.Names.{folded}
 use Rattle.metric_aggregate.specs.declared.point_value.PointValue.{PointValue}
@@ -20,11 +20,10 @@ abbrev pub is_entry : List Given → Key → ℕ → Bool
 is_entry attrs key entry = option_map_or (λ own. own == entry) (entry_at attrs key) false
 
 -- each key's entry is that of the attribute of the key, 0 where there is none
-abbrev pub have_entries : List Given → List Key → List ℕ → Bool
-have_entries attrs [] set = true
-have_entries attrs (key ∷ keys) [] = false
-have_entries attrs (key ∷ keys) (entry ∷ set) =
-    is_entry attrs key entry && have_entries attrs keys set
+unfoldable pub have_entries : List Given → List Key → List ℕ → Bool
+have_entries attrs keys set =
+    nat_le (length keys) (length set)
+    && list_all (λ (one : Key × ℕ). is_entry attrs one.0 one.1) (zip keys set)
 
 -- the set key is of exactly these attributes: those that the stream drops are not among them
 abbrev pub is_exactly : List Key → List Given → List ℕ → Bool
@@ -64,12 +63,7 @@ value_in plan name attrs batch =
     then option_and_then (λ (i : Instrument). value_in_streams plan name i.keys attrs batch.streams)
     (slice_get plan.facts.contents.instruments batch.instrument) else None
 
--- the last that there is of some things
-abbrev pub last_of : {X Y : Type 0} → (X → Option Y) → List X → Option Y
-last_of f [] = None
-last_of f (x ∷ xs) = option_or (last_of f xs) (f x)
-
 -- # value of a point (profile) [value_of, is_exactly]
 -- Of the last batch whose first stream of the name has a point with exactly these attributes.
 abbrev pub value_of : PlanValue → List ℕ → List Given → List Batch → Option PointValue
-value_of plan name attrs batches = last_of (value_in plan name attrs) batches
+value_of plan name attrs batches = last_or None (filter_map (value_in plan name attrs) batches)

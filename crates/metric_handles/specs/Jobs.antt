@@ -1,6 +1,6 @@
 -- Room for a job of several recordings.
-use Rattle.std.specs.Prelude.{◌≡◌, ◌≢◌, ◌<◌, ◌≤◌, ◌+◌, ◌==◌, ◌⊎◌, ℕ, All, List, [], ◌∷◌, Some, Result}
-use Rattle.std.specs.Prelude.{Ok, Err, slice_get, take, if◌then◌else◌}
+use Rattle.std.specs.Prelude.{◌≡◌, ◌≢◌, ◌<◌, ◌≤◌, ◌==◌, ◌⊎◌, ℕ, All, List, Some, Result, Ok, Err}
+use Rattle.std.specs.Prelude.{slice_get, sum_by, take, if◌then◌else◌}
 use Rattle.metric_contents.specs.declared.refusal.Refusal.{Refusal}
 use Rattle.metric_contents.specs.declared.refusal.Refusal.TheVariants.{Stranger, Budget}
 use Rattle.metric_plan.specs.Plans.{print_of}
@@ -10,11 +10,10 @@ use Rattle.metric_seat.specs.Seats.{ProviderValue, RecorderValue, is_recorder_of
 use Rattle.metric_seat.specs.declared.fault.SetsFault.{SetsFault}
 use Rattle.metric_handles.specs.declared.jobs.Need.{Need}
 
--- how many recordings a job makes on the instrument of a number
+-- how many recordings a job makes on the instrument of a number: the sum of its needs of it
 abbrev pub needed_in : List Need → ℕ → ℕ
-needed_in [] instrument = 0
-needed_in (need ∷ job) instrument =
-    (if need.instrument == instrument then need.count else 0) + needed_in job instrument
+needed_in job instrument =
+    sum_by (λ (need : Need). if need.instrument == instrument then need.count else 0) job
 
 -- What a need is told of a recorder's room: of another plan it is a stranger.
 pub record TellsNeed (p : ProviderValue) (seat : RecorderValue) (need : Need)

@@ -184,6 +184,7 @@ fn has_key(keys: &[Key], name: &str) -> bool
 }
 
 // Whether each key's entry is that of the attribute of the key.
+#[tactic(auto, using(crate::proofs::EntryLaws::first_entry))]
 fn have_entries(attrs: &[Attr<'_>], keys: &[Key], set: &[u16]) -> bool
     ensures { result ≡ have_entries (map given_by attrs.now) keys.now set.now }
 {

@@ -1,15 +1,14 @@
 //! Room for a job of several recordings.
-ghost use Rattle.std.specs.Prelude.{◌≡◌, ◌↔◌, ◌≤◌, ℕ, All, IsTrue, IfErr, OnOk, Result};
-ghost use Rattle.metric_contents.specs.declared.refusal.Refusal.{Refusal as refusals};
+ghost use Rattle.std.specs.Prelude.{◌≡◌, ◌↔◌, ◌≤◌, All, IsTrue, IfErr, OnOk};
 ghost use Rattle.metric_handles.specs.Jobs.{HasRoomFor, LacksRoom, LacksRoomAt, TellsNeed, needed_in};
-ghost use Rattle.metric_handles.specs.declared.jobs.Need.{Need as needs};
 
 use crate::at::At;
 use crate::handle::Handle;
 use crate::recorded::Recorded;
+use crate::rooms::{Rooms, RoomsOf};
 use metric_book::Book;
 use metric_contents::Refusal;
-use metric_provider::{Gate, Provider, Recorder, SetsFault};
+use metric_provider::{Gate, SetsFault};
 use std::sync::Wait;
 
 /// How many recordings of an instrument a job makes, made by [`Handle::need`].
@@ -37,36 +36,6 @@ impl<K> Handle<K> {
             instrument: self.number(),
             count,
         }
-    }
-}
-
-// What tells the room for recordings. As a trait, so that what asks for a job cannot but ask it.
-trait Rooms {
-    // What an answer comes to.
-    ghost tells: { Self → needs → Result ℕ refusals → Type 0 };
-
-    fn room(&self, need: &Need) -> Result<u64, Refusal>
-        ensures { tells self.now need.now result };
-}
-
-// A recorder of a provider.
-#[derive(Drop)]
-struct RoomsOf<'a, R, B: Book, G: Gate> {
-    recorder: &'a Recorder,
-    rt: &'a R,
-    provider: &'a Provider<B, G>,
-}
-
-impl<R: Wait, B: Book, G: Gate> Rooms for RoomsOf<'_, R, B, G> {
-    ghost use Rattle.metric_handles.specs.Jobs.{TellsNeed};
-
-    ghost tells = { λ rooms need result. TellsNeed rooms.provider.now rooms.recorder.now need result };
-
-    fn room(&self, need: &Need) -> Result<u64, Refusal> {
-        if need.plan != self.provider.plan().fingerprint() {
-            return Err(Refusal::Stranger);
-        }
-        self.recorder.room(self.rt, self.provider, need.instrument)
     }
 }
 
@@ -122,6 +91,7 @@ fn room_for<M: Rooms>(rooms: &M, job: &[Need], need: &Need) -> Result<(), Refusa
 }
 
 // Whether what a job makes on an instrument is no more than a room.
+#[tactic(auto, using(crate::proofs::JobLaws::needed_here, crate::proofs::JobLaws::needed_else))]
 fn is_within(room: u64, job: &[Need], instrument: u32) -> bool
     ensures { IsTrue result ↔ (needed_in job.now instrument ≤ room) }
 {

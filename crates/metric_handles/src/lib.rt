@@ -23,6 +23,7 @@ mod laws;
 mod named;
 mod recorded;
 mod replaced;
+mod rooms;
 mod seat;
 mod seats;
 mod time_unit;
