@@ -1,12 +1,9 @@
 //! A seat with what it records on.
-ghost use Rattle.std.specs.Prelude.{◌≡◌, ◌≢◌, map};
+ghost use Rattle.std.specs.Prelude.{◌≡◌, map};
 ghost use Rattle.metric_contents.specs.Attributes.{given_by};
-ghost use Rattle.metric_handles.specs.Calls.{IsStrange, IsStrangeList, MakesRecording, MakesRecordings, answer_of, left_of, untried_of};
+ghost use Rattle.metric_handles.specs.Calls.{MakesByBound, MakesByHandle, MakesByList, left_of};
 ghost use Rattle.metric_handles.specs.Replaced.{counted_after, keeps_amount_in, keeps_value_in, known_or_in, nearest_in};
 ghost use Rattle.metric_names.specs.Values.{value_of};
-ghost use Rattle.metric_plan.specs.Plans.{print_of};
-ghost use Rattle.metric_seat.specs.KeyRecordings.{admitted_key};
-ghost use Rattle.metric_seat.specs.Recordings.{admitted};
 
 use crate::bound::Bound;
 use crate::bound_list::BoundList;
@@ -78,16 +75,9 @@ impl<R: Wait, S: Seat, B: Book, G: Gate> At<'_, R, S, B, G> {
     ) -> Result<(), Refusal>
         ensures same { self.new.seat.ghost_name ≡ self.old.seat.ghost_name }
         ensures provider { self.new.provider.now ≡ self.old.provider.now }
-        ensures strange { handle.now.plan ≢ print_of self.old.provider.now.plan
-            → IsStrange result × (self.new.seat.now ≡ self.old.seat.now) }
-        ensures made { let given = map given_by attrs.now in let number = handle.now.number in
-            let p = self.old.provider.now in let old = S.seat self.old.seat.now in
-            let admission = admitted p old number given value in
-            handle.now.plan ≡ print_of p.plan
-            → MakesRecording B.KEEPS_ENTRIES B.spares_memory p
-            old (S.seat self.new.seat.now) number value admission result }
-        ensures noted { handle.now.plan ≡ print_of self.old.provider.now.plan
-            → S.notes self.old.seat.now self.new.seat.now handle.now.number 0 result }
+        ensures made { let p = self.old.provider.now in let given = map given_by attrs.now in
+            MakesByHandle B.KEEPS_ENTRIES B.spares_memory S.seat S.notes S.records p handle.now given
+            value self.old.seat.now self.new.seat.now result }
     {
         handle.add(self.rt, self.provider, self.seat, attrs, value)
     }
@@ -102,16 +92,9 @@ impl<R: Wait, S: Seat, B: Book, G: Gate> At<'_, R, S, B, G> {
     ) -> Result<(), Refusal>
         ensures same { self.new.seat.ghost_name ≡ self.old.seat.ghost_name }
         ensures provider { self.new.provider.now ≡ self.old.provider.now }
-        ensures strange { handle.now.plan ≢ print_of self.old.provider.now.plan
-            → IsStrange result × (self.new.seat.now ≡ self.old.seat.now) }
-        ensures made { let given = map given_by attrs.now in let number = handle.now.number in
-            let p = self.old.provider.now in let old = S.seat self.old.seat.now in
-            let admission = admitted p old number given value in
-            handle.now.plan ≡ print_of p.plan
-            → MakesRecording B.KEEPS_ENTRIES B.spares_memory p
-            old (S.seat self.new.seat.now) number value admission result }
-        ensures noted { handle.now.plan ≡ print_of self.old.provider.now.plan
-            → S.notes self.old.seat.now self.new.seat.now handle.now.number 0 result }
+        ensures made { let p = self.old.provider.now in let given = map given_by attrs.now in
+            MakesByHandle B.KEEPS_ENTRIES B.spares_memory S.seat S.notes S.records p handle.now given
+            value self.old.seat.now self.new.seat.now result }
     {
         handle.record(self.rt, self.provider, self.seat, attrs, value)
     }
@@ -121,16 +104,9 @@ impl<R: Wait, S: Seat, B: Book, G: Gate> At<'_, R, S, B, G> {
     pub fn add_bound<K: Adds>(&mut self, bound: &Bound<K>, value: i64) -> Result<(), Refusal>
         ensures same { self.new.seat.ghost_name ≡ self.old.seat.ghost_name }
         ensures provider { self.new.provider.now ≡ self.old.provider.now }
-        ensures strange { bound.now.plan ≢ print_of self.old.provider.now.plan
-            → IsStrange result × (self.new.seat.now ≡ self.old.seat.now) }
-        ensures made { let number = bound.now.instrument in
-            let p = self.old.provider.now in let old = S.seat self.old.seat.now in
-            let admission = admitted_key p old number bound.now.set value in
-            bound.now.plan ≡ print_of p.plan
-            → MakesRecording B.KEEPS_ENTRIES B.spares_memory p
-            old (S.seat self.new.seat.now) number value admission result }
-        ensures noted { bound.now.plan ≡ print_of self.old.provider.now.plan
-            → S.notes self.old.seat.now self.new.seat.now bound.now.instrument 0 result }
+        ensures made { let p = self.old.provider.now in
+            MakesByBound B.KEEPS_ENTRIES B.spares_memory S.seat S.notes S.records_set p bound.now
+            value self.old.seat.now self.new.seat.now result }
     {
         bound.add(self.rt, self.provider, self.seat, value)
     }
@@ -140,16 +116,9 @@ impl<R: Wait, S: Seat, B: Book, G: Gate> At<'_, R, S, B, G> {
     pub fn record_bound<K: Records>(&mut self, bound: &Bound<K>, value: i64) -> Result<(), Refusal>
         ensures same { self.new.seat.ghost_name ≡ self.old.seat.ghost_name }
         ensures provider { self.new.provider.now ≡ self.old.provider.now }
-        ensures strange { bound.now.plan ≢ print_of self.old.provider.now.plan
-            → IsStrange result × (self.new.seat.now ≡ self.old.seat.now) }
-        ensures made { let number = bound.now.instrument in
-            let p = self.old.provider.now in let old = S.seat self.old.seat.now in
-            let admission = admitted_key p old number bound.now.set value in
-            bound.now.plan ≡ print_of p.plan
-            → MakesRecording B.KEEPS_ENTRIES B.spares_memory p
-            old (S.seat self.new.seat.now) number value admission result }
-        ensures noted { bound.now.plan ≡ print_of self.old.provider.now.plan
-            → S.notes self.old.seat.now self.new.seat.now bound.now.instrument 0 result }
+        ensures made { let p = self.old.provider.now in
+            MakesByBound B.KEEPS_ENTRIES B.spares_memory S.seat S.notes S.records_set p bound.now
+            value self.old.seat.now self.new.seat.now result }
     {
         bound.record(self.rt, self.provider, self.seat, value)
     }
@@ -159,15 +128,9 @@ impl<R: Wait, S: Seat, B: Book, G: Gate> At<'_, R, S, B, G> {
     pub fn add_list<K: Adds>(&mut self, list: &mut BoundList<K>) -> Result<(), SetsFault>
         ensures same { self.new.seat.ghost_name ≡ self.old.seat.ghost_name }
         ensures provider { self.new.provider.now ≡ self.old.provider.now }
-        ensures strange { list.old.plan ≢ print_of self.old.provider.now.plan
-            → IsStrangeList result × (self.new.seat.now ≡ self.old.seat.now) }
-        ensures made { let p = self.old.provider.now in list.old.plan ≡ print_of p.plan
-            → MakesRecordings B.KEEPS_ENTRIES B.spares_memory p (S.seat self.old.seat.now)
-            (S.seat self.new.seat.now) list.old.instrument list.old.all result }
-        ensures noted { let untried = untried_of list.old.all result in
-            list.old.plan ≡ print_of self.old.provider.now.plan
-            → S.notes self.old.seat.now self.new.seat.now list.old.instrument untried
-            (answer_of result) }
+        ensures made { let p = self.old.provider.now in
+            MakesByList B.KEEPS_ENTRIES B.spares_memory S.seat S.notes S.records_sets p list.old
+            self.old.seat.now self.new.seat.now result }
         ensures left { list.new ≡ record list.old { all = left_of list.old.all result } }
     {
         list.add(self.rt, self.provider, self.seat)
@@ -178,15 +141,9 @@ impl<R: Wait, S: Seat, B: Book, G: Gate> At<'_, R, S, B, G> {
     pub fn record_list<K: Records>(&mut self, list: &mut BoundList<K>) -> Result<(), SetsFault>
         ensures same { self.new.seat.ghost_name ≡ self.old.seat.ghost_name }
         ensures provider { self.new.provider.now ≡ self.old.provider.now }
-        ensures strange { list.old.plan ≢ print_of self.old.provider.now.plan
-            → IsStrangeList result × (self.new.seat.now ≡ self.old.seat.now) }
-        ensures made { let p = self.old.provider.now in list.old.plan ≡ print_of p.plan
-            → MakesRecordings B.KEEPS_ENTRIES B.spares_memory p (S.seat self.old.seat.now)
-            (S.seat self.new.seat.now) list.old.instrument list.old.all result }
-        ensures noted { let untried = untried_of list.old.all result in
-            list.old.plan ≡ print_of self.old.provider.now.plan
-            → S.notes self.old.seat.now self.new.seat.now list.old.instrument untried
-            (answer_of result) }
+        ensures made { let p = self.old.provider.now in
+            MakesByList B.KEEPS_ENTRIES B.spares_memory S.seat S.notes S.records_sets p list.old
+            self.old.seat.now self.new.seat.now result }
         ensures left { list.new ≡ record list.old { all = left_of list.old.all result } }
     {
         list.record(self.rt, self.provider, self.seat)

@@ -1,8 +1,7 @@
 //! Attributes that are bound to an instrument.
-ghost use Rattle.std.specs.Prelude.{◌≡◌, ◌≢◌};
-ghost use Rattle.metric_plan.specs.Plans.{print_of};
-ghost use Rattle.metric_seat.specs.KeyRecordings.{admitted_key, measurement_of};
-ghost use Rattle.metric_handles.specs.Calls.{IsStrange, MakesRecording};
+ghost use Rattle.std.specs.Prelude.{◌≡◌};
+ghost use Rattle.metric_seat.specs.KeyRecordings.{measurement_of};
+ghost use Rattle.metric_handles.specs.Calls.{MakesByBound};
 
 use crate::kinds::{Adds, IsCounter, IsGauge, IsHistogram, IsUpDownCounter, Records};
 use crate::seat::Seat;
@@ -106,15 +105,8 @@ impl<K: Adds> Bound<K> {
         seat: &mut S,
         value: i64,
     ) -> Result<(), Refusal>
-        ensures strange { self.now.plan ≢ print_of provider.now.plan
-            → IsStrange result × (seat.new ≡ seat.old) }
-        ensures made { let at = self.now.instrument in let old = S.seat seat.old in
-            let admission = admitted_key provider.now old at self.now.set value in
-            self.now.plan ≡ print_of provider.now.plan
-            → MakesRecording B.KEEPS_ENTRIES B.spares_memory provider.now
-            old (S.seat seat.new) at value admission result }
-        ensures noted { self.now.plan ≡ print_of provider.now.plan
-            → S.notes seat.old seat.new self.now.instrument 0 result }
+        ensures { MakesByBound B.KEEPS_ENTRIES B.spares_memory S.seat S.notes S.records_set
+            provider.now self.now value seat.old seat.new result }
     {
         if self.plan != provider.plan().fingerprint() {
             return Err(Refusal::Stranger);
@@ -135,15 +127,8 @@ impl<K: Records> Bound<K> {
         seat: &mut S,
         value: i64,
     ) -> Result<(), Refusal>
-        ensures strange { self.now.plan ≢ print_of provider.now.plan
-            → IsStrange result × (seat.new ≡ seat.old) }
-        ensures made { let at = self.now.instrument in let old = S.seat seat.old in
-            let admission = admitted_key provider.now old at self.now.set value in
-            self.now.plan ≡ print_of provider.now.plan
-            → MakesRecording B.KEEPS_ENTRIES B.spares_memory provider.now
-            old (S.seat seat.new) at value admission result }
-        ensures noted { self.now.plan ≡ print_of provider.now.plan
-            → S.notes seat.old seat.new self.now.instrument 0 result }
+        ensures { MakesByBound B.KEEPS_ENTRIES B.spares_memory S.seat S.notes S.records_set
+            provider.now self.now value seat.old seat.new result }
     {
         if self.plan != provider.plan().fingerprint() {
             return Err(Refusal::Stranger);

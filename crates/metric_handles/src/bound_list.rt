@@ -1,8 +1,7 @@
 //! Lists of bound recordings.
 ghost use Rattle.std.specs.Prelude.{◌≡◌, ◌≢◌, ◌↔◌, ◌⊎◌, ◌≤◌, [], ◌∷◌, ◌++◌, drop, length, IfErr, IsErrOf, OnErr, OnOk};
-ghost use Rattle.metric_plan.specs.Plans.{print_of};
 ghost use Rattle.metric_seat.specs.KeyRecordings.{measurement_of};
-ghost use Rattle.metric_handles.specs.Calls.{IsStrangeList, MakesRecordings, answer_of, left_of, untried_of};
+ghost use Rattle.metric_handles.specs.Calls.{MakesByList, left_of};
 
 use crate::bound::Bound;
 use crate::kinds::{Adds, Records};
@@ -108,14 +107,8 @@ impl<K> BoundList<K> {
         provider: &Provider<B, G>,
         seat: &mut S,
     ) -> Result<(), SetsFault>
-        ensures strange { self.now.plan ≢ print_of provider.now.plan
-            → IsStrangeList result × (seat.new ≡ seat.old) }
-        ensures made { self.now.plan ≡ print_of provider.now.plan
-            → MakesRecordings B.KEEPS_ENTRIES B.spares_memory provider.now
-            (S.seat seat.old) (S.seat seat.new) self.now.instrument self.now.all result }
-        ensures noted { let untried = untried_of self.now.all result in
-            self.now.plan ≡ print_of provider.now.plan
-            → S.notes seat.old seat.new self.now.instrument untried (answer_of result) }
+        ensures made { MakesByList B.KEEPS_ENTRIES B.spares_memory S.seat S.notes S.records_sets
+            provider.now self.now seat.old seat.new result }
         ensures within { IfErr result (λ fault. fault.place ≤ length self.now.all) }
     {
         if self.plan != provider.plan().fingerprint() {
@@ -161,14 +154,8 @@ impl<K: Adds> BoundList<K> {
         provider: &Provider<B, G>,
         seat: &mut S,
     ) -> Result<(), SetsFault>
-        ensures strange { self.old.plan ≢ print_of provider.now.plan
-            → IsStrangeList result × (seat.new ≡ seat.old) }
-        ensures made { self.old.plan ≡ print_of provider.now.plan
-            → MakesRecordings B.KEEPS_ENTRIES B.spares_memory provider.now
-            (S.seat seat.old) (S.seat seat.new) self.old.instrument self.old.all result }
-        ensures noted { let untried = untried_of self.old.all result in
-            self.old.plan ≡ print_of provider.now.plan
-            → S.notes seat.old seat.new self.old.instrument untried (answer_of result) }
+        ensures made { MakesByList B.KEEPS_ENTRIES B.spares_memory S.seat S.notes S.records_sets
+            provider.now self.old seat.old seat.new result }
         ensures left { self.new ≡ record self.old { all = left_of self.old.all result } }
     {
         let answer = self.record_all(rt, provider, seat);
@@ -183,14 +170,8 @@ impl<K: Adds> BoundList<K> {
         provider: &Provider<B, G>,
         seat: &mut S,
     ) -> Result<(), SetsFault>
-        ensures strange { self.now.plan ≢ print_of provider.now.plan
-            → IsStrangeList result × (seat.new ≡ seat.old) }
-        ensures made { self.now.plan ≡ print_of provider.now.plan
-            → MakesRecordings B.KEEPS_ENTRIES B.spares_memory provider.now
-            (S.seat seat.old) (S.seat seat.new) self.now.instrument self.now.all result }
-        ensures noted { let untried = untried_of self.now.all result in
-            self.now.plan ≡ print_of provider.now.plan
-            → S.notes seat.old seat.new self.now.instrument untried (answer_of result) }
+        ensures { MakesByList B.KEEPS_ENTRIES B.spares_memory S.seat S.notes S.records_sets
+            provider.now self.now seat.old seat.new result }
     {
         self.record_all(rt, provider, seat)
     }
@@ -208,14 +189,8 @@ impl<K: Records> BoundList<K> {
         provider: &Provider<B, G>,
         seat: &mut S,
     ) -> Result<(), SetsFault>
-        ensures strange { self.old.plan ≢ print_of provider.now.plan
-            → IsStrangeList result × (seat.new ≡ seat.old) }
-        ensures made { self.old.plan ≡ print_of provider.now.plan
-            → MakesRecordings B.KEEPS_ENTRIES B.spares_memory provider.now
-            (S.seat seat.old) (S.seat seat.new) self.old.instrument self.old.all result }
-        ensures noted { let untried = untried_of self.old.all result in
-            self.old.plan ≡ print_of provider.now.plan
-            → S.notes seat.old seat.new self.old.instrument untried (answer_of result) }
+        ensures made { MakesByList B.KEEPS_ENTRIES B.spares_memory S.seat S.notes S.records_sets
+            provider.now self.old seat.old seat.new result }
         ensures left { self.new ≡ record self.old { all = left_of self.old.all result } }
     {
         let answer = self.record_all(rt, provider, seat);
@@ -230,14 +205,8 @@ impl<K: Records> BoundList<K> {
         provider: &Provider<B, G>,
         seat: &mut S,
     ) -> Result<(), SetsFault>
-        ensures strange { self.now.plan ≢ print_of provider.now.plan
-            → IsStrangeList result × (seat.new ≡ seat.old) }
-        ensures made { self.now.plan ≡ print_of provider.now.plan
-            → MakesRecordings B.KEEPS_ENTRIES B.spares_memory provider.now
-            (S.seat seat.old) (S.seat seat.new) self.now.instrument self.now.all result }
-        ensures noted { let untried = untried_of self.now.all result in
-            self.now.plan ≡ print_of provider.now.plan
-            → S.notes seat.old seat.new self.now.instrument untried (answer_of result) }
+        ensures { MakesByList B.KEEPS_ENTRIES B.spares_memory S.seat S.notes S.records_sets
+            provider.now self.now seat.old seat.new result }
     {
         self.record_all(rt, provider, seat)
     }

@@ -5,7 +5,7 @@ ghost use Rattle.metric_contents.specs.Refusals.{number_of};
 ghost use Rattle.metric_seat.specs.KeyRecordings.{admitted_key};
 ghost use Rattle.metric_seat.specs.Recordings.{admitted};
 ghost use Rattle.metric_handles.specs.Calls.{MakesRecording, MakesRecordings, answer_of, untried_of};
-ghost use Rattle.metric_handles.specs.Counts.{count_in, counted_of, counts_after, counts_of, no_counts, place_of, refused_before};
+ghost use Rattle.metric_handles.specs.Counts.{CountsAnswer, count_in, counted_of, counts_after, counts_of, no_counts, place_of, refused_before};
 
 use crate::seat::Seat;
 use metric_book::Book;
@@ -71,36 +71,32 @@ fn number_of(refusal: Refusal) -> usize
     usize::from(refusal.number())
 }
 
-/// A seat of a recorder that counts its refusals by kind and by instrument, and the recordings of lists that were not
-/// tried since one before them was refused. So what was handed in is what was made, what was refused and what was not
+/// A seat that counts its refusals by kind and by instrument, and the recordings of lists that were not tried since one
+/// before them was refused. So what was handed in is what was made, what was refused and what was not
 /// tried, also where a service goes on without looking at an answer. Its recordings are those of the seat, and handles,
 /// bound attributes and lists take it as they take that (a [`Seat`]). Kinds are told apart by their numbers
 /// ([`Refusal::number`]), and all instruments that the plan does not have are counted as one.
 #[derive(Drop)]
-pub struct Counted {
-    seat: Recorder,
+pub struct Counted<S = Recorder> {
+    seat: S,
     counts: Vec<Counts>,
 }
 
-impl Model for Counted {
+impl<S> Model for Counted<S> {
     ghost use Rattle.std.specs.Prelude.{◌<◌, length};
     ghost use Rattle.metric_handles.specs.Counts.{CountedValue};
 
-    ghost Value = { CountedValue };
+    ghost Value = { CountedValue S };
 
     ghost view = { λ c. record { seat = c.seat; counts = c.counts.items } };
 
     ghost invariant = { λ c. 0 < length c.counts.items };
 }
 
-impl Counted {
+impl<S> Counted<S> {
     /// The seat, which was refused nothing of the instruments of a plan. Takes 128 bytes for each instrument and as
     /// many for all others. Where memory is refused, the seat is handed back.
-    pub fn new(
-        alloc: Global,
-        plan: &Plan,
-        seat: Recorder,
-    ) -> Result<Counted, (Recorder, AllocError)>
+    pub fn new(alloc: Global, plan: &Plan, seat: S) -> Result<Counted<S>, (S, AllocError)>
         ensures made { IfOk result (λ counted. counted ≡ counted_of plan.now seat) }
         ensures back { IfErr result (λ refused. refused.0 ≡ seat) }
     {
@@ -111,14 +107,14 @@ impl Counted {
     }
 
     /// The seat.
-    pub fn seat(&self) -> &Recorder
+    pub fn seat(&self) -> &S
         ensures { result.now ≡ self.now.seat }
     {
         &self.seat
     }
 
     /// The seat, to be handed in at the end. The counts are let go.
-    pub fn into_seat(self) -> Recorder
+    pub fn into_seat(self) -> S
         ensures { result ≡ self.seat }
     {
         self.seat
@@ -138,66 +134,6 @@ impl Counted {
         ensures { result ≡ (counts_of self.now.counts instrument).untried }
     {
         self.counts[self.place(instrument)].untried
-    }
-
-    /// Makes a recording: [`Recorder::record`] of the seat. A refusal is counted, and answered.
-    pub fn record<R: Wait, B: Book, G: Gate>(
-        &mut self,
-        rt: &R,
-        provider: &Provider<B, G>,
-        instrument: u32,
-        attrs: &[Attr<'_>],
-        value: i64,
-    ) -> Result<(), Refusal>
-        ensures made { let given = map given_by attrs.now in
-            let admission = admitted provider.now self.old.seat instrument given value in
-            MakesRecording B.KEEPS_ENTRIES B.spares_memory provider.now
-            self.old.seat self.new.seat instrument value admission result }
-        ensures counted { self.new.counts ≡ counts_after self.old.counts instrument 0 result }
-    {
-        let answer = self.seat.record(rt, provider, instrument, attrs, value);
-        self.count(instrument, 0, &answer);
-        answer
-    }
-
-    /// The same by a set key: [`Recorder::record_set`] of the seat. A refusal is counted, and answered.
-    pub fn record_set<R: Wait, B: Book, G: Gate>(
-        &mut self,
-        rt: &R,
-        provider: &Provider<B, G>,
-        instrument: u32,
-        set: SetKey,
-        value: i64,
-    ) -> Result<(), Refusal>
-        ensures made { let old = self.old.seat in
-            let admission = admitted_key provider.now old instrument set value in
-            MakesRecording B.KEEPS_ENTRIES B.spares_memory provider.now
-            old self.new.seat instrument value admission result }
-        ensures counted { self.new.counts ≡ counts_after self.old.counts instrument 0 result }
-    {
-        let answer = self.seat.record_set(rt, provider, instrument, set, value);
-        self.count(instrument, 0, &answer);
-        answer
-    }
-
-    /// The same of recordings by set keys under one lock: [`Recorder::record_sets`] of the seat. The refusal is
-    /// counted, and how many stand behind it, and it is answered with its place.
-    pub fn record_sets<R: Wait, B: Book, G: Gate>(
-        &mut self,
-        rt: &R,
-        provider: &Provider<B, G>,
-        instrument: u32,
-        all: &[Measurement],
-    ) -> Result<(), SetsFault>
-        ensures made { MakesRecordings B.KEEPS_ENTRIES B.spares_memory provider.now
-            self.old.seat self.new.seat instrument all.now result }
-        ensures counted { let untried = untried_of all.now result in
-            self.new.counts ≡ counts_after self.old.counts instrument untried (answer_of result) }
-    {
-        let answer = self.seat.record_sets(rt, provider, instrument, all);
-        let untried = untried_of(all, &answer);
-        self.count(instrument, untried, &answer.map_err(|fault| fault.refusal));
-        answer
     }
 
     // Counts an answer, behind which so many recordings were not tried.
@@ -220,11 +156,84 @@ impl Counted {
     }
 }
 
-impl Seat for Counted {
-    ghost seat = { λ counted. counted.seat };
+impl<S: Seat> Counted<S> {
+    /// Makes a recording: [`Seat::record`] of the seat. A refusal is counted, and answered.
+    pub fn record<R: Wait, B: Book, G: Gate>(
+        &mut self,
+        rt: &R,
+        provider: &Provider<B, G>,
+        instrument: u32,
+        attrs: &[Attr<'_>],
+        value: i64,
+    ) -> Result<(), Refusal>
+        ensures made { let given = map given_by attrs.now in
+            let admission = admitted provider.now (S.seat self.old.seat) instrument given value in
+            MakesRecording B.KEEPS_ENTRIES B.spares_memory provider.now
+            (S.seat self.old.seat) (S.seat self.new.seat) instrument value admission result }
+        ensures noted { CountsAnswer S.notes self.old self.new instrument 0 result }
+        ensures handed { S.records provider.now self.old.seat self.new.seat instrument
+            (map given_by attrs.now) value result }
+    {
+        let answer = self.seat.record(rt, provider, instrument, attrs, value);
+        self.count(instrument, 0, &answer);
+        answer
+    }
 
-    ghost notes = { λ old new instrument untried answer.
-        new.counts ≡ counts_after old.counts instrument untried answer };
+    /// The same by a set key: [`Seat::record_set`] of the seat. A refusal is counted, and answered.
+    pub fn record_set<R: Wait, B: Book, G: Gate>(
+        &mut self,
+        rt: &R,
+        provider: &Provider<B, G>,
+        instrument: u32,
+        set: SetKey,
+        value: i64,
+    ) -> Result<(), Refusal>
+        ensures made { let old = S.seat self.old.seat in
+            let admission = admitted_key provider.now old instrument set value in
+            MakesRecording B.KEEPS_ENTRIES B.spares_memory provider.now
+            old (S.seat self.new.seat) instrument value admission result }
+        ensures noted { CountsAnswer S.notes self.old self.new instrument 0 result }
+        ensures handed { S.records_set provider.now self.old.seat self.new.seat instrument set value
+            result }
+    {
+        let answer = self.seat.record_set(rt, provider, instrument, set, value);
+        self.count(instrument, 0, &answer);
+        answer
+    }
+
+    /// The same of recordings by set keys under one lock: [`Seat::record_sets`] of the seat. The refusal is
+    /// counted, and how many stand behind it, and it is answered with its place.
+    pub fn record_sets<R: Wait, B: Book, G: Gate>(
+        &mut self,
+        rt: &R,
+        provider: &Provider<B, G>,
+        instrument: u32,
+        all: &[Measurement],
+    ) -> Result<(), SetsFault>
+        ensures made { MakesRecordings B.KEEPS_ENTRIES B.spares_memory provider.now
+            (S.seat self.old.seat) (S.seat self.new.seat) instrument all.now result }
+        ensures noted { let untried = untried_of all.now result in
+            CountsAnswer S.notes self.old self.new instrument untried (answer_of result) }
+        ensures handed { S.records_sets provider.now self.old.seat self.new.seat instrument all.now
+            result }
+    {
+        let answer = self.seat.record_sets(rt, provider, instrument, all);
+        let untried = untried_of(all, &answer);
+        self.count(instrument, untried, &answer.map_err(|fault| fault.refusal));
+        answer
+    }
+}
+
+impl<S: Seat> Seat for Counted<S> {
+    ghost seat = { λ counted. S.seat counted.seat };
+
+    ghost notes = { CountsAnswer S.notes };
+
+    ghost records = { λ p old new. S.records p old.seat new.seat };
+
+    ghost records_set = { λ p old new. S.records_set p old.seat new.seat };
+
+    ghost records_sets = { λ p old new. S.records_sets p old.seat new.seat };
 
     #[inline(always)]
     fn record<R: Wait, B: Book, G: Gate>(

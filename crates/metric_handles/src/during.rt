@@ -1,12 +1,15 @@
 //! Work that is counted while it goes on.
 ghost use Rattle.std.specs.Prelude.{◌≡◌, ◌-◌, IfErr, OnOk, slice_index};
 ghost use Rattle.std.specs.Fn.{FnOnceReturnsAtMut};
-ghost use Rattle.metric_handles.specs.Works.{Begins, ComesBack, HasWayBack, LacksWayBack, MakesBound};
+ghost use Rattle.metric_handles.specs.Calls.{MakesByBound};
+ghost use Rattle.metric_handles.specs.Works.{Begins, ComesBack, HasRoomForBoth, HasWayBack, LacksRoomForBoth, LacksWayBack};
 ghost use Rattle.metric_seat.specs.Recordings.{told_at};
 
 use crate::at::At;
 use crate::bound::BoundUpDownCounter;
+use crate::jobs::Need;
 use crate::recorded::Recorded;
+use crate::rooms::{Rooms, RoomsOf};
 use metric_book::Book;
 use metric_contents::Refusal;
 use metric_facts::Facts;
@@ -32,10 +35,10 @@ impl<R: Wait, S: Recorded, B: Book, G: Gate> At<'_, R, S, B, G> {
         ensures same { self.new.seat.ghost_name ≡ self.old.seat.ghost_name }
         ensures provider { self.new.provider.now ≡ self.old.provider.now }
         ensures counted { let p = self.old.provider.now in
-            let makes =
-            MakesBound B.KEEPS_ENTRIES B.spares_memory S.seat S.notes p active.now in
-            ComesBack S.seat makes (FnOnceReturnsAtMut F.FnOnce work) p.plan
-            active.now.instrument self.old.seat.now self.new.seat.now result.0 result.1 }
+            let makes = MakesByBound B.KEEPS_ENTRIES B.spares_memory S.seat S.notes S.records_set p
+            active.now in
+            ComesBack S.seat makes (FnOnceReturnsAtMut F.FnOnce work) p.plan active.now
+            self.old.seat.now self.new.seat.now result.0 result.1 }
     {
         let began = self.begin(active);
         let done = work(self.seat);
@@ -53,23 +56,21 @@ impl<R: Wait, S: Recorded, B: Book, G: Gate> At<'_, R, S, B, G> {
         ensures same { self.new.seat.ghost_name ≡ self.old.seat.ghost_name }
         ensures provider { self.new.provider.now ≡ self.old.provider.now }
         ensures begins { let p = self.old.provider.now in
-            let makes =
-            MakesBound B.KEEPS_ENTRIES B.spares_memory S.seat S.notes p active.now in
-            Begins S.seat makes p.plan active.now.instrument self.old.seat.now self.new.seat.now
-            result }
+            let makes = MakesByBound B.KEEPS_ENTRIES B.spares_memory S.seat S.notes S.records_set p
+            active.now in
+            Begins S.seat makes p.plan active.now self.old.seat.now self.new.seat.now result }
     {
         self.has_way_back(active)?;
         active.add(self.rt, self.provider, self.seat, 1)
     }
 
-    // Whether 1 can be taken away again, once it is added. The lock is taken only where the budget alone has not
-    // enough room.
-    #[tactic(auto, using(crate::proofs::WayLaws::has_way_by_room, crate::proofs::WayLaws::has_way_by_budget, crate::proofs::WayLaws::lacks_range, crate::proofs::WayLaws::lacks_budget))]
+    // Whether 1 can be taken away again, once it is added.
+    #[tactic(auto, using(crate::proofs::WayLaws::has_way, crate::proofs::WayLaws::lacks_range, crate::proofs::WayLaws::lacks_way))]
     fn has_way_back(&self, active: &BoundUpDownCounter) -> Result<(), Refusal>
         ensures ok { let plan = self.now.provider.now.plan in let seat = S.seat self.now.seat.now in
             OnOk result (HasWayBack plan seat active.now.instrument) }
         ensures err { let plan = self.now.provider.now.plan in let seat = S.seat self.now.seat.now in
-            IfErr result (LacksWayBack plan seat active.now.instrument) }
+            IfErr result (LacksWayBack plan seat active.now) }
     {
         let (plan, number) = (self.provider.plan(), active.number());
         if active.plan() != plan.fingerprint() {
@@ -83,14 +84,34 @@ impl<R: Wait, S: Recorded, B: Book, G: Gate> At<'_, R, S, B, G> {
             return Err(Refusal::ValueRange);
         }
         let recorder = self.seat.recorder();
-        if left_in(facts, recorder, number) >= 2 {
-            return Ok(());
-        }
-        match recorder.room(self.rt, self.provider, number) {
-            Ok(room) if room >= 2 => Ok(()),
-            Ok(_) => Err(Refusal::Budget),
-            Err(_) => Err(Refusal::Stranger),
-        }
+        let rooms = RoomsOf {
+            recorder,
+            rt: self.rt,
+            provider: self.provider,
+        };
+        let both = Need {
+            plan: active.plan(),
+            instrument: number,
+            count: 2,
+        };
+        has_room(&rooms, &both, left_in(facts, recorder, number))?;
+        Ok(())
+    }
+}
+
+// Whether there is room for two recordings, where so many are left of the budget alone. The lock is taken only where
+// these are not enough.
+fn has_room<M: Rooms>(rooms: &M, both: &Need, left: u64) -> Result<(), Refusal>
+    ensures ok { OnOk result (HasRoomForBoth (M.tells rooms.now both.now) left) }
+    ensures err { IfErr result (LacksRoomForBoth (M.tells rooms.now both.now) left) }
+{
+    if left >= 2 {
+        return Ok(());
+    }
+    match rooms.room(both) {
+        Ok(room) if room >= 2 => Ok(()),
+        Ok(_) => Err(Refusal::Budget),
+        Err(_) => Err(Refusal::Stranger),
     }
 }
 

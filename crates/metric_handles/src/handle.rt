@@ -1,10 +1,9 @@
 //! Handles of instruments.
-ghost use Rattle.std.specs.Prelude.{◌≡◌, ◌≢◌, [], map};
+ghost use Rattle.std.specs.Prelude.{◌≡◌, [], map};
 ghost use Rattle.metric_contents.specs.Attributes.{given_by};
 ghost use Rattle.metric_plan.specs.Plans.{print_of};
-ghost use Rattle.metric_seat.specs.Recordings.{admitted};
 ghost use Rattle.metric_handles.specs.Bounds.{bound_of, number_in};
-ghost use Rattle.metric_handles.specs.Calls.{IsStrange, MakesRecording};
+ghost use Rattle.metric_handles.specs.Calls.{MakesByHandle};
 
 use crate::bound::Bound;
 use crate::bound_list::BoundList;
@@ -129,15 +128,9 @@ impl<K: Adds> Handle<K> {
         attrs: &[Attr<'_>],
         value: i64,
     ) -> Result<(), Refusal>
-        ensures strange { self.now.plan ≢ print_of provider.now.plan
-            → IsStrange result × (seat.new ≡ seat.old) }
-        ensures made { let given = map given_by attrs.now in let number = self.now.number in
-            let admission = admitted provider.now (S.seat seat.old) number given value in
-            self.now.plan ≡ print_of provider.now.plan
-            → MakesRecording B.KEEPS_ENTRIES B.spares_memory provider.now
-            (S.seat seat.old) (S.seat seat.new) number value admission result }
-        ensures noted { self.now.plan ≡ print_of provider.now.plan
-            → S.notes seat.old seat.new self.now.number 0 result }
+        ensures { let given = map given_by attrs.now in
+            MakesByHandle B.KEEPS_ENTRIES B.spares_memory S.seat S.notes S.records provider.now
+            self.now given value seat.old seat.new result }
     {
         if self.plan != provider.plan().fingerprint() {
             return Err(Refusal::Stranger);
@@ -159,15 +152,9 @@ impl<K: Records> Handle<K> {
         attrs: &[Attr<'_>],
         value: i64,
     ) -> Result<(), Refusal>
-        ensures strange { self.now.plan ≢ print_of provider.now.plan
-            → IsStrange result × (seat.new ≡ seat.old) }
-        ensures made { let given = map given_by attrs.now in let number = self.now.number in
-            let admission = admitted provider.now (S.seat seat.old) number given value in
-            self.now.plan ≡ print_of provider.now.plan
-            → MakesRecording B.KEEPS_ENTRIES B.spares_memory provider.now
-            (S.seat seat.old) (S.seat seat.new) number value admission result }
-        ensures noted { self.now.plan ≡ print_of provider.now.plan
-            → S.notes seat.old seat.new self.now.number 0 result }
+        ensures { let given = map given_by attrs.now in
+            MakesByHandle B.KEEPS_ENTRIES B.spares_memory S.seat S.notes S.records provider.now
+            self.now given value seat.old seat.new result }
     {
         if self.plan != provider.plan().fingerprint() {
             return Err(Refusal::Stranger);

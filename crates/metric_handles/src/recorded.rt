@@ -18,8 +18,8 @@ impl Recorded for Recorder {
     }
 }
 
-impl Recorded for Counted {
+impl<S: Recorded> Recorded for Counted<S> {
     fn recorder(&self) -> &Recorder {
-        self.seat()
+        self.seat().recorder()
     }
 }

@@ -4,7 +4,8 @@ ghost use Rattle.std.specs.Duration.{as_nanos};
 ghost use Rattle.std.specs.Fn.{FnOnceReturnsAtMut};
 ghost use Rattle.std.specs.Time.{instant_nanos};
 ghost use Rattle.std.specs.declared.time.Instant.{Instant as instants};
-ghost use Rattle.metric_handles.specs.Works.{IsTimed, MakesBound, RecordsTime};
+ghost use Rattle.metric_handles.specs.Calls.{MakesByBound};
+ghost use Rattle.metric_handles.specs.Works.{IsTimed, IsTimedBy, RecordsTime};
 
 use crate::at::At;
 use crate::seat::Seat;
@@ -28,13 +29,14 @@ pub enum TimedFault {
     Refused(Refusal),
 }
 
-// A clock that is read before some work and after it. As a trait, so that what times the work cannot but read it.
-trait Stopwatch {
-    // What a reading gives.
-    ghost reads: { Self → Option instants → Type 0 };
+// A clock that is read before some work on a seat and after it, with the seat in sight. As a trait, so that what times
+// the work cannot but read it, once before the work and once after.
+trait Stopwatch<S> {
+    // What a reading comes to: the clock before and after it, the seat that it is made beside, and what it gives.
+    ghost reads: { Self → Self → S → Option instants → Type 0 };
 
-    fn moment(&self) -> Option<Instant>
-        ensures { reads self.now result };
+    fn moment(&mut self, seat: &S) -> Option<Instant>
+        ensures { reads self.old self.new seat.now result };
 }
 
 // The clock of the runtime, which does not go back.
@@ -43,10 +45,10 @@ struct ClockOf<'a, R> {
     rt: &'a R,
 }
 
-impl<R: Clock> Stopwatch for ClockOf<'_, R> {
-    ghost reads = { λ _ _. Unit {0} };
+impl<R: Clock, S> Stopwatch<S> for ClockOf<'_, R> {
+    ghost reads = { λ _ _ _ _. Unit {0} };
 
-    fn moment(&self) -> Option<Instant> {
+    fn moment(&mut self, _seat: &S) -> Option<Instant> {
         Instant::now(self.rt).ok()
     }
 }
@@ -65,22 +67,21 @@ impl<R: Wait + Clock, S: Seat, B: Book, G: Gate> At<'_, R, S, B, G> {
         ensures same { self.new.seat.ghost_name ≡ self.old.seat.ghost_name }
         ensures provider { self.new.provider.now ≡ self.old.provider.now }
         ensures timed { let p = self.old.provider.now in
-            let makes =
-            MakesBound B.KEEPS_ENTRIES B.spares_memory S.seat S.notes p timer.now.took in
-            IsTimed instant_nanos (λ _. Unit {0}) timer.now.unit makes
-            (FnOnceReturnsAtMut F.FnOnce work) self.old.seat.now self.new.seat.now
-            result.0 result.1 }
+            let makes = MakesByBound B.KEEPS_ENTRIES B.spares_memory S.seat S.notes S.records_set p
+            timer.now.took in
+            IsTimed instant_nanos timer.now.unit makes (FnOnceReturnsAtMut F.FnOnce work)
+            self.old.seat.now self.new.seat.now result.0 result.1 }
     {
-        let clock = ClockOf { rt: self.rt };
-        self.timed_by(&clock, timer, work)
+        let mut clock = ClockOf { rt: self.rt };
+        self.timed_by(&mut clock, timer, work)
     }
 }
 
 impl<R: Wait, S: Seat, B: Book, G: Gate> At<'_, R, S, B, G> {
     // The same by any clock.
-    fn timed_by<W: Stopwatch, T, F: FnOnce(&mut S) -> T>(
+    fn timed_by<W: Stopwatch<S>, T, F: FnOnce(&mut S) -> T>(
         &mut self,
-        clock: &W,
+        clock: &mut W,
         timer: &Timer,
         work: F,
     ) -> (T, Result<(), TimedFault>)
@@ -88,15 +89,14 @@ impl<R: Wait, S: Seat, B: Book, G: Gate> At<'_, R, S, B, G> {
         ensures same { self.new.seat.ghost_name ≡ self.old.seat.ghost_name }
         ensures provider { self.new.provider.now ≡ self.old.provider.now }
         ensures timed { let p = self.old.provider.now in
-            let makes =
-            MakesBound B.KEEPS_ENTRIES B.spares_memory S.seat S.notes p timer.now.took in
-            IsTimed instant_nanos (W.reads clock.now) timer.now.unit makes
-            (FnOnceReturnsAtMut F.FnOnce work) self.old.seat.now self.new.seat.now
-            result.0 result.1 }
+            let makes = MakesByBound B.KEEPS_ENTRIES B.spares_memory S.seat S.notes S.records_set p
+            timer.now.took in
+            IsTimedBy W.reads instant_nanos timer.now.unit makes (FnOnceReturnsAtMut F.FnOnce work)
+            clock.old clock.new self.old.seat.now self.new.seat.now result.0 result.1 }
     {
-        let first = clock.moment();
+        let first = clock.moment(self.seat);
         let done = work(self.seat);
-        let last = clock.moment();
+        let last = clock.moment(self.seat);
         let Some(first) = first else {
             return (done, Err(TimedFault::Clock));
         };
@@ -112,8 +112,8 @@ impl<R: Wait, S: Seat, B: Book, G: Gate> At<'_, R, S, B, G> {
         ensures same { self.new.seat.ghost_name ≡ self.old.seat.ghost_name }
         ensures provider { self.new.provider.now ≡ self.old.provider.now }
         ensures recorded { let p = self.old.provider.now in
-            let makes =
-            MakesBound B.KEEPS_ENTRIES B.spares_memory S.seat S.notes p timer.now.took in
+            let makes = MakesByBound B.KEEPS_ENTRIES B.spares_memory S.seat S.notes S.records_set p
+            timer.now.took in
             RecordsTime timer.now.unit makes (as_nanos took) self.old.seat.now self.new.seat.now
             result }
     {

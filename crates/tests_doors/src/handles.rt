@@ -362,6 +362,30 @@ fn handles_record_with_a_seat_that_counts(rt: HostRuntime) {
     assert_equal(&rt, told, Some(6));
 }
 
+#[test]
+fn a_seat_that_counts_is_counted_on(rt: HostRuntime) {
+    let mut service = make_service(&rt, rt.alloc());
+    let provider = &service.provider;
+    let taken = take_recorder(provider.plan(), &mut service.recorders, "till");
+    let seat = taken.expect(&rt, "no till");
+    let Ok(inner) = Counted::new(rt.alloc(), provider.plan(), seat) else {
+        panic!(rt; "no memory");
+    };
+    let Ok(mut outer) = Counted::new(rt.alloc(), provider.plan(), inner) else {
+        panic!(rt; "no memory");
+    };
+    let mut out = String::new(rt.alloc());
+    sell(&mut out, &rt, rt.alloc(), provider, &mut outer);
+    assert_equal(&rt, out.as_str(), ANSWERED);
+    for (instrument, refusal, times) in REFUSED_BY_HANDLES {
+        let counts = [
+            outer.refused(*instrument, *refusal),
+            outer.seat().refused(*instrument, *refusal),
+        ];
+        assert_equal(&rt, counts, [*times, *times]);
+    }
+}
+
 // Writes each point of a batch.
 fn write_points<R: Abort>(out: &mut String, rt: &R, batch: &Batch) {
     for stream in batch.streams.as_slice() {

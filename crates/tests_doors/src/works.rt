@@ -11,6 +11,8 @@ use metric_sdk::{
 use std::alloc::Global;
 use std::process::Abort;
 use std::sync::Wait;
+use std::thread::sleep;
+use std::time::Duration;
 
 const SHOP: &str = "format = 2
 [[meter]]
@@ -302,6 +304,19 @@ fn a_duration_is_recorded_in_the_unit_of_its_instrument(rt: HostRuntime) {
     }
     let (count, sum) = made(&rt, at.seat(), timer.took().number(), 0);
     assert_equal(&rt, (count, sum < 60_000), (2, true));
+}
+
+#[test]
+fn a_duration_is_no_shorter_than_its_work(rt: HostRuntime) {
+    let alloc = rt.alloc();
+    let (provider, mut seats) = open_seats(&rt, alloc);
+    let plan = provider.plan();
+    let timer = timer_of(&rt, plan, plan, "shop", "took").or_fail(&rt);
+    let mut seat = take_seat(&rt, &mut seats, 0);
+    let mut at = seat.at(&rt, &provider);
+    let ((), told) = at.timed(&timer, |_| sleep(&rt, Duration::from_millis(5)));
+    let (count, sum) = made(&rt, at.seat(), timer.took().number(), 0);
+    assert_equal(&rt, (told, count, sum >= 5), (Ok(()), 1, true));
 }
 
 // How many recordings of orders and of durations a job makes, by the number of its handle, and what it is told.
