@@ -1,9 +1,10 @@
 -- What the words of a command line come to that asks for nothing.
-use Rattle.std.specs.Prelude.{◌≡◌, ◌⊎◌, ℕ, List, Option, string_bytes}
+use Rattle.std.specs.Prelude.{◌≡◌, ◌⊎◌, ℕ, List, Option, codes, if◌then◌else◌, string_bytes}
 use Rattle.std.specs.Io.KnownBytes.{Appends}
 use Rattle.metric_request.specs.declared.fault.LineFault.{LineFault}
 use Rattle.metric_request.specs.declared.fault.LineFault.TheVariants.{Told, Usage, Nothing, Misused}
 use Rattle.metric_request.specs.declared.fault.LineFault.TheVariants.{Memory}
+use Rattle.metric_request.specs.Standard.{is_standard}
 
 -- Help and the version are written whole, or the status is that of a write that failed; else
 -- nothing is written to the sink, and the status is that of a misuse or of want of memory.
@@ -15,3 +16,7 @@ IsLineEnd Nothing contents contents_after status = (status ≡ 2) × (contents_a
 IsLineEnd (Misused misuse) contents contents_after status =
     (status ≡ 2) × (contents_after ≡ contents)
 IsLineEnd Memory contents contents_after status = (status ≡ 4) × (contents_after ≡ contents)
+
+-- what a file that is read is called
+abbrev pub shown : List ℕ → List ℕ
+shown path = if is_standard path then codes "<stdin>" else path

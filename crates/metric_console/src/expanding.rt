@@ -8,6 +8,7 @@ use crate::delivering::{print, put};
 use crate::fault::{ConsoleFault, Role};
 use crate::folder::Folder;
 use crate::parts::text_at;
+use crate::shown_path::shown;
 use crate::telling::{source_of, spelled, stop};
 use metric_base::Text;
 use metric_catalogue::CatalogueFault;
@@ -118,7 +119,7 @@ fn told_short(
             diagnose_catalogue(alloc, source, CatalogueFault::NotToml),
         );
     }
-    let path = files.catalogue.as_str();
+    let path = shown(files.catalogue.as_str());
     let words = told(alloc, source.as_str(), fault)?;
     format!(in alloc; "{path}: {words}\n")
 }

@@ -33,6 +33,7 @@ mod report_page;
 mod rooms;
 mod rows;
 mod shares;
+mod shown_path;
 mod telling;
 mod telling_old;
 mod time;

@@ -1,6 +1,7 @@
 //! What a person is told of a page that a replay does not print.
 use crate::fault::PageFault;
 use crate::parts::Texts;
+use crate::shown_path::shown;
 use crate::telling::{pair_of, spelled, told_plain};
 use metric_base::Text;
 use metric_commands::{Declared, declared_of};
@@ -19,7 +20,7 @@ pub(crate) fn told_page(
     fault: PageFault,
 ) -> Result<String, AllocError> {
     let resource = &request.resource;
-    let config = request.files.config.as_str();
+    let config = shown(request.files.config.as_str());
     match fault {
         PageFault::BadLabel { attribute } => told_label(alloc, resource, attribute),
         PageFault::LabelCollision { attribute, other } => {

@@ -5,6 +5,7 @@ ghost use Rattle.metric_console.specs.Faults.{IsUnread};
 
 use crate::fault::{ConsoleFault, Role};
 use crate::folder::{Folder, Unread};
+use crate::shown_path::shown;
 use metric_base::Text;
 use metric_parts::Parts;
 use metric_request::Files;
@@ -149,7 +150,8 @@ fn catalogue_at<F: Folder>(
 // What a catalogue is called where its lines are told.
 fn name_of(alloc: Global, path: &Text, is_expanded: bool) -> Result<Text, AllocError> {
     if is_expanded {
-        let string = format!(in alloc; "{path}, expanded")?;
+        let shown = shown(path.as_str());
+        let string = format!(in alloc; "{shown}, expanded")?;
         Ok(Text::from_string(string))
     } else {
         Text::new(alloc, path.as_str())

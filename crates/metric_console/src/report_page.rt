@@ -7,6 +7,7 @@ use crate::parts::Texts;
 use crate::report::Report;
 use crate::rooms::RoomSheet;
 use crate::shares::{budget_shares, stream_shares};
+use crate::shown_path::shown;
 use metric_request::Request;
 use metric_sheet::{Sheet, push_html_table, push_html_text};
 use metric_text::{push_number, push_text};
@@ -58,9 +59,9 @@ pub(crate) fn report_page(
 fn push_head(page: &mut Vec<u8>, request: &Request, report: &Report) -> Result<(), AllocError> {
     push_text(page, HEAD)?;
     push_text(page, "<h1>Metrics of ")?;
-    push_html_text(page, request.files.catalogue.as_str())?;
+    push_html_text(page, shown(request.files.catalogue.as_str()))?;
     push_text(page, " and ")?;
-    push_html_text(page, request.files.config.as_str())?;
+    push_html_text(page, shown(request.files.config.as_str()))?;
     push_text(page, "</h1>\n<p>")?;
     push_count(page, "Instruments: ", report.rooms.rooms.len())?;
     push_count(page, ", streams: ", report.listing.streams.list().len())?;

@@ -13,6 +13,7 @@ use crate::notes::Notes;
 use crate::page_words::told_page;
 use crate::parts::Texts;
 use crate::replaying::lines_before;
+use crate::shown_path::shown;
 use crate::telling_old::told_old;
 use metric_advice::{Remark, remark_of};
 use metric_base::Text;
@@ -67,6 +68,8 @@ fn words_of(misuse: Misuse) -> &'static str {
         Misuse::Audit => "error: '--audit' audits replies, and with '--as' none are printed\n",
         Misuse::Resource => "error: '--resource' belongs to '--as'\n",
         Misuse::Reader => "error: '--reader' belongs to '--as prometheus' and the other pages\n",
+        Misuse::Input =>
+            "error: '-' is standard input, which can be read only once, and here two files are it\n",
         Misuse::NoEquals => "error: '--resource' takes KEY=VALUE, and a word has no '='\n",
         Misuse::TooMany => "error: '--resource' is given more than 64 times\n",
         Misuse::EmptyKey => "error: '--resource' has an attribute without a key\n",
@@ -204,8 +207,13 @@ fn told_header(alloc: Global, files: &Files, role: Role) -> Result<String, Alloc
     format!(in alloc; "{path}: a line begins with '%% ', which no part of a replay can have\n")
 }
 
-// The path of a file, or what it is where the words have none.
+// What a file is called.
 fn path_of(files: &Files, role: Role) -> &str {
+    shown(named(files, role))
+}
+
+// The path of a file, or what it is where the words have none.
+fn named(files: &Files, role: Role) -> &str {
     match role {
         Role::OldCatalogue => match &files.old_catalogue {
             Some(path) => path.as_str(),
@@ -294,7 +302,7 @@ fn told_make(
 
 pub(crate) fn source_of<'t>(path: &'t Text, text: &'t Text) -> NamedText<'t> {
     NamedText {
-        name: path.as_str(),
+        name: shown(path.as_str()),
         text: text.as_str(),
     }
 }

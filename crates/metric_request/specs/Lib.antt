@@ -4,3 +4,4 @@ pub mod Faults
 pub mod Forms
 pub mod Numbers
 pub mod Requests
+pub mod Standard

@@ -12,7 +12,7 @@ use Rattle.metric_contents.specs.declared.attributes.OwnedAttr.{OwnedAttr}
 use Rattle.metric_request.specs.Attributes.{resource_in}
 use Rattle.metric_request.specs.Numbers.{number_in}
 use Rattle.metric_request.specs.declared.fault.Misuse.{Misuse}
-use Rattle.metric_request.specs.declared.fault.Misuse.TheVariants.{Deny, Allow, Outlet, Audit, Resource}
+use Rattle.metric_request.specs.declared.fault.Misuse.TheVariants.{Deny, Allow, Outlet, Audit, Resource, Input}
 use Rattle.metric_request.specs.declared.fault.Misuse.TheVariants as misuses
 use Rattle.metric_request.specs.declared.request.Concerns.{Concerns}
 use Rattle.metric_request.specs.declared.request.Files.{Files}
@@ -21,6 +21,7 @@ use Rattle.metric_request.specs.declared.request.Form.TheVariants.{Replies, Otlp
 use Rattle.metric_request.specs.declared.request.Form.TheVariants.{Prometheus, OpenMetrics}
 use Rattle.metric_request.specs.declared.request.Form.TheVariants.{OpenMetricsCreated}
 use Rattle.metric_request.specs.Forms.{is_page}
+use Rattle.metric_request.specs.Standard.{output_of, reads_twice}
 use Rattle.metric_request.specs.declared.request.Options.{Options}
 use Rattle.metric_request.specs.declared.request.Outlets.{Outlets}
 use Rattle.metric_request.specs.declared.request.Request.{Request}
@@ -142,7 +143,7 @@ files_in rows = record {
   config = text_in (codes "config") rows;
   certificate = certificate_in rows;
   script = script_in rows;
-  output = first_of (codes "output") rows;
+  output = output_of (first_of (codes "output") rows);
 }
 
 abbrev pub options_in : List Row → Options
@@ -171,6 +172,7 @@ resource_asked rows = do
   _ ← require (is_some (first_of (codes "as") rows)
       || not (is_some (first_of (codes "resource") rows))) Resource
   _ ← require (not (reads_else rows)) misuses.Reader
+  _ ← require (not (reads_twice (files_in rows))) Input
   resource_in (words_in (codes "resource") rows)
 
 -- the request of a command by its name, with its arguments

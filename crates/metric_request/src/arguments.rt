@@ -58,7 +58,7 @@ pub(crate) fn output<'a>(alloc: Global) -> Arg<'a>
         alloc,
         "output",
         "FILE",
-        "The file to write to, in place of standard output",
+        "The file to write to, in place of standard output, which `-` is",
     )
     .short('o')
 }

@@ -26,6 +26,8 @@ pub enum Misuse {
     Resource,
     /// `--reader` stands without a page to print.
     Reader,
+    /// Two of the files that are read are standard input.
+    Input,
     /// A word of `--resource` has no `=`.
     NoEquals,
     /// There are more attributes than a resource has.

@@ -10,7 +10,9 @@ mod fault;
 mod reading;
 mod report_command;
 mod request;
+mod standard;
 
 pub use fault::{LineFault, Misuse};
 pub use reading::request_of;
 pub use request::{Concerns, Files, Form, Options, Outlets, Request, Task};
+pub use standard::is_standard;

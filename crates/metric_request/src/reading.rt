@@ -6,6 +6,7 @@ ghost use Rattle.clap.specs.Words.{fault_of, first_of, found_of, rows_of, subcom
 ghost use Rattle.metric_request.specs.Apps.{program_app};
 ghost use Rattle.metric_request.specs.Attributes.{resource_in};
 ghost use Rattle.metric_request.specs.Faults.{IsAllowed, IsMisuse, IsNoRequest, IsNotAsked, IsOwn};
+ghost use Rattle.metric_request.specs.Standard.{output_of};
 ghost use Rattle.metric_request.specs.Numbers.{number_in, number_of};
 ghost use Rattle.metric_request.specs.Requests.{certificate_in, denies_else, files_in, form_in, form_of, forms_else, has_word, old_in, options_in, request_in, resource_asked, script_in, task_of, text_in};
 ghost use Rattle.metric_request.specs.Requests.{allows_else, concerns_in, is_concern, is_denied, is_for, is_outlet, outlets_else, outlets_in, reads_else, words_in};
@@ -14,6 +15,7 @@ use crate::attributes::resource_of;
 use crate::commands::program;
 use crate::fault::{LineFault, Misuse, fault_of};
 use crate::request::{Concerns, Files, Form, Options, Outlets, Request, Task};
+use crate::standard::{output_of, reads_twice};
 use clap::ArgMatches;
 use metric_advice::is_kind;
 use metric_base::{Items, Text};
@@ -74,8 +76,8 @@ fn named_request(
     ensures refused { IfErr result (λ fault.
         IsNotAsked fault (Some (command.now, rows_of (found_of arguments.now)))) }
 {
-    let resource = resource_asked(alloc, arguments)?;
     let files = files_of(alloc, arguments)?;
+    let resource = resource_asked(alloc, arguments, &files)?;
     let concerns = concerns_in(alloc, arguments)?;
     let reader = optional(alloc, arguments, "reader")?;
     Ok(Request {
@@ -90,7 +92,12 @@ fn named_request(
 
 // The resource that is asked for, or the first misuse of an option.
 #[tactic(auto, unfolding(crate::specs::Requests::resource_asked))]
-fn resource_asked(alloc: Global, arguments: &ArgMatches<'_>) -> Result<Resource, LineFault>
+fn resource_asked(
+    alloc: Global,
+    arguments: &ArgMatches<'_>,
+    files: &Files,
+) -> Result<Resource, LineFault>
+    requires { files.now ≡ files_in (rows_of (found_of arguments.now)) }
     ensures given { IfOk result (λ resource.
         resource_asked (rows_of (found_of arguments.now)) ≡ Ok resource) }
     ensures refused { IfErr result (λ fault.
@@ -120,6 +127,9 @@ fn resource_asked(alloc: Global, arguments: &ArgMatches<'_>) -> Result<Resource,
     }
     if reads_else(arguments) {
         return Err(LineFault::Misused(Misuse::Reader));
+    }
+    if reads_twice(files) {
+        return Err(LineFault::Misused(Misuse::Input));
     }
     resource_given(alloc, arguments)
 }
@@ -212,7 +222,7 @@ fn files_of(alloc: Global, arguments: &ArgMatches<'_>) -> Result<Files, AllocErr
     let config = text_of(alloc, arguments, "config")?;
     let certificate = certificate_of(alloc, arguments)?;
     let script = script_of(alloc, arguments)?;
-    let output = optional(alloc, arguments, "output")?;
+    let output = output_in(alloc, arguments)?;
     Ok(Files {
         old_catalogue,
         old_config,
@@ -259,6 +269,14 @@ fn script_of(alloc: Global, arguments: &ArgMatches<'_>) -> Result<Option<Text>, 
         Some(_) => optional(alloc, arguments, "fourth"),
         None => optional(alloc, arguments, "third"),
     }
+}
+
+// The file to write to.
+fn output_in(alloc: Global, arguments: &ArgMatches<'_>) -> Result<Option<Text>, AllocError>
+    ensures { IfOk result (λ output.
+        output ≡ output_of (first_of (codes "output") (rows_of (found_of arguments.now)))) }
+{
+    output_of(alloc, arguments.get_str("output"))
 }
 
 fn options_of(arguments: &ArgMatches<'_>) -> Options

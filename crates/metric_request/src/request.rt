@@ -30,7 +30,7 @@ pub enum Task {
     Expand,
 }
 
-/// The paths of the files that a command reads and writes.
+/// The paths of the files that a command reads and writes. One of those that are read may be `-`, standard input.
 #[derive(Debug, Drop)]
 pub struct Files {
     /// Where the old catalogue is, where the command compares two. There is an old config then too.
@@ -45,7 +45,7 @@ pub struct Files {
     pub certificate: Option<Text>,
     /// Where the script is, where the command has one.
     pub script: Option<Text>,
-    /// The file to write to, in place of standard output.
+    /// The file to write to, in place of standard output; never `-`, which is that.
     pub output: Option<Text>,
 }
 

@@ -2,9 +2,13 @@
 use metric_base::Text;
 use metric_console::{Folder, Unread, Unwritten};
 use metric_io::{ReadFault, StdSource, read_all};
+use metric_request::is_standard;
 use std::alloc::Global;
 use std::fs::{self, File};
-use std::io::{Error, ErrorKind, Write};
+use std::io::{Error, ErrorKind, Read, Write};
+
+// The file that standard input is, which says why it is not read.
+const STANDARD_INPUT: &str = "/dev/stdin";
 
 // The longest input, in bytes.
 const MOST_BYTES: u64 = 67_108_864;
@@ -12,7 +16,7 @@ const MOST_BYTES: u64 = 67_108_864;
 // How many names are tried for a file that is written beside the one that it replaces.
 const MOST_NAMES: u32 = 1_000;
 
-/// The files of the machine.
+/// The files of the machine, and standard input as the file at `-`.
 #[derive(Clone, Copy)]
 pub struct Disk<'a> {
     pub rt: &'a HostRuntime,
@@ -28,6 +32,9 @@ impl Folder for Disk<'_> {
     ghost made = { λ _. None };
 
     fn read(&self, alloc: Global, path: &str) -> Result<Text, Unread> {
+        if is_standard(path) {
+            return self.text_in(alloc, STANDARD_INPUT, self.rt.stdin());
+        }
         match fs::open(self.rt, path) {
             Ok(file) => self.text_in(alloc, path, file),
             Err(error) => Err(unread(error.kind())),
@@ -35,7 +42,7 @@ impl Folder for Disk<'_> {
     }
 
     fn is_same(&self, path: &str, other: &str) -> bool {
-        path == other || self.lead_to_one(path, other)
+        path == other || !is_standard(other) && self.lead_to_one(path, other)
     }
 
     fn write(&mut self, path: &str, text: &[u8]) -> Result<(), Unwritten> {
@@ -54,7 +61,7 @@ impl Folder for Disk<'_> {
 
 impl Disk<'_> {
     // The text of an open file.
-    fn text_in(&self, alloc: Global, path: &str, file: File) -> Result<Text, Unread> {
+    fn text_in<R: Read + Drop>(&self, alloc: Global, path: &str, file: R) -> Result<Text, Unread> {
         let mut source = StdSource::new(file);
         match read_all(alloc, &mut source) {
             Ok(bytes) => match String::from_utf8(bytes) {
