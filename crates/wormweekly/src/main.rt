@@ -3,12 +3,14 @@
 
 mod disk;
 mod pipe;
+mod progress;
 
 use disk::Disk;
 use metric_console::run_request;
 use metric_io::StdSink;
 use metric_request::{LineFault, Request, request_of};
 use pipe::{Hushed, Watched};
+use progress::{Cleared, Counted, Progress};
 use std::alloc::{AllocError, Global};
 use std::cell::Cell;
 use std::env;
@@ -55,20 +57,32 @@ fn borrowed<'a>(alloc: Global, owned: &'a [String]) -> Result<Vec<&'a str>, Allo
 
 // Runs a request, and gives the exit status.
 fn run(rt: &HostRuntime, request: Result<Request, LineFault>) -> u8 {
-    match BufWriter::new(rt.alloc(), rt.stdout()) {
-        Ok(output) => run_into(rt, request, output),
-        Err(_) => run_into(rt, Err(LineFault::Memory), rt.stdout()),
-    }
+    let progress = Progress::new(rt, &request);
+    let counted = Counted {
+        writer: rt.stdout(),
+        progress: &progress,
+    };
+    let told = Cleared {
+        writer: rt.stderr(),
+        progress: &progress,
+    };
+    let status = match BufWriter::new(rt.alloc(), counted) {
+        Ok(output) => run_into(rt, request, output, told),
+        Err(_) => run_into(rt, Err(LineFault::Memory), rt.stdout(), told),
+    };
+    progress.erase();
+    status
 }
 
 // Runs a request into a writer. The exit status; that of a closed pipe, where the writer is one.
-fn run_into<W: Write + Drop>(
+fn run_into<W: Write + Drop, E: Write + Drop>(
     rt: &HostRuntime,
     request: Result<Request, LineFault>,
     output: W,
+    told: E,
 ) -> u8 {
     let is_closed = Cell::new(false);
-    let status = run_watched(rt, request, output, rt.stderr(), &is_closed);
+    let status = run_watched(rt, request, output, told, &is_closed);
     if is_closed.get() { CLOSED } else { status }
 }
 
