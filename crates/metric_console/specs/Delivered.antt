@@ -3,6 +3,8 @@ use Rattle.std.specs.Prelude.{◌≡◌, ℕ, List, Option, Some, None, codes, i
 use Rattle.std.specs.Io.KnownBytes.{Appends}
 use Rattle.metric_console.specs.Concerns.{denies_some}
 use Rattle.metric_console.specs.Folders.{MadeFile, Makes}
+use Rattle.metric_console.specs.Lasting.{some_end_early}
+use Rattle.metric_request.specs.declared.request.Request.{Request}
 use Rattle.metric_console.specs.declared.answer.Answer.{Answer}
 use Rattle.metric_console.specs.declared.answer.Answer.TheVariants as answers
 
@@ -36,7 +38,10 @@ IsPrinted answers.Accepted contents contents_after =
     Appends contents contents_after (codes "accepted\n")
 IsPrinted answer contents contents_after = Unit {0}
 
--- 1 where these words deny some remark, else 0
-abbrev pub answer_status : List (List ℕ) → Answer → ℕ
-answer_status denied (answers.Notes notes) = if denies_some denied notes then 1 else 0
-answer_status denied _ = 0
+-- 1 where some remark is denied, or where recordings do not last as long as they are to, else 0
+abbrev pub answer_status : Request → Answer → ℕ
+answer_status request (answers.Notes notes) =
+    if denies_some request.concerns.denied notes then 1 else 0
+answer_status request (answers.Rooms rooms) =
+    if some_end_early request.options rooms.rooms then 1 else 0
+answer_status request _ = 0

@@ -10,6 +10,7 @@ pub mod Inputs
 pub mod Encodings
 pub mod PageReaders
 pub mod Paging
+pub mod Lasting
 pub mod PageLines
 pub mod Tables
 pub mod Comparing

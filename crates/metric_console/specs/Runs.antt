@@ -56,7 +56,7 @@ pub record Answers (request : Request) (parts : Parts) (writing : Writing) (stat
   pub is_answer : IsAnswer request.task request parts answer
   pub delivered : IsDeliveredAnswer request.files.output answer writing.made writing.made_after
       writing.contents writing.contents_after
-  pub is_status : status ≡ answer_status request.concerns.denied answer
+  pub is_status : status ≡ answer_status request answer
 
 -- A fault is of a device, or the first that the parts have, or a
 -- certificate is not there to be checked.

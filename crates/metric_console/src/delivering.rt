@@ -6,6 +6,7 @@ ghost use Rattle.metric_console.specs.Faults.{IsDeliveryFault, IsDeviceFault};
 
 use crate::answer::Answer;
 use crate::concerns::denies_some;
+use crate::ending::some_end_early;
 use crate::fault::{ConsoleFault, of_device, of_sheet};
 use crate::folder::Folder;
 use crate::noting::print_notes;
@@ -23,7 +24,11 @@ const DONE: u8 = 0;
 
 const REMARKED: u8 = 1;
 
-/// Writes an answer where the request wants it, and gives the exit status: 1 where a remark is denied, else 0.
+// That of recordings that end earlier than they are to.
+const EARLY: u8 = 1;
+
+/// Writes an answer where the request wants it, and gives the exit status: 1 where a remark is denied, or where
+/// recordings end earlier than they are to, else 0.
 ///
 /// # Errors
 ///
@@ -40,13 +45,12 @@ pub(crate) fn deliver<F: Folder, W: Sink>(
 ) -> Result<u8, ConsoleFault>
     ensures delivered { OnOk result (IsDeliveredAnswer request.now.files.output answer.now
         (F.made folder.old) (F.made folder.new) (W.contents sink.old) (W.contents sink.new)) }
-    ensures status { IfOk result (λ status.
-        status ≡ answer_status request.now.concerns.denied answer.now) }
+    ensures status { IfOk result (λ status. status ≡ answer_status request.now answer.now) }
     ensures unmade { OnErr result (F.made folder.new ≡ F.made folder.old) }
     ensures device { IfErr result IsDeliveryFault }
 {
     write_answer(alloc, request, texts, answer, columns, folder, sink)?;
-    Ok(status_of(request.concerns.denied.as_slice(), answer))
+    Ok(status_of(request, answer))
 }
 
 // Writes an answer where the request wants it.
@@ -99,11 +103,13 @@ fn print_answer<W: Sink>(
 }
 
 // The exit status of an answer that is written.
-fn status_of(denied: &[Text], answer: &Answer) -> u8
-    ensures { result ≡ answer_status denied.now answer.now }
+fn status_of(request: &Request, answer: &Answer) -> u8
+    ensures { result ≡ answer_status request.now answer.now }
 {
+    let denied = request.concerns.denied.as_slice();
     match answer {
         Answer::Notes(notes) if denies_some(denied, notes) => REMARKED,
+        Answer::Rooms(rooms) if some_end_early(request.options, rooms.rooms.as_slice()) => EARLY,
         _ => DONE,
     }
 }

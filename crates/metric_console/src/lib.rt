@@ -12,6 +12,7 @@ mod change_sheet;
 mod comparing;
 mod concerns;
 mod delivering;
+mod ending;
 mod expanding;
 mod exposures;
 mod fault;

@@ -3,6 +3,7 @@ ghost use Rattle.std.specs.Prelude.{IfErr, IfOk};
 ghost use Rattle.metric_commands.specs.Declarations.{IsDeclaredFault};
 ghost use Rattle.metric_console.specs.Answers.{AreRooms};
 
+use crate::ending::ends_early;
 use crate::fleet::fleet_limit;
 use crate::rows::{instrument_word, push_text};
 use crate::time::lasting;
@@ -17,7 +18,7 @@ use metric_resolve::resolve_streams;
 use metric_sheet::{Cell, Sheet};
 use std::alloc::{AllocError, Global};
 
-static TITLES: [&str; 9] = [
+static TITLES: [&str; 10] = [
     "number",
     "instrument",
     "kind",
@@ -27,9 +28,13 @@ static TITLES: [&str; 9] = [
     "most lasts",
     "then",
     "fleet",
+    "early",
 ];
 
-static FIELDS: [&str; 9] = [
+// So many of them stand in each table: the last one only where it is asked how long recordings last.
+const MOST_TITLES: usize = 9;
+
+static FIELDS: [&str; 10] = [
     "number",
     "instrument",
     "kind",
@@ -39,6 +44,7 @@ static FIELDS: [&str; 9] = [
     "most_seconds",
     "then",
     "fleet",
+    "early",
 ];
 
 /// The headroom of each instrument, and of each whether some stream keeps its sum.
@@ -84,10 +90,15 @@ pub(crate) struct RoomSheet<'a> {
 
 impl Sheet for RoomSheet<'_> {
     fn titles(&self) -> &'static [&'static str] {
-        if self.options.json {
+        let titles = if self.options.json {
             FIELDS.as_slice()
         } else {
             TITLES.as_slice()
+        };
+        if self.options.lasts > 0 {
+            titles
+        } else {
+            titles.get(..MOST_TITLES).unwrap_or(titles)
         }
     }
 
@@ -118,6 +129,9 @@ impl RoomSheet<'_> {
         row.push(Cell::Number(number as u128))?;
         self.push_room(alloc, &mut row, room, instrument)?;
         push_text(alloc, &mut row, self.fleet_word(number, room, instrument))?;
+        if self.options.lasts > 0 {
+            push_text(alloc, &mut row, early_word(ends_early(self.options, room)))?;
+        }
         Ok(row)
     }
 
@@ -164,6 +178,10 @@ impl RoomSheet<'_> {
         })?;
         Ok(())
     }
+}
+
+fn early_word(ends_early: bool) -> &'static str {
+    if ends_early { "yes" } else { "no" }
 }
 
 // What fails first with one recording more, by the name that a fault of `make` has.

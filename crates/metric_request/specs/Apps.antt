@@ -41,6 +41,10 @@ most_rate = 1000000000
 abbrev pub most_instances : ℕ
 most_instances = 1000000
 
+-- the longest time that recordings are to last, in seconds
+abbrev pub most_seconds : ℕ
+most_seconds = 1000000000
+
 -- a command over a catalogue and a config
 abbrev pub pair_app : Text → App
 pair_app name =
@@ -76,10 +80,13 @@ abbrev pub check_app : App
 check_app = with_rule (pair_app (codes "check")) (file_rule (codes "certificate") true)
 
 abbrev pub headroom_app : App
-headroom_app = with_rule
+headroom_app =
+    with_rule
+    (with_rule
     (with_rule (table_app (codes "headroom"))
     (number_rule (codes "rate") 1 most_rate (codes "10000")))
-    (number_rule (codes "instances") 1 most_instances (codes "1"))
+    (number_rule (codes "instances") 1 most_instances (codes "1")))
+    (number_rule (codes "lasts") 0 most_seconds (codes "0"))
 
 abbrev pub replay_app : App
 replay_app = with_rule

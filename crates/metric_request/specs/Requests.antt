@@ -155,6 +155,7 @@ options_in rows = record {
   width = number_in (first_of (codes "width") rows);
   rate = number_in (first_of (codes "rate") rows);
   instances = number_in (first_of (codes "instances") rows);
+  lasts = number_in (first_of (codes "lasts") rows);
   deny_breaking = has_word (codes "denied") (codes "breaking") rows;
 }
 

@@ -12,12 +12,14 @@ use crate::report_command::report;
 use clap::{Arg, Command};
 use std::alloc::{AllocError, Global};
 
-// The widest table, the highest rate and the most processes.
+// The widest table, the highest rate, the most processes and the longest time.
 const MOST_WIDTH: u64 = 1_000;
 
 pub(crate) const MOST_RATE: u64 = 1_000_000_000;
 
 pub(crate) const MOST_INSTANCES: u64 = 1_000_000;
+
+const MOST_SECONDS: u64 = 1_000_000_000;
 
 const ABOUT: &str = "Tells before a deploy what a catalogue and a config of metrics will give.";
 
@@ -211,7 +213,9 @@ fn headroom<'a>(alloc: Global) -> Result<Command<'a>, AllocError>
     let command = with_argument(command, number(alloc, "rate", help, 1, MOST_RATE, "10000"));
     let help = "Processes that a backend adds up";
     let instances = number(alloc, "instances", help, 1, MOST_INSTANCES, "1");
-    with_argument(command, instances)
+    let command = with_argument(command, instances);
+    let help = "Seconds that each total is to last: status 1 where one ends earlier; 0: any";
+    with_argument(command, number(alloc, "lasts", help, 0, MOST_SECONDS, "0"))
 }
 
 fn make<'a>(alloc: Global) -> Result<Command<'a>, AllocError>

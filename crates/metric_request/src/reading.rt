@@ -290,6 +290,7 @@ fn options_of(arguments: &ArgMatches<'_>) -> Options
         width: number_of(arguments, "width"),
         rate: number_of(arguments, "rate"),
         instances: number_of(arguments, "instances"),
+        lasts: number_of(arguments, "lasts"),
         deny_breaking: has_word(arguments, "denied", "breaking"),
     }
 }

@@ -104,6 +104,8 @@ pub struct Options {
     pub rate: u32,
     /// How many processes a backend adds up.
     pub instances: u32,
+    /// How many seconds the recordings of each instrument are to last at the rate: 0 where it is not said.
+    pub lasts: u32,
     /// Whether a change that breaks something is an error.
     pub deny_breaking: bool,
 }
