@@ -16,7 +16,7 @@ use Rattle.metric_request.specs.declared.request.Outlets.{Outlets}
 use Rattle.metric_request.specs.declared.request.Request.{Request}
 use Rattle.metric_request.specs.declared.request.Task.{Task}
 use Rattle.metric_request.specs.declared.request.Task.TheVariants.{Lint, Show, Make, Check}
-use Rattle.metric_request.specs.declared.request.Task.TheVariants.{Headroom, Replay, Draw}
+use Rattle.metric_request.specs.declared.request.Task.TheVariants.{Headroom, Replay}
 use Rattle.metric_commands.specs.declared.fault.KitFault.{KitFault}
 use Rattle.metric_commands.specs.Certifying.{IsCertified, IsMakeFault}
 use Rattle.metric_commands.specs.Claims.{IsCertifiedPlan, IsClaimFault}
@@ -81,7 +81,6 @@ IsPlainAnswer Make parts (answers.Certificate text) = IsCertified parts text
 IsPlainAnswer Check parts answers.Accepted = IsAccepted parts
 IsPlainAnswer Show parts (answers.Streams listing) = IsListing parts listing
 IsPlainAnswer Headroom parts (answers.Rooms rooms) = AreRooms parts rooms
-IsPlainAnswer Draw parts (answers.Picture text) = AreRight parts
 IsPlainAnswer task parts answer = ⊥
 
 abbrev pub IsNoted : Request → Parts → Answer → Type 0

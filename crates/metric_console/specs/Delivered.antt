@@ -18,13 +18,11 @@ IsDelivered None text made made_after contents contents_after =
 IsDelivered (Some path) text made made_after contents contents_after =
     Makes made made_after path text × (contents_after ≡ contents)
 
--- A certificate, a picture and the line of an accepted certificate are written whole and once. A
--- file is made of none but the first two.
+-- A certificate and the line of an accepted certificate are written whole and once. A file is made
+-- of none but the first.
 abbrev pub IsDeliveredAnswer : Option (List ℕ) → Answer → Option (List MadeFile)
     → Option (List MadeFile) → Option (List ℕ) → Option (List ℕ) → Type 0
 IsDeliveredAnswer output (answers.Certificate text) made made_after contents contents_after =
-    IsDelivered output text made made_after contents contents_after
-IsDeliveredAnswer output (answers.Picture text) made made_after contents contents_after =
     IsDelivered output text made made_after contents contents_after
 IsDeliveredAnswer output answers.Accepted made made_after contents contents_after =
     IsDelivered None (codes "accepted\n") made made_after contents contents_after
@@ -33,7 +31,6 @@ IsDeliveredAnswer output answer made made_after contents contents_after = made_a
 -- What is told of an accepted certificate is written whole and once, and so is a text.
 abbrev pub IsPrinted : Answer → Option (List ℕ) → Option (List ℕ) → Type 0
 IsPrinted (answers.Certificate text) contents contents_after = Appends contents contents_after text
-IsPrinted (answers.Picture text) contents contents_after = Appends contents contents_after text
 IsPrinted answers.Accepted contents contents_after =
     Appends contents contents_after (codes "accepted\n")
 IsPrinted answer contents contents_after = Unit {0}

@@ -5,6 +5,7 @@ pub mod Concerns
 pub mod Answers
 pub mod Exposures
 pub mod Delivered
+pub mod Drawing
 pub mod Fleets
 pub mod Inputs
 pub mod Encodings

@@ -1,6 +1,6 @@
 -- What running a request does.
 use Rattle.std.specs.Prelude.{◌≡◌, ◌≢◌, ◌⊎◌, ℕ, Bool, true, not, List, Option, Some, None, Result, Ok}
-use Rattle.std.specs.Prelude.{Err, IfErr, IfOk, IfSome, IsErr, IsErrAnd, IsSomeAnd, OnErr, is_some}
+use Rattle.std.specs.Prelude.{Err, IfErr, IfOk, IfSome, IsErr, IsErrAnd, IsSomeAnd, OnErr, is_some, string_bytes}
 use Rattle.metric_short.specs.declared.fault.ShortFault.{ShortFault}
 use Rattle.metric_short.specs.declared.fault.ShortFault.TheVariants as short
 use Rattle.metric_short.specs.Expansions.{IsExpansion, expansion_of}
@@ -8,7 +8,7 @@ use Rattle.metric_parts.specs.declared.parts.Parts.{Parts}
 use Rattle.metric_request.specs.declared.request.Files.{Files}
 use Rattle.metric_request.specs.declared.request.Request.{Request}
 use Rattle.metric_request.specs.declared.request.Task.{Task}
-use Rattle.metric_request.specs.declared.request.Task.TheVariants.{Replay, Diff, Expand}
+use Rattle.metric_request.specs.declared.request.Task.TheVariants.{Replay, Diff, Draw, Expand}
 use Rattle.metric_request.specs.declared.request.Task.TheVariants as tasks
 use Rattle.metric_exposition.specs.declared.dialect.Dialect.{Dialect}
 use Rattle.metric_commands.specs.Commands.{SinkRun}
@@ -16,6 +16,7 @@ use Rattle.metric_commands.specs.declared.fault.KitFault.TheVariants.{Memory}
 use Rattle.metric_console.specs.Answers.{IsAnswer, IsAnswerFault}
 use Rattle.metric_console.specs.Comparing.{RunsDiff}
 use Rattle.metric_console.specs.Delivered.{IsDelivered, IsDeliveredAnswer, answer_status}
+use Rattle.metric_console.specs.Drawing.{IsDrawing}
 use Rattle.metric_console.specs.Faults.{IsDeviceFault, IsRefusal, status_of}
 use Rattle.metric_console.specs.Folders.{MadeFile}
 use Rattle.metric_console.specs.Inputs.{IsReplayIn, input_of}
@@ -23,6 +24,7 @@ use Rattle.metric_console.specs.Paging.{ReplaysPage, dialect_of}
 use Rattle.metric_console.specs.Readings.{AreTexts, IsHeld}
 use Rattle.metric_console.specs.Reporting.{IsReport, RefusesReport}
 use Rattle.metric_console.specs.declared.answer.Answer.{Answer}
+use Rattle.metric_console.specs.declared.drawing.Drawing.{Drawing}
 use Rattle.metric_console.specs.declared.fault.ConsoleFault.{ConsoleFault}
 use Rattle.metric_console.specs.declared.fault.ConsoleFault.TheVariants.{Unread, Header, Kit, Page}
 use Rattle.metric_console.specs.declared.fault.ConsoleFault.TheVariants.{Overwrites, Unwritten}
@@ -159,7 +161,24 @@ pub record RunsReport (request : Request) (texts : Texts) (writing : Writing)
   pub untouched : IfErr end (λ fault. IsRefusal fault → IsUntouched writing)
   pub unmade : OnErr end (writing.made_after ≡ writing.made)
 
--- A replay is run, a comparison made, a report written, and each other command answered.
+-- A picture is written whole and once.
+pub record Draws (request : Request) (texts : Texts) (writing : Writing) (status : ℕ)
+    : Type 0 where
+  pub drawing : Drawing
+  pub is_drawing : IsDrawing texts drawing
+  pub delivered : IsDelivered request.files.output (string_bytes drawing.picture) writing.made
+      writing.made_after writing.contents writing.contents_after
+  pub is_status : status ≡ 0
+
+-- A picture is written, or refused; where it is refused, nothing is made and nothing written.
+pub record RunsDraw (request : Request) (texts : Texts) (writing : Writing)
+    (end : Result ℕ ConsoleFault) : Type 0 where
+  pub ok : IfOk end (Draws request texts writing)
+  pub first : IfErr end (RefusesReport texts)
+  pub untouched : IfErr end (λ fault. IsRefusal fault → IsUntouched writing)
+  pub unmade : OnErr end (writing.made_after ≡ writing.made)
+
+-- A replay is run, a comparison made, a report or a picture written, and each other command answered.
 pub record RunsTexts (request : Request) (texts : Texts) (writing : Writing) (sink : SinkRun)
     (end : Result ℕ ConsoleFault) : Type 0 where
   pub replayed : request.task ≡ Replay
@@ -168,8 +187,9 @@ pub record RunsTexts (request : Request) (texts : Texts) (writing : Writing) (si
       → RunsDiff request texts writing.contents writing.contents_after end
       × (writing.made_after ≡ writing.made)
   pub reported : request.task ≡ tasks.Report → RunsReport request texts writing end
+  pub drawn : request.task ≡ Draw → RunsDraw request texts writing end
   pub answered : request.task ≢ Replay → request.task ≢ Diff → request.task ≢ tasks.Report
-      → RunsAnswer request texts.parts writing end
+      → request.task ≢ Draw → RunsAnswer request texts.parts writing end
 
 -- The texts of the files, with what running the command on them comes to.
 pub record RunsRead (held : List ℕ → Option (List ℕ)) (request : Request) (writing : Writing)

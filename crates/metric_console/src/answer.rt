@@ -9,9 +9,8 @@ use crate::listing::{Listing, listing_of};
 use crate::notes::{Notes, notes_of};
 use crate::rooms::{Rooms, rooms_of};
 use metric_base::Text;
-use metric_commands::{KitFault, certificate_text, certified_plan, declared_of};
+use metric_commands::{KitFault, certificate_text, certified_plan};
 use metric_parts::Parts;
-use metric_picture::draw;
 use metric_request::{Request, Task};
 use std::alloc::Global;
 
@@ -28,8 +27,6 @@ pub(crate) enum Answer {
     Rooms(Rooms),
     /// What looks like a mistake.
     Notes(Notes),
-    /// The text of a picture.
-    Picture(Text),
 }
 
 /// The answer of a command to the parts that its files are, or the first fault of them.
@@ -43,6 +40,7 @@ pub(crate) fn answer_of(
     requires single { task ≢ Task.Diff }
     requires long { task ≢ Task.Expand }
     requires answer { task ≢ Task.Report }
+    requires picture { task ≢ Task.Draw }
     requires certificate { task ≡ Task.Check → IsSome parts.now.certificate }
     ensures ok { IfOk result (IsAnswer task request.now parts.now) }
     ensures first { IfErr result (λ fault. IsAnswerFault task fault parts.now) }
@@ -53,8 +51,7 @@ pub(crate) fn answer_of(
         Task::Show => listed(alloc, parts),
         Task::Headroom => roomed(alloc, parts),
         Task::Lint => noted(alloc, request, parts),
-        Task::Draw => drawn(alloc, parts),
-        Task::Replay | Task::Diff | Task::Report | Task::Expand => unreachable!(),
+        Task::Replay | Task::Diff | Task::Report | Task::Expand | Task::Draw => unreachable!(),
     }
 }
 
@@ -94,13 +91,4 @@ fn noted(alloc: Global, request: &Request, parts: &Parts<'_>) -> Result<Answer, 
     ensures first { IfErr result (λ fault. IsDeclaredFault fault parts.now) }
 {
     Ok(Answer::Notes(notes_of(alloc, request, parts)?))
-}
-
-fn drawn(alloc: Global, parts: &Parts<'_>) -> Result<Answer, KitFault>
-    ensures ok { IfOk result (IsPlainAnswer Task.Draw parts.now) }
-    ensures first { IfErr result (λ fault. IsDeclaredFault fault parts.now) }
-{
-    let declared = declared_of(alloc, parts)?;
-    let picture = draw(alloc, &declared.catalogue, &declared.config)?;
-    Ok(Answer::Picture(Text::from_string(picture)))
 }

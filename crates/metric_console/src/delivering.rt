@@ -69,7 +69,7 @@ fn write_answer<F: Folder, W: Sink>(
     ensures device { IfErr result IsDeliveryFault }
 {
     match answer {
-        Answer::Certificate(text) | Answer::Picture(text) => {
+        Answer::Certificate(text) => {
             put(
                 &request.files.output,
                 text.as_str().as_bytes(),
@@ -98,7 +98,7 @@ fn print_answer<W: Sink>(
         Answer::Streams(listing) => { print_sheet(alloc, sink, listing, request.options, columns) }
         Answer::Rooms(rooms) => print_rooms(alloc, sink, rooms, request.options, columns),
         Answer::Notes(notes) => print_notes(alloc, sink, request, texts, notes),
-        Answer::Certificate(text) | Answer::Picture(text) => print(sink, text.as_str()),
+        Answer::Certificate(text) => print(sink, text.as_str()),
     }
 }
 

@@ -12,6 +12,7 @@ mod change_sheet;
 mod comparing;
 mod concerns;
 mod delivering;
+mod drawing;
 mod ending;
 mod expanding;
 mod exposures;

@@ -14,6 +14,7 @@ use crate::answer::answer_of;
 use crate::change_sheet::ChangeSheet;
 use crate::comparing::{Comparison, comparison_of, diff_status};
 use crate::delivering::{deliver, print, print_sheet, put};
+use crate::drawing::run_draw;
 use crate::expanding::run_expand;
 use crate::fault::{ConsoleFault, Role};
 use crate::folder::{Folder, Unread};
@@ -172,6 +173,8 @@ fn run_texts<F: Folder, W: Sink, E: Sink>(
         run_diff(alloc, request, texts, columns, sink)
     } else if request.task == Task::Report {
         run_report(alloc, request, texts, folder, sink)
+    } else if request.task == Task::Draw {
+        run_draw(alloc, request, texts, folder, sink)
     } else {
         run_answer(alloc, request, texts, columns, folder, sink, errors)
     }
@@ -192,6 +195,7 @@ fn run_answer<F: Folder, W: Sink, E: Sink>(
     requires single { request.now.task ≢ Task.Diff }
     requires long { request.now.task ≢ Task.Expand }
     requires answer { request.now.task ≢ Task.Report }
+    requires picture { request.now.task ≢ Task.Draw }
     ensures ok { IfOk result (Answers request.now texts.now.parts
         (writing F.made W.contents folder.old folder.new sink.old sink.new)) }
     ensures first { IfErr result (RefusesFor request.now.task texts.now.parts) }

@@ -1,17 +1,14 @@
 //! What a report has.
 ghost use Rattle.std.specs.Prelude.{IfErr, IfOk};
-ghost use Rattle.metric_commands.specs.Declarations.{IsDeclaredFault};
 ghost use Rattle.metric_console.specs.Reporting.{AreDifferences, IsReport, RefusesReport};
 
 use crate::comparing::{Comparison, compared};
+use crate::drawing::picture_of;
 use crate::fault::ConsoleFault;
 use crate::listing::{Listing, listing_of};
 use crate::notes::{Notes, notes_of};
 use crate::parts::Texts;
 use crate::rooms::{Rooms, rooms_of};
-use metric_commands::{KitFault, declared_of};
-use metric_parts::Parts;
-use metric_picture::draw;
 use metric_request::Request;
 use std::alloc::Global;
 
@@ -54,7 +51,7 @@ pub(crate) fn report_of(
     let listing = listing_of(alloc, &texts.parts)?;
     let notes = notes_of(alloc, request, &texts.parts)?;
     let rooms = rooms_of(alloc, &texts.parts)?;
-    let picture = picture_of(alloc, &texts.parts)?;
+    let picture = picture_of(alloc, &texts.parts, &comparison)?;
     Ok(Report {
         listing,
         notes,
@@ -64,9 +61,12 @@ pub(crate) fn report_of(
     })
 }
 
-// What differs from the old files, where there are some.
+/// What differs from the old files, where there are some.
 #[tactic(auto, using(crate::proofs::Reports::pair_is_refused))]
-fn differences_of(alloc: Global, texts: &Texts) -> Result<Option<Comparison>, ConsoleFault>
+pub(crate) fn differences_of(
+    alloc: Global,
+    texts: &Texts,
+) -> Result<Option<Comparison>, ConsoleFault>
     ensures ok { IfOk result (AreDifferences texts.now.old texts.now.parts) }
     ensures first { IfErr result (RefusesReport texts.now) }
 {
@@ -74,12 +74,4 @@ fn differences_of(alloc: Global, texts: &Texts) -> Result<Option<Comparison>, Co
         Some(old) => Ok(Some(compared(alloc, old, &texts.parts)?)),
         None => Ok(None),
     }
-}
-
-// The picture of what the parts declare.
-fn picture_of(alloc: Global, parts: &Parts<'_>) -> Result<String, KitFault>
-    ensures first { IfErr result (λ fault. IsDeclaredFault fault parts.now) }
-{
-    let declared = declared_of(alloc, parts)?;
-    Ok(draw(alloc, &declared.catalogue, &declared.config)?)
 }

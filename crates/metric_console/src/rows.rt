@@ -125,7 +125,8 @@ pub(crate) fn family_cell(alloc: Global, stream: &Stream) -> Result<Cell, AllocE
     }
 }
 
-fn reader_name<'a>(declared: &'a Declared, stream: &Stream) -> &'a str {
+/// The name of a stream's reader.
+pub(crate) fn reader_name<'a>(declared: &'a Declared, stream: &Stream) -> &'a str {
     match declared.config.readers().get(stream.reader as usize) {
         Some(reader) => reader.name.as_str(),
         None => "",

@@ -12,6 +12,12 @@ pub(crate) enum Tone {
     Dropped,
     /// It collides with another.
     Red,
+    /// A change brings it.
+    New,
+    /// A change makes it another.
+    Differs,
+    /// A change takes it away.
+    Gone,
     /// A title without a box.
     Title,
     /// No box, but room for a link that passes.

@@ -1,5 +1,6 @@
 //! The picture of a catalogue and a config.
-use crate::clashes::{Clash, clashes_of};
+use crate::change::{Look, StreamChanges, add_changes, looks_of};
+use crate::clashes::clashes_of;
 use crate::diagram::{Diagram, Link, Node, Tone};
 use crate::exported::{each_stream, grouped_streams};
 use crate::instruments::{each_instrument, grouped_instruments, stream_counts};
@@ -27,8 +28,28 @@ const VIEWS: usize = 1;
 /// The text of a picture of a catalogue and a config, as an SVG: instruments, the views that select them, and the
 /// streams that these give each reader, or that come by default. Fails only where memory is refused.
 pub fn draw(alloc: Global, catalogue: &Catalogue, config: &Config) -> Result<String, AllocError> {
+    draw_with(alloc, catalogue, config, None)
+}
+
+/// The same of a new catalogue and config, with what a change does to the streams: those that are new or differ are
+/// marked, those that go stand below, and last what the marks mean. Fails only where memory is refused.
+pub fn draw_change(
+    alloc: Global,
+    catalogue: &Catalogue,
+    config: &Config,
+    changes: StreamChanges<'_>,
+) -> Result<String, AllocError> {
+    draw_with(alloc, catalogue, config, Some(changes))
+}
+
+fn draw_with(
+    alloc: Global,
+    catalogue: &Catalogue,
+    config: &Config,
+    changes: Option<StreamChanges<'_>>,
+) -> Result<String, AllocError> {
     let streams = resolve(alloc, catalogue, config)?;
-    let diagram = diagram_of(alloc, catalogue, config, &streams)?;
+    let diagram = diagram_of(alloc, catalogue, config, &streams, changes)?;
     svg_of(alloc, &diagram)
 }
 
@@ -37,10 +58,15 @@ fn diagram_of(
     catalogue: &Catalogue,
     config: &Config,
     streams: &Streams,
+    changes: Option<StreamChanges<'_>>,
 ) -> Result<Diagram, AllocError> {
     let clashes = clashes_of(alloc, catalogue, config, streams)?;
-    let columns = columns_of(alloc, catalogue, config, streams.list(), &clashes)?;
-    let links = links_of(alloc, catalogue, config, streams.list(), &clashes, &columns)?;
+    let looks = looks_of(alloc, &clashes, changes)?;
+    let mut columns = columns_of(alloc, catalogue, config, streams.list(), &looks)?;
+    let links = links_of(alloc, catalogue, config, streams.list(), &looks, &columns)?;
+    if let Some(changes) = changes {
+        add_changes(alloc, &mut columns.streams, changes)?;
+    }
     let columns = columns.into_nodes(alloc, config.views().is_empty())?;
     Ok(Diagram { columns, links })
 }
@@ -87,15 +113,15 @@ fn columns_of(
     catalogue: &Catalogue,
     config: &Config,
     list: &[Stream],
-    clashes: &[Option<Clash>],
+    looks: &[Look],
 ) -> Result<Columns, AllocError> {
     let is_grouped = catalogue.instruments().len() > MOST_INSTRUMENTS || list.len() > MOST_STREAMS;
     let instruments = instrument_slots(alloc, catalogue, list, is_grouped)?;
     let views = with_lanes(alloc, view_nodes(alloc, config)?, list, &instruments)?;
     let streams = if is_grouped {
-        grouped_streams(alloc, catalogue, config, list, clashes)?
+        grouped_streams(alloc, catalogue, config, list, looks)?
     } else {
-        each_stream(alloc, catalogue, config, list, clashes)?
+        each_stream(alloc, catalogue, config, list, looks)?
     };
     Ok(Columns {
         instruments,
@@ -124,13 +150,13 @@ fn links_of(
     catalogue: &Catalogue,
     config: &Config,
     streams: &[Stream],
-    clashes: &[Option<Clash>],
+    looks: &[Look],
     columns: &Columns,
 ) -> Result<Vec<Link>, AllocError> {
     if config.views().is_empty() {
-        direct_links(alloc, streams, clashes, columns)
+        direct_links(alloc, streams, looks, columns)
     } else {
-        view_links(alloc, catalogue, config, streams, clashes, columns)
+        view_links(alloc, catalogue, config, streams, looks, columns)
     }
 }
 
@@ -138,14 +164,14 @@ fn links_of(
 fn direct_links(
     alloc: Global,
     streams: &[Stream],
-    clashes: &[Option<Clash>],
+    looks: &[Look],
     columns: &Columns,
 ) -> Result<Vec<Link>, AllocError> {
     let (height, width) = (columns.instruments.nodes.len(), columns.streams.nodes.len());
     let mut links = Links::new(alloc, INSTRUMENTS, height, width)?;
-    for (number, (stream, clash)) in streams.iter().zip(clashes).enumerate() {
+    for (number, (stream, look)) in streams.iter().zip(looks).enumerate() {
         let from = columns.instruments.at(stream.instrument as usize);
-        links.add(from, columns.streams.at(number), link_tone(*clash))?;
+        links.add(from, columns.streams.at(number), link_tone(*look))?;
     }
     let mut all = Vec::new(alloc);
     links.push_to(&mut all)?;
@@ -158,7 +184,7 @@ fn view_links(
     catalogue: &Catalogue,
     config: &Config,
     streams: &[Stream],
-    clashes: &[Option<Clash>],
+    looks: &[Look],
     columns: &Columns,
 ) -> Result<Vec<Link>, AllocError> {
     let (height, width) = (columns.instruments.nodes.len(), columns.views.nodes.len());
@@ -166,7 +192,7 @@ fn view_links(
     let views = config.views();
     link_selected(&mut to_views, catalogue, views, &columns.instruments)?;
     let mut to_streams = Links::new(alloc, VIEWS, width, columns.streams.nodes.len())?;
-    link_streams(&mut to_views, &mut to_streams, columns, streams, clashes)?;
+    link_streams(&mut to_views, &mut to_streams, columns, streams, looks)?;
     all_links(alloc, &to_views, &to_streams)
 }
 
@@ -215,10 +241,10 @@ fn link_streams(
     to_streams: &mut Links,
     columns: &Columns,
     streams: &[Stream],
-    clashes: &[Option<Clash>],
+    looks: &[Look],
 ) -> Result<(), AllocError> {
-    for (number, (stream, clash)) in streams.iter().zip(clashes).enumerate() {
-        let tone = link_tone(*clash);
+    for (number, (stream, look)) in streams.iter().zip(looks).enumerate() {
+        let tone = link_tone(*look);
         let from = match stream.view {
             Some(view) => view as usize,
             None => {
@@ -233,8 +259,8 @@ fn link_streams(
     Ok(())
 }
 
-fn link_tone(clash: Option<Clash>) -> Tone {
-    if clash.is_some() {
+fn link_tone(look: Look) -> Tone {
+    if look.clash.is_some() {
         Tone::Red
     } else {
         Tone::Plain

@@ -1,4 +1,5 @@
 //! The boxes of streams.
+use crate::change::{Look, Mark};
 use crate::clashes::Clash;
 use crate::diagram::{Node, Tone};
 use crate::slots::Slots;
@@ -13,17 +14,17 @@ pub(crate) fn each_stream(
     catalogue: &Catalogue,
     config: &Config,
     streams: &[Stream],
-    clashes: &[Option<Clash>],
+    looks: &[Look],
 ) -> Result<Slots, AllocError> {
     let mut slots = Slots::new(alloc);
     let mut reader = None;
-    for (stream, clash) in streams.iter().zip(clashes) {
+    for (stream, look) in streams.iter().zip(looks) {
         if reader != Some(stream.reader) {
             reader = Some(stream.reader);
             let title = reader_node(alloc, config, stream.reader as usize)?;
             slots.nodes.push(title)?;
         }
-        slots.add(stream_node(alloc, catalogue, stream, *clash)?)?;
+        slots.add(stream_node(alloc, catalogue, stream, *look)?)?;
     }
     Ok(slots)
 }
@@ -41,18 +42,15 @@ fn stream_node(
     alloc: Global,
     catalogue: &Catalogue,
     stream: &Stream,
-    clash: Option<Clash>,
+    look: Look,
 ) -> Result<Node, AllocError> {
-    let title = String::from_str(alloc, stream.name.get().as_str())?;
-    let mut node = Node::new(
-        alloc,
-        title,
-        stream_tone(clash.is_some(), is_filtered(stream)),
-    );
+    let (sign, name) = (look.mark.sign(), stream.name.get().as_str());
+    let title = format!(in alloc; "{sign}{name}")?;
+    let mut node = Node::new(alloc, title, stream_tone(stream, look));
     let (kind, temporality) = (points_word(stream), temporality_word(stream.temporality));
     node.add_line(format!(in alloc; "{kind}, {temporality}"))?;
     add_kept(alloc, &mut node, catalogue, stream)?;
-    if let Some(clash) = clash {
+    if let Some(clash) = look.clash {
         node.add_line(String::from_str(alloc, clash.line()))?;
     }
     Ok(node)
@@ -80,13 +78,13 @@ fn is_filtered(stream: &Stream) -> bool {
     stream.view.is_some() && stream.kept.get().as_slice().contains(&false)
 }
 
-fn stream_tone(is_red: bool, is_filtered: bool) -> Tone {
-    if is_red {
-        Tone::Red
-    } else if is_filtered {
-        Tone::Changed
-    } else {
-        Tone::Plain
+fn stream_tone(stream: &Stream, look: Look) -> Tone {
+    match look.mark {
+        _ if look.clash.is_some() => Tone::Red,
+        Mark::New => Tone::New,
+        Mark::Differs => Tone::Differs,
+        Mark::Same if is_filtered(stream) => Tone::Changed,
+        Mark::Same => Tone::Plain,
     }
 }
 
@@ -134,6 +132,10 @@ struct Group {
     clash: Option<Clash>,
     // How many of them leave a key out.
     filtered: usize,
+    // How many of them are new.
+    new: usize,
+    // How many of them differ from what they were.
+    different: usize,
 }
 
 const NO_STREAM: Group = Group {
@@ -142,6 +144,8 @@ const NO_STREAM: Group = Group {
     red: 0,
     clash: None,
     filtered: 0,
+    new: 0,
+    different: 0,
 };
 
 /// A box for the streams of a reader and a view, below the title of the reader.
@@ -150,9 +154,9 @@ pub(crate) fn grouped_streams(
     catalogue: &Catalogue,
     config: &Config,
     streams: &[Stream],
-    clashes: &[Option<Clash>],
+    looks: &[Look],
 ) -> Result<Slots, AllocError> {
-    let groups = groups_of(alloc, config, streams, clashes)?;
+    let groups = groups_of(alloc, config, streams, looks)?;
     let mut slots = Slots::new(alloc);
     add_groups(alloc, catalogue, config, streams, &groups, &mut slots)?;
     Ok(slots)
@@ -202,28 +206,35 @@ fn groups_of(
     alloc: Global,
     config: &Config,
     streams: &[Stream],
-    clashes: &[Option<Clash>],
+    looks: &[Look],
 ) -> Result<Vec<Group>, AllocError> {
     let width = config.views().len().saturating_add(1);
     let places = config.readers().len().saturating_mul(width);
     let mut groups = vec![in alloc; NO_STREAM; places]?;
-    for (number, (stream, clash)) in streams.iter().zip(clashes).enumerate() {
+    for (number, (stream, look)) in streams.iter().zip(looks).enumerate() {
         if let Some(group) = groups.get_mut(group_of(stream, width)) {
-            *group = joined(*group, number, *clash, is_filtered(stream));
+            *group = joined(*group, number, stream, *look);
         }
     }
     Ok(groups)
 }
 
 // A group with one more stream.
-fn joined(group: Group, number: usize, clash: Option<Clash>, is_filtered: bool) -> Group {
+fn joined(group: Group, number: usize, stream: &Stream, look: Look) -> Group {
     Group {
         first: group.first.min(number),
         count: group.count.saturating_add(1),
-        red: group.red.saturating_add(usize::from(clash.is_some())),
-        clash: group.clash.or(clash),
-        filtered: group.filtered.saturating_add(usize::from(is_filtered)),
+        red: one_more(group.red, look.clash.is_some()),
+        clash: group.clash.or(look.clash),
+        filtered: one_more(group.filtered, is_filtered(stream)),
+        new: one_more(group.new, look.mark == Mark::New),
+        different: one_more(group.different, look.mark == Mark::Differs),
     }
+}
+
+// A count, with one more where it is one.
+fn one_more(count: usize, is_one: bool) -> usize {
+    count.saturating_add(usize::from(is_one))
 }
 
 // The place of a stream's group: default streams stand before those of views.
@@ -246,22 +257,68 @@ fn group_node(
     group: Group,
 ) -> Result<Node, AllocError> {
     match streams.get(group.first) {
-        Some(stream) if group.count == 1 => stream_node(alloc, catalogue, stream, group.clash),
+        Some(stream) if group.count == 1 => {
+            let look = group.look();
+            stream_node(alloc, catalogue, stream, look)
+        }
         _ => several_node(alloc, view, group),
     }
 }
 
+impl Group {
+    // How the only stream of it looks.
+    fn look(&self) -> Look {
+        let mark = if self.new > 0 {
+            Mark::New
+        } else if self.different > 0 {
+            Mark::Differs
+        } else {
+            Mark::Same
+        };
+        Look {
+            clash: self.clash,
+            mark,
+        }
+    }
+
+    // How its box looks.
+    fn tone(&self) -> Tone {
+        if self.red > 0 {
+            Tone::Red
+        } else if self.different > 0 || self.new > 0 && self.new < self.count {
+            Tone::Differs
+        } else if self.new > 0 {
+            Tone::New
+        } else if self.filtered > 0 {
+            Tone::Changed
+        } else {
+            Tone::Plain
+        }
+    }
+}
+
 fn several_node(alloc: Global, view: usize, group: Group) -> Result<Node, AllocError> {
-    let (red, filtered) = (group.red, group.filtered);
     let title = several_title(alloc, view, group.count)?;
-    let mut node = Node::new(alloc, title, stream_tone(red > 0, filtered > 0));
-    if filtered > 0 {
-        node.add_line(format!(in alloc; "{filtered} with keys left out"))?;
-    }
-    if red > 0 {
-        node.add_line(format!(in alloc; "{red} in a collision"))?;
-    }
+    let mut node = Node::new(alloc, title, group.tone());
+    add_count(alloc, &mut node, "", group.filtered, "with keys left out")?;
+    add_count(alloc, &mut node, "", group.red, "in a collision")?;
+    add_count(alloc, &mut node, "+ ", group.new, "new")?;
+    add_count(alloc, &mut node, "~ ", group.different, "that differ")?;
     Ok(node)
+}
+
+// Adds a line of how many streams are so, where some are.
+fn add_count(
+    alloc: Global,
+    node: &mut Node,
+    sign: &str,
+    count: usize,
+    what: &str,
+) -> Result<(), AllocError> {
+    if count > 0 {
+        node.add_line(format!(in alloc; "{sign}{count} {what}"))?;
+    }
+    Ok(())
 }
 
 fn several_title(alloc: Global, view: usize, count: usize) -> Result<String, AllocError> {

@@ -73,7 +73,13 @@ fn box_height(node: &Node) -> usize {
     match node.tone {
         Tone::Lane => 0,
         Tone::Title => texts,
-        Tone::Plain | Tone::Changed | Tone::Dropped | Tone::Red => texts.saturating_add(AROUND),
+        Tone::Plain
+        | Tone::Changed
+        | Tone::Dropped
+        | Tone::Red
+        | Tone::New
+        | Tone::Differs
+        | Tone::Gone => texts.saturating_add(AROUND),
     }
 }
 

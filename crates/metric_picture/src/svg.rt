@@ -12,6 +12,9 @@ rect { fill: #fff; stroke: #777; rx: 4px }
 .changed { fill: #eef4ff; stroke: #2660c4 }
 .dropped { fill: #f2f2f2; stroke: #999; stroke-dasharray: 4 3 }
 .red { fill: #ffe9e9; stroke: #c80000; stroke-width: 2 }
+.new { fill: #e6f6ea; stroke: #1a7f37; stroke-width: 2 }
+.differs { fill: #fff6d9; stroke: #8a6100; stroke-width: 2; stroke-dasharray: 10 4 }
+.gone { fill: #f3eaf7; stroke: #6f3a8c; stroke-dasharray: 3 3 }
 path { fill: none; stroke: #999; stroke-width: 1.2 }
 path.changed { fill: none; stroke: #2660c4 }
 path.dropped { fill: none; stroke: #bbb }
@@ -59,7 +62,13 @@ fn push_node(out: &mut String, node: &Node, place: Place) -> Result<(), AllocErr
     match node.tone {
         Tone::Lane => return Ok(()),
         Tone::Title => {}
-        Tone::Plain | Tone::Changed | Tone::Dropped | Tone::Red => {
+        Tone::Plain
+        | Tone::Changed
+        | Tone::Dropped
+        | Tone::Red
+        | Tone::New
+        | Tone::Differs
+        | Tone::Gone => {
             push_frame(out, node.tone, place)?;
         }
     }
@@ -137,5 +146,8 @@ fn class_of(tone: Tone) -> &'static str {
         Tone::Changed => "changed",
         Tone::Dropped => "dropped",
         Tone::Red => "red",
+        Tone::New => "new",
+        Tone::Differs => "differs",
+        Tone::Gone => "gone",
     }
 }

@@ -100,9 +100,6 @@ replay_app = with_rule
     (texts_rule (codes "resource")))
     (text_rule (codes "reader"))
 
-abbrev pub draw_app : App
-draw_app = with_rule (pair_app (codes "draw")) output_rule
-
 -- a command over two old files, and over these and two new ones
 abbrev pub old_app : App
 old_app =
@@ -128,19 +125,24 @@ diff_app =
 abbrev pub old_rule : Text → Text → Rule
 old_rule id long = record (text_rule id) { long = Some long }
 
--- a report, with its output and what it compares with, and with all its options
-abbrev pub written_app : App
-written_app =
+-- a command over a catalogue and a config, with its output and the old files that it compares with
+abbrev pub changed_app : Text → App
+changed_app name =
     with_rule
-    (with_rule (with_rule (pair_app (codes "report")) output_rule)
+    (with_rule (with_rule (pair_app name) output_rule)
     (old_rule (codes "old_catalogue") (codes "old-catalogue")))
     (old_rule (codes "old_config") (codes "old-config"))
+
+abbrev pub draw_app : App
+draw_app = changed_app (codes "draw")
 
 abbrev pub report_app : App
 report_app =
     with_rule
     (with_rule
-    (with_rule (with_rule written_app (texts_rule (codes "allow"))) (texts_rule (codes "for")))
+    (with_rule
+    (with_rule (changed_app (codes "report")) (texts_rule (codes "allow")))
+    (texts_rule (codes "for")))
     (number_rule (codes "rate") 1 most_rate (codes "10000")))
     (number_rule (codes "instances") 1 most_instances (codes "1"))
 

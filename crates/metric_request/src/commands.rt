@@ -8,7 +8,7 @@ ghost use Rattle.metric_request.specs.Apps.{replay_app, second_app, show_app, ta
 use crate::arguments::{file, flag, number, output, text, texts};
 use crate::diff_command::diff;
 use crate::expand_command::expand;
-use crate::report_command::report;
+use crate::report_command::{over_change, report};
 use clap::{Arg, Command};
 use std::alloc::{AllocError, Global};
 
@@ -274,11 +274,10 @@ fn draw<'a>(alloc: Global) -> Result<Command<'a>, AllocError>
     ensures app { IfOk result (λ command. app_of command ≡ draw_app) }
     ensures local { IfOk result (λ command. (fields_of command).has_globals ≡ false) }
 {
-    let command = over_pair(
+    over_change(
         alloc,
         "draw",
         "Draws readers, views, instruments and streams, as an SVG",
         "Example:\n  wormweekly draw catalogue.toml config.toml -o streams.svg",
-    );
-    with_argument(command, output(alloc))
+    )
 }

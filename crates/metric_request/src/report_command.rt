@@ -1,8 +1,8 @@
-//! The command that writes a page for people.
+//! The command that writes a page for people, and what it has in common with the picture.
 ghost use Rattle.std.specs.Prelude.{◌≡◌, false, IfOk};
 ghost use Rattle.clap.specs.Words.{app_of, rule_of};
 ghost use Rattle.clap.specs.declared.builder.command.Command.TheViews.{out-Command as fields_of};
-ghost use Rattle.metric_request.specs.Apps.{old_rule, report_app, written_app};
+ghost use Rattle.metric_request.specs.Apps.{changed_app, old_rule, report_app};
 
 use crate::arguments::{number, output, text, texts};
 use crate::commands::{MOST_INSTANCES, MOST_RATE, over_pair, with_argument};
@@ -22,7 +22,7 @@ pub(crate) fn report<'a>(alloc: Global) -> Result<Command<'a>, AllocError>
     ensures app { IfOk result (λ command. app_of command ≡ report_app) }
     ensures local { IfOk result (λ command. (fields_of command).has_globals ≡ false) }
 {
-    let command = written(alloc);
+    let command = over_change(alloc, "report", ABOUT, EXAMPLE);
     let help = "Leave such remarks out";
     let command = with_argument(command, texts(alloc, "allow", "KIND", help));
     let help = "Tell too what a way out would lose, as often as wanted: `prometheus` or `otlp`";
@@ -34,12 +34,17 @@ pub(crate) fn report<'a>(alloc: Global) -> Result<Command<'a>, AllocError>
     with_argument(command, instances)
 }
 
-// The command with its output and the old files.
-fn written<'a>(alloc: Global) -> Result<Command<'a>, AllocError>
-    ensures app { IfOk result (λ command. app_of command ≡ written_app) }
+/// A command over a catalogue and a config, with its output and the old files.
+pub(crate) fn over_change<'a>(
+    alloc: Global,
+    name: &'a str,
+    about: &'a str,
+    example: &'a str,
+) -> Result<Command<'a>, AllocError>
+    ensures app { IfOk result (λ command. app_of command ≡ changed_app name.entry.now) }
     ensures local { IfOk result (λ command. (fields_of command).has_globals ≡ false) }
 {
-    let command = over_pair(alloc, "report", ABOUT, EXAMPLE);
+    let command = over_pair(alloc, name, about, example);
     let command = with_argument(command, output(alloc));
     let help = "The catalogue before the change; without one, the same";
     let catalogue = old(alloc, "old_catalogue", "old-catalogue", help);

@@ -1,7 +1,7 @@
 //! The boxes in the picture of a large catalogue, as they look and with their texts.
 use crate::asserted::{OrFail, assert_equal};
 use crate::declared::read_both;
-use metric_picture::draw;
+use metric_picture::{Gone, Mark, StreamChanges, draw, draw_change};
 use std::alloc::Global;
 use std::process::Abort;
 
@@ -137,4 +137,55 @@ fn families_that_collide_are_red(rt: HostRuntime) {
     let picture = draw(rt.alloc(), &declared.catalogue, &declared.config).or_fail(&rt);
     let told = boxes_of(&rt, rt.alloc(), picture.as_str());
     assert_equal(&rt, told.as_str(), SHARED_BOXES);
+}
+
+// Deltas have no page, where these streams would collide.
+const DELTAS: &str = "format = 1
+[[reader]]
+name = 'r'
+temporality = { histogram = 'delta', gauge = 'delta' }
+";
+
+// What a change does is marked by a sign too.
+const CHANGED_BOXES: &str = "plain
+h
+histogram
+plain
+h.count
+gauge
+reader r
+differs
+~ h
+histogram, delta
+new
++ h.count
+last value, delta
+gone
+gone
+- h.max
+of reader old
+what changes
+new
++ a stream that is new
+differs
+~ a stream that differs
+gone
+- a stream that goes
+";
+
+#[test]
+fn what_a_change_does_is_marked(rt: HostRuntime) {
+    let declared = read_both(&rt, rt.alloc(), SHARED, DELTAS);
+    let changes = StreamChanges {
+        marks: &[Mark::Differs, Mark::New],
+        gone: &[Gone {
+            reader: "old",
+            name: "h.max",
+        }],
+    };
+    let picture = draw_change(rt.alloc(), &declared.catalogue, &declared.config, changes).or_fail(
+        &rt,
+    );
+    let told = boxes_of(&rt, rt.alloc(), picture.as_str());
+    assert_equal(&rt, told.as_str(), CHANGED_BOXES);
 }

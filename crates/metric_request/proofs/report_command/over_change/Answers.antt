@@ -1,5 +1,5 @@
 -- Each option is added.
-use Rattle.metric_request.proofs.report_command.written.Goals as goal
+use Rattle.metric_request.proofs.report_command.over_change.Goals as goal
 
 pub returns-clause-app : goal.returns-clause-app
 returns-clause-app c =
