@@ -5,7 +5,7 @@ use Rattle.std.proofs.lemmas.List.FromFn.{get_or-range_with_len, length-range_wi
 use Rattle.std.proofs.lemmas.List.{drop_all}
 use Rattle.std.proofs.lemmas.Option.{get_or_from_slice_get, slice_get-get_or, slice_get_within}
 use Rattle.metric_bounds.specs.First.{Then}
-use Rattle.metric_check.specs.Paired.{EachPaired, IsToldBy, Told}
+use Rattle.metric_check.specs.Paired.{EachPaired, Told}
 
 -- an element of a place that is there
 pub record There {X : Type 0} (xs : List X) (n : ℕ) : Type 0 where
@@ -95,7 +95,3 @@ range_at n k within =
     let long = length-range_with_len 0 n in
     let is : get_or (range_with_len 0 n) k 0 ≡ k = omega (arith, get_or-range_with_len 0 n k 0 within) in
     slice_get-get_or (range_with_len 0 n) k 0 (omega (arith, long)) ∙ ap (λ (m : ℕ). Some m) is
-
--- what is found at a place, told with it
-pub told_found : {F G : Type 0} (told : F → G) (Finds : Option F → Type 0) (fault : F) → Finds (Some fault) → Told told Finds (Some (told fault))
-told_found told Finds fault found = record { fault = fault; found = found; is = refl }

@@ -69,8 +69,9 @@
 //! 9. **By steps.** What `open` does: [`Catalogue::read`] and [`Config::read`], each up to its first fault, a
 //!    [`CatalogueFault`] or a [`ViewFault`] with its place; [`make`] gives a [`Certificate`], or a [`MakeFault`];
 //!    `Certificate::write` and `Certificate::read` take it from one machine to another; [`check`] trusts nobody and
-//!    gives the certified [`Plan`], or a [`CheckFault`]; [`start`] makes the [`Provider`] of a plan. [`certified_plan`]
-//!    and [`vouched_plan`] give the plan of texts. What all of it comes to is one law, [`certified_runs_are_exact`].
+//!    gives the certified [`Plan`], or a [`ClaimFault`], which is a [`CheckFault`] with its [`ClaimPlace`]; [`start`]
+//!    makes the [`Provider`] of a plan. [`certified_plan`] and [`vouched_plan`] give the plan of texts. What all of it
+//!    comes to is one law, [`certified_runs_are_exact`].
 //!    Wherever a value has a [`Text`] or an [`Items`], it is a `String` or a `Vec` that contracts see as a text or a
 //!    list: read it by `as_str` and `as_slice`.
 //! 10. **Other books.** A provider is generic over the book that keeps the recordings of an instrument, and over a
@@ -135,6 +136,8 @@ pub use metric_catalogue::CataloguePlace;
 pub use metric_catalogue::CatalogueSpot;
 pub use metric_cert::CertFault;
 pub use metric_cert::Certificate;
+pub use metric_check::ClaimFault;
+pub use metric_check::ClaimPlace;
 pub use metric_check::check;
 pub use metric_combinations::Combinations;
 pub use metric_contents::Attr;

@@ -1,6 +1,7 @@
 //! One error for the calls of a service.
 use metric_book::Book;
 use metric_catalogue::Catalogue;
+use metric_check::ClaimFault;
 use metric_contents::Refusal;
 use metric_export::ExportFault;
 use metric_plan::{CheckFault, Plan};
@@ -21,7 +22,7 @@ pub enum ServiceFault {
     Setup(SetupFault),
     /// A certificate does not show that a catalogue and a config are safe.
     #[error("check {0}")]
-    Check(CheckFault),
+    Check(ClaimFault),
     /// A recording, a grant or the collection of one instrument was refused.
     #[error("refused: {0}")]
     Refused(Refusal),
@@ -122,14 +123,26 @@ impl From<(Collector, AllFault)> for ServiceFault {
     }
 }
 
-impl From<(Catalogue, Config, CheckFault)> for ServiceFault {
+impl From<(Catalogue, Config, ClaimFault)> for ServiceFault {
     ghost use Rattle.std.specs.Prelude.{◌≡◌};
     ghost use Rattle.metric_sdk.specs.declared.service_fault.ServiceFault.TheVariants.{Check};
 
     ghost from_gives = { λ left fault. fault ≡ Check left.2 };
 
-    fn from(left: (Catalogue, Config, CheckFault)) -> ServiceFault {
+    fn from(left: (Catalogue, Config, ClaimFault)) -> ServiceFault {
         ServiceFault::Check(left.2)
+    }
+}
+
+impl From<(Catalogue, Config, CheckFault)> for ServiceFault {
+    ghost use Rattle.std.specs.Prelude.{◌≡◌};
+    ghost use Rattle.metric_check.specs.Findings.{of_none};
+    ghost use Rattle.metric_sdk.specs.declared.service_fault.ServiceFault.TheVariants.{Check};
+
+    ghost from_gives = { λ left fault. fault ≡ Check (of_none left.2) };
+
+    fn from(left: (Catalogue, Config, CheckFault)) -> ServiceFault {
+        ServiceFault::Check(ClaimFault::of_none(left.2))
     }
 }
 
