@@ -6,8 +6,7 @@ use Rattle.metric_console.specs.declared.drawing.Drawing.{Drawing}
 use Rattle.metric_console.specs.declared.parts.Texts.{Texts}
 
 -- # what a picture is of (profile)
--- The parts are right, and what differs from the old files, where there are some, is what the
--- picture marks.
+-- The parts are right, and the comparison with the old files, where there are some, has what differs.
 pub record IsDrawing (texts : Texts) (drawing : Drawing) : Type 0 where
   pub right : AreRight texts.parts
   pub differences : AreDifferences texts.old texts.parts drawing.comparison
