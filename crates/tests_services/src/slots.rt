@@ -62,7 +62,7 @@ fn write_collected<R: Abort>(
         let mut told = seen;
         let answer = slot.collect(alloc, facts, start, &mut told, 0, 20);
         let is_same = told == seen;
-        writeln!(out, ", {:?} {is_same}", answer.err()).or_fail(rt);
+        write!(out, ", {:?} {is_same}", answer.err()).or_fail(rt);
     }
 }
 
