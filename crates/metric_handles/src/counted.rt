@@ -72,10 +72,10 @@ fn number_of(refusal: Refusal) -> usize
 }
 
 /// A seat that counts its refusals by kind and by instrument, and the recordings of lists that were not tried since one
-/// before them was refused. So what was handed in is what was made, what was refused and what was not
-/// tried, also where a service goes on without looking at an answer. Its recordings are those of the seat, and handles,
-/// bound attributes and lists take it as they take that (a [`Seat`]). Kinds are told apart by their numbers
-/// ([`Refusal::number`]), and all instruments that the plan does not have are counted as one.
+/// before them was refused. So what was handed in is what was made, what was refused and what was not tried, also where
+/// a service goes on without looking at an answer. Its recordings are those of the seat, and handles, bound attributes
+/// and lists take it as they take that (a [`Seat`]). Kinds are told apart by their numbers ([`Refusal::number`]), and
+/// all instruments that the plan does not have are counted as one.
 #[derive(Drop)]
 pub struct Counted<S = Recorder> {
     seat: S,

@@ -94,8 +94,7 @@ impl<R: Wait, S: Recorded, B: Book, G: Gate> At<'_, R, S, B, G> {
             instrument: number,
             count: 2,
         };
-        has_room(&rooms, &both, left_in(facts, recorder, number))?;
-        Ok(())
+        has_room(&rooms, &both, left_in(facts, recorder, number))
     }
 }
 

@@ -9,9 +9,8 @@ use Rattle.metric_sdk.specs.declared.rolled.Unrollable.{Unrollable}
 use Rattle.metric_sdk.specs.declared.rolled.Unrollable.TheVariants.{Refused, Uncollected}
 
 -- # roll-over with readers (profile) [IsRolled, IsUnrolled]
--- The totals of the run that ended, and of another number the provider of the same plan with new
--- seats of all recorders and readers, which starts then; or why the run goes on: a reader was refused an instrument,
--- else what refuses to go over.
+-- The totals of the run that ended; and a provider of the same plan with another number, with new
+-- seats of all recorders and readers, whose run starts at the time given.
 pub record IsRolled (keeps : Bool) (p : ProviderValue) (seats : List RecorderValue)
     (start run : ℕ) (totals : Totals) (next : ProviderValue) (recorders : List RecorderValue)
     (collectors : List CollectorValue) : Type 0 where

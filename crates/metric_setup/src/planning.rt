@@ -14,7 +14,8 @@ use std::alloc::Global;
 ///
 /// # Errors
 ///
-/// [`SetupFault::Check`] with the first fault that its check finds, and the first entry that it is of. [`SetupFault::Memory`] may stand in its place.
+/// [`SetupFault::Check`] with the first fault that its check finds, and the first entry that it is of.
+/// [`SetupFault::Memory`] may stand in its place.
 pub fn plan_by(
     alloc: Global,
     catalogue: Catalogue,
