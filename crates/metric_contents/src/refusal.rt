@@ -41,6 +41,25 @@ pub enum Refusal {
 }
 
 impl Refusal {
+    /// Each refusal once, in the order in which they are tried.
+    pub const ALL: [Refusal; 15] = [
+        Refusal::Stranger,
+        Refusal::UnknownInstrument,
+        Refusal::UnknownRecorder,
+        Refusal::UnknownReader,
+        Refusal::DuplicateKey,
+        Refusal::UnknownKey,
+        Refusal::UnknownValue,
+        Refusal::MissingKey,
+        Refusal::Combination,
+        Refusal::ValueRange,
+        Refusal::Closed,
+        Refusal::Budget,
+        Refusal::NoSpare,
+        Refusal::SumRange,
+        Refusal::Memory,
+    ];
+
     /// The refusal's number in printed texts.
     pub fn number(&self) -> u8
         ensures { result ≡ number_of self.now }
