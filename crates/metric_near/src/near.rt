@@ -1,8 +1,7 @@
 //! The word that was meant, where one is near.
-ghost use Rattle.std.specs.Prelude.{◌≡◌, ◌≤◌, ◌&&◌, find, length, map, reverse};
-ghost use Rattle.std.specs.List.{list_all};
+ghost use Rattle.std.specs.Prelude.{◌≡◌, ◌≤◌, find, length, map, reverse};
 ghost use Rattle.std.specs.Option.{option_copied};
-ghost use Rattle.metric_near.specs.Near.{alike, apart, is_near, is_nearest, is_no_farther, shared};
+ghost use Rattle.metric_near.specs.Near.{alike, apart, is_as_near, is_near, is_nearest, least_apart, nearer, shared};
 
 /// Of the words that are a slip of the hand away from a text the first of the nearest, or none where none is near. A
 /// word is near where both begin and end alike, but for two letters at most in the middle, and share more than those.
@@ -10,41 +9,50 @@ pub fn nearest<'w>(text: &str, words: &[&'w str]) -> Option<&'w str>
     ensures { result
         ≡ find (λ word. is_nearest text.now (map (λ w. w.now) words.now) word.now) words.now }
 {
-    match first_nearest(text, words) {
+    first_as_near(text, words, least_apart(text, words))
+}
+
+fn first_as_near<'w>(text: &str, words: &[&'w str], least: usize) -> Option<&'w str>
+    ensures { result ≡ find (λ word. is_as_near text.now least word.now) words.now }
+{
+    match find_as_near(text, words, least) {
         Some(word) => Some(*word),
         None => None,
     }
 }
 
-fn first_nearest<'a, 'w>(text: &str, words: &'a [&'w str]) -> Option<&'a &'w str>
+fn find_as_near<'a, 'w>(text: &str, words: &'a [&'w str], least: usize) -> Option<&'a &'w str>
     ensures { option_copied result
-        ≡ find (λ word. is_nearest text.now (map (λ w. w.now) words.now) word.now) words.now }
+        ≡ find (λ word. is_as_near text.now least word.now) words.now }
 {
-    words.iter().find(|word| is_nearest(text, words, word))
+    words.iter().find(|word| is_as_near(text, word, least))
 }
 
-fn is_nearest(text: &str, words: &[&str], word: &str) -> bool
-    ensures { result ≡ is_nearest text.now (map (λ w. w.now) words.now) word.now }
+// How many letters stand between in the nearest of the near words; 2, the most for a near one, where none is near.
+fn least_apart(text: &str, words: &[&str]) -> usize
+    ensures { result ≡ least_apart text.now (map (λ w. w.now) words.now) }
 {
-    is_near_word(text, word) && no_word_is_nearer(text, words, word)
+    words
+        .iter()
+        .fold(2, |least: usize, word: &&str| nearer(text, word, least))
 }
 
-fn is_near_word(text: &str, word: &str) -> bool
-    ensures { result ≡ is_near text.now word.now }
+fn nearer(text: &str, word: &str, least: usize) -> usize
+    ensures { result ≡ nearer text.now least word.now }
 {
-    is_near(text.as_bytes(), word.as_bytes())
+    let (text, word) = (text.as_bytes(), word.as_bytes());
+    if is_near(text, word) {
+        least.min(apart(text, word))
+    } else {
+        least
+    }
 }
 
-fn no_word_is_nearer(text: &str, words: &[&str], word: &str) -> bool
-    ensures { result ≡ list_all (λ other. is_no_farther text.now word.now other.now) words.now }
+fn is_as_near(text: &str, word: &str, least: usize) -> bool
+    ensures { result ≡ is_as_near text.now least word.now }
 {
-    words.iter().all(|other| is_no_farther(text.as_bytes(), word.as_bytes(), other.as_bytes()))
-}
-
-fn is_no_farther(text: &[u8], word: &[u8], other: &[u8]) -> bool
-    ensures { result ≡ is_no_farther text.now word.now other.now }
-{
-    !is_near(text, other) || apart(text, word) <= apart(text, other)
+    let (text, word) = (text.as_bytes(), word.as_bytes());
+    is_near(text, word) && apart(text, word) <= least
 }
 
 // Whether both begin and end alike, but for two letters at most in the middle, and share more than those.
