@@ -1,7 +1,7 @@
 //! Which instruments a view selects.
 ghost use Rattle.std.specs.Prelude.{◌≡◌, ◌↔◌, IsTrue};
 ghost use Rattle.metric_glob.specs.Matching.{is_match};
-ghost use Rattle.metric_views.specs.Selection.{Selects, is_kind, is_text, passes, selects, selects_instrument, selects_meter};
+ghost use Rattle.metric_views.specs.Selection.{Selects, is_kind, is_text, passes, selects};
 
 use crate::config::{Criteria, View};
 use metric_base::Text;
@@ -22,29 +22,25 @@ impl View {
     }
 }
 
-#[tactic(auto, unfolding(crate::specs::Selection::selects))]
+// The criteria are taken apart, so that a new one is not left out here.
+#[tactic(auto, unfolding(crate::specs::Selection::selects, crate::specs::Selection::selects_instrument, crate::specs::Selection::selects_meter,))]
 fn selects(criteria: &Criteria, meter: &Meter, instrument: &Instrument) -> bool
     ensures { result ≡ selects criteria.now meter.now instrument.now }
 {
-    selects_instrument(criteria, instrument) && selects_meter(criteria, meter)
-}
-
-#[tactic(auto, unfolding(crate::specs::Selection::selects_instrument))]
-fn selects_instrument(criteria: &Criteria, instrument: &Instrument) -> bool
-    ensures { result ≡ selects_instrument criteria.now instrument.now }
-{
-    is_named(&criteria.instrument_name, instrument.name.get())
-        && is_of_kind(&criteria.instrument_type, instrument.kind)
-        && is_text(&criteria.instrument_unit, instrument.unit.get().as_str())
-}
-
-#[tactic(auto, unfolding(crate::specs::Selection::selects_meter))]
-fn selects_meter(criteria: &Criteria, meter: &Meter) -> bool
-    ensures { result ≡ selects_meter criteria.now meter.now }
-{
-    is_text(&criteria.meter_name, meter.name.as_str())
-        && is_text(&criteria.meter_version, meter.version.as_str())
-        && is_text(&criteria.meter_schema_url, meter.schema_url.as_str())
+    let Criteria {
+        instrument_name,
+        instrument_type,
+        instrument_unit,
+        meter_name,
+        meter_version,
+        meter_schema_url,
+    } = criteria;
+    is_named(instrument_name, instrument.name.get())
+        && is_of_kind(instrument_type, instrument.kind)
+        && is_text(instrument_unit, instrument.unit.get().as_str())
+        && is_text(meter_name, meter.name.as_str())
+        && is_text(meter_version, meter.version.as_str())
+        && is_text(meter_schema_url, meter.schema_url.as_str())
 }
 
 fn is_named(criterion: &Option<Pattern>, name: &Name) -> bool
