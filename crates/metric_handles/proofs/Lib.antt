@@ -3,3 +3,4 @@ pub mod KeysGiven
 mod WayLaws
 mod JobLaws
 mod EntryLaws
+mod RefusedLaws

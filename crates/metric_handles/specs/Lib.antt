@@ -6,6 +6,7 @@ pub mod Seats
 pub mod Left
 pub mod Replaced
 pub mod Counts
+pub mod Refused
 pub mod Found
 pub mod TimeUnits
 pub mod Timers

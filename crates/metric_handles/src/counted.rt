@@ -19,7 +19,7 @@ use std::sync::Wait;
 // What became of an instrument's recordings that were not made: how often each refusal came, by its number, and how
 // many recordings of lists stood behind a refused one.
 #[derive(Clone, Copy)]
-struct Counts {
+pub(crate) struct Counts {
     refused: [u64; 15],
     untried: u64,
 }
@@ -47,7 +47,7 @@ impl Counts {
         }
     }
 
-    fn of(&self, refusal: Refusal) -> u64
+    pub(crate) fn of(&self, refusal: Refusal) -> u64
         ensures { result ≡ count_in self.now.refused refusal }
     {
         self.refused[number_of(refusal)]
@@ -83,14 +83,14 @@ pub struct Counted<S = Recorder> {
 }
 
 impl<S> Model for Counted<S> {
-    ghost use Rattle.std.specs.Prelude.{◌<◌, length};
+    ghost use Rattle.std.specs.Prelude.{◌<◌, ◌≤◌, length};
     ghost use Rattle.metric_handles.specs.Counts.{CountedValue};
 
     ghost Value = { CountedValue S };
 
     ghost view = { λ c. record { seat = c.seat; counts = c.counts.items } };
 
-    ghost invariant = { λ c. 0 < length c.counts.items };
+    ghost invariant = { λ c. (0 < length c.counts.items) × (length c.counts.items ≤ 513) };
 }
 
 impl<S> Counted<S> {
@@ -134,6 +134,14 @@ impl<S> Counted<S> {
         ensures { result ≡ (counts_of self.now.counts instrument).untried }
     {
         self.counts[self.place(instrument)].untried
+    }
+
+    // The counts of each instrument, and at last of all others.
+    pub(crate) fn all_counts(&self) -> &[Counts]
+        ensures counts { result.now ≡ self.now.counts }
+        ensures few { length result.now ≤ 513 }
+    {
+        self.counts.as_slice()
     }
 
     // Counts an answer, behind which so many recordings were not tried.

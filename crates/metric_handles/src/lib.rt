@@ -22,6 +22,7 @@ mod kinds;
 mod laws;
 mod named;
 mod recorded;
+mod refused;
 mod replaced;
 mod rooms;
 mod seat;
@@ -43,6 +44,7 @@ pub use kinds::{Adds, IsCounter, IsGauge, IsHistogram, IsUpDownCounter, Records}
 pub use laws::{compared_keys_are_bound, compared_keys_are_recorded};
 pub use named::{counter, gauge, histogram, up_down_counter};
 pub use recorded::Recorded;
+pub use refused::Refused;
 pub use replaced::Replaced;
 pub use seat::Seat;
 pub use seats::{take_reader, take_recorder};
